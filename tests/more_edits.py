@@ -7,8 +7,9 @@
 
 With --jobs J before these words J checks run side by side, whatever memory they take; without it as many as processors and memory hold. rt ci tries the edits in a
 copy of the repository that has the crates that they turn, those below and no other edits: it takes over what the gate proved, and proves a crate once more for all its edits.
-With --kept as the first word rt check tries them, in copies of the crates over what it kept in crates/NAME/out, where each then takes 10 to 30 s: for that, rt all check
-comes first, and copies take up to 200 MB a crate for each check that runs.
+With --kept as the first word rt check tries them, in copies of the crates over what it kept in crates/NAME/out: for that, rt all check comes first, and copies take up to
+200 MB a crate for each check that runs. Since a caller's proof rests on a contract and on no body, edits that turn different functions are tried together in one check, which
+takes 10 to 60 s: each has to be refused at a goal of a function that it turns. One that isn't is tried once more, alone.
 Each edit is printed behind what refused it:
 
     goal      a goal of a function that it turns
@@ -122,49 +123,99 @@ def kind_of(crate, edit, said):
     return "goal" if is_own else "other"
 
 
-def refusal(crate, name, folder):
-    """Tries an edit of a crate by rt check in its copy, and returns what rt must-fail would say of it."""
-    at, changed = f"{folder}/crates/{crate}", {}
-    for file, old, new in pairs_in(f"{EDITS}/{crate}/{name}")[0]:
-        text = changed.get(file) or text_of(f"{at}/{file}")
-        if text.count(old) != 1:
+class Copy:
+    """A copy of a crate and those below, where edits are tried by rt check over what it kept."""
+
+    def __init__(self, crate, folder):
+        lay(folder, [crate])
+        for below in os.listdir(f"{folder}/crates"):
+            if os.path.isdir(f"{TOP}/crates/{below}/out"):
+                shutil.copytree(f"{TOP}/crates/{below}/out", f"{folder}/crates/{below}/out", symlinks=True)
+        self.crate, self.at = crate, f"{folder}/crates/{crate}"
+
+    def check(self, *flags):
+        """Returns what rt check says of the copy as it stands."""
+        ran = subprocess.run(["rt", "check", "--jobs", "1", *flags], cwd=self.at, stdin=subprocess.DEVNULL, stdout=subprocess.PIPE, stderr=subprocess.STDOUT, errors="replace")
+        return ran.stdout.split("\n")
+
+    def apply(self, names):
+        """Applies as many of these edits as turn different functions and still fit, and returns them with the texts that stood there before."""
+        taken, functions, before, texts = [], set(), {}, {}
+        for name in names:
+            path = f"{EDITS}/{self.crate}/{name}"
+            own, trial = set(turned(self.crate, path)), dict(texts)
+            for file, old, new in pairs_in(path)[0]:
+                text = trial.get(file) or text_of(f"{self.at}/{file}")
+                if text.count(old) != 1 or "\n" in new:
+                    break
+                trial[file] = text.replace(old, new)
+            else:
+                if not own & functions:
+                    taken, functions, texts = [*taken, name], functions | own, trial
+        for file, text in texts.items():
+            before[file] = text_of(f"{self.at}/{file}")
+            self.write({file: text})
+        return taken, before
+
+    def write(self, texts):
+        for file, text in texts.items():
+            with open(f"{self.at}/{file}", "w", encoding="utf-8") as it:
+                it.write(text)
+
+    def together(self, names):
+        """Tries as many of these edits in one check as it can, and returns those, and the refusals of them at a goal of their own."""
+        taken, before = self.apply(names)
+        lines = self.check("--allow-holes")
+        self.write(before)
+        if len(taken) > 1 and not any(it.startswith("logic=") for it in lines):
+            # one of them keeps the others from the prover
+            half = len(taken) // 2
+            return taken, {**self.together(taken[:half])[1], **self.together(taken[half:])[1]}
+        lines = [it for it in lines if AT_GOAL.search(it)]
+        said = {}
+        for name in taken:
+            for line in lines:
+                if kind_of(self.crate, f"{EDITS}/{self.crate}/{name}", f"refused, as it must be: {line}") == "goal":
+                    said[name] = f"refused, as it must be: {line[:160]}"
+                    break
+        return taken, said
+
+    def alone(self, name):
+        """Tries one edit, and returns what rt must-fail would say of it."""
+        taken, before = self.apply([name])
+        if not taken:
             return "BAD EDIT: it doesn't fit"
-        changed[file] = text.replace(old, new)
-    before = {file: text_of(f"{at}/{file}") for file in changed}
-    write(at, changed)
-    ran = subprocess.run(["rt", "check", "--jobs", "1"], cwd=at, stdin=subprocess.DEVNULL, stdout=subprocess.PIPE, stderr=subprocess.STDOUT, errors="replace")
-    write(at, before)
-    lines = ran.stdout.split("\n")
-    if any(it.startswith("logic=proved") for it in lines):
-        return "NOT REFUSED"
-    if not any(it.startswith("logic=not-proved") for it in lines):
-        return "BAD EDIT: " + next((it for it in lines if ": error" in it), "it did not reach the prover")
-    told = [it for it in lines if re.match(r"(note: )?(\./)?\S+?:\d+:\d+: ", it)]
-    goals = [it for it in told if "it is not proved that" in it or "is not proved" in it]
-    return f"refused, as it must be: {([*goals, *told] or [''])[0][:160]}"
+        lines = self.check()
+        self.write(before)
+        if any(it.startswith("logic=proved") for it in lines):
+            return "NOT REFUSED"
+        if not any(it.startswith("logic=not-proved") for it in lines):
+            return "BAD EDIT: " + next((it for it in lines if ": error" in it), "it did not reach the prover")
+        told = [it for it in lines if re.match(r"(note: )?(\./)?\S+?:\d+:\d+: ", it)]
+        return f"refused, as it must be: {([*filter(AT_GOAL.search, told), *told] or [''])[0][:160]}"
 
 
-def write(folder, texts):
-    for file, text in texts.items():
-        with open(f"{folder}/{file}", "w", encoding="utf-8") as it:
-            it.write(text)
+# What rt says of a goal of a function.
+AT_GOAL = re.compile(r"^(note: )?(\./)?src/\S+?:\d+:\d+: .*(it is not proved that|is not proved)")
 
 
 def tried_over_kept(crate, names):
     """Tries a crate's edits over what rt check kept, and returns what rt says of each."""
     with tempfile.TemporaryDirectory() as folder:
-        lay(f"{folder}/repository", [crate])
-        for below in os.listdir(f"{folder}/repository/crates"):
-            if os.path.isdir(f"{TOP}/crates/{below}/out"):
-                shutil.copytree(f"{TOP}/crates/{below}/out", f"{folder}/repository/crates/{below}/out", symlinks=True)
-        clean = subprocess.run(["rt", "check", "--jobs", "1"], cwd=f"{folder}/repository/crates/{crate}", stdin=subprocess.DEVNULL, capture_output=True, text=True)
-        if clean.returncode:
+        copy = Copy(crate, f"{folder}/repository")
+        if not any(it.startswith("logic=proved") for it in copy.check()):
             return {(crate, name): f"BAD EDIT: {crate} itself isn't proved" for name in names}
-        said = {}
-        for name in names:
-            said[crate, name] = refusal(crate, name, f"{folder}/repository")
-            print(f"tried {crate}/{name}", file=sys.stderr, flush=True)
-        return said
+        said, left, doubtful = {}, list(names), []
+        while left:
+            taken, refused = copy.together(left)
+            said.update(refused)
+            doubtful += [it for it in taken if it not in refused] if taken else left
+            left = [it for it in left if it not in taken] if taken else []
+            print(f"{crate}: {len(said)} of {len(names)} refused at a goal of their own, {len(left)} left", file=sys.stderr, flush=True)
+        for name in doubtful:
+            said[name] = copy.alone(name)
+            print(f"{crate}: tried {name} alone", file=sys.stderr, flush=True)
+        return {(crate, name): why for name, why in said.items()}
 
 
 def attempt_over_kept(chosen, jobs):

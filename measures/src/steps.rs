@@ -76,7 +76,7 @@ fn gather(node: &mut Node) -> Result<(), &'static str> {
     node.step(&Event::Timer(Timer::Check))?;
     hear_all(node, Body::Coordinator(true))?;
     node.step(&Event::Timer(Timer::Merge))?;
-    let group = node.core.vector().standing.group;
+    let group = node.core.vector().group_state.group;
     hear_all(node, Body::Accept(group))?;
     node.step(&Event::Timer(Timer::Accept))?;
     hear_all(node, Body::ReadyAck(group))

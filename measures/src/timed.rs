@@ -6,7 +6,7 @@ use crate::options::Options;
 use group_task::{GroupNo, Members, NodeId};
 use job_model::Work;
 use node_core::{Event, Phase};
-use pace::{Pace, Sight, Waiting};
+use pace::{TimerPolicy, NodeSnapshot, Retransmission};
 use std::alloc::Global;
 use std::collections::{BTreeMap, VecDeque};
 use wire_msg::{Body, Message};
@@ -42,8 +42,8 @@ pub struct Counts {
 pub struct Timed {
     alloc: Global,
     node: Node,
-    pace: Pace,
-    waiting: Waiting,
+    pace: TimerPolicy,
+    waiting: Retransmission,
     // the group in which a timer was last looked for
     group: Option<GroupNo>,
     // how long a sync takes, the end of the command that is under way, what it sends and what was told since it began
@@ -75,8 +75,8 @@ impl Timed {
         Ok(Timed {
             alloc,
             node: Node::new(alloc, id, nodes, usize::from(options.jobs))?,
-            pace: Pace::new(setting, id, seed),
-            waiting: Waiting::new(alloc, setting.unit),
+            pace: TimerPolicy::new(setting, id, seed),
+            waiting: Retransmission::new(alloc, setting.unit),
             group: None,
             sync: options.sync(),
             free: 0,
@@ -97,8 +97,8 @@ impl Timed {
 
     /// Its process is started anew, over what its disk kept: it is Down, and will come up.
     pub fn restart(&mut self, options: &Options, nodes: u8, seed: u64) -> Result<(), &'static str> {
-        self.pace = Pace::new(options.setting, self.id(), seed);
-        self.waiting = Waiting::new(self.alloc, options.setting.unit);
+        self.pace = TimerPolicy::new(options.setting, self.id(), seed);
+        self.waiting = Retransmission::new(self.alloc, options.setting.unit);
         self.group = None;
         self.free = 0;
         self.held.clear();
@@ -124,11 +124,11 @@ impl Timed {
 
     /// Whether it is Normal, in this group of these members.
     pub fn works_in(&self, group: GroupNo, members: Members) -> bool {
-        let standing = &self.node.core.vector().standing;
-        match &standing.task {
+        let group_state = &self.node.core.vector().group_state;
+        match &group_state.task {
             Some(task) => {
-                matches!(standing.phase, Phase::Normal)
-                    && standing.group.is(group)
+                matches!(group_state.phase, Phase::Normal)
+                    && group_state.group.is(group)
                     && task.members() == members
             }
             None => false,
@@ -136,7 +136,7 @@ impl Timed {
     }
 
     pub fn group(&self) -> GroupNo {
-        self.node.core.vector().standing.group
+        self.node.core.vector().group_state.group
     }
 
     /// It comes up, alone in a new group, and sends nothing.
@@ -254,8 +254,8 @@ impl Timed {
 
     /// A coordinator that is Normal takes a job; at others it is lost.
     fn keep(&mut self, work: Work) -> Result<(), &'static str> {
-        let standing = &self.node.core.vector().standing;
-        if matches!(standing.phase, Phase::Normal) && standing.coordinator.is(self.id()) {
+        let group_state = &self.node.core.vector().group_state;
+        if matches!(group_state.phase, Phase::Normal) && group_state.coordinator.is(self.id()) {
             self.step(&Event::Submit(work))
         } else {
             Ok(())
@@ -271,16 +271,16 @@ impl Timed {
                 return Err("no memory");
             }
         }
-        let sight = sight_of(&self.node);
-        if self.group != Some(sight.group) {
-            self.group = Some(sight.group);
+        let snapshot = snapshot_of(&self.node);
+        if self.group != Some(snapshot.group) {
+            self.group = Some(snapshot.group);
             self.pace.regrouped();
         }
         self.pace.pass(now);
-        if self.repeats && self.waiting.is_answered(&sight) {
+        if self.repeats && self.waiting.is_answered(&snapshot) {
             self.pace.answered();
         }
-        match self.pace.tick(&sight) {
+        match self.pace.tick(&snapshot) {
             Some(event) => self.step(&event),
             None => Ok(()),
         }
@@ -297,18 +297,18 @@ impl Timed {
 }
 
 /// What is seen of a node.
-fn sight_of(node: &Node) -> Sight {
+fn snapshot_of(node: &Node) -> NodeSnapshot {
     let core = &node.core;
-    Sight::of(core.id(), core.vector(), core.merge_wait(), node.pending())
+    NodeSnapshot::of(core.id(), core.vector(), core.merge_wait(), node.pending())
 }
 
 /// Keeps what a node waits for, or answers false.
-fn keep(waiting: &mut Waiting, event: &Event, node: &Node) -> bool {
+fn keep(waiting: &mut Retransmission, event: &Event, node: &Node) -> bool {
     waiting.keep(event, node.sent(), node.core.vector()).is_ok()
 }
 
 /// What is sent again at this time is put behind the others; it answers how many messages these are.
-fn put_again(held: &mut Vec<Message>, waiting: &Waiting, now: u64) -> Result<u64, &'static str> {
+fn put_again(held: &mut Vec<Message>, waiting: &Retransmission, now: u64) -> Result<u64, &'static str> {
     let again = waiting.due(now);
     put_all(held, again)?;
     Ok(again.len() as u64)

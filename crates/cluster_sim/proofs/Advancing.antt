@@ -10,19 +10,19 @@ use Rattle.sim_net.specs.Network.{Network}
 use Rattle.node_core.specs.State.{State, is_down}
 use Rattle.durable_node.specs.Node.{Node, Stands}
 use Rattle.histories.specs.NodeState.{NodeState}
-use Rattle.histories.specs.declared.what.What.{What}
+use Rattle.histories.specs.declared.history_event.HistoryEvent.{HistoryEvent}
 use Rattle.histories.specs.After.{mounted_at}
 use Rattle.durable_node.proofs.PublicLaws.{is_some}
 use Rattle.schedule.specs.declared.act.Act.{Act}
 use Rattle.runs.specs.World.{World, node_in}
 use Rattle.runs.specs.Step.{Step, Takes, step_sent, world_after}
-use Rattle.node_core.specs.declared.fault.Refusal.TheVariants.{Worn}
+use Rattle.node_core.specs.declared.fault.Refusal.TheVariants.{AreaExhausted}
 use Rattle.runs.specs.declared.outcome.Outcome.{Outcome}
 use Rattle.runs.specs.declared.outcome.Outcome.TheVariants.{Refused}
 use Rattle.runs.specs.declared.outcome.Refusal.TheVariants.{Node as OfNode}
 use Rattle.runs.specs.Acts.{IsStepOf, act_outcome}
 use Rattle.runs.specs.Reporting.{Moment, Report, own_commands, node_of, moment_of, grown}
-use Rattle.runs.specs.declared.tried.TriedAt.{TriedAt}
+use Rattle.runs.specs.declared.attempt_at.AttemptAt.{AttemptAt}
 use Rattle.cluster_sim.specs.Names.{node_named}
 use Rattle.cluster_sim.proofs.Answering.{untouched_areas}
 use Rattle.cluster_sim.proofs.Names.{step_named}
@@ -32,10 +32,10 @@ use Rattle.cluster_sim.specs.Cluster.{AreCounted, IsCluster, Reports, GoesOn, co
 use Rattle.runs.specs.Numbered.{sent_under}
 use Rattle.cluster_sim.specs.declared.report.Moment.{Moment as KeptMoment}
 use Rattle.cluster_sim.specs.declared.report.Report.{Report as KeptReport}
-use Rattle.cluster_sim.specs.declared.deed.Deed.{Deed}
+use Rattle.cluster_sim.specs.declared.act_report.ActReport.{ActReport}
 use Rattle.job_model.specs.declared.node_command.NodeCommand.{NodeCommand as Command}
-use Rattle.histories.specs.declared.attempt.Attempt.{Attempt}
-use Rattle.histories.specs.Fates.{attempt_of}
+use Rattle.histories.specs.declared.command_kind.CommandKind.{CommandKind}
+use Rattle.histories.specs.EventOutcomes.{attempt_of}
 use Rattle.histories.specs.Possible.{IsPossible}
 use Rattle.runs.specs.Run.{IsAllowed}
 use Rattle.runs.proofs.PublicLaws.{runs_grow, step_length, counts_more, hands_grow, mounted_few, left_few, left_numbered, step_adds, step_numbered, all_more, at_place, node_there}
@@ -47,14 +47,14 @@ enough slots d true kept up few = few
 enough slots d false kept up few = rw (up refl) (omega arith)
 
 -- where a command was tried, and only there, one more is counted
-counted_on : (nodes n before : ℕ) (commands : List TriedAt) (counts counts' : List ℕ) (tried : Option Attempt) (acked : Option ℕ) (command : Option Command) → tried ≡ option_map attempt_of command
+counted_on : (nodes n before : ℕ) (commands : List AttemptAt) (counts counts' : List ℕ) (tried : Option CommandKind) (acked : Option ℕ) (command : Option Command) → tried ≡ option_map attempt_of command
     → AreCounted nodes commands counts → slice_get counts n ≡ Some before → ((is_some_option tried ≡ true) × (counts' ≡ slice_set counts n (before + 1))) ⊎ ((is_some_option tried ≡ false) × (counts' ≡ counts))
     → AreCounted nodes (commands ++ listed (tried_at n (tried_as command acked))) counts'
-counted_on nodes n before commands counts counts' tried acked None which counted at (inl some) = absurd (let bad : false ≡ true = ap (λ (t : Option Attempt). is_some_option t) (sym which) ∙ some.0 in cc)
+counted_on nodes n before commands counts counts' tried acked None which counted at (inl some) = absurd (let bad : false ≡ true = ap (λ (t : Option CommandKind). is_some_option t) (sym which) ∙ some.0 in cc)
 counted_on nodes n before commands counts counts' tried acked None which counted at (inr none) = rw (none.1, append-nil commands) counted
 counted_on nodes n before commands counts counts' tried acked (Some c) which counted at (inl some) =
     rw some.1 (record { as_many = length-set counts n (before + 1) ∙ counted.as_many; each = counts_more n before commands counts _ counted.each at refl })
-counted_on nodes n before commands counts counts' tried acked (Some c) which counted at (inr none) = absurd (let bad : true ≡ false = ap (λ (t : Option Attempt). is_some_option t) (sym which) ∙ none.0 in cc)
+counted_on nodes n before commands counts counts' tried acked (Some c) which counted at (inr none) = absurd (let bad : true ≡ false = ap (λ (t : Option CommandKind). is_some_option t) (sym which) ∙ none.0 in cc)
 
 -- moments that are kept have the same messages once more are sent
 same_sent : (ms : List KeptMoment) (sent sent' : List Envelope) → ((k : ℕ) (m : Moment) → slice_get (map (moment_in sent) ms) k ≡ Some m → m.sent ≡ sent_under sent' m.outcome) → map (moment_in sent) ms ≡ map (moment_in sent') ms
@@ -78,16 +78,16 @@ record Moved (w w' : World) (n : ℕ) (was node : Node Memory) : Type 0 where
   stood : Stands state_of was s
   stands : Stands state_of node s'
 
-record Taken (w : World) (step : Step) (n : ℕ) (deed : Deed) (node : Node Memory) (s : NodeState) : Type 0 where
+record Taken (w : World) (step : Step) (n : ℕ) (deed : ActReport) (node : Node Memory) (s : NodeState) : Type 0 where
   number : ℕ
-  what : What
+  what : HistoryEvent
   is : step ≡ Takes n number what
   possible : IsPossible n (length w.states) s what
   reports : DeedOf n (length w.states) s what deed
   mounted : node.mounted ≡ mounted_at s what
 
 -- no node takes the step, and nothing is reported
-record Quiet (w : World) (step : Step) (deed : Deed) : Type 0 where
+record Quiet (w : World) (step : Step) (deed : ActReport) : Type 0 where
   tried : deed.tried ≡ None
   mounted : deed.mounted ≡ false
   adds : (nodes : ℕ) → AddsNothing nodes w step
@@ -96,7 +96,7 @@ record Quiet (w : World) (step : Step) (deed : Deed) : Type 0 where
 pub named_in : (old : WorldView) (w : World) (a : Act) (n count : ℕ) (net : Network) → StandsFor old w → count ≡ length old.nodes → net ≡ old.net → n ≡ node_named count net.sent a → n ≡ node_named (length w.states) w.net.sent a
 named_in old w a n count net stands many same named = named ∙ (λ i. node_named ((many ∙ stands.count) i) ((same ∙ stands.net) i).sent a)
 
-module _ (old new : WorldView) (w : World) (a : Act) (deed : Deed) (n : ℕ) (was node : Node Memory) (stands : StandsFor old w) (p : Performed w a deed new) (named : n ≡ node_named (length w.states) w.net.sent a)
+module _ (old new : WorldView) (w : World) (a : Act) (deed : ActReport) (n : ℕ) (was node : Node Memory) (stands : StandsFor old w) (p : Performed w a deed new) (named : n ≡ node_named (length w.states) w.net.sent a)
     (at_was : slice_get old.nodes n ≡ Some was) (at : slice_get new.nodes n ≡ Some node) where
   moved : Moved w (world_after (length w.states) w p.acted.step) n was node
   moved =
@@ -187,13 +187,13 @@ module _ (old new : WorldView) (w : World) (a : Act) (deed : Deed) (n : ℕ) (wa
     grows : report_in kept' new.net.sent ≡ grown (length w.states) w a p.acted.step (report_in kept old.net.sent)
     grows = is ∙ ap (with_deed new.net.sent n before a deed node) same_before ∙ report_is (report_in kept old.net.sent) before so_many
 
-    pub goes_on : length (cluster_with old kept).report.moments + 3 < 2 ^ 64 → deed.outcome ≢ Refused (OfNode Worn) → GoesOn w a deed.outcome (cluster_with old kept) (cluster_with new kept')
+    pub goes_on : length (cluster_with old kept).report.moments + 3 < 2 ^ 64 → deed.outcome ≢ Refused (OfNode AreaExhausted) → GoesOn w a deed.outcome (cluster_with old kept) (cluster_with new kept')
     goes_on short unworn =
         let nodes = length w.states in
         let step = p.acted.step in
         let r = report_in kept old.net.sent in
         let left : IsLeft nodes new.slots w r = subst (λ (k : ℕ). IsLeft k new.slots w r) stands.count (subst (λ (k : ℕ). IsLeft (length old.nodes) k w r) (sym same_slots) reports.left) in
-        let grew = runs_grow nodes new.slots w r a step left p.acted.next (omega (arith, short)) (subst (λ (o : Outcome). o ≢ Refused (OfNode Worn)) p.acted.outcome_is unworn) in
+        let grew = runs_grow nodes new.slots w r a step left p.acted.next (omega (arith, short)) (subst (λ (o : Outcome). o ≢ Refused (OfNode AreaExhausted)) p.acted.outcome_is unworn) in
         record {
           step = step;
           is_step = grew.0;

@@ -13,16 +13,16 @@ use Rattle.node_core.specs.declared.event.Event.{Event}
 use Rattle.node_core.specs.declared.fault.CoreFault.{CoreFault}
 use Rattle.node_core.specs.declared.fault.CoreFault.TheVariants.{NoMemory}
 use Rattle.node_core.specs.declared.fault.Refusal.{Refusal as NodeRefusal}
-use Rattle.node_core.specs.declared.fault.Refusal.TheVariants.{Core, Full, Exhausted, Worn}
+use Rattle.node_core.specs.declared.fault.Refusal.TheVariants.{Core, Full, Exhausted, AreaExhausted}
 use Rattle.node_core.specs.NodeStep.{IsAppended, IsSpent}
 use Rattle.node_core.specs.Refusals.{refusal_of}
 use Rattle.node_core.specs.Start.{down}
 use Rattle.node_core.specs.State.{State, is_down}
 use Rattle.node_core.specs.Wants.{wants_of}
 use Rattle.histories.specs.NodeState.{NodeState, wants_at}
-use Rattle.histories.specs.declared.fate.Fate.{Fate}
-use Rattle.histories.specs.declared.fate.Fate.TheVariants.{Done, Refused, Faulted, Recovered, MountFailed, RaiseFailed, RaiseRefused}
-use Rattle.histories.specs.Fates.{what_of}
+use Rattle.histories.specs.declared.event_outcome.EventOutcome.{EventOutcome}
+use Rattle.histories.specs.declared.event_outcome.EventOutcome.TheVariants.{Done, Refused, Faulted, Recovered, MountFailed, RaiseFailed, RaiseRefused}
+use Rattle.histories.specs.EventOutcomes.{what_of}
 use Rattle.histories.proofs.PublicLaws.{at_down}
 use Rattle.sim_net.specs.Network.{Network}
 use Rattle.schedule.specs.declared.act.Act.{Act}
@@ -31,7 +31,7 @@ use Rattle.runs.specs.Events.{event_at}
 use Rattle.durable_node.specs.Arming.{armed_disk}
 use Rattle.std.proofs.lemmas.Option.{slice_get_within}
 use Rattle.std.specs.Prelude.{slice_set}
-use Rattle.durable_node.specs.declared.came.Came.{Came}
+use Rattle.durable_node.specs.declared.step_report.StepReport.{StepReport}
 use Rattle.durable_node.specs.declared.fault.NodeFault.{NodeFault}
 use Rattle.durable_node.specs.declared.fault.NodeFault.TheVariants as node
 use Rattle.durable_node.specs.Faults.{answered, answered_as, fault_of, shown}
@@ -43,7 +43,7 @@ use Rattle.runs.specs.declared.outcome.Outcome.{Outcome}
 use Rattle.runs.specs.declared.outcome.Outcome.TheVariants as outcome
 use Rattle.runs.specs.declared.outcome.Refusal.TheVariants.{Node as OfNode}
 use Rattle.cluster_sim.specs.Answering.{IsAnswered, IsAnsweredAt, IsAnsweredBy, event_by, first_of}
-use Rattle.cluster_sim.specs.declared.deed.Deed.{Deed}
+use Rattle.cluster_sim.specs.declared.act_report.ActReport.{ActReport}
 use Rattle.cluster_sim.specs.Operated.{IsRefusedAs}
 use Rattle.cluster_sim.specs.Outcomes.{came_outcome}
 use Rattle.cluster_sim.specs.World.{AreaRises, AreaWithin, AreasRise, AreasWithin, IsUntouched, IsUntouchedNode, WorldView}
@@ -62,7 +62,7 @@ spent_refused d area (Some (JobDone id)) spent = absurd spent
 area_not_spent : (area : Area) → area_refusal area ≡ Some Exhausted → ⊥
 area_not_spent area is = by_room (area.used == area.slots && is_last area) is
   where
-    by_room : (b : Bool) → (if b then Some Worn else None) ≡ Some Exhausted → ⊥
+    by_room : (b : Bool) → (if b then Some AreaExhausted else None) ≡ Some Exhausted → ⊥
     by_room true is = absurd cc
     by_room false is = absurd cc
 
@@ -87,21 +87,21 @@ refused_spent d area (Some (JobDone id)) few is = absurd (area_not_spent area is
 area_free : (area : Area) → is_last area ≡ false → area_refusal area ≡ None
 area_free area free = by_room (area.used == area.slots)
   where
-    by_room : (b : Bool) → (if b && is_last area then Some Worn else None) ≡ None
+    by_room : (b : Bool) → (if b && is_last area then Some AreaExhausted else None) ≡ None
     by_room true = rw free refl
     by_room false = refl
 
 -- where the area can be raised it isn't used up
-not_worn : (d : Durable) (area : Area) (wants : Option Command) → is_last area ≡ false → disk_refusal d area wants ≢ Some Worn
+not_worn : (d : Durable) (area : Area) (wants : Option Command) → is_last area ≡ false → disk_refusal d area wants ≢ Some AreaExhausted
 not_worn d area None free is = absurd cc
 not_worn d area (Some Raise) free is = by_counter (d.counter == 2 ^ 64 - 1) is
   where
-    by_counter : (b : Bool) → (if b then Some Exhausted else None) ≡ Some Worn → ⊥
+    by_counter : (b : Bool) → (if b then Some Exhausted else None) ≡ Some AreaExhausted → ⊥
     by_counter true is = absurd cc
     by_counter false is = absurd cc
 not_worn d area (Some (Put work)) free is = by_both (nat_le (2 ^ 64 - 1) d.next) (nat_lt area.slots (length d.pending + 3)) is
   where
-    by_both : (b c : Bool) → (if b then Some Exhausted else (if c then Some Full else area_refusal area)) ≡ Some Worn → ⊥
+    by_both : (b c : Bool) → (if b then Some Exhausted else (if c then Some Full else area_refusal area)) ≡ Some AreaExhausted → ⊥
     by_both true c is = absurd cc
     by_both false true is = absurd cc
     by_both false false is = (let none = sym (area_free area free) ∙ is in absurd cc)
@@ -109,14 +109,14 @@ not_worn d area (Some (JobDone id)) free is = (let none = sym (area_free area fr
 
 -- ---- an event at a node that is up
 
-module _ (slots self nodes first : ℕ) (s : NodeState) (event : Event) (came : Came) (shows : Option Durable) (up : is_down s.state.phase ≡ false) where
+module _ (slots self nodes first : ℕ) (s : NodeState) (event : Event) (came : StepReport) (shows : Option Durable) (up : is_down s.state.phase ≡ false) where
   -- its vector refuses it
-  by_core : (fault : CoreFault) (end : Fate) → answered_as came (fault_of end) ≡ Err (node.Core fault) → came_outcome end first came ≡ outcome.Refused (OfNode (Core fault))
+  by_core : (fault : CoreFault) (end : EventOutcome) → answered_as came (fault_of end) ≡ Err (node.Core fault) → came_outcome end first came ≡ outcome.Refused (OfNode (Core fault))
   by_core fault Done is = absurd cc
   by_core fault (Refused (Core f)) is = (let same : f ≡ fault = cc is in ap (λ (x : CoreFault). outcome.Refused (OfNode (Core x))) same)
   by_core fault (Refused Full) is = absurd cc
   by_core fault (Refused Exhausted) is = absurd cc
-  by_core fault (Refused Worn) is = absurd cc
+  by_core fault (Refused AreaExhausted) is = absurd cc
   by_core fault Faulted is = absurd cc
   by_core fault (Recovered kept) is = absurd cc
   by_core fault MountFailed is = absurd cc
@@ -124,7 +124,7 @@ module _ (slots self nodes first : ℕ) (s : NodeState) (event : Event) (came : 
   by_core fault (RaiseRefused kept) is = absurd cc
 
   -- nothing refuses it
-  by_none : (end : Fate) → refusal_of nodes self event s.state ≡ None → Does slots self nodes s event came shows (what_of event end) → IsErrOf (answered_as came (fault_of end)) (node.Core NoMemory) ⊎ (IsOk (answered_as came (fault_of end)) ⊎ IsErrOf (answered_as came (fault_of end)) node.Device)
+  by_none : (end : EventOutcome) → refusal_of nodes self event s.state ≡ None → Does slots self nodes s event came shows (what_of event end) → IsErrOf (answered_as came (fault_of end)) (node.Core NoMemory) ⊎ (IsOk (answered_as came (fault_of end)) ⊎ IsErrOf (answered_as came (fault_of end)) node.Device)
       → IsRefusedAs None (came_outcome end first came)
   by_none Done core does either why is = cc
   by_none (Recovered kept) core does either why is = cc
@@ -135,10 +135,10 @@ module _ (slots self nodes first : ℕ) (s : NodeState) (event : Event) (came : 
   by_none (Refused (Core f)) core does either why is = absurd (let both = sym core ∙ does.possible.1 in cc)
   by_none (Refused Full) core does either why is = ⊎_elim (λ e. absurd (let bad = e in cc)) (λ or. ⊎_elim (λ e. absurd (let bad = e in cc)) (λ e. absurd (let bad = e in cc)) or) either
   by_none (Refused Exhausted) core does either why is = ⊎_elim (λ e. absurd (let bad = e in cc)) (λ or. ⊎_elim (λ e. absurd (let bad = e in cc)) (λ e. absurd (let bad = e in cc)) or) either
-  by_none (Refused Worn) core does either why is = ⊎_elim (λ e. absurd (let bad = e in cc)) (λ or. ⊎_elim (λ e. absurd (let bad = e in cc)) (λ e. absurd (let bad = e in cc)) or) either
+  by_none (Refused AreaExhausted) core does either why is = ⊎_elim (λ e. absurd (let bad = e in cc)) (λ or. ⊎_elim (λ e. absurd (let bad = e in cc)) (λ e. absurd (let bad = e in cc)) or) either
 
   -- its disk refuses it
-  by_disk : (area : Area) (why : NodeRefusal) (end : Fate) → s.durable.next < 2 ^ 64 → refusal_of nodes self event s.state ≡ None → disk_refusal s.durable area (wants_at self nodes s event) ≡ Some why
+  by_disk : (area : Area) (why : NodeRefusal) (end : EventOutcome) → s.durable.next < 2 ^ 64 → refusal_of nodes self event s.state ≡ None → disk_refusal s.durable area (wants_at self nodes s event) ≡ Some why
       → Does slots self nodes s event came shows (what_of event end) → IsErrOf (answered_as came (fault_of end)) (node.Core NoMemory) ⊎ (answered_as came (fault_of end) ≡ Err (shown why))
       → came_outcome end first came ≡ outcome.Refused (OfNode why)
   by_disk area why Done few core is does either = ⊎_elim (λ e. absurd (let bad = e in cc)) (λ e. absurd cc) either
@@ -152,38 +152,38 @@ module _ (slots self nodes first : ℕ) (s : NodeState) (event : Event) (came : 
   by_disk area (Core f) Faulted few core is does either = ⊎_elim (λ e. absurd (let bad = e in cc)) (λ e. absurd cc) either
   by_disk area Full Faulted few core is does either = ⊎_elim (λ e. absurd (let bad = e in cc)) (λ e. absurd cc) either
   by_disk area Exhausted Faulted few core is does either = ⊎_elim (λ e. absurd (let bad = e in cc)) (λ e. absurd cc) either
-  by_disk area Worn Faulted few core is does either = ⊎_elim (λ e. absurd (let bad = e in cc)) (λ e. absurd cc) either
+  by_disk area AreaExhausted Faulted few core is does either = ⊎_elim (λ e. absurd (let bad = e in cc)) (λ e. absurd cc) either
   by_disk area (Core f) (Refused Full) few core is does either = ⊎_elim (λ e. absurd (let bad = e in cc)) (λ e. absurd cc) either
   by_disk area Full (Refused Full) few core is does either = refl
   by_disk area Exhausted (Refused Full) few core is does either = ⊎_elim (λ e. absurd (let bad = e in cc)) (λ e. absurd cc) either
-  by_disk area Worn (Refused Full) few core is does either = ⊎_elim (λ e. absurd (let bad = e in cc)) (λ e. absurd cc) either
-  by_disk area (Core f) (Refused Worn) few core is does either = ⊎_elim (λ e. absurd (let bad = e in cc)) (λ e. absurd cc) either
-  by_disk area Full (Refused Worn) few core is does either = ⊎_elim (λ e. absurd (let bad = e in cc)) (λ e. absurd cc) either
-  by_disk area Exhausted (Refused Worn) few core is does either = absurd (does.possible.1.1.0 (refused_spent s.durable area (wants_at self nodes s event) few is))
-  by_disk area Worn (Refused Worn) few core is does either = refl
+  by_disk area AreaExhausted (Refused Full) few core is does either = ⊎_elim (λ e. absurd (let bad = e in cc)) (λ e. absurd cc) either
+  by_disk area (Core f) (Refused AreaExhausted) few core is does either = ⊎_elim (λ e. absurd (let bad = e in cc)) (λ e. absurd cc) either
+  by_disk area Full (Refused AreaExhausted) few core is does either = ⊎_elim (λ e. absurd (let bad = e in cc)) (λ e. absurd cc) either
+  by_disk area Exhausted (Refused AreaExhausted) few core is does either = absurd (does.possible.1.1.0 (refused_spent s.durable area (wants_at self nodes s event) few is))
+  by_disk area AreaExhausted (Refused AreaExhausted) few core is does either = refl
 
-  pub refused_so : (area : Area) → s.durable.next < 2 ^ 64 → Does slots self nodes s event came shows (what_of event came.fate)
-      → AnswersEvent (refusal_of nodes self event s.state) (disk_refusal s.durable area (wants_at self nodes s event)) (answered_as came (fault_of came.fate))
-      → IsRefusedAs (first_of (refusal_of nodes self event s.state) (disk_refusal s.durable area (wants_at self nodes s event))) (came_outcome came.fate first came)
+  pub refused_so : (area : Area) → s.durable.next < 2 ^ 64 → Does slots self nodes s event came shows (what_of event came.event_outcome)
+      → AnswersEvent (refusal_of nodes self event s.state) (disk_refusal s.durable area (wants_at self nodes s event)) (answered_as came (fault_of came.event_outcome))
+      → IsRefusedAs (first_of (refusal_of nodes self event s.state) (disk_refusal s.durable area (wants_at self nodes s event))) (came_outcome came.event_outcome first came)
   refused_so area few does answers = by_both (refusal_of nodes self event s.state) refl (disk_refusal s.durable area (wants_at self nodes s event)) refl answers
     where
       by_both : (core : Option CoreFault) → refusal_of nodes self event s.state ≡ core → (why : Option NodeRefusal) → disk_refusal s.durable area (wants_at self nodes s event) ≡ why
-          → AnswersEvent core why (answered_as came (fault_of came.fate)) → IsRefusedAs (first_of core why) (came_outcome came.fate first came)
-      by_both (Some fault) core why is answers = by_core fault came.fate answers
-      by_both None core None is answers = by_none came.fate core does answers
-      by_both None core (Some why) is answers = by_disk area why came.fate few core is does answers
+          → AnswersEvent core why (answered_as came (fault_of came.event_outcome)) → IsRefusedAs (first_of core why) (came_outcome came.event_outcome first came)
+      by_both (Some fault) core why is answers = by_core fault came.event_outcome answers
+      by_both None core None is answers = by_none came.event_outcome core does answers
+      by_both None core (Some why) is answers = by_disk area why came.event_outcome few core is does answers
 
 -- ---- at the node
 
 -- what a node answers, as its cluster reports it
-pub answered_so : (old new : Node Memory) (event : Event) (came : Came) (first : ℕ) (s : NodeState) → (disk : Memory) × (old.disk ≡ Some disk) → Steps state_of old new event came → Answers old event (answered (Ok came))
-    → (is_down old.state.phase ≡ true → (old.kept ≡ None) × (old.area ≡ None)) → ((d : Durable) → old.kept ≡ Some d → d.next < 2 ^ 64) → Stands state_of old s → IsAnswered old event (came_outcome came.fate first came)
+pub answered_so : (old new : Node Memory) (event : Event) (came : StepReport) (first : ℕ) (s : NodeState) → (disk : Memory) × (old.disk ≡ Some disk) → Steps state_of old new event came → Answers old event (answered (Ok came))
+    → (is_down old.state.phase ≡ true → (old.kept ≡ None) × (old.area ≡ None)) → ((d : Durable) → old.kept ≡ Some d → d.next < 2 ^ 64) → Stands state_of old s → IsAnswered old event (came_outcome came.event_outcome first came)
 answered_so old new event came first s has steps answers down_shows few stands d area kept at =
     let does = (steps has.0 s has.1 stands (λ _. refl)).0 in
     by_phase (is_down old.state.phase) refl does
   where
-    by_phase : (b : Bool) → is_down old.state.phase ≡ b → Does (slots_for (state_of has.0).sectors) old.id old.nodes s event came new.mounted (what_of event came.fate)
-        → IsRefusedAs (first_of (refusal_of old.nodes old.id event old.state) (disk_refusal d area (wants_of old.id d.pending event old.state))) (came_outcome came.fate first came)
+    by_phase : (b : Bool) → is_down old.state.phase ≡ b → Does (slots_for (state_of has.0).sectors) old.id old.nodes s event came new.mounted (what_of event came.event_outcome)
+        → IsRefusedAs (first_of (refusal_of old.nodes old.id event old.state) (disk_refusal d area (wants_of old.id d.pending event old.state))) (came_outcome came.event_outcome first came)
     by_phase true is does = absurd (let none = sym (down_shows is).0 ∙ kept in cc)
     by_phase false is does =
         let same : d ≡ s.durable = is_some d s.durable (sym kept ∙ (stands.up is).0) in
@@ -192,9 +192,9 @@ answered_so old new event came first s has steps answers down_shows few stands d
 -- ---- an area that can be raised
 
 -- nothing but an area that is used up is refused as worn
-worn_alone : (core : Option CoreFault) (disk : Option NodeRefusal) (o : Outcome) → IsRefusedAs (first_of core disk) o → o ≡ outcome.Refused (OfNode Worn) → disk ≡ Some Worn
+worn_alone : (core : Option CoreFault) (disk : Option NodeRefusal) (o : Outcome) → IsRefusedAs (first_of core disk) o → o ≡ outcome.Refused (OfNode AreaExhausted) → disk ≡ Some AreaExhausted
 worn_alone (Some fault) disk o is worn = (let both = sym is ∙ worn in absurd cc)
-worn_alone None None o is worn = absurd (is (OfNode Worn) worn)
+worn_alone None None o is worn = absurd (is (OfNode AreaExhausted) worn)
 worn_alone None (Some why) o is worn = (let both = sym is ∙ worn in cc)
 
 -- the number that a node shows is within a bound of its disk's
@@ -211,10 +211,10 @@ pub record Shows (old : Node Memory) : Type 0 where
   pub up : is_down old.state.phase ≡ false → ((d : Durable) × (old.kept ≡ Some d)) × ((area : Area) × (old.area ≡ Some area))
   pub number : (disk : Memory) (area : Area) → old.disk ≡ Some disk → old.area ≡ Some area → AllNumbered area.number (state_of disk)
 
-module _ (old new : Node Memory) (event : Event) (came : Came) (first : ℕ) (s : NodeState) (disk : Memory) (at_disk : old.disk ≡ Some disk) (shows : Shows old) (stands : Stands state_of old s) where
+module _ (old new : Node Memory) (event : Event) (came : StepReport) (first : ℕ) (s : NodeState) (disk : Memory) (at_disk : old.disk ≡ Some disk) (shows : Shows old) (stands : Stands state_of old s) where
   -- a node that is down refuses nothing so
-  worn_down : (slots : ℕ) (end : Fate) → is_down old.state.phase ≡ true → Does slots old.id old.nodes s event came new.mounted (what_of event end) → came_outcome end first came ≡ outcome.Refused (OfNode Worn) → ⊥
-  worn_down slots (Refused Worn) is does worn =
+  worn_down : (slots : ℕ) (end : EventOutcome) → is_down old.state.phase ≡ true → Does slots old.id old.nodes s event came new.mounted (what_of event end) → came_outcome end first came ≡ outcome.Refused (OfNode AreaExhausted) → ⊥
+  worn_down slots (Refused AreaExhausted) is does worn =
       let fallen : s.state ≡ down old.id = sym stands.state ∙ shows.fallen is in
       let none = (at_down old.id old.nodes s event fallen does.possible.0 does.possible.1.0).wants in
       subst (λ (w : Option Command). IsAppended w) none does.possible.1.1.1
@@ -228,7 +228,7 @@ module _ (old new : Node Memory) (event : Event) (came : Came) (first : ℕ) (s 
   worn_down slots (RaiseFailed kept) is does worn = cc
   worn_down slots (RaiseRefused kept) is does worn = absurd cc
 
-  worn_up : (bound : ℕ) → is_down old.state.phase ≡ false → IsAnswered old event (came_outcome came.fate first came) → AreaWithin bound old.disk → bound + 1 < 2 ^ 64 → came_outcome came.fate first came ≡ outcome.Refused (OfNode Worn) → ⊥
+  worn_up : (bound : ℕ) → is_down old.state.phase ≡ false → IsAnswered old event (came_outcome came.event_outcome first came) → AreaWithin bound old.disk → bound + 1 < 2 ^ 64 → came_outcome came.event_outcome first came ≡ outcome.Refused (OfNode AreaExhausted) → ⊥
   worn_up bound is answered within more worn =
       let shown = shows.up is in
       let d = shown.0.0 in
@@ -236,14 +236,14 @@ module _ (old new : Node Memory) (event : Event) (came : Came) (first : ℕ) (s 
       let low = shown_within disk area.number bound (shows.number disk area at_disk shown.1.1) (within disk at_disk) in
       not_worn d area (wants_of old.id d.pending event old.state) (can_rise area bound low more) (worn_alone _ _ _ (answered d area shown.0.1 shown.1.1) worn)
 
-  pub areas_so : Steps state_of old new event came → CountsOf state_of old.disk new.disk (answered (Ok came)) → IsAnswered old event (came_outcome came.fate first came) → AreaRises old.disk new.disk (came_outcome came.fate first came)
+  pub areas_so : Steps state_of old new event came → CountsOf state_of old.disk new.disk (answered (Ok came)) → IsAnswered old event (came_outcome came.event_outcome first came) → AreaRises old.disk new.disk (came_outcome came.event_outcome first came)
   areas_so steps counts answered bound within = (
     λ now at. counts.rises disk now at_disk at refl bound (within disk at_disk),
     λ more worn. by_phase (is_down old.state.phase) refl more worn,
   )
     where
-      by_phase : (b : Bool) → is_down old.state.phase ≡ b → bound + 1 < 2 ^ 64 → came_outcome came.fate first came ≡ outcome.Refused (OfNode Worn) → ⊥
-      by_phase true is more worn = worn_down (slots_for (state_of disk).sectors) came.fate is (steps disk s at_disk stands (λ _. refl)).0 worn
+      by_phase : (b : Bool) → is_down old.state.phase ≡ b → bound + 1 < 2 ^ 64 → came_outcome came.event_outcome first came ≡ outcome.Refused (OfNode AreaExhausted) → ⊥
+      by_phase true is more worn = worn_down (slots_for (state_of disk).sectors) came.event_outcome is (steps disk s at_disk stands (λ _. refl)).0 worn
       by_phase false is more worn = worn_up bound is answered within more worn
 
 -- ---- an event that comes to nothing
@@ -260,7 +260,7 @@ stuck_so old new event node.TooSmall disk at stuck s stands = absurd (stuck.stra
 -- ---- an act of the operator
 
 -- where nothing is refused as worn, and the area stays
-pub area_stays : (old new : Option Memory) (o : Outcome) → o ≢ outcome.Refused (OfNode Worn) → ((bound : ℕ) → AreaWithin bound old → AreaWithin bound new) → AreaRises old new o
+pub area_stays : (old new : Option Memory) (o : Outcome) → o ≢ outcome.Refused (OfNode AreaExhausted) → ((bound : ℕ) → AreaWithin bound old → AreaWithin bound new) → AreaRises old new o
 area_stays old new o other stays bound within = (λ d at image number is cell. omega (arith, stays bound within d at image number is cell), λ _. other)
 
 pub armed_within : (calls : ℕ) (old new : Option Memory) → new ≡ armed_disk calls old → (bound : ℕ) → AreaWithin bound old → AreaWithin bound new
@@ -275,11 +275,11 @@ compacted_areas old new result o disk at_disk counts refused numbers bound withi
   λ more worn. by_area old.area refl refused more worn,
 )
   where
-    by_last : (b : Bool) → b ≡ false → IsRefusedAs (if b then Some Worn else None) o → o ≡ outcome.Refused (OfNode Worn) → ⊥
+    by_last : (b : Bool) → b ≡ false → IsRefusedAs (if b then Some AreaExhausted else None) o → o ≡ outcome.Refused (OfNode AreaExhausted) → ⊥
     by_last true free is worn = absurd cc
-    by_last false free is worn = is (OfNode Worn) worn
+    by_last false free is worn = is (OfNode AreaExhausted) worn
 
-    by_area : (area : Option Area) → old.area ≡ area → IsRefusedAs (compaction_refusal area) o → bound + 1 < 2 ^ 64 → o ≡ outcome.Refused (OfNode Worn) → ⊥
+    by_area : (area : Option Area) → old.area ≡ area → IsRefusedAs (compaction_refusal area) o → bound + 1 < 2 ^ 64 → o ≡ outcome.Refused (OfNode AreaExhausted) → ⊥
     by_area None at is more worn = (let both = sym is ∙ worn in cc)
     by_area (Some area) at is more worn =
         let low = shown_within disk area.number bound (numbers disk area at_disk at) (within disk at_disk) in
@@ -288,25 +288,25 @@ compacted_areas old new result o disk at_disk counts refused numbers bound withi
 -- ---- the cluster
 
 -- an act that no node refuses, and that leaves all nodes as they are
-pub idle_areas : (old new : List (Node Memory)) (o : Outcome) → new ≡ old → o ≢ outcome.Refused (OfNode Worn) → (bound : ℕ) → AreasWithin bound old → AreasWithin (bound + 1) new × (bound + 1 < 2 ^ 64 → o ≢ outcome.Refused (OfNode Worn))
+pub idle_areas : (old new : List (Node Memory)) (o : Outcome) → new ≡ old → o ≢ outcome.Refused (OfNode AreaExhausted) → (bound : ℕ) → AreasWithin bound old → AreasWithin (bound + 1) new × (bound + 1 < 2 ^ 64 → o ≢ outcome.Refused (OfNode AreaExhausted))
 idle_areas old new o same other bound within = (λ k node at d on image number is cell. omega (arith, within k node (rw same at at) d on image number is cell), λ _. other)
 
 pub node_areas : (n : ℕ) (nodes : List (Node Memory)) (old new : Node Memory) (o : Outcome) → slice_get nodes n ≡ Some old → AreaRises old.disk new.disk o
-    → (bound : ℕ) → AreasWithin bound nodes → AreasWithin (bound + 1) (slice_set nodes n new) × (bound + 1 < 2 ^ 64 → o ≢ outcome.Refused (OfNode Worn))
+    → (bound : ℕ) → AreasWithin bound nodes → AreasWithin (bound + 1) (slice_set nodes n new) × (bound + 1 < 2 ^ 64 → o ≢ outcome.Refused (OfNode AreaExhausted))
 node_areas n nodes old new o at rises bound within =
     let here = rises bound (within n old at) in (
       at_each (λ (k : ℕ) (x : Node Memory). AreaWithin (bound + 1) x.disk) nodes n old new at here.0 (λ k x other there d on image number is cell. omega (arith, within k x there d on image number is cell)),
       here.1,
     )
 
-pub areas_if : {E : Type 0} (slots n : ℕ) (nodes : List (Node Memory)) (old new : Node Memory) (net net' : Network) (result : Result Deed E) (now : WorldView) → record { slots = slots; nodes = nodes; net = net } ≡ now
-    → slice_get nodes n ≡ Some old → IfOk result (λ (d : Deed). AreaRises old.disk new.disk d.outcome)
-    → IfOk result (λ (d : Deed). AreasRise now (record { slots = slots; nodes = slice_set nodes n new; net = net' }) d.outcome)
+pub areas_if : {E : Type 0} (slots n : ℕ) (nodes : List (Node Memory)) (old new : Node Memory) (net net' : Network) (result : Result ActReport E) (now : WorldView) → record { slots = slots; nodes = nodes; net = net } ≡ now
+    → slice_get nodes n ≡ Some old → IfOk result (λ (d : ActReport). AreaRises old.disk new.disk d.outcome)
+    → IfOk result (λ (d : ActReport). AreasRise now (record { slots = slots; nodes = slice_set nodes n new; net = net' }) d.outcome)
 areas_if slots n nodes old new net net' (Ok d) now viewed at rises = rw (← viewed) (node_areas n nodes old new d.outcome at rises)
 areas_if slots n nodes old new net net' (Err e) now viewed at rises = tt
 
-pub answers_if : {E : Type 0} (n : ℕ) (nodes : List (Node Memory)) (event : Event) (old : Node Memory) (result : Result Deed E) → slice_get nodes n ≡ Some old → IfOk result (λ (d : Deed). IsAnswered old event d.outcome)
-    → IfOk result (λ (d : Deed). IsAnsweredAt nodes n event d.outcome)
+pub answers_if : {E : Type 0} (n : ℕ) (nodes : List (Node Memory)) (event : Event) (old : Node Memory) (result : Result ActReport E) → slice_get nodes n ≡ Some old → IfOk result (λ (d : ActReport). IsAnswered old event d.outcome)
+    → IfOk result (λ (d : ActReport). IsAnsweredAt nodes n event d.outcome)
 answers_if n nodes event old (Ok d) at is = λ was there. subst (λ (x : Node Memory). IsAnswered x event d.outcome) (is_some old was (sym at ∙ there)) is
 answers_if n nodes event old (Err e) at is = tt
 
@@ -322,13 +322,13 @@ answered_by net nodes a id event o is answered n e at =
     let same : ◌≡◌ {A = ℕ × Event} (id, event) (n, e) = is_some (id, event) (n, e) (sym is ∙ at) in
     subst (λ (p : ℕ × Event). IsAnsweredAt nodes p.0 p.1 o) same answered
 
-pub event_answered : {E : Type 0} (net : Network) (nodes : List (Node Memory)) (a : Act) (id : ℕ) (event : Event) (result : Result Deed E) → event_by net a ≡ Some (id, event) → IfOk result (λ (d : Deed). IsAnsweredAt nodes id event d.outcome)
-    → IfOk result (λ (d : Deed). (n : ℕ) (e : Event) → event_by net a ≡ Some (n, e) → IsAnsweredAt nodes n e d.outcome)
+pub event_answered : {E : Type 0} (net : Network) (nodes : List (Node Memory)) (a : Act) (id : ℕ) (event : Event) (result : Result ActReport E) → event_by net a ≡ Some (id, event) → IfOk result (λ (d : ActReport). IsAnsweredAt nodes id event d.outcome)
+    → IfOk result (λ (d : ActReport). (n : ℕ) (e : Event) → event_by net a ≡ Some (n, e) → IsAnsweredAt nodes n e d.outcome)
 event_answered net nodes a id event (Ok d) is answered = answered_by net nodes a id event d.outcome is answered
 event_answered net nodes a id event (Err e) is answered = tt
 
-pub act_answered : {E : Type 0} (net : Network) (nodes : List (Node Memory)) (a : Act) (id : ℕ) (event : Event) (result : Result Deed E) → event_at a ≡ Some (id, event) → IfOk result (λ (d : Deed). IsAnsweredAt nodes id event d.outcome)
-    → IfOk result (λ (d : Deed). (n : ℕ) (e : Event) → event_by net a ≡ Some (n, e) → IsAnsweredAt nodes n e d.outcome)
+pub act_answered : {E : Type 0} (net : Network) (nodes : List (Node Memory)) (a : Act) (id : ℕ) (event : Event) (result : Result ActReport E) → event_at a ≡ Some (id, event) → IfOk result (λ (d : ActReport). IsAnsweredAt nodes id event d.outcome)
+    → IfOk result (λ (d : ActReport). (n : ℕ) (e : Event) → event_by net a ≡ Some (n, e) → IsAnsweredAt nodes n e d.outcome)
 act_answered net nodes a id event result is answered = event_answered net nodes a id event result (event_by_at net a (id, event) is) answered
 
 none_by : (net : Network) (a : Act) → event_at a ≡ None → ((k : ℕ) → a ≢ act.Deliver k) → event_by net a ≡ None

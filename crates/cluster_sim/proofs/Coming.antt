@@ -5,18 +5,18 @@ use Rattle.sector_disk.specs.Memory.{Memory, state_of}
 use Rattle.job_model.specs.Durable.{Durable}
 use Rattle.sim_net.specs.Network.{Network, after_all_sent}
 use Rattle.node_core.specs.declared.event.Event.{Event}
-use Rattle.histories.specs.What.{IsOf}
-use Rattle.histories.specs.Fates.{what_of}
+use Rattle.histories.specs.HistoryEvent.{IsOf}
+use Rattle.histories.specs.EventOutcomes.{what_of}
 use Rattle.node_store.specs.Store.{slots_for}
 use Rattle.durable_node.specs.declared.fault.NodeFault.{NodeFault}
 use Rattle.durable_node.specs.declared.fault.NodeFault.TheVariants as node
-use Rattle.durable_node.specs.declared.came.Came.{Came}
+use Rattle.durable_node.specs.declared.step_report.StepReport.{StepReport}
 use Rattle.durable_node.specs.Faults.{fault_of, answered, answered_as}
-use Rattle.node_core.specs.declared.fault.Refusal.TheVariants.{Full, Worn}
+use Rattle.node_core.specs.declared.fault.Refusal.TheVariants.{Full, AreaExhausted}
 use Rattle.durable_node.specs.Node.{Area, Node, Stands}
 use Rattle.histories.specs.NodeState.{NodeState}
-use Rattle.histories.specs.declared.fate.Fate.{Fate}
-use Rattle.histories.specs.declared.fate.Fate.TheVariants.{Done, Refused, Faulted, Recovered, MountFailed, RaiseFailed}
+use Rattle.histories.specs.declared.event_outcome.EventOutcome.{EventOutcome}
+use Rattle.histories.specs.declared.event_outcome.EventOutcome.TheVariants.{Done, Refused, Faulted, Recovered, MountFailed, RaiseFailed}
 use Rattle.histories.specs.Possible.{IsOfSlots, IsPossible}
 use Rattle.durable_node.specs.Stepping.{Does, Steps, CountsOf}
 use Rattle.runs.specs.declared.outcome.Outcome.{Outcome}
@@ -26,22 +26,22 @@ use Rattle.schedule.specs.declared.act.Act.{Act}
 use Rattle.schedule.specs.declared.act.Act.TheVariants as act
 use Rattle.cluster_sim.specs.Outcomes.{came_outcome, compaction_outcome}
 use Rattle.cluster_sim.specs.World.{MayHaveForgotten, IsOfSize, IsSame, IsCounted, Comes, is_mounting, fate_in, bare}
-use Rattle.cluster_sim.specs.declared.deed.Deed.{Deed}
+use Rattle.cluster_sim.specs.declared.act_report.ActReport.{ActReport}
 use Rattle.durable_node.specs.Compacting.{CompactionAnswers, IsMovedNode, IsFallenNode, StaysKept}
 use Rattle.durable_node.specs.Refusing.{AnswersTo, compaction_refusal, is_last}
 use Rattle.cluster_sim.specs.Operated.{IsCompacted, IsLeftBy, IsRefusedAs}
 use Rattle.runs.specs.declared.outcome.Refusal.{Refusal as ActRefusal}
-use Rattle.histories.specs.declared.what.What.{What}
-use Rattle.histories.specs.declared.what.What.TheVariants.{Rests, Crashed}
-use Rattle.histories.specs.declared.what.Rest.TheVariants.{Nothing, Compacted}
+use Rattle.histories.specs.declared.history_event.HistoryEvent.{HistoryEvent}
+use Rattle.histories.specs.declared.history_event.HistoryEvent.TheVariants.{NoOp, Crashed}
+use Rattle.histories.specs.declared.history_event.NoOpKind.TheVariants.{Nothing, Compacted}
 use Rattle.histories.specs.After.{after}
 use Rattle.node_core.specs.declared.fault.CoreFault.TheVariants.{Down}
 use Rattle.node_core.specs.State.{State, is_down}
 use Rattle.runs.proofs.PublicLaws.{none_sent}
 
 -- what came of an event has the outcome of what comes of it
-pub what_outcome_is : (slots self nodes first : ℕ) (s : NodeState) (a : Act) (event : Event) (came : Came) (mounted : Option Durable) (fate : Fate) → Does slots self nodes s event came mounted (what_of event fate)
-    → came_outcome fate first came ≡ what_outcome self nodes first s (what_of event fate) a
+pub what_outcome_is : (slots self nodes first : ℕ) (s : NodeState) (a : Act) (event : Event) (came : StepReport) (mounted : Option Durable) (event_outcome : EventOutcome) → Does slots self nodes s event came mounted (what_of event event_outcome)
+    → came_outcome event_outcome first came ≡ what_outcome self nodes first s (what_of event event_outcome) a
 what_outcome_is slots self nodes first s a event came mounted Done does = λ i. outcome.Done (does.answer i) first (length (does.sent i))
 what_outcome_is slots self nodes first s a event came mounted (Recovered kept) does = λ i. outcome.Done (does.answer i) first (length (does.sent i))
 what_outcome_is slots self nodes first s a event came mounted _ does = refl
@@ -60,34 +60,34 @@ same_by old new result id nodes counts = record {
 }
 
 -- an event was handled at the node, whose disk may then have forgotten the moments before
-abbrev pub Leaves : Node Memory → Node Memory → Event → Came → Type 0
+abbrev pub Leaves : Node Memory → Node Memory → Event → StepReport → Type 0
 Leaves old last event came = IsSame old last × Steps state_of old last event came × CountsOf state_of old.disk last.disk (answered (Ok came))
 
-pub left_so : (old new last : Node Memory) (event : Event) (came : Came) → MayHaveForgotten new last → new.id ≡ old.id → new.nodes ≡ old.nodes → CountsOf state_of old.disk new.disk (answered (Ok came))
+pub left_so : (old new last : Node Memory) (event : Event) (came : StepReport) → MayHaveForgotten new last → new.id ≡ old.id → new.nodes ≡ old.nodes → CountsOf state_of old.disk new.disk (answered (Ok came))
     → Steps state_of old new event came → Leaves old last event came
 left_so old new last event came (inl same) id nodes counts steps = subst (λ (n : Node Memory). Leaves old n event came) (sym same) (same_by old new _ id nodes counts, steps, counts)
 left_so old new last event came (inr forgot) id nodes counts steps =
     let later = counts_and_forgets old.disk new.disk last.disk (answered (Ok came)) (λ i. (forgot i).disk) counts in
     (same_by old last _ ((λ i. (forgot i).id) ∙ id) ((λ i. (forgot i).nodes) ∙ nodes) later, steps_and_forgets old new last event came forgot steps, later)
 
-fate_is : (event : Event) (fate : Fate) → Some fate ≡ fate_in (what_of event fate)
-fate_is event fate = grind arith
+fate_is : (event : Event) (event_outcome : EventOutcome) → Some event_outcome ≡ fate_in (what_of event event_outcome)
+fate_is event event_outcome = grind arith
 
-pub comes_by : (event : Event) (old new : Node Memory) (net net' : Network) (came : Came) (deed : Deed) → IsSome old.disk → Steps state_of old new event came
-    → deed.fate ≡ Some came.fate → deed.tried ≡ came.tried → deed.acked ≡ came.answer → deed.mounted ≡ is_mounting (what_of event came.fate) → deed.outcome ≡ came_outcome came.fate (length net.sent) came → net' ≡ after_all_sent net came.sent.items
+pub comes_by : (event : Event) (old new : Node Memory) (net net' : Network) (came : StepReport) (deed : ActReport) → IsSome old.disk → Steps state_of old new event came
+    → deed.event_outcome ≡ Some came.event_outcome → deed.tried ≡ came.tried → deed.acked ≡ came.answer → deed.mounted ≡ is_mounting (what_of event came.event_outcome) → deed.outcome ≡ came_outcome came.event_outcome (length net.sent) came → net' ≡ after_all_sent net came.sent.items
     → (slots : ℕ) (s : NodeState) (a : Act) → slots ≤ 4096 → IsOfSize slots old.disk → Stands state_of old s → Comes slots old.id old.nodes a (IsOf event) s deed new net net'
-comes_by event old new net net' came deed has steps fate tried acked mounted outcome_is sent slots s a most size stands =
+comes_by event old new net net' came deed has steps event_outcome tried acked mounted outcome_is sent slots s a most size stands =
     let was = some_of old.disk has in
     let step = steps was.0 s was.1 stands (λ _. refl) in
     let does = step.0 in
     let sized : slots_for (8 + 4 * slots) ≡ slots = grind (arith) in
     record {
-      what = what_of event came.fate;
+      what = what_of event came.event_outcome;
       is = does.of;
       possible = does.possible;
-      of_slots = subst (λ (n : ℕ). IsOfSlots n old.id old.nodes s (what_of event came.fate)) (ap slots_for (size was.0 was.1) ∙ sized) does.of_slots;
-      outcome_is = outcome_is ∙ what_outcome_is (slots_for (state_of was.0).sectors) old.id old.nodes (length net.sent) s a event came new.mounted came.fate does;
-      reports = record { fate = fate ∙ fate_is event came.fate; tried = tried ∙ does.tried.which; acked = acked ∙ does.answer; mounted = mounted };
+      of_slots = subst (λ (n : ℕ). IsOfSlots n old.id old.nodes s (what_of event came.event_outcome)) (ap slots_for (size was.0 was.1) ∙ sized) does.of_slots;
+      outcome_is = outcome_is ∙ what_outcome_is (slots_for (state_of was.0).sectors) old.id old.nodes (length net.sent) s a event came new.mounted came.event_outcome does;
+      reports = record { event_outcome = event_outcome ∙ fate_is event came.event_outcome; tried = tried ∙ does.tried.which; acked = acked ∙ does.answer; mounted = mounted };
       sent = sent ∙ (λ i. after_all_sent net (does.sent i));
       mounted = does.mounted;
       stands = step.1;
@@ -102,7 +102,7 @@ counted_by old new result o so back counts was now before after =
     let c = counts.counts was now before after in
     record { sectors = c.sectors; honest = c.honest; later = c.later; unchanged = λ not. c.unchanged (λ bad. not (back bad)); cause = λ is. c.cause (so is) }
 
-pub came_counted : (old new : Option Memory) (came : Came) (first : ℕ) (fate : Fate) → CountsOf state_of old new (answered_as came (fault_of fate)) → IsCounted old new (came_outcome fate first came)
+pub came_counted : (old new : Option Memory) (came : StepReport) (first : ℕ) (event_outcome : EventOutcome) → CountsOf state_of old new (answered_as came (fault_of event_outcome)) → IsCounted old new (came_outcome event_outcome first came)
 came_counted old new came first Faulted counts = counted_by old new _ _ (λ _. refl) (λ _. refl) counts
 came_counted old new came first MountFailed counts = counted_by old new _ _ (λ _. refl) (λ _. refl) counts
 came_counted old new came first (RaiseFailed kept) counts = counted_by old new _ _ (λ _. refl) (λ _. refl) counts
@@ -112,21 +112,21 @@ came_counted old new came first _ counts = counted_by old new _ _ (λ bad. absur
 -- ---- a compaction
 
 -- it has the outcome of what came of it
-pub outcome_so : {A : Type 0} (self nodes first n : ℕ) (s : NodeState) (what : What) (result : Result A NodeFault) → CompactionAnswers what result
+pub outcome_so : {A : Type 0} (self nodes first n : ℕ) (s : NodeState) (what : HistoryEvent) (result : Result A NodeFault) → CompactionAnswers what result
     → (result ≡ Err node.Device → is_down s.state.phase ≡ false) → IsCompaction s what × (compaction_outcome first result ≡ what_outcome self nodes first s what (act.Compact n))
-outcome_so self nodes first n s (Rests Nothing) result is up = absurd is
-outcome_so self nodes first n s (Rests Compacted) (Ok a) is up = (tt, refl)
-outcome_so self nodes first n s (Rests Compacted) (Err fault) is up = absurd cc
-outcome_so self nodes first n s (Rests _) result is up = (tt, rw is refl)
+outcome_so self nodes first n s (NoOp Nothing) result is up = absurd is
+outcome_so self nodes first n s (NoOp Compacted) (Ok a) is up = (tt, refl)
+outcome_so self nodes first n s (NoOp Compacted) (Err fault) is up = absurd cc
+outcome_so self nodes first n s (NoOp _) result is up = (tt, rw is refl)
 outcome_so self nodes first n s Crashed result is up = (up is, rw is refl)
 outcome_so self nodes first n s _ result is up = absurd is
 
-pub compacted_comes : (slots n id nodes : ℕ) (s : NodeState) (o : Outcome) (new : Node Memory) (net : Network) (what : What) → IsCompaction s what → IsPossible id nodes s what
+pub compacted_comes : (slots n id nodes : ℕ) (s : NodeState) (o : Outcome) (new : Node Memory) (net : Network) (what : HistoryEvent) → IsCompaction s what → IsPossible id nodes s what
     → o ≡ what_outcome id nodes (length net.sent) s what (act.Compact n) → new.mounted ≡ None → Stands state_of new (after id nodes s what) → Comes slots id nodes (act.Compact n) (IsCompaction s) s (bare o) new net net
-compacted_comes slots n id nodes s o new net (Rests rest) is may shown none stands =
-    record { what = Rests rest; is = is; possible = may; of_slots = tt; outcome_is = shown; reports = record { fate = refl; tried = refl; acked = refl; mounted = refl }; sent = sym (none_sent net); mounted = none; stands = stands }
+compacted_comes slots n id nodes s o new net (NoOp rest) is may shown none stands =
+    record { what = NoOp rest; is = is; possible = may; of_slots = tt; outcome_is = shown; reports = record { event_outcome = refl; tried = refl; acked = refl; mounted = refl }; sent = sym (none_sent net); mounted = none; stands = stands }
 compacted_comes slots n id nodes s o new net Crashed is may shown none stands =
-    record { what = Crashed; is = is; possible = may; of_slots = tt; outcome_is = shown; reports = record { fate = refl; tried = refl; acked = refl; mounted = refl }; sent = sym (none_sent net); mounted = none; stands = stands }
+    record { what = Crashed; is = is; possible = may; of_slots = tt; outcome_is = shown; reports = record { event_outcome = refl; tried = refl; acked = refl; mounted = refl }; sent = sym (none_sent net); mounted = none; stands = stands }
 compacted_comes slots n id nodes s o new net _ is may shown none stands = absurd is
 
 -- nothing is mounted
@@ -156,7 +156,7 @@ pub compacted_refused : {A : Type 0} (area : Option Area) (first : ℕ) (result 
 compacted_refused None first result is = rw is refl
 compacted_refused (Some area) first result is = by_last (is_last area) is
   where
-    by_last : (b : Bool) → AnswersTo (if b then Some Worn else None) result → IsRefusedAs (if b then Some Worn else None) (compaction_outcome first result)
+    by_last : (b : Bool) → AnswersTo (if b then Some AreaExhausted else None) result → IsRefusedAs (if b then Some AreaExhausted else None) (compaction_outcome first result)
     by_last true is = rw is refl
     by_last false either = never_refused first result either
 

@@ -6,9 +6,9 @@ use Rattle.sim_net.specs.declared.fault.NetFault.{NetFault}
 use Rattle.sim_net.specs.Network.{Network, message_at, delivery, after_lost}
 use Rattle.node_core.specs.declared.event.Event.{Event}
 use Rattle.node_core.specs.declared.event.Event.TheVariants as on
-use Rattle.histories.specs.declared.what.What.{What}
-use Rattle.histories.specs.declared.what.What.TheVariants.{Rests, Crashed}
-use Rattle.histories.specs.What.{event_of, brought, AreAddressed, IsOf}
+use Rattle.histories.specs.declared.history_event.HistoryEvent.{HistoryEvent}
+use Rattle.histories.specs.declared.history_event.HistoryEvent.TheVariants.{NoOp, Crashed}
+use Rattle.histories.specs.HistoryEvent.{event_of, brought, AreAddressed, IsOf}
 use Rattle.schedule.specs.declared.act.Act.{Act}
 use Rattle.schedule.specs.declared.act.Act.TheVariants as act
 use Rattle.runs.specs.declared.outcome.Outcome.{Outcome}
@@ -28,12 +28,12 @@ use Rattle.durable_node.proofs.PublicLaws.{is_some}
 use Rattle.cluster_sim.specs.World.{FaultsAt, IsUntouched, WorldView, StandsFor, Performed, Makes, bare, disk_of}
 use Rattle.cluster_sim.specs.Operated.{Operates, IsCompacted, OperatedAs, OperatesNode, operated_at}
 use Rattle.cluster_sim.specs.Names.{node_named, node_or_first}
-use Rattle.cluster_sim.specs.declared.deed.Deed.{Deed}
+use Rattle.cluster_sim.specs.declared.act_report.ActReport.{ActReport}
 
 -- ---- what comes of an event
 
 pub brought_came : (w : World) (n number : ℕ) (event : Event) → IsBrought w number (brought (Some event)) → AreAddressed n (brought (Some event))
-    → (what : What) → IsOf event what → IsBrought w number (brought (event_of what)) × AreAddressed n (brought (event_of what))
+    → (what : HistoryEvent) → IsOf event what → IsBrought w number (brought (event_of what)) × AreAddressed n (brought (event_of what))
 brought_came w n number event brings goes what is = rw is (brings, goes)
 
 -- ---- an act that is an event
@@ -52,8 +52,8 @@ taken _ = tt
 
 -- ---- a step of an act
 
-pub performed : {E : Type 0} (Q : Step → Type 0) (w : World) (a : Act) (result : Result Deed E) (new : WorldView)
-    → ((step : Step) → Q step → IsStepOf (length w.states) w a step) → IfOk result (λ (d : Deed). Makes a Q w d new) → IfOk result (λ (d : Deed). Performed w a d new)
+pub performed : {E : Type 0} (Q : Step → Type 0) (w : World) (a : Act) (result : Result ActReport E) (new : WorldView)
+    → ((step : Step) → Q step → IsStepOf (length w.states) w a step) → IfOk result (λ (d : ActReport). Makes a Q w d new) → IfOk result (λ (d : ActReport). Performed w a d new)
 performed Q w a (Ok d) new is_step makes = record {
   acted = record {
     step = makes.step;
@@ -69,30 +69,30 @@ performed Q w a (Err e) new is_step makes = tt
 pub taken_as : (a : Act) (n : ℕ) (event : Event) → event_at a ≡ Some (n, event) → IsTakenAs a (n, event)
 taken_as a n event at = subst (λ (x : Option (ℕ × Event)). IfSome x (IsTakenAs a)) at (taken a)
 
-pub event_acted : {E : Type 0} (w : World) (a : Act) (n : ℕ) (event : Event) (result : Result Deed E) (new : WorldView) → event_at a ≡ Some (n, event)
-    → ((number : ℕ) → IsBrought w number (brought (Some event)) → AreAddressed n (brought (Some event)) → IfOk result (λ (d : Deed). Makes a (λ step. At (nat_lt n (length w.states)) n number (IsOf event) step) w d new))
-    → IfOk result (λ (d : Deed). Performed w a d new)
+pub event_acted : {E : Type 0} (w : World) (a : Act) (n : ℕ) (event : Event) (result : Result ActReport E) (new : WorldView) → event_at a ≡ Some (n, event)
+    → ((number : ℕ) → IsBrought w number (brought (Some event)) → AreAddressed n (brought (Some event)) → IfOk result (λ (d : ActReport). Makes a (λ step. At (nat_lt n (length w.states)) n number (IsOf event) step) w d new))
+    → IfOk result (λ (d : ActReport). Performed w a d new)
 event_acted w a n event result new at makes =
     let is = taken_as a n event at in
     performed (λ step. At (nat_lt n (length w.states)) n 0 (IsOf event) step) w a result new (is.is_step (length w.states) w)
     (makes 0 (rw is.quiet tt) (rw is.quiet tt))
 
-pub faults_named : {E : Type 0} (a : Act) (n : ℕ) (event : Event) (was now new : WorldView) (result : Result Deed E) → was ≡ now → event_at a ≡ Some (n, event)
-    → IfOk result (λ (d : Deed). FaultsAt (node_or_first (length was.nodes) n) was new d.outcome) → IfOk result (λ (d : Deed). FaultsAt (node_named (length now.nodes) now.net.sent a) now new d.outcome)
+pub faults_named : {E : Type 0} (a : Act) (n : ℕ) (event : Event) (was now new : WorldView) (result : Result ActReport E) → was ≡ now → event_at a ≡ Some (n, event)
+    → IfOk result (λ (d : ActReport). FaultsAt (node_or_first (length was.nodes) n) was new d.outcome) → IfOk result (λ (d : ActReport). FaultsAt (node_named (length now.nodes) now.net.sent a) now new d.outcome)
 faults_named a n event was now new result viewed is faults =
     rw (← viewed, (taken_as a n event is).named (length was.nodes) was.net.sent) faults
 
-pub untouched_named : {E : Type 0} (a : Act) (n : ℕ) (event : Event) (was now new : WorldView) (result : Result Deed E) → was ≡ now → event_at a ≡ Some (n, event)
+pub untouched_named : {E : Type 0} (a : Act) (n : ℕ) (event : Event) (was now new : WorldView) (result : Result ActReport E) → was ≡ now → event_at a ≡ Some (n, event)
     → OnErr result (IsUntouched (node_or_first (length was.nodes) n) was new) → OnErr result (IsUntouched (node_named (length now.nodes) now.net.sent a) now new)
 untouched_named a n event was now new result viewed is same =
     rw (← viewed, (taken_as a n event is).named (length was.nodes) was.net.sent) same
 
 -- ---- the network's acts
 
-pub delivered : {E : Type 0} (w : World) (k : ℕ) (m : Envelope) (result : Result Deed E) (new : WorldView) → delivery w.net k ≡ Ok m
+pub delivered : {E : Type 0} (w : World) (k : ℕ) (m : Envelope) (result : Result ActReport E) (new : WorldView) → delivery w.net k ≡ Ok m
     → (IsBrought w k (brought (Some (on.Deliver m))) → AreAddressed m.receiver (brought (Some (on.Deliver m)))
-    → IfOk result (λ (d : Deed). Makes (act.Deliver k) (λ step. At (nat_lt m.receiver (length w.states)) m.receiver k (IsOf (on.Deliver m)) step) w d new))
-    → IfOk result (λ (d : Deed). Performed w (act.Deliver k) d new)
+    → IfOk result (λ (d : ActReport). Makes (act.Deliver k) (λ step. At (nat_lt m.receiver (length w.states)) m.receiver k (IsOf (on.Deliver m)) step) w d new))
+    → IfOk result (λ (d : ActReport). Performed w (act.Deliver k) d new)
 delivered w k m result new comes makes = performed (λ step. At (nat_lt m.receiver (length w.states)) m.receiver k (IsOf (on.Deliver m)) step) w (act.Deliver k) result new
     (λ step at. rw comes at) (makes (comes, tt) (refl, tt))
 
@@ -156,27 +156,27 @@ linked_by w act a b after view now net' o is_step viewed stands known sent same 
 -- an act of the operator at node n is what comes there, brings no message, and does what it does to that node, if there is one
 pub record OperatesAt (a : Act) (n : ℕ) : Type 0 where
   pub is_step : (nodes : ℕ) (w : World) (step : Step) → At (nat_lt n nodes) n 0 (OperatedAs a (node_in w.states n)) step → IsStepOf nodes w a step
-  pub brings : (s : NodeState) (what : What) → OperatedAs a s what → brought (event_of what) ≡ []
+  pub brings : (s : NodeState) (what : HistoryEvent) → OperatedAs a s what → brought (event_of what) ≡ []
   pub named : (nodes : ℕ) (sent : List Envelope) → node_named nodes sent a ≡ node_or_first nodes n
   pub there : (old new : WorldView) (was now : Node Memory) (o : Outcome) → slice_get old.nodes n ≡ Some was → slice_get new.nodes n ≡ Some now → OperatesNode a was now o → Operates a old new o
   pub nowhere : (view : WorldView) (o : Outcome) → length view.nodes ≤ n → Operates a view view o
 
-compaction_brings : (s : NodeState) (what : What) → IsCompaction s what → brought (event_of what) ≡ []
-compaction_brings s (Rests rest) is = refl
+compaction_brings : (s : NodeState) (what : HistoryEvent) → IsCompaction s what → brought (event_of what) ≡ []
+compaction_brings s (NoOp rest) is = refl
 compaction_brings s Crashed is = refl
 compaction_brings s _ is = absurd is
 
 operates_at : (a : Act) → IfSome (operated_at a) (OperatesAt a)
 operates_at (act.Arm n calls) = record {
   is_step = λ nodes w step at. at;
-  brings = λ s what is. ap (λ (x : What). brought (event_of x)) is;
+  brings = λ s what is. ap (λ (x : HistoryEvent). brought (event_of x)) is;
   named = λ nodes sent. refl;
   there = λ old new was now o at_was at_now is. ap disk_of at_now ∙ is ∙ ap (λ (x : Option (Node Memory)). armed_disk calls (disk_of x)) (sym at_was);
   nowhere = λ view o past. rw (slice_get_past view.nodes n past) refl;
 }
 operates_at (act.Crash n fill) = record {
   is_step = λ nodes w step at. at;
-  brings = λ s what is. ap (λ (x : What). brought (event_of x)) is;
+  brings = λ s what is. ap (λ (x : HistoryEvent). brought (event_of x)) is;
   named = λ nodes sent. refl;
   there = λ old new was now o at_was at_now is x y at_x at_y. is x y (ap disk_of (sym at_was) ∙ at_x) (ap disk_of (sym at_now) ∙ at_y);
   nowhere = λ view o past x y at_x at_y. absurd (let none : None ≡ Some x = ap disk_of (sym (slice_get_past view.nodes n past)) ∙ at_x in cc);

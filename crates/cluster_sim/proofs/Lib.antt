@@ -7,3 +7,5 @@ mod Reporting
 mod Advancing
 mod Opening
 mod Promised
+mod Tracings
+mod Judgings

@@ -6,8 +6,8 @@ use Rattle.sector_disk.specs.Memory.{Memory, state_of}
 use Rattle.sim_net.specs.Network.{Network, after_all_sent}
 use Rattle.durable_node.specs.Node.{Node, Stands}
 use Rattle.histories.specs.NodeState.{NodeState}
-use Rattle.histories.specs.declared.what.What.{What}
-use Rattle.histories.specs.What.{event_of, brought, AreAddressed}
+use Rattle.histories.specs.declared.history_event.HistoryEvent.{HistoryEvent}
+use Rattle.histories.specs.HistoryEvent.{event_of, brought, AreAddressed}
 use Rattle.histories.specs.After.{after, sent_at, mounted_at}
 use Rattle.durable_node.proofs.PublicLaws.{is_some}
 use Rattle.runs.specs.declared.outcome.Outcome.TheVariants as outcome
@@ -18,7 +18,7 @@ use Rattle.runs.specs.Run.{IsBrought}
 use Rattle.runs.specs.Acts.{At, what_outcome}
 use Rattle.schedule.specs.declared.act.Act.{Act}
 use Rattle.cluster_sim.specs.World.{WorldView, IsMember, IsWorld, IsUntouched, IsUntouchedNode, StandsFor, IsSame, Comes, DeedOf, Makes, bare, IsCounted, FaultsAt}
-use Rattle.cluster_sim.specs.declared.deed.Deed.{Deed}
+use Rattle.cluster_sim.specs.declared.act_report.ActReport.{ActReport}
 use Rattle.runs.proofs.PublicLaws.{at_place, get_set_same, get_set_other, node_there}
 use Rattle.histories.proofs.PublicLaws.{eq_nat}
 use Rattle.cluster_sim.proofs.Doings.{denied}
@@ -71,11 +71,11 @@ moves slots n nodes old new net net' net'' w s s' at stands was is same_net = re
 pub true_within : (n count : ℕ) → n < count → nat_lt n count ≡ true
 true_within n count within = grind (arith, nat_tests)
 
-pub takes : {E : Type 0} (slots n number : ℕ) (a : Act) (P : NodeState → What → Type 0) (nodes : List (Node Memory)) (old new : Node Memory) (net net' : Network) (result : Result Deed E) (w : World) → IsWorld slots nodes
+pub takes : {E : Type 0} (slots n number : ℕ) (a : Act) (P : NodeState → HistoryEvent → Type 0) (nodes : List (Node Memory)) (old new : Node Memory) (net net' : Network) (result : Result ActReport E) (w : World) → IsWorld slots nodes
     → slice_get nodes n ≡ Some old → StandsFor (record { slots = slots; nodes = nodes; net = net }) w
-    → ((s : NodeState) (what : What) → P s what → IsBrought w number (brought (event_of what)) × AreAddressed n (brought (event_of what)))
-    → ((s : NodeState) → Stands state_of old s → IfOk result (λ (d : Deed). Comes slots old.id old.nodes a (P s) s d new net net'))
-    → IfOk result (λ (d : Deed). Makes a (λ step. At (nat_lt n (length w.states)) n number (P (node_in w.states n)) step) w d (record { slots = slots; nodes = slice_set nodes n new; net = net' }))
+    → ((s : NodeState) (what : HistoryEvent) → P s what → IsBrought w number (brought (event_of what)) × AreAddressed n (brought (event_of what)))
+    → ((s : NodeState) → Stands state_of old s → IfOk result (λ (d : ActReport). Comes slots old.id old.nodes a (P s) s d new net net'))
+    → IfOk result (λ (d : ActReport). Makes a (λ step. At (nat_lt n (length w.states)) n number (P (node_in w.states n)) step) w d (record { slots = slots; nodes = slice_set nodes n new; net = net' }))
 takes slots n number a P nodes old new net net' (Ok deed) w cluster at stands brings comes =
     let within : n < length w.states = subst (λ (k : ℕ). n < k) stands.count (slice_get_within nodes n old at) in
     let count = length w.states in
@@ -106,7 +106,7 @@ untouched_stands : (old new : Node Memory) (s : NodeState) → IsUntouchedNode o
 untouched_stands old new s (inl same) is = subst (λ (x : Node Memory). Stands state_of x s) (sym same) is
 untouched_stands old new s (inr same) is = subst (λ (x : Node Memory). Stands state_of x s) (sym same) (record { state = is.state; doubt = is.doubt; up = is.up; disk = is.disk })
 
-pub rests_if : {E : Type 0} (slots n : ℕ) (nodes : List (Node Memory)) (old new : Node Memory) (net net' : Network) (result : Result Deed E) (w : World) → slice_get nodes n ≡ Some old
+pub rests_if : {E : Type 0} (slots n : ℕ) (nodes : List (Node Memory)) (old new : Node Memory) (net net' : Network) (result : Result ActReport E) (w : World) → slice_get nodes n ≡ Some old
     → StandsFor (record { slots = slots; nodes = nodes; net = net }) w → OnErr result ((s : NodeState) → Stands state_of old s → IsUntouchedNode old new) → OnErr result (net' ≡ net)
     → OnErr result (StandsFor (record { slots = slots; nodes = slice_set nodes n new; net = net' }) w)
 rests_if slots n nodes old new net net' (Ok o) w at stands keeps same = tt
@@ -119,7 +119,7 @@ rests_if slots n nodes old new net net' (Err e) w at stands keeps same_net = rec
 }
 
 -- one node is as it was, and the others too
-pub untouched_if : {E : Type 0} (slots n : ℕ) (nodes : List (Node Memory)) (old new : Node Memory) (net net' : Network) (result : Result Deed E) (w : World) (now : WorldView) → record { slots = slots; nodes = nodes; net = net } ≡ now
+pub untouched_if : {E : Type 0} (slots n : ℕ) (nodes : List (Node Memory)) (old new : Node Memory) (net net' : Network) (result : Result ActReport E) (w : World) (now : WorldView) → record { slots = slots; nodes = nodes; net = net } ≡ now
     → slice_get nodes n ≡ Some old → StandsFor (record { slots = slots; nodes = nodes; net = net }) w → OnErr result ((s : NodeState) → Stands state_of old s → IsUntouchedNode old new) → OnErr result (net' ≡ net)
     → OnErr result (IsUntouched (node_or_first (length now.nodes) n) now (record { slots = slots; nodes = slice_set nodes n new; net = net' }))
 untouched_if slots n nodes old new net net' (Ok o) w now viewed at stands keeps same = tt
@@ -135,7 +135,7 @@ untouched_if slots n nodes old new net net' (Err e) w now viewed at stands keeps
     })
 
 -- a node outside the cluster
-pub denied_at : (w : World) (id number : ℕ) (a : Act) (P : What → Type 0) (view : WorldView) → StandsFor view w → length view.nodes ≤ id
+pub denied_at : (w : World) (id number : ℕ) (a : Act) (P : HistoryEvent → Type 0) (view : WorldView) → StandsFor view w → length view.nodes ≤ id
     → Makes a (λ step. At (nat_lt id (length w.states)) id number P step) w (bare (outcome.Refused refusal.Stranger)) view
 denied_at w id number a P view stands beyond =
     let many = stands.count in
@@ -144,9 +144,9 @@ denied_at w id number a P view stands beyond =
 
 -- ---- the failures of its disk
 
-pub faults_if : {E : Type 0} (slots n : ℕ) (nodes : List (Node Memory)) (old new : Node Memory) (net net' : Network) (result : Result Deed E) (now : WorldView) → record { slots = slots; nodes = nodes; net = net } ≡ now
-    → slice_get nodes n ≡ Some old → IfOk result (λ (d : Deed). IsCounted old.disk new.disk d.outcome)
-    → IfOk result (λ (d : Deed). FaultsAt (node_or_first (length now.nodes) n) now (record { slots = slots; nodes = slice_set nodes n new; net = net' }) d.outcome)
+pub faults_if : {E : Type 0} (slots n : ℕ) (nodes : List (Node Memory)) (old new : Node Memory) (net net' : Network) (result : Result ActReport E) (now : WorldView) → record { slots = slots; nodes = nodes; net = net } ≡ now
+    → slice_get nodes n ≡ Some old → IfOk result (λ (d : ActReport). IsCounted old.disk new.disk d.outcome)
+    → IfOk result (λ (d : ActReport). FaultsAt (node_or_first (length now.nodes) n) now (record { slots = slots; nodes = slice_set nodes n new; net = net' }) d.outcome)
 faults_if slots n nodes old new net net' (Ok d) now viewed at counted =
     let known : node_or_first (length nodes) n ≡ n = rw (true_within n (length nodes) (slice_get_within nodes n old at)) refl in
     rw (← viewed, known) (record { here = rw (at, get_set_same nodes n old new at) counted; elsewhere = λ k other. get_set_other nodes k n new other })

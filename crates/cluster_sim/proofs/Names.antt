@@ -2,7 +2,7 @@
 use Rattle.std.proofs.Common.{◌≡◌, ℕ, Bool, true, false, nat_lt, slice_get, Option, refl, sym, ◌∙◌, ap, Result, Ok, Err, if◌then◌else◌, ◌&&◌, MatchResult}
 use Rattle.wire_msg.specs.Envelope.{Envelope}
 use Rattle.node_core.specs.declared.event.Event.TheVariants as on
-use Rattle.histories.specs.declared.what.What.{What}
+use Rattle.histories.specs.declared.history_event.HistoryEvent.{HistoryEvent}
 use Rattle.schedule.specs.declared.act.Act.{Act}
 use Rattle.schedule.specs.declared.act.Act.TheVariants as act
 use Rattle.sim_net.specs.declared.fault.NetFault.{NetFault}
@@ -10,13 +10,13 @@ use Rattle.sim_net.specs.Network.{Network, message_at, delivery, after_lost, aft
 use Rattle.runs.specs.World.{World}
 use Rattle.runs.specs.declared.outcome.Refusal.TheVariants.{Net as OfNet, Stranger}
 use Rattle.runs.specs.Step.{Step, Changes, Denies}
-use Rattle.runs.specs.Acts.{At, Brings, IsStepOf, receiver_or_first}
-use Rattle.histories.specs.What.{IsOf}
+use Rattle.runs.specs.Acts.{At, IsStepOf, receiver_or_first}
+use Rattle.histories.specs.HistoryEvent.{IsOf}
 use Rattle.runs.specs.Reporting.{node_of}
 use Rattle.cluster_sim.specs.Names.{node_named}
-use Rattle.runs.proofs.PublicLaws.{comes_sent}
+use Rattle.runs.proofs.PublicLaws.{Brings, comes_sent}
 
-named_at : (known : Bool) (n k : ℕ) (P : What → Type 0) (step : Step) → At known n k P step → node_of step ≡ (if known then n else 0)
+named_at : (known : Bool) (n k : ℕ) (P : HistoryEvent → Type 0) (step : Step) → At known n k P step → node_of step ≡ (if known then n else 0)
 named_at true n k P step at = ap node_of at.1
 named_at false n k P step at = ap node_of at
 

@@ -9,12 +9,13 @@ use Rattle.node_core.specs.State.{State, state_of}
 use Rattle.node_core.specs.Words.{own_group}
 use Rattle.sector_disk.specs.Memory.{Memory}
 use Rattle.durable_node.specs.Node.{Node}
-use Rattle.histories.specs.declared.tried.Tried.{Tried}
+use Rattle.histories.specs.declared.attempt.Attempt.{Attempt}
+use Rattle.histories.specs.Kept.{Mounting}
 use Rattle.schedule.specs.declared.act.Act.{Act}
 use Rattle.schedule.specs.declared.act.Act.TheVariants as act
-use Rattle.cluster_sim.specs.declared.deed.Deed.{Deed}
-use Rattle.histories.specs.Fates.{command_with}
-use Rattle.histories.specs.declared.attempt.Attempt.{Attempt}
+use Rattle.cluster_sim.specs.declared.act_report.ActReport.{ActReport}
+use Rattle.histories.specs.EventOutcomes.{command_with}
+use Rattle.histories.specs.declared.command_kind.CommandKind.{CommandKind}
 use Rattle.job_model.specs.declared.work.Work.{Work}
 use Rattle.runs.specs.declared.outcome.Outcome.{Outcome}
 use Rattle.cluster_sim.specs.declared.report.Moment.{Moment as KeptMoment}
@@ -23,8 +24,8 @@ use Rattle.cluster_sim.specs.declared.report.Report.{Report as KeptReport}
 use Rattle.runs.specs.World.{World}
 use Rattle.runs.specs.Step.{Step, world_after}
 use Rattle.runs.specs.Acts.{act_outcome}
-use Rattle.runs.specs.Reporting.{Moment, MountedAt, Report, own_commands, group_of, grown}
-use Rattle.runs.specs.declared.tried.TriedAt.{TriedAt}
+use Rattle.runs.specs.Reporting.{Moment, Report, own_commands, group_of, grown}
+use Rattle.runs.specs.declared.attempt_at.AttemptAt.{AttemptAt}
 use Rattle.runs.specs.ExactRuns.{IsExactStep}
 use Rattle.runs.specs.Growth.{acts_in, IsLeft}
 use Rattle.runs.specs.Numbered.{sent_under}
@@ -32,11 +33,8 @@ use Rattle.cluster_sim.specs.World.{AreasWithin, WorldView, StandsFor}
 
 -- ---- a report, as code keeps it
 
-abbrev pub mounted_of : Mounted → MountedAt
-mounted_of m = record {
-  node = m.node;
-  mounting = record { before = m.before; state = record { counter = m.count; next = m.next; pending = m.pending.items } };
-}
+abbrev pub mounted_of : Mounted → ℕ × Mounting
+mounted_of m = (m.node, record { before = m.before; state = record { counter = m.count; next = m.next; pending = m.pending.items } })
 
 -- the messages of a moment are those of its numbers, of all that were sent
 abbrev pub moment_in : List Envelope → KeptMoment → Moment
@@ -66,7 +64,7 @@ mounted_now true mounted = mounted
 mounted_now false mounted = None
 
 -- the command that was tried, as it is reported
-abbrev pub tried_as : Option Command → Option ℕ → Option Tried
+abbrev pub tried_as : Option Command → Option ℕ → Option Attempt
 tried_as None acked = None
 tried_as (Some c) acked = Some (record { command = c; acked = acked })
 
@@ -76,22 +74,22 @@ work_in (act.Submit n work) = Some work
 work_in a = None
 
 -- the whole command that was tried in an act
-abbrev pub command_in : Act → Option Attempt → Option Command
+abbrev pub command_in : Act → Option CommandKind → Option Command
 command_in a tried = command_with (work_in a) tried
 
-abbrev pub tried_by : Act → Deed → Option Tried
+abbrev pub tried_by : Act → ActReport → Option Attempt
 tried_by a deed = tried_as (command_in a deed.tried) deed.acked
 
-abbrev pub tried_at : ℕ → Option Tried → Option TriedAt
+abbrev pub tried_at : ℕ → Option Attempt → Option AttemptAt
 tried_at n None = None
 tried_at n (Some t) = Some (record { node = n; tried = t })
 
-abbrev pub mounting_at : ℕ → ℕ → Option Durable → Option MountedAt
+abbrev pub mounting_at : ℕ → ℕ → Option Durable → Option (ℕ × Mounting)
 mounting_at n before None = None
-mounting_at n before (Some d) = Some (record { node = n; mounting = record { before = before; state = d } })
+mounting_at n before (Some d) = Some (n, record { before = before; state = d })
 
 -- the group of a new count
-abbrev pub given_in : Option TriedAt → List Group
+abbrev pub given_in : Option AttemptAt → List Group
 given_in None = []
 given_in (Some t) = group_of t.node t.tried.command t.tried.acked
 
@@ -100,7 +98,7 @@ listed None = []
 listed (Some a) = a ∷ []
 
 -- a report with one act more
-abbrev pub with_act : Moment → Option TriedAt → Option MountedAt → Report → Report
+abbrev pub with_act : Moment → Option AttemptAt → Option (ℕ × Mounting) → Report → Report
 with_act m tried mounted r = record {
   opening = r.opening;
   moments = r.moments ++ m ∷ [];
@@ -110,7 +108,7 @@ with_act m tried mounted r = record {
 }
 
 -- with this act of node n, which is as it is now and had tried so many commands before, where these are all messages
-abbrev pub with_deed : List Envelope → ℕ → ℕ → Act → Deed → Node Memory → Report → Report
+abbrev pub with_deed : List Envelope → ℕ → ℕ → Act → ActReport → Node Memory → Report → Report
 with_deed sent n before a deed node r =
     with_act (record { act = a; node = n; outcome = deed.outcome; sent = sent_under sent deed.outcome; state = node.state }) (tried_at n (tried_by a deed)) (mounting_at n before (mounted_now deed.mounted node.mounted)) r
 
@@ -121,7 +119,7 @@ with_opening n s r = record {
   moments = r.moments;
   groups = r.groups ++ own_group n 1 ∷ [];
   commands = r.commands ++ record { node = n; tried = record { command = Raise; acked = Some 1 } } ∷ [];
-  mounted = r.mounted ++ record { node = n; mounting = record { before = 0; state = formatted } } ∷ [];
+  mounted = r.mounted ++ (n, record { before = 0; state = formatted }) ∷ [];
 }
 
 -- ---- a cluster with its report
@@ -148,7 +146,7 @@ pub record GoesOn (w : World) (act : Act) (outcome : Outcome) (old new : Cluster
   pub reports : Reports new (world_after (length w.states) w step)
 
 -- so many commands each node tried
-pub record AreCounted (nodes : ℕ) (commands : List TriedAt) (counts : List ℕ) : Type 0 where
+pub record AreCounted (nodes : ℕ) (commands : List AttemptAt) (counts : List ℕ) : Type 0 where
   pub as_many : length counts ≡ nodes
   pub each : (n k : ℕ) → slice_get counts n ≡ Some k → k ≡ length (own_commands n commands)
 

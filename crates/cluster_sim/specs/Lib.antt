@@ -6,3 +6,6 @@ pub mod Answering
 pub mod Acting
 pub mod Cluster
 pub mod Deliveries
+pub mod Bringing
+pub mod Deeds
+pub mod Traced

@@ -7,9 +7,9 @@ use Rattle.durable_node.specs.Compacting.{IsFallenNode, IsMovedNode, StaysKept}
 use Rattle.durable_node.specs.Node.{Node}
 use Rattle.durable_node.specs.Refusing.{compaction_refusal}
 use Rattle.histories.specs.NodeState.{NodeState}
-use Rattle.histories.specs.declared.what.What.{What}
-use Rattle.histories.specs.declared.what.What.TheVariants.{Rests, Crashed}
-use Rattle.histories.specs.declared.what.Rest.TheVariants.{Nothing}
+use Rattle.histories.specs.declared.history_event.HistoryEvent.{HistoryEvent}
+use Rattle.histories.specs.declared.history_event.HistoryEvent.TheVariants.{NoOp, Crashed}
+use Rattle.histories.specs.declared.history_event.NoOpKind.TheVariants.{Nothing}
 use Rattle.node_core.specs.declared.fault.Refusal.{Refusal as NodeRefusal}
 use Rattle.runs.specs.declared.outcome.Outcome.{Outcome}
 use Rattle.runs.specs.declared.outcome.Outcome.TheVariants as outcome
@@ -19,9 +19,6 @@ use Rattle.runs.specs.Acts.{IsCompaction}
 use Rattle.schedule.specs.declared.act.Act.{Act}
 use Rattle.schedule.specs.declared.act.Act.TheVariants as act
 use Rattle.cluster_sim.specs.World.{WorldView, disk_of}
-
-abbrev pub disk_at : WorldView → ℕ → Option Memory
-disk_at view n = disk_of (slice_get view.nodes n)
 
 -- a crash with these bytes leaves this of a disk
 abbrev pub IsLeftWith : List ℕ → Option Memory → Option Memory → Type 0
@@ -46,9 +43,11 @@ pub record IsCompacted (was now : Node Memory) (o : Outcome) : Type 0 where
 
 -- it is armed with so many calls, a crash leaves what it leaves with these bytes, or it is compacted
 abbrev pub Operates : Act → WorldView → WorldView → Outcome → Type 0
-Operates (act.Arm n calls) old new o = disk_at new n ≡ armed_disk calls (disk_at old n)
-Operates (act.Crash n fill) old new o = IsLeftWith fill (disk_at old n) (disk_at new n)
-Operates (act.Compact n) old new o = (was now : Node Memory) → slice_get old.nodes n ≡ Some was → slice_get new.nodes n ≡ Some now → IsCompacted was now o
+Operates (act.Arm n calls) old new o = disk_of (slice_get new.nodes n) ≡ armed_disk calls (disk_of (slice_get old.nodes n))
+Operates (act.Crash n fill) old new o = (was now : Memory) → disk_of (slice_get old.nodes n) ≡ Some was →
+    disk_of (slice_get new.nodes n) ≡ Some now → IsCrashed was fill now.contents × (now ≡ all_synced now.contents was.failures)
+Operates (act.Compact n) old new o = (was now : Node Memory) → slice_get old.nodes n ≡ Some was →
+    slice_get new.nodes n ≡ Some now → IsCompacted was now o
 Operates a old new o = Unit {0}
 
 -- ---- at the node alone
@@ -61,8 +60,8 @@ operated_at (act.Compact n) = Some n
 operated_at a = None
 
 -- what may come of it there, where the node is in this state
-abbrev pub OperatedAs : Act → NodeState → What → Type 0
-OperatedAs (act.Arm n calls) s what = what ≡ Rests Nothing
+abbrev pub OperatedAs : Act → NodeState → HistoryEvent → Type 0
+OperatedAs (act.Arm n calls) s what = what ≡ NoOp Nothing
 OperatedAs (act.Crash n fill) s what = what ≡ Crashed
 OperatedAs (act.Compact n) s what = IsCompaction s what
 OperatedAs a s what = ⊥

@@ -1,24 +1,24 @@
 -- What contracts see of the world of a cluster, and what it stands for.
-use Rattle.std.specs.Prelude.{ℕ, ◌≡◌, ◌≢◌, ◌+◌, ◌*◌, ◌≤◌, ◌⊎◌, ◌<◌, ◌^◌, Bool, true, false, List, length, slice_get, Option, Some, None, option_map}
+use Rattle.std.specs.Prelude.{ℕ, ◌≡◌, ◌≢◌, ◌+◌, ◌*◌, ◌≤◌, ◌⊎◌, ◌<◌, ◌^◌, Bool, true, false, List, length, slice_get, Option, Some, None, option_map, option_and_then}
 use Rattle.group_task.specs.declared.node.TheConstants.{NODES}
 use Rattle.sector_disk.specs.Disk.{Counts}
 use Rattle.sector_disk.specs.Memory.{Memory, state_of}
 use Rattle.job_journal.specs.Journal.{AllWithin}
-use Rattle.node_core.specs.declared.fault.Refusal.TheVariants.{Worn}
+use Rattle.node_core.specs.declared.fault.Refusal.TheVariants.{AreaExhausted}
 use Rattle.sim_net.specs.Network.{Network, after_all_sent}
 use Rattle.durable_node.specs.Forgetting.{forgotten_disk}
 use Rattle.durable_node.specs.Node.{Node, Stands}
 use Rattle.histories.specs.NodeState.{NodeState, opening}
-use Rattle.histories.specs.declared.what.What.{What}
-use Rattle.histories.specs.declared.what.What.TheVariants.{Did, Refused, Faulted, Rests, Crashed, Recovered, MountFailed, RaiseFailed, RaiseRefused}
+use Rattle.histories.specs.declared.history_event.HistoryEvent.{HistoryEvent}
+use Rattle.histories.specs.declared.history_event.HistoryEvent.TheVariants.{Did, Refused, Faulted, NoOp, Crashed, Recovered, MountFailed, RaiseFailed, RaiseRefused}
 use Rattle.histories.specs.After.{after, sent_at, mounted_at}
 use Rattle.histories.specs.Possible.{IsPossible, IsOfSlots}
 use Rattle.schedule.specs.declared.act.Act.{Act}
-use Rattle.cluster_sim.specs.declared.deed.Deed.{Deed}
+use Rattle.cluster_sim.specs.declared.act_report.ActReport.{ActReport}
 use Rattle.durable_node.specs.Stepping.{answer_at, command_at}
-use Rattle.histories.specs.Fates.{attempt_of}
-use Rattle.histories.specs.declared.fate.Fate.{Fate}
-use Rattle.histories.specs.declared.fate.Fate.TheVariants as fate
+use Rattle.histories.specs.EventOutcomes.{attempt_of}
+use Rattle.histories.specs.declared.event_outcome.EventOutcome.{EventOutcome}
+use Rattle.histories.specs.declared.event_outcome.EventOutcome.TheVariants as event_outcome
 use Rattle.runs.specs.declared.outcome.Outcome.{Outcome}
 use Rattle.runs.specs.declared.outcome.Outcome.TheVariants as outcome
 use Rattle.runs.specs.declared.outcome.Refusal.TheVariants.{Node as OfNode}
@@ -56,7 +56,8 @@ pub record IsWorld (slots : ℕ) (nodes : List (Node Memory)) : Type 0 where
 pub record StandsFor (view : WorldView) (w : World) : Type 0 where
   pub count : length view.nodes ≡ length w.states
   pub net : view.net ≡ w.net
-  pub each : (k : ℕ) (node : Node Memory) (s : NodeState) → slice_get view.nodes k ≡ Some node → slice_get w.states k ≡ Some s → Stands state_of node s
+  pub each : (k : ℕ) (node : Node Memory) (s : NodeState) → slice_get view.nodes k ≡ Some node →
+      slice_get w.states k ≡ Some s → Stands state_of node s
 
 -- the area of a disk, if there is one, has at most this number, in each image that a crash now may leave
 abbrev pub AreaWithin : ℕ → Option Memory → Type 0
@@ -84,11 +85,11 @@ pub record AreOpened (slots count so_far : ℕ) (nodes : List (Node Memory)) : T
 -- ---- one node
 
 -- whether it mounted the disk
-abbrev pub is_mounting : What → Bool
+abbrev pub is_mounting : HistoryEvent → Bool
 is_mounting (Did event) = false
 is_mounting (Refused event fault) = false
 is_mounting (Faulted event) = false
-is_mounting (Rests rest) = false
+is_mounting (NoOp rest) = false
 is_mounting Crashed = false
 is_mounting (Recovered kept) = true
 is_mounting MountFailed = false
@@ -96,31 +97,31 @@ is_mounting (RaiseFailed kept) = true
 is_mounting (RaiseRefused kept) = true
 
 -- what came of an event, without the event
-abbrev pub fate_in : What → Option Fate
-fate_in (Did event) = Some fate.Done
-fate_in (Refused event why) = Some (fate.Refused why)
-fate_in (Faulted event) = Some fate.Faulted
-fate_in (Rests rest) = None
+abbrev pub fate_in : HistoryEvent → Option EventOutcome
+fate_in (Did event) = Some event_outcome.Done
+fate_in (Refused event why) = Some (event_outcome.Refused why)
+fate_in (Faulted event) = Some event_outcome.Faulted
+fate_in (NoOp rest) = None
 fate_in Crashed = None
-fate_in (Recovered kept) = Some (fate.Recovered kept)
-fate_in MountFailed = Some fate.MountFailed
-fate_in (RaiseFailed kept) = Some (fate.RaiseFailed kept)
-fate_in (RaiseRefused kept) = Some (fate.RaiseRefused kept)
+fate_in (Recovered kept) = Some (event_outcome.Recovered kept)
+fate_in MountFailed = Some event_outcome.MountFailed
+fate_in (RaiseFailed kept) = Some (event_outcome.RaiseFailed kept)
+fate_in (RaiseRefused kept) = Some (event_outcome.RaiseRefused kept)
 
 -- an act in which no event came to a node
-abbrev pub bare : Outcome → Deed
-bare o = record { outcome = o; fate = None; tried = None; acked = None; mounted = false }
+abbrev pub bare : Outcome → ActReport
+bare o = record { outcome = o; event_outcome = None; tried = None; acked = None; mounted = false }
 
 -- the node says this of its disk
-pub record DeedOf (id nodes : ℕ) (s : NodeState) (what : What) (deed : Deed) : Type 0 where
-  pub fate : deed.fate ≡ fate_in what
+pub record DeedOf (id nodes : ℕ) (s : NodeState) (what : HistoryEvent) (deed : ActReport) : Type 0 where
+  pub event_outcome : deed.event_outcome ≡ fate_in what
   pub tried : deed.tried ≡ option_map attempt_of (command_at id nodes s what)
   pub acked : deed.acked ≡ answer_at id nodes s what
   pub mounted : deed.mounted ≡ is_mounting what
 
 -- one such thing came of a call at a node that was in this state, and so it is reported of this act, sent and kept
-pub record Comes (slots id nodes : ℕ) (a : Act) (P : What → Type 0) (s : NodeState) (deed : Deed) (new : Node Memory) (net net' : Network) : Type 0 where
-  pub what : What
+pub record Comes (slots id nodes : ℕ) (a : Act) (P : HistoryEvent → Type 0) (s : NodeState) (deed : ActReport) (new : Node Memory) (net net' : Network) : Type 0 where
+  pub what : HistoryEvent
   pub is : P what
   pub possible : IsPossible id nodes s what
   pub of_slots : IsOfSlots slots id nodes s what
@@ -132,7 +133,8 @@ pub record Comes (slots id nodes : ℕ) (a : Act) (P : What → Type 0) (s : Nod
 
 -- an act that didn't fault left a disk's count of failures as it was; in one that faulted it rose, or stands at its greatest value
 abbrev pub IsCounted : Option Memory → Option Memory → Outcome → Type 0
-IsCounted old new o = (was now : Memory) → old ≡ Some was → new ≡ Some now → Counts (state_of was) (state_of now) (o ≡ outcome.Faulted) (o ≢ outcome.Faulted)
+IsCounted old new o = (was now : Memory) → old ≡ Some was → new ≡ Some now →
+    Counts (state_of was) (state_of now) (o ≡ outcome.Faulted) (o ≢ outcome.Faulted)
 
 -- the node stays the one of its id, over a disk of its size
 pub record IsSame (old new : Node Memory) : Type 0 where
@@ -147,7 +149,7 @@ IsUntouchedNode old new = (new ≡ old) ⊎ (new ≡ record old { mounted = None
 -- the number of its disk's area rises by one at most, and where it can be raised no act is refused because the areas are used up
 abbrev pub AreaRises : Option Memory → Option Memory → Outcome → Type 0
 AreaRises old new o = (bound : ℕ) → AreaWithin bound old →
-    AreaWithin (bound + 1) new × (bound + 1 < 2 ^ 64 → o ≢ outcome.Refused (OfNode Worn))
+    AreaWithin (bound + 1) new × (bound + 1 < 2 ^ 64 → o ≢ outcome.Refused (OfNode AreaExhausted))
 
 -- it is as it was, or its disk forgot the moments before
 abbrev pub MayHaveForgotten : Node Memory → Node Memory → Type 0
@@ -159,13 +161,14 @@ MayHaveForgotten old new = (new ≡ old) ⊎ (new ≡ record old { disk = forgot
 pub record IsUntouched (at : ℕ) (old new : WorldView) : Type 0 where
   pub count : length new.nodes ≡ length old.nodes
   pub net : new.net ≡ old.net
-  pub here : (was now : Node Memory) → slice_get old.nodes at ≡ Some was → slice_get new.nodes at ≡ Some now → IsUntouchedNode was now
+  pub here : (was now : Node Memory) → slice_get old.nodes at ≡ Some was → slice_get new.nodes at ≡ Some now →
+      (now ≡ was) ⊎ (now ≡ record was { mounted = None })
   pub elsewhere : (k : ℕ) → k ≢ at → slice_get new.nodes k ≡ slice_get old.nodes k
 
 -- the numbers of the areas rise by one at most
 abbrev pub AreasRise : WorldView → WorldView → Outcome → Type 0
 AreasRise old new o = (bound : ℕ) → AreasWithin bound old.nodes →
-    AreasWithin (bound + 1) new.nodes × (bound + 1 < 2 ^ 64 → o ≢ outcome.Refused (OfNode Worn))
+    AreasWithin (bound + 1) new.nodes × (bound + 1 < 2 ^ 64 → o ≢ outcome.Refused (OfNode AreaExhausted))
 
 -- the node of a step shows what it mounted in it, if it mounted anything
 abbrev pub Shows : World → Step → WorldView → Type 0
@@ -181,12 +184,12 @@ pub record Acted (w : World) (act : Act) (outcome : Outcome) (new : WorldView) :
   pub stands : StandsFor new (world_after (length w.states) w step)
 
 -- what the node of a step says of its disk: where no node takes it, nothing
-abbrev pub ReportsDeed : World → Step → Deed → Type 0
+abbrev pub ReportsDeed : World → Step → ActReport → Type 0
 ReportsDeed w (Takes n number what) deed = (s : NodeState) → slice_get w.states n ≡ Some s → DeedOf n (length w.states) s what deed
-ReportsDeed w step deed = (deed.tried ≡ None) × (deed.mounted ≡ false) × (deed.fate ≡ None)
+ReportsDeed w step deed = (deed.tried ≡ None) × (deed.mounted ≡ false) × (deed.event_outcome ≡ None)
 
 -- a step of this kind led from what the cluster stood for to what it stands for now, and so it is reported of this act
-pub record Makes (a : Act) (Q : Step → Type 0) (w : World) (deed : Deed) (new : WorldView) : Type 0 where
+pub record Makes (a : Act) (Q : Step → Type 0) (w : World) (deed : ActReport) (new : WorldView) : Type 0 where
   pub step : Step
   pub is : Q step
   pub allowed : IsAllowed (length w.states) w step
@@ -197,14 +200,13 @@ pub record Makes (a : Act) (Q : Step → Type 0) (w : World) (deed : Deed) (new 
   pub stands : StandsFor new (world_after (length w.states) w step)
 
 -- the act, and what its node says
-pub record Performed (w : World) (act : Act) (deed : Deed) (new : WorldView) : Type 0 where
+pub record Performed (w : World) (act : Act) (deed : ActReport) (new : WorldView) : Type 0 where
   pub acted : Acted w act deed.outcome new
   pub reports : ReportsDeed w acted.step deed
 
 -- the disk of a node, if there is such a node
 abbrev pub disk_of : Option (Node Memory) → Option Memory
-disk_of None = None
-disk_of (Some node) = node.disk
+disk_of node = option_and_then (λ (n : Node Memory). n.disk) node
 
 -- an act faulted exactly where the disk of its node failed in it, and no other node changed
 pub record FaultsAt (at : ℕ) (old new : WorldView) (o : Outcome) : Type 0 where

@@ -5,7 +5,7 @@ ghost use Rattle.cluster_sim.specs.World.{FaultsAt, IsUntouched};
 ghost use Rattle.cluster_sim.specs.Answering.{IsAnsweredBy};
 ghost use Rattle.cluster_sim.specs.Operated.{Operates};
 ghost use Rattle.cluster_sim.specs.Cluster.{report_in, cluster_with, Reports, GoesOn, HasRun, IsCluster};
-ghost use Rattle.node_core.specs.declared.fault.Refusal.TheVariants.{Worn};
+ghost use Rattle.node_core.specs.declared.fault.Refusal.TheVariants.{AreaExhausted};
 ghost use Rattle.runs.specs.declared.outcome.Outcome.TheVariants as outcomes;
 ghost use Rattle.runs.specs.declared.outcome.Refusal.TheVariants.{Node as OfNode};
 ghost use Rattle.runs.specs.Growth.{acts_in};
@@ -99,7 +99,7 @@ impl Cluster {
         // Refuses: armed_for_one_call_at_most, crash_with_one_byte, worn_answered_as_exhausted, compaction_left_out.
         ensures disk { IfOk result (Operates act self.old.world self.new.world) }
         ensures answers { IfOk result (IsAnsweredBy act self.old.world) }
-        ensures unworn { IfOk result (λ outcome. outcome ≢ outcomes.Refused (OfNode Worn)) }
+        ensures unworn { IfOk result (λ outcome. outcome ≢ outcomes.Refused (OfNode AreaExhausted)) }
         // Promise: Want of memory leaves cluster and report as they were, so the same act made again has the same steps; no node,
         // disk or network has changed, but that a node may not show any more what it mounted last.
         // Also: untouched, World::step.
@@ -194,13 +194,13 @@ fn advance(
     ensures faults { IfOk result (FaultsAt (node_named (length world.old.nodes) world.old.net.sent act) world.old world.new) }
     ensures disk { IfOk result (Operates act world.old world.new) }
     ensures answers { IfOk result (IsAnsweredBy act world.old) }
-    ensures unworn { IfOk result (λ outcome. outcome ≢ outcomes.Refused (OfNode Worn)) }
+    ensures unworn { IfOk result (λ outcome. outcome ≢ outcomes.Refused (OfNode AreaExhausted)) }
     ensures memory { (w : RunWorld) → Reports (cluster_with world.old report.old) w → OnErr result (Reports (cluster_with world.new report.new) w) }
     ensures untouched { OnErr result (IsUntouched (node_named (length world.old.nodes) world.old.net.sent act) world.old world.new × ((cluster_with world.new report.new).report ≡ (cluster_with world.old report.old).report)) }
 {
     let id = node_named(world.count(), world.net(), &act);
     let room = report.reserve(alloc, world.node(id), world.slots())?;
-    let deed = world.perform(&act)?;
+    let deed = world.step(&act)?;
     let place = usize::from(id.number());
     let before = counts[place];
     if deed.tried.is_some() {

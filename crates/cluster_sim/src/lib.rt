@@ -1,6 +1,7 @@
 //! A whole cluster in one process, act by act: nodes with their disks and the network between them, and a report.
 //!
-//! Each act is a step of a run, as the crate `runs` defines it. The laws of all runs, which stand there, so hold of every report.
+//! Each act is a step of a run, as the crate `runs` defines it. The laws of all runs, which stand there, so hold of every report. What came
+//! of a schedule's acts is also written as a trace that a checker can judge: `specs/Traced` says which entry stands for what came.
 //!
 //! ```
 //! let schedule = read_schedule(alloc, b"cluster 2 8\ncheck 1\ndeliver 0\n")?;
@@ -10,18 +11,22 @@
 //! ```
 #![tactic(auto)]
 
+mod act_report;
 mod acts;
+mod bringing;
 mod cluster;
-mod deed;
+mod deeds;
 mod member;
 mod naming;
 mod nodes;
 mod recording;
 mod report;
+mod tracing;
 mod world;
 
+pub use act_report::ActReport;
 pub use cluster::{Cluster, run};
-pub use deed::Deed;
 pub use report::{Moment, Mounted, Report};
-pub use runs::{Outcome, Refusal, TriedAt};
+pub use runs::{AttemptAt, Outcome, Refusal};
+pub use tracing::{Recorded, record_of, trace_of};
 pub use world::World;

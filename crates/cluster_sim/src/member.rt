@@ -6,10 +6,10 @@ ghost use Rattle.sim_net.specs.Network.{after_all_sent};
 ghost use Rattle.durable_node.specs.Arming.{armed_disk};
 ghost use Rattle.durable_node.specs.Node.{Stands};
 ghost use Rattle.histories.specs.NodeState.{NodeState};
-ghost use Rattle.histories.specs.What.{IsOf};
-ghost use Rattle.histories.specs.Fates.{what_of};
-ghost use Rattle.histories.specs.declared.what.What.TheVariants.{Rests, Crashed};
-ghost use Rattle.histories.specs.declared.what.Rest.TheVariants.{Nothing};
+ghost use Rattle.histories.specs.HistoryEvent.{IsOf};
+ghost use Rattle.histories.specs.EventOutcomes.{what_of};
+ghost use Rattle.histories.specs.declared.history_event.HistoryEvent.TheVariants.{NoOp, Crashed};
+ghost use Rattle.histories.specs.declared.history_event.NoOpKind.TheVariants.{Nothing};
 ghost use Rattle.cluster_sim.specs.Answering.{IsAnswered};
 ghost use Rattle.cluster_sim.specs.World.{AreaRises, IsOfSize, IsSame, IsCounted, IsUntouchedNode, Comes, MayHaveForgotten, bare, is_mounting};
 ghost use Rattle.cluster_sim.specs.Operated.{IsCompacted, IsLeftWith, OperatedAs, OperatesNode, operated_at};
@@ -18,9 +18,9 @@ ghost use Rattle.schedule.specs.declared.act.Act.TheVariants as acts;
 ghost use Rattle.runs.specs.Acts.{IsCompaction};
 ghost use Rattle.cluster_sim.specs.Outcomes.{came_outcome, compaction_outcome};
 
-use crate::deed::Deed;
-use durable_node::{Came, DurableNode, NodeFault};
-use histories::Fate;
+use crate::act_report::ActReport;
+use durable_node::{DurableNode, NodeFault, StepReport};
+use histories::EventOutcome;
 use node_core::{Event, Refusal as NodeRefusal};
 use runs::{Outcome, Refusal};
 use schedule::{Act, Fill};
@@ -37,7 +37,7 @@ pub(crate) fn handle(
     node: &mut DurableNode<MemDisk>,
     net: &mut Net,
     event: &Event,
-) -> Result<Deed, AllocError>
+) -> Result<ActReport, AllocError>
     ensures same { IsSame node.old node.new }
     ensures came { (slots : ℕ) (s : NodeState) (a : AnyAct) → slots ≤ 4096 → IsOfSize slots node.old.disk → Stands state_of node.old s
         → IfOk result (λ deed. Comes slots node.old.id node.old.nodes a (IsOf event.now) s deed node.new net.old.network net.new.network) }
@@ -60,12 +60,12 @@ pub(crate) fn handle(
     };
     forget_written(node, &came);
     send_all(net, &came.sent);
-    Ok(Deed {
+    Ok(ActReport {
         outcome: outcome_of(&came, first),
-        fate: Some(came.fate),
+        event_outcome: Some(came.event_outcome),
         tried: came.tried,
         acked: came.answer,
-        mounted: is_mounting(came.fate),
+        mounted: is_mounting(came.event_outcome),
     })
 }
 
@@ -79,37 +79,38 @@ fn ids_fit(node: &DurableNode<MemDisk>)
 }
 
 /// Lets a node's disk forget the moments before, where the event may have written on it: no other event adds to them.
-fn forget_written(node: &mut DurableNode<MemDisk>, came: &Came)
+fn forget_written(node: &mut DurableNode<MemDisk>, came: &StepReport)
     ensures { MayHaveForgotten node.old node.new }
 {
-    if came.tried.is_some() || matches!(came.fate, Fate::MountFailed) {
+    if came.tried.is_some() || matches!(came.event_outcome, EventOutcome::MountFailed) {
         node.forget();
     }
 }
 
 /// Whether the disk was mounted.
-fn is_mounting(fate: Fate) -> bool
-    ensures { (event : Event) → result ≡ is_mounting (what_of event fate) }
+fn is_mounting(event_outcome: EventOutcome) -> bool
+    ensures { (event : Event) → result ≡ is_mounting (what_of event event_outcome) }
 {
     matches!(
-        fate,
-        Fate::Recovered(_) | Fate::RaiseFailed(_) | Fate::RaiseRefused(_)
+        event_outcome,
+        EventOutcome::Recovered(_) | EventOutcome::RaiseFailed(_) | EventOutcome::RaiseRefused(_)
     )
 }
 
 /// The outcome of what came of an event, where the first message that it sends has this number.
-fn outcome_of(came: &Came, first: u64) -> Outcome
-    ensures { result ≡ came_outcome came.now.fate first came.now }
+fn outcome_of(came: &StepReport, first: u64) -> Outcome
+    ensures { result ≡ came_outcome came.now.event_outcome first came.now }
 {
-    match came.fate {
-        Fate::Done | Fate::Recovered(_) => Outcome::Done {
+    match came.event_outcome {
+        EventOutcome::Done | EventOutcome::Recovered(_) => Outcome::Done {
             answer: came.answer,
             first,
             many: came.sent.len() as u64,
         },
-        Fate::Refused(why) => Outcome::Refused(Refusal::Node(why)),
-        Fate::RaiseRefused(_) => Outcome::Refused(Refusal::Node(NodeRefusal::Exhausted)),
-        Fate::Faulted | Fate::MountFailed | Fate::RaiseFailed(_) => Outcome::Faulted,
+        EventOutcome::Refused(why) => Outcome::Refused(Refusal::Node(why)),
+        EventOutcome::RaiseRefused(_) => Outcome::Refused(Refusal::Node(NodeRefusal::Exhausted)),
+        EventOutcome::Faulted | EventOutcome::MountFailed | EventOutcome::RaiseFailed(_) =>
+            Outcome::Faulted,
     }
 }
 
@@ -146,7 +147,7 @@ pub(crate) fn operate(node: &mut DurableNode<MemDisk>, net: &Net, act: &Act) -> 
 fn arm(node: &mut DurableNode<MemDisk>, net: &Net, calls: u64) -> Outcome
     ensures same { IsSame node.old node.new }
     ensures came { (slots n : ℕ) (s : NodeState) → Stands state_of node.old s
-        → Comes slots node.old.id node.old.nodes (acts.Arm n calls) (λ what. what ≡ Rests Nothing) s (bare result) node.new net.now.network net.now.network }
+        → Comes slots node.old.id node.old.nodes (acts.Arm n calls) (λ what. what ≡ NoOp Nothing) s (bare result) node.new net.now.network net.now.network }
     ensures counted { IsCounted node.old.disk node.new.disk result }
     ensures areas { AreaRises node.old.disk node.new.disk result }
     ensures armed { node.new.disk ≡ armed_disk calls node.old.disk }
@@ -190,7 +191,7 @@ fn compaction_outcome(net: &Net, answer: Result<(), NodeFault>) -> Outcome
         Ok(()) => nothing_sent(net),
         Err(NodeFault::Device) => Outcome::Faulted,
         Err(NodeFault::Core(fault)) => Outcome::Refused(Refusal::Node(NodeRefusal::Core(fault))),
-        Err(_) => Outcome::Refused(Refusal::Node(NodeRefusal::Worn)),
+        Err(_) => Outcome::Refused(Refusal::Node(NodeRefusal::AreaExhausted)),
     }
 }
 

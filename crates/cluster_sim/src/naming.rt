@@ -18,7 +18,9 @@ pub(crate) fn hand_room(node: &DurableNode<MemDisk>, slots: u64) -> Result<usize
 {
     let vector = node.vector();
     let pending = match node.durable() {
-        Some((_, table)) if !matches!(vector.standing.phase, Phase::Down) => table.pending().len(),
+        Some((_, table)) if !matches!(vector.group_state.phase, Phase::Down) => table
+            .pending()
+            .len(),
         _ => slots as usize,
     };
     let room = vector

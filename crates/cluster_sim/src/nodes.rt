@@ -1,10 +1,10 @@
 // The nodes of a cluster, and the network between them.
 ghost use Rattle.std.specs.Prelude.{◌≡◌, ◌≢◌, ◌≤◌, ◌<◌, ◌&&◌, length, nat_lt, slice_get, false, Some, None, IfOk, OnErr, ℕ};
 ghost use Rattle.group_task.specs.declared.node.TheConstants.{NODES};
-ghost use Rattle.histories.specs.What.{brought, AreAddressed, IsOf};
+ghost use Rattle.histories.specs.HistoryEvent.{brought, AreAddressed, IsOf};
 ghost use Rattle.schedule.specs.declared.act.Act.{Act as AnyAct};
 ghost use Rattle.schedule.specs.declared.act.Act.TheVariants as acts;
-ghost use Rattle.node_core.specs.declared.fault.Refusal.TheVariants.{Worn};
+ghost use Rattle.node_core.specs.declared.fault.Refusal.TheVariants.{AreaExhausted};
 ghost use Rattle.runs.specs.declared.outcome.Outcome.TheVariants as outcome;
 ghost use Rattle.runs.specs.declared.outcome.Refusal.TheVariants.{Node as OfNode};
 ghost use Rattle.runs.specs.Acts.{At};
@@ -16,7 +16,7 @@ ghost use Rattle.cluster_sim.specs.Names.{node_named, node_or_first};
 ghost use Rattle.runs.specs.Run.{IsBrought};
 ghost use Rattle.runs.specs.World.{World, start};
 
-use crate::deed::Deed;
+use crate::act_report::ActReport;
 use crate::member::{handle, nothing_sent, operate};
 use durable_node::{DurableNode, formatted_disk};
 use group_task::NodeId;
@@ -109,7 +109,7 @@ impl Nodes {
     }
 
     /// An event at a node, and what is sent of it.
-    pub(crate) fn take(&mut self, id: NodeId, event: &Event) -> Result<Deed, AllocError>
+    pub(crate) fn take(&mut self, id: NodeId, event: &Event) -> Result<ActReport, AllocError>
         ensures slots { self.new.slots ≡ self.old.slots }
         ensures acted { (w : World) (number : ℕ) (a : AnyAct) → StandsFor self.old w → IsBrought w number (brought (Some event.now)) → AreAddressed id (brought (Some event.now))
             → IfOk result (λ deed. Makes a (λ step. At (nat_lt id (length w.states)) id number (IsOf event.now) step) w deed self.new) }
@@ -121,9 +121,9 @@ impl Nodes {
     {
         let place = usize::from(id.number());
         if place >= self.nodes.len() {
-            return Ok(Deed {
+            return Ok(ActReport {
                 outcome: Outcome::Refused(Refusal::Stranger),
-                fate: None,
+                event_outcome: None,
                 tried: None,
                 acked: None,
                 mounted: false,
@@ -138,7 +138,7 @@ impl Nodes {
         ensures acted { (w : World) → StandsFor self.old w → Performed w (acts.Lose number) (bare result) self.new }
         ensures faults { FaultsAt 0 self.old self.new result }
         ensures nodes { self.new.nodes ≡ self.old.nodes }
-        ensures own { result ≢ outcome.Refused (OfNode Worn) }
+        ensures own { result ≢ outcome.Refused (OfNode AreaExhausted) }
     {
         match self.net.lose(number) {
             Ok(()) => nothing_sent(&self.net),
@@ -152,7 +152,7 @@ impl Nodes {
         ensures acted { (w : World) → StandsFor self.old w → Performed w (acts.Cut a b) (bare result) self.new }
         ensures faults { FaultsAt 0 self.old self.new result }
         ensures nodes { self.new.nodes ≡ self.old.nodes }
-        ensures own { result ≢ outcome.Refused (OfNode Worn) }
+        ensures own { result ≢ outcome.Refused (OfNode AreaExhausted) }
     {
         if !self.has_both(a, b) {
             return Outcome::Refused(Refusal::Stranger);
@@ -167,7 +167,7 @@ impl Nodes {
         ensures acted { (w : World) → StandsFor self.old w → Performed w (acts.Mend a b) (bare result) self.new }
         ensures faults { FaultsAt 0 self.old self.new result }
         ensures nodes { self.new.nodes ≡ self.old.nodes }
-        ensures own { result ≢ outcome.Refused (OfNode Worn) }
+        ensures own { result ≢ outcome.Refused (OfNode AreaExhausted) }
     {
         if !self.has_both(a, b) {
             return Outcome::Refused(Refusal::Stranger);

@@ -2,7 +2,7 @@
 ghost use Rattle.std.specs.Prelude.{◌≡◌, ◌≤◌, ◌<◌, ◌+◌, ◌++◌, [], ℕ, true, length, replicate, slice_get, option_map, IfOk, IfSome, OnOk, List, Option, Some, vec_len, vec_capacity};
 ghost use Rattle.job_model.specs.Durable.{Durable};
 ghost use Rattle.wire_msg.specs.Envelope.{Envelope};
-ghost use Rattle.histories.specs.Fates.{command_with};
+ghost use Rattle.histories.specs.EventOutcomes.{command_with};
 ghost use Rattle.node_core.specs.State.{is_down, state_of};
 ghost use Rattle.cluster_sim.specs.World.{StandsFor};
 ghost use Rattle.runs.specs.Reporting.{report_of};
@@ -10,16 +10,16 @@ ghost use Rattle.runs.specs.Numbered.{sent_under};
 ghost use Rattle.runs.specs.World.{start};
 ghost use Rattle.cluster_sim.specs.Cluster.{moment_in, report_in, mounted_of, HasRoom, command_in, listed, with_deed, with_opening, given_in, mounting_at, pending_room, tried_as, tried_at, work_in};
 
-use crate::deed::Deed;
+use crate::act_report::ActReport;
 use crate::naming::hand_room;
 use crate::report::{Moment, Mounted, Report};
 use crate::world::World;
 use durable_node::DurableNode;
 use group_task::{GroupNo, NodeId};
-use histories::{Attempt, Command, Tried};
+use histories::{Attempt, Command, CommandKind};
 use job_model::{Job, Work};
 use node_core::{Phase, Vector};
-use runs::{Outcome, TriedAt};
+use runs::{AttemptAt, Outcome};
 use schedule::Act;
 use sector_disk::MemDisk;
 use std::alloc::{AllocError, Global};
@@ -63,9 +63,9 @@ impl Report {
         self.commands.reserve(1)?;
         self.mounted.reserve(1)?;
         let known = node.vector();
-        let mut vector = Vector::down(alloc, known.standing.coordinator);
+        let mut vector = Vector::down(alloc, known.group_state.coordinator);
         vector.room(hand_room(node, slots)?)?;
-        let jobs = if matches!(known.standing.phase, Phase::Down) {
+        let jobs = if matches!(known.group_state.phase, Phase::Down) {
             slots as usize
         } else {
             0
@@ -84,14 +84,14 @@ impl Report {
         id: NodeId,
         before: u64,
         act: Act,
-        deed: Deed,
+        deed: ActReport,
         room: Room,
     )
         requires room { HasRoom self.old }
         requires hand { length node.now.state.hand ≤ room.vector.hand.room }
         requires empty { room.pending.items ≡ [] }
         requires jobs { (mounted : Durable) → deed.mounted ≡ true → node.now.mounted ≡ Some mounted → length mounted.pending ≤ vec_capacity room.pending }
-        requires count { (count : ℕ) → deed.tried ≡ Some Attempt.Raise → deed.acked ≡ Some count → 1 ≤ count }
+        requires count { (count : ℕ) → deed.tried ≡ Some CommandKind.Raise → deed.acked ≡ Some count → 1 ≤ count }
         ensures { (sent : List Envelope) → report_in self.new sent ≡ with_deed sent id before act deed node.now (report_in self.old sent) }
     {
         let Room { vector, pending } = room;
@@ -102,7 +102,7 @@ impl Report {
         };
         let group = given_by(id, deed.tried, deed.acked);
         let command: Option<Command> = command_in(&act, deed.tried);
-        let tried: Option<Tried> = tried_by(command, deed.acked);
+        let tried: Option<Attempt> = tried_by(command, deed.acked);
         let moment = moment_of(node, id, act, deed.outcome, vector);
         self.moments.push_reserved(moment);
         push_some(&mut self.groups, group);
@@ -121,9 +121,9 @@ impl Report {
     {
         self.opening.push(copied(alloc, vector)?)?;
         self.groups.push(GroupNo::numbered(id, 1))?;
-        self.commands.push(TriedAt {
+        self.commands.push(AttemptAt {
             node: id,
-            tried: Tried {
+            tried: Attempt {
                 command: Command::Raise,
                 acked: Some(1),
             },
@@ -140,34 +140,34 @@ impl Report {
 }
 
 /// The group of a raise that was acknowledged.
-fn given_by(id: NodeId, tried: Option<Attempt>, acked: Option<u64>) -> Option<GroupNo>
-    requires { (count : ℕ) → tried ≡ Some Attempt.Raise → acked ≡ Some count → 1 ≤ count }
+fn given_by(id: NodeId, tried: Option<CommandKind>, acked: Option<u64>) -> Option<GroupNo>
+    requires { (count : ℕ) → tried ≡ Some CommandKind.Raise → acked ≡ Some count → 1 ≤ count }
     ensures { (work : Option Work) → listed result ≡ given_in (tried_at id (tried_as (command_with work tried) acked)) }
 {
     match (tried, acked) {
-        (Some(Attempt::Raise), Some(count)) => Some(GroupNo::numbered(id, count)),
+        (Some(CommandKind::Raise), Some(count)) => Some(GroupNo::numbered(id, count)),
         _ => None,
     }
 }
 
 /// The command that was tried.
-fn tried_by(command: Option<Command>, acked: Option<u64>) -> Option<Tried>
+fn tried_by(command: Option<Command>, acked: Option<u64>) -> Option<Attempt>
     ensures { result ≡ tried_as command acked }
 {
     let command = command?;
-    Some(Tried { command, acked })
+    Some(Attempt { command, acked })
 }
 
 /// The command that a node tried.
-fn tried_at(id: NodeId, tried: Option<Tried>) -> Option<TriedAt>
+fn tried_at(id: NodeId, tried: Option<Attempt>) -> Option<AttemptAt>
     ensures { result ≡ tried_at id tried }
 {
     let tried = tried?;
-    Some(TriedAt { node: id, tried })
+    Some(AttemptAt { node: id, tried })
 }
 
 /// The whole command that was tried in an act.
-fn command_in(act: &Act, tried: Option<Attempt>) -> Option<Command>
+fn command_in(act: &Act, tried: Option<CommandKind>) -> Option<Command>
     ensures { result ≡ command_in act.now tried }
 {
     tried?.command(work_in(act))
@@ -219,7 +219,7 @@ fn push_some<T>(list: &mut Vec<T>, item: Option<T>)
 fn copied(alloc: Global, vector: &Vector) -> Result<Vector, AllocError>
     ensures { IfOk result (λ copy. state_of copy ≡ state_of vector.now) }
 {
-    let mut copy = Vector::down(alloc, vector.standing.coordinator);
+    let mut copy = Vector::down(alloc, vector.group_state.coordinator);
     copy.room(vector.hand.jobs().len())?;
     copy.set(vector);
     Ok(copy)

@@ -2,7 +2,7 @@
 use group_task::{GroupNo, NodeId};
 use job_model::Job;
 use node_core::Vector;
-use runs::{Outcome, TriedAt};
+use runs::{AttemptAt, Outcome};
 use schedule::Act;
 
 /// What came of the acts of a cluster, from its opening on.
@@ -15,7 +15,7 @@ pub struct Report {
     /// The groups that nodes started, each once its count was on their disk. Those of the openings come first.
     pub groups: Vec<GroupNo>,
     /// The commands that nodes tried on their disks. The raises of the openings come first.
-    pub commands: Vec<TriedAt>,
+    pub commands: Vec<AttemptAt>,
     /// The mountings that succeeded. Those of the openings come first.
     pub mounted: Vec<Mounted>,
 }

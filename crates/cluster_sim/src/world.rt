@@ -2,15 +2,15 @@
 ghost use Rattle.std.specs.Prelude.{◌≡◌, ◌≤◌, ◌<◌, length, slice_get, Some, IfOk, OnErr};
 ghost use Rattle.group_task.specs.declared.node.TheConstants.{NODES};
 ghost use Rattle.schedule.specs.declared.act.Act.TheVariants as acts;
-ghost use Rattle.cluster_sim.specs.World.{AreasRise, AreasWithin, AreUnarmed, IsUntouched, StandsFor, Acted, Performed, FaultsAt};
+ghost use Rattle.cluster_sim.specs.World.{AreasRise, AreasWithin, AreUnarmed, IsUntouched, StandsFor, Performed, FaultsAt};
 ghost use Rattle.cluster_sim.specs.Answering.{IsAnsweredBy};
 ghost use Rattle.cluster_sim.specs.Operated.{Operates};
 ghost use Rattle.cluster_sim.specs.Names.{node_named};
 ghost use Rattle.runs.specs.Acts.{receiver_or_first};
 ghost use Rattle.runs.specs.World.{World as RunWorld, start};
 
+use crate::act_report::ActReport;
 use crate::acts::{event_at, read_delivery, some_delivery};
-use crate::deed::Deed;
 use crate::nodes::Nodes;
 use durable_node::DurableNode;
 use group_task::NodeId;
@@ -66,44 +66,27 @@ impl World {
         })
     }
 
-    /// One act. It is refused where it names a node outside the cluster, and else as the node or the network refuses it:
-    /// then nothing changed. An error says that there was no memory for it, and nothing changed either, but that the act's node may not
-    /// show any more what it mounted last.
-    pub fn step(&mut self, act: &Act) -> Result<Outcome, AllocError>
+    /// One act, with what its node told of it. It is refused where it names a node outside the cluster, and else as the node or the
+    /// network refuses it: then nothing changed. An error says that there was no memory for it, and nothing changed either, but that
+    /// the act's node may not show any more what it mounted last.
+    pub fn step(&mut self, act: &Act) -> Result<ActReport, AllocError>
         ensures slots { self.new.slots ≡ self.old.slots }
         // Promise: Each act is one of the steps that the definitions allow for it, its outcome is that step's, and the cluster then
         // represents the world after it: its nodes, their disks, all that was sent, lost and cut.
         // Refuses: messages_kept_back, delivered_as_a_timer, delivered_to_its_sender, timer_that_checks, timer_of_the_act_before,
         // refusal_answered_as_fault, refused_compaction_answered_as_done, first_from_zero, cut_from_itself, mended_by_cut,
         // crash_arms, first_message_lost, armed_at_node_0.
-        ensures acted { (w : RunWorld) → StandsFor self.old w → IfOk result (λ outcome. Acted w act.now outcome self.new) }
-        // Promise: Want of memory leaves the cluster as it was.
-        ensures memory { (w : RunWorld) → StandsFor self.old w → OnErr result (StandsFor self.new w) }
-        ensures untouched { (w : RunWorld) → StandsFor self.old w → OnErr result (IsUntouched (node_named (length self.old.nodes) self.old.net.sent act.now) self.old self.new) }
-        ensures faults { IfOk result (FaultsAt (node_named (length self.old.nodes) self.old.net.sent act.now) self.old self.new) }
-        ensures disk { IfOk result (Operates act.now self.old self.new) }
-        ensures answers { (w : RunWorld) → StandsFor self.old w → IfOk result (IsAnsweredBy act.now self.old) }
-        // No act is refused because areas are used up, where each of their numbers can be raised once more.
-        ensures areas { (w : RunWorld) → StandsFor self.old w → IfOk result (AreasRise self.old self.new) }
-    {
-        match self.perform(act) {
-            Ok(deed) => Ok(deed.outcome),
-            Err(error) => Err(error),
-        }
-    }
-
-    /// The same, with all that its node told of it.
-    pub fn perform(&mut self, act: &Act) -> Result<Deed, AllocError>
-        ensures slots { self.new.slots ≡ self.old.slots }
-        // Promise: What is told of an act is what came of it: the fate of the event at its node, the command that the node tried with
+        // Promise: What is told of an act is what came of it: the outcome of the event at its node, the command that the node tried with
         // its answer, and whether it mounted its disk.
         // Refuses: told_of_another_mounting.
         ensures acted { (w : RunWorld) → StandsFor self.old w → IfOk result (λ deed. Performed w act.now deed self.new) }
+        // Promise: Want of memory leaves the cluster as it was.
         ensures memory { (w : RunWorld) → StandsFor self.old w → OnErr result (StandsFor self.new w) }
         ensures untouched { (w : RunWorld) → StandsFor self.old w → OnErr result (IsUntouched (node_named (length self.old.nodes) self.old.net.sent act.now) self.old self.new) }
         ensures faults { IfOk result (λ deed. FaultsAt (node_named (length self.old.nodes) self.old.net.sent act.now) self.old self.new deed.outcome) }
         ensures disk { IfOk result (λ deed. Operates act.now self.old self.new deed.outcome) }
         ensures answers { (w : RunWorld) → StandsFor self.old w → IfOk result (λ deed. IsAnsweredBy act.now self.old deed.outcome) }
+        // No act is refused because areas are used up, where each of their numbers can be raised once more.
         ensures areas { (w : RunWorld) → StandsFor self.old w → IfOk result (λ deed. AreasRise self.old self.new deed.outcome) }
     {
         if let Act::Deliver(number) = act {
@@ -112,9 +95,9 @@ impl World {
         if let Some(id) = event_at(act, &mut self.event) {
             return self.nodes.take(id, &self.event);
         }
-        Ok(Deed {
+        Ok(ActReport {
             outcome: self.nodes.apply(act),
-            fate: None,
+            event_outcome: None,
             tried: None,
             acked: None,
             mounted: false,
@@ -162,7 +145,7 @@ impl World {
     }
 
     /// Delivers the message of this number at its receiver.
-    fn deliver(&mut self, number: u64) -> Result<Deed, AllocError>
+    fn deliver(&mut self, number: u64) -> Result<ActReport, AllocError>
         ensures slots { self.new.slots ≡ self.old.slots }
         ensures acted { (w : RunWorld) → StandsFor self.old w → IfOk result (λ deed. Performed w (acts.Deliver number) deed self.new) }
         ensures memory { (w : RunWorld) → StandsFor self.old w → OnErr result (StandsFor self.new w) }
@@ -173,9 +156,9 @@ impl World {
     {
         match read_delivery(self.nodes.net(), number, &mut self.delivery) {
             Ok(receiver) => self.nodes.take(receiver, &self.delivery),
-            Err(fault) => Ok(Deed {
+            Err(fault) => Ok(ActReport {
                 outcome: Outcome::Refused(Refusal::Net(fault)),
-                fate: None,
+                event_outcome: None,
                 tried: None,
                 acked: None,
                 mounted: false,

@@ -11,14 +11,14 @@ use Rattle.trace_draw.specs.declared.judging.Stage.{Stage}
 use Rattle.trace_draw.specs.declared.judging.Stage.TheVariants.{Over, Ongoing}
 use Rattle.trace_draw.specs.declared.drawing.Form.{Form}
 use Rattle.trace_draw.specs.declared.drawing.Form.TheVariants as form
-use Rattle.command_line.specs.declared.task.TheConstants.{MOST_ROUND_TRIP, ROUND_TRIP}
-use Rattle.command_line.specs.declared.task.Place.{Place}
-use Rattle.command_line.specs.declared.task.Making.{Making}
-use Rattle.command_line.specs.declared.task.Sealing.{Sealing}
-use Rattle.command_line.specs.declared.task.Batch.{Batch}
-use Rattle.command_line.specs.declared.task.Batch.TheVariants.{Answer, Show, Sim, Store, Trace, Record, Threads, Draw}
-use Rattle.command_line.specs.declared.task.Task.{Task}
-use Rattle.command_line.specs.declared.task.Task.TheVariants as task
+use Rattle.command_line.specs.declared.invocation.TheConstants.{MOST_ROUND_TRIP, ROUND_TRIP}
+use Rattle.command_line.specs.declared.invocation.NodePlace.{NodePlace}
+use Rattle.command_line.specs.declared.invocation.Making.{Making}
+use Rattle.command_line.specs.declared.invocation.Sealing.{Sealing}
+use Rattle.command_line.specs.declared.invocation.Batch.{Batch}
+use Rattle.command_line.specs.declared.invocation.Batch.TheVariants.{Answer, Show, Sim, Store, Trace, Record, Threads, Draw}
+use Rattle.command_line.specs.declared.invocation.Invocation.{Invocation}
+use Rattle.command_line.specs.declared.invocation.Invocation.TheVariants as invocation
 
 -- what a file is made for: a node, the slots of an area, and the count
 pub record Made : Type 0 where
@@ -49,7 +49,7 @@ pub data Asked : Type 0 where
   inspects : List ℕ → Asked
   exports : List ℕ → Asked
 
-abbrev pub placed : Place → ℕ × ℕ
+abbrev pub placed : NodePlace → ℕ × ℕ
 placed place = (place.id, place.nodes)
 
 abbrev pub made : Making → Made
@@ -78,13 +78,13 @@ asked_batch Record = records
 asked_batch Threads = runs_threads
 asked_batch (Draw form) = draws (is_page form)
 
-abbrev pub asked : Task → Asked
-asked (task.Batch batch) = asked_batch batch
-asked (task.Format path making jobs) = makes (string_bytes path) (made making) (option_map string_bytes jobs)
-asked (task.Node path place round_trip sealing) = serves (string_bytes path) (placed place) round_trip (option_map sealed sealing)
-asked (task.Inspect path) = inspects (string_bytes path)
-asked (task.Export path) = exports (string_bytes path)
-asked (task.Trace stage files) = traces (is_ongoing stage) (map string_bytes files.items)
+abbrev pub asked : Invocation → Asked
+asked (invocation.Batch batch) = asked_batch batch
+asked (invocation.Format path making jobs) = makes (string_bytes path) (made making) (option_map string_bytes jobs)
+asked (invocation.Node path place round_trip sealing) = serves (string_bytes path) (placed place) round_trip (option_map sealed sealing)
+asked (invocation.Inspect path) = inspects (string_bytes path)
+asked (invocation.Export path) = exports (string_bytes path)
+asked (invocation.Trace stage files) = traces (is_ongoing stage) (map string_bytes files.items)
 
 -- ---- arguments, by their names
 

@@ -1,7 +1,7 @@
 -- What a command that reads its whole input prints, and what is wrong with its input.
 use Rattle.std.specs.Prelude.{ℕ, List, Option}
 use Rattle.console_text.specs.Ends.{IsFixed, IsWhy, Outcome}
-use Rattle.console_text.specs.declared.ends.Ending.{Ending}
+use Rattle.console_text.specs.declared.ends.ExitKind.{ExitKind}
 use Rattle.invite_console.specs.Answer.{answer_text}
 use Rattle.invite_console.specs.Show.{show_text}
 use Rattle.invite_console.specs.Sim.{IsSimOutcome}
@@ -14,8 +14,8 @@ use Rattle.invite_console.specs.Recording.{IsRecording}
 use Rattle.threads_console.specs.Printed.{IsThreading}
 use Rattle.threads_console.specs.Reasons.{plans_flaw}
 use Rattle.trace_draw.specs.Drawn.{IsDrawn}
-use Rattle.command_line.specs.declared.task.Batch.{Batch}
-use Rattle.command_line.specs.declared.task.Batch.TheVariants.{Answer, Show, Sim, Store, Trace, Record, Threads, Draw}
+use Rattle.command_line.specs.declared.invocation.Batch.{Batch}
+use Rattle.command_line.specs.declared.invocation.Batch.TheVariants.{Answer, Show, Sim, Store, Trace, Record, Threads, Draw}
 
 -- the outcome is what the command prints for these bytes
 abbrev pub IsOutcomeOf : Batch → List ℕ → Outcome → Type 0
@@ -29,7 +29,7 @@ IsOutcomeOf Threads = IsThreading
 IsOutcomeOf (Draw form) = IsDrawn form
 
 -- this is what is wrong with the input, or why its entries are no run; what is wrong with a text that is no trace is printed, and not said again
-abbrev pub IsWhyOf : Batch → Option (List ℕ) → Ending → List ℕ → Type 0
+abbrev pub IsWhyOf : Batch → Option (List ℕ) → ExitKind → List ℕ → Type 0
 IsWhyOf (Answer place) = IsWhy (answer_flaw place.id place.nodes)
 IsWhyOf Show = IsWhy show_flaw
 IsWhyOf (Sim details) = IsWhy schedule_flaw

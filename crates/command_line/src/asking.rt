@@ -3,7 +3,9 @@ ghost use Rattle.std.specs.Prelude.{◌≡◌, IfOk, Some, bytes_eq, codes, map,
 ghost use Rattle.clap.specs.Words.{first_value, found_of};
 ghost use Rattle.command_line.specs.Asked.{answers, asked, asked_by, exports, format_of, inspects, is_ongoing, is_page, is_set, made, making_of, node_of, placed, place_of, round_trip_of, sealed, sealed_by, stores, stride_of, traces, values_of};
 
-use crate::task::{Batch, MOST_ROUND_TRIP, Making, Place, ROUND_TRIP, Sealing, Task};
+use crate::invocation::{
+    Batch, Invocation, MOST_ROUND_TRIP, Making, NodePlace, ROUND_TRIP, Sealing,
+};
 use clap::ArgMatches;
 use disk_sector::{LEAST_SLOTS, MOST_SLOTS};
 use file_disk::Stride;
@@ -14,29 +16,33 @@ use std::alloc::{AllocError, Global};
 use trace_draw::{Form, Stage};
 
 /// What the command of this name asks for, with these arguments. None where a number is out of its range.
-pub fn task(alloc: Global, name: &str, words: &ArgMatches<'_>) -> Result<Option<Task>, AllocError>
+pub fn invocation(
+    alloc: Global,
+    name: &str,
+    words: &ArgMatches<'_>,
+) -> Result<Option<Invocation>, AllocError>
     // Promise: The command that is run is the one that was named, with its arguments as numbers, and the exit status is that of its
     // ending.
     // Also: perform.
     // Refuses: one_command_for_another, sim_shows, every_status_zero, picture_for_a_page, files_passed_over.
-    ensures { IfOk result (λ task. option_map asked task ≡ asked_by name.now (λ id. first_value (found_of words.now) id) (λ id. values_of (found_of words.now) id)) }
+    ensures { IfOk result (λ invocation. option_map asked invocation ≡ asked_by name.now (λ id. first_value (found_of words.now) id) (λ id. values_of (found_of words.now) id)) }
 {
     if is(name, "answer") {
         Ok(answer(words))
     } else if is(name, "show") {
-        Ok(Some(Task::Batch(Batch::Show)))
+        Ok(Some(Invocation::Batch(Batch::Show)))
     } else if is(name, "sim") {
-        Ok(Some(Task::Batch(Batch::Sim(sim_details(words)))))
+        Ok(Some(Invocation::Batch(Batch::Sim(sim_details(words)))))
     } else if is(name, "store") {
         store(alloc, words)
     } else if is(name, "trace") {
         trace(alloc, words)
     } else if is(name, "record") {
-        Ok(Some(Task::Batch(Batch::Record)))
+        Ok(Some(Invocation::Batch(Batch::Record)))
     } else if is(name, "threads") {
-        Ok(Some(Task::Batch(Batch::Threads)))
+        Ok(Some(Invocation::Batch(Batch::Threads)))
     } else if is(name, "draw") {
-        Ok(Some(Task::Batch(Batch::Draw(form(words)))))
+        Ok(Some(Invocation::Batch(Batch::Draw(form(words)))))
     } else if is(name, "format") {
         format(alloc, words)
     } else if is(name, "node") {
@@ -50,10 +56,10 @@ pub fn task(alloc: Global, name: &str, words: &ArgMatches<'_>) -> Result<Option<
     }
 }
 
-fn answer(words: &ArgMatches<'_>) -> Option<Task>
+fn answer(words: &ArgMatches<'_>) -> Option<Invocation>
     ensures { option_map asked result ≡ option_map answers (place_of (λ id. first_value (found_of words.now) id)) }
 {
-    Some(Task::Batch(Batch::Answer(place(words)?)))
+    Some(Invocation::Batch(Batch::Answer(place(words)?)))
 }
 
 fn sim_details(words: &ArgMatches<'_>) -> Details
@@ -67,16 +73,16 @@ fn sim_details(words: &ArgMatches<'_>) -> Details
 }
 
 /// The run of the files that are named, or of standard input where none is.
-fn trace(alloc: Global, words: &ArgMatches<'_>) -> Result<Option<Task>, AllocError>
-    ensures { IfOk result (λ task. option_map asked task
+fn trace(alloc: Global, words: &ArgMatches<'_>) -> Result<Option<Invocation>, AllocError>
+    ensures { IfOk result (λ invocation. option_map asked invocation
         ≡ Some (traces (is_set (first_value (found_of words.now) (codes "ongoing"))) (values_of (found_of words.now) (codes "FILE")))) }
 {
     let stage = stage(words);
     let files = files(alloc, words)?;
     if files.is_empty() {
-        return Ok(Some(Task::Batch(Batch::Trace(stage))));
+        return Ok(Some(Invocation::Batch(Batch::Trace(stage))));
     }
-    Ok(Some(Task::Trace(stage, files)))
+    Ok(Some(Invocation::Trace(stage, files)))
 }
 
 /// The files that are named.
@@ -121,23 +127,23 @@ fn form(words: &ArgMatches<'_>) -> Form
     }
 }
 
-fn store(alloc: Global, words: &ArgMatches<'_>) -> Result<Option<Task>, AllocError>
-    ensures { IfOk result (λ task. option_map asked task ≡ option_map stores (first_value (found_of words.now) (codes "PATH"))) }
+fn store(alloc: Global, words: &ArgMatches<'_>) -> Result<Option<Invocation>, AllocError>
+    ensures { IfOk result (λ invocation. option_map asked invocation ≡ option_map stores (first_value (found_of words.now) (codes "PATH"))) }
 {
     let Some(path) = words.get_str("PATH") else {
         return Ok(None);
     };
-    Ok(Some(Task::Batch(Batch::Store(String::from_str(alloc, path)?))))
+    Ok(Some(Invocation::Batch(Batch::Store(String::from_str(alloc, path)?))))
 }
 
-fn format(alloc: Global, words: &ArgMatches<'_>) -> Result<Option<Task>, AllocError>
-    ensures { IfOk result (λ task. option_map asked task ≡ format_of (λ id. first_value (found_of words.now) id)) }
+fn format(alloc: Global, words: &ArgMatches<'_>) -> Result<Option<Invocation>, AllocError>
+    ensures { IfOk result (λ invocation. option_map asked invocation ≡ format_of (λ id. first_value (found_of words.now) id)) }
 {
     let (Some(path), Some(making)) = (words.get_str("FILE"), making(words)) else {
         return Ok(None);
     };
     let jobs = named(alloc, words, "jobs")?;
-    Ok(Some(Task::Format(String::from_str(alloc, path)?, making, jobs)))
+    Ok(Some(Invocation::Format(String::from_str(alloc, path)?, making, jobs)))
 }
 
 /// The value of an option, where it was given.
@@ -150,8 +156,8 @@ fn named(alloc: Global, words: &ArgMatches<'_>, option: &str) -> Result<Option<S
     }
 }
 
-fn node(alloc: Global, words: &ArgMatches<'_>) -> Result<Option<Task>, AllocError>
-    ensures { IfOk result (λ task. option_map asked task ≡ node_of (λ id. first_value (found_of words.now) id)) }
+fn node(alloc: Global, words: &ArgMatches<'_>) -> Result<Option<Invocation>, AllocError>
+    ensures { IfOk result (λ invocation. option_map asked invocation ≡ node_of (λ id. first_value (found_of words.now) id)) }
 {
     let (Some(path), Some(place)) = (words.get_str("FILE"), place(words)) else {
         return Ok(None);
@@ -163,7 +169,7 @@ fn node(alloc: Global, words: &ArgMatches<'_>) -> Result<Option<Task>, AllocErro
         return Ok(None);
     };
     let path = String::from_str(alloc, path)?;
-    Ok(Some(Task::Node(path, place, round_trip, sealing)))
+    Ok(Some(Invocation::Node(path, place, round_trip, sealing)))
 }
 
 /// A file of keys and the name of a cluster, or neither; None where one is given without the other.
@@ -196,22 +202,22 @@ fn round_trip(words: &ArgMatches<'_>) -> Option<u16>
     Some(ms as u16)
 }
 
-fn inspect(alloc: Global, words: &ArgMatches<'_>) -> Result<Option<Task>, AllocError>
-    ensures { IfOk result (λ task. option_map asked task ≡ option_map inspects (first_value (found_of words.now) (codes "FILE"))) }
+fn inspect(alloc: Global, words: &ArgMatches<'_>) -> Result<Option<Invocation>, AllocError>
+    ensures { IfOk result (λ invocation. option_map asked invocation ≡ option_map inspects (first_value (found_of words.now) (codes "FILE"))) }
 {
     let Some(path) = words.get_str("FILE") else {
         return Ok(None);
     };
-    Ok(Some(Task::Inspect(String::from_str(alloc, path)?)))
+    Ok(Some(Invocation::Inspect(String::from_str(alloc, path)?)))
 }
 
-fn export(alloc: Global, words: &ArgMatches<'_>) -> Result<Option<Task>, AllocError>
-    ensures { IfOk result (λ task. option_map asked task ≡ option_map exports (first_value (found_of words.now) (codes "FILE"))) }
+fn export(alloc: Global, words: &ArgMatches<'_>) -> Result<Option<Invocation>, AllocError>
+    ensures { IfOk result (λ invocation. option_map asked invocation ≡ option_map exports (first_value (found_of words.now) (codes "FILE"))) }
 {
     let Some(path) = words.get_str("FILE") else {
         return Ok(None);
     };
-    Ok(Some(Task::Export(String::from_str(alloc, path)?)))
+    Ok(Some(Invocation::Export(String::from_str(alloc, path)?)))
 }
 
 /// What FILE is made for, by SLOTS, SELF, NODES, FIRST and its stride.
@@ -251,7 +257,7 @@ fn stride(words: &ArgMatches<'_>) -> Option<Stride>
 }
 
 /// The node that SELF and NODES name.
-fn place(words: &ArgMatches<'_>) -> Option<Place>
+fn place(words: &ArgMatches<'_>) -> Option<NodePlace>
     ensures { option_map placed result ≡ place_of (λ id. first_value (found_of words.now) id) }
 {
     let id = number(words.get_str("SELF")?.as_bytes())?;
@@ -259,7 +265,7 @@ fn place(words: &ArgMatches<'_>) -> Option<Place>
     if u64::from(NODES) < nodes || nodes <= id {
         return None;
     }
-    Some(Place {
+    Some(NodePlace {
         id: NodeId::numbered(id as u8),
         nodes: nodes as u8,
     })

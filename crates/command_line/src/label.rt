@@ -10,7 +10,7 @@ const VERSION: u8 = 1;
 
 /// Whose a file is, by its label.
 #[derive(Clone, Copy, Debug, PartialEq, Eq)]
-pub enum Owner {
+pub enum LabelOwner {
     /// It is no node's: it wasn't formatted to its end, or its end was cut off.
     Nobody,
     /// It is a node's, in a format of this version, which isn't read here.
@@ -59,19 +59,19 @@ fn is_label(label: [u8; LABEL], id: u8, nodes: u8) -> bool
 }
 
 /// Whose a file with this label is, or one with none.
-pub fn owner_of(label: Option<[u8; LABEL]>) -> Owner
-    ensures node { (id nodes : ℕ) → (result ≡ Owner.Node id nodes) ↔ ((label ≡ Some (label_of id nodes Packed)) ⊎ (label ≡ Some (label_of id nodes Spaced))) }
-    ensures unread { (version : ℕ) → (result ≡ Owner.Unread version) ↔ (version ≢ 1) × IsOfVersion label version }
+pub fn owner_of(label: Option<[u8; LABEL]>) -> LabelOwner
+    ensures node { (id nodes : ℕ) → (result ≡ LabelOwner.Node id nodes) ↔ ((label ≡ Some (label_of id nodes Packed)) ⊎ (label ≡ Some (label_of id nodes Spaced))) }
+    ensures unread { (version : ℕ) → (result ≡ LabelOwner.Unread version) ↔ (version ≢ 1) × IsOfVersion label version }
 {
     let Some(bytes) = label else {
-        return Owner::Nobody;
+        return LabelOwner::Nobody;
     };
     let (version, id, nodes) = (bytes[8], bytes[9], bytes[10]);
     if is_label(bytes, id, nodes) {
-        Owner::Node { id, nodes }
+        LabelOwner::Node { id, nodes }
     } else if version != VERSION && is_of_a_node(label) {
-        Owner::Unread(version)
+        LabelOwner::Unread(version)
     } else {
-        Owner::Nobody
+        LabelOwner::Nobody
     }
 }

@@ -10,6 +10,7 @@ ghost use Rattle.std.specs.Prelude.{◌≤◌, ◌+◌, length, IfOk};
 
 mod asking;
 mod commands;
+mod invocation;
 mod keys;
 mod label;
 mod making;
@@ -18,12 +19,12 @@ mod reading;
 mod reasons;
 mod serving;
 mod status;
-mod task;
 
 use commands::command;
-use console_text::{Ended, MAX_READS, Sink, Source, Trouble, read_source};
+use console_text::{Ended, IoTrouble, MAX_READS, Sink, Source, read_source};
 use disk_sector::{LEAST_SLOTS, MOST_SLOTS};
 use group_task::NODES;
+use invocation::{Batch, Invocation, MOST_ROUND_TRIP, Making, NodePlace, Sealing};
 use job_model::JobTable;
 use keys::Keys;
 use line_words::LineFault;
@@ -39,7 +40,7 @@ use std::io::{ErrorKind, Read};
 use std::process::ExitCode;
 use std::sync::Wait;
 use std::thread::Threads;
-use task::{Batch, MOST_ROUND_TRIP, Making, Place, Sealing, Task};
+use store_console::Shown;
 use trace_draw::{Stage, TraceFile};
 
 /// The exit status of a command line that can't be read, or asks for help.
@@ -71,19 +72,19 @@ fn obey<T: Threads + Wait + Sync>(rt: &HostRuntime, threads: &T) -> io::Result<u
     let Some(words) = words(rt)? else {
         return Ok(UNREADABLE);
     };
-    match task_of(rt, words.as_slice())? {
-        Ok(Task::Batch(batch)) => Ok(carry_out(rt, threads, &batch)),
-        Ok(Task::Format(path, making, jobs)) => format(rt, path.as_str(), &making, &jobs),
-        Ok(Task::Node(path, place, round_trip, sealing)) => node(
+    match invocation_of(rt, words.as_slice())? {
+        Ok(Invocation::Batch(batch)) => Ok(carry_out(rt, threads, &batch)),
+        Ok(Invocation::Format(path, making, jobs)) => format(rt, path.as_str(), &making, &jobs),
+        Ok(Invocation::Node(path, place, round_trip, sealing)) => node(
             rt,
             path.as_str(),
             place,
             round_trip,
             &sealing,
         ),
-        Ok(Task::Inspect(path)) => look(rt, path.as_str(), Shown::All),
-        Ok(Task::Export(path)) => look(rt, path.as_str(), Shown::Jobs),
-        Ok(Task::Trace(stage, paths)) => judge(rt, stage, &paths),
+        Ok(Invocation::Inspect(path)) => look(rt, path.as_str(), Shown::All),
+        Ok(Invocation::Export(path)) => look(rt, path.as_str(), Shown::Jobs),
+        Ok(Invocation::Trace(stage, paths)) => judge(rt, stage, &paths),
         Err(status) => Ok(status),
     }
 }
@@ -147,8 +148,8 @@ fn text_of(rt: &HostRuntime, path: &str) -> io::Result<Option<Vec<u8>>> {
     };
     match read_source(rt.alloc(), &mut input) {
         Ok(bytes) => Ok(Some(bytes)),
-        Err(Trouble::NoMemory) => Err(io::Error::from(ErrorKind::OutOfMemory)),
-        Err(Trouble::Unread) => {
+        Err(IoTrouble::NoMemory) => Err(io::Error::from(ErrorKind::OutOfMemory)),
+        Err(IoTrouble::Unread) => {
             match input.fault() {
                 Some(error) => eprintln!(rt; "invite: {path}: can't read: {error}")?,
                 None => eprintln!(rt;
@@ -178,7 +179,7 @@ fn tell(
 fn node(
     rt: &HostRuntime,
     path: &str,
-    place: Place,
+    place: NodePlace,
     round_trip: u16,
     sealing: &Option<Sealing>,
 ) -> io::Result<u8> {
@@ -266,19 +267,12 @@ fn listed(rt: &HostRuntime, path: &str, making: &Making) -> io::Result<Result<Jo
 fn bytes_of<R: Read + Drop>(rt: &HostRuntime, mut input: Source<R>) -> io::Result<Option<Vec<u8>>> {
     match read_source(rt.alloc(), &mut input) {
         Ok(bytes) => Ok(Some(bytes)),
-        Err(Trouble::NoMemory) => Err(io::Error::from(ErrorKind::OutOfMemory)),
-        Err(Trouble::Unread) => {
+        Err(IoTrouble::NoMemory) => Err(io::Error::from(ErrorKind::OutOfMemory)),
+        Err(IoTrouble::Unread) => {
             explain(rt, Reason::Unread(input.fault()))?;
             Ok(None)
         }
     }
-}
-
-/// What is printed of a file.
-#[derive(Clone, Copy)]
-enum Shown {
-    All,
-    Jobs,
 }
 
 /// Reads a file and prints what it holds, and answers the exit status.
@@ -305,10 +299,7 @@ fn shown_of<R: Read + Drop>(
     shown: Shown,
 ) -> io::Result<u8> {
     let mut output = Sink::new(rt.stdout());
-    let ending = match shown {
-        Shown::All => store_console::inspect(rt.alloc(), &mut input, &mut output),
-        Shown::Jobs => store_console::export(rt.alloc(), &mut input, &mut output),
-    };
+    let ending = store_console::inspect(rt.alloc(), shown, &mut input, &mut output);
     let why = Vec::new(rt.alloc());
     tell(rt, Ended { ending, why }, input.fault(), output.fault())
 }
@@ -324,27 +315,31 @@ fn explain_status(rt: &HostRuntime, path: &str, status: Status) -> io::Result<u8
 }
 
 /// Reads the command line. Where it asks for no work, prints what is wrong with it, the help or the version, and answers the exit status.
-fn task_of(rt: &HostRuntime, words: &[String]) -> io::Result<Result<Task, u8>> {
+fn invocation_of(rt: &HostRuntime, words: &[String]) -> io::Result<Result<Invocation, u8>> {
     let alloc = rt.alloc();
     match command(alloc)?.try_get_matches_from(words) {
         Ok(matches) => {
-            let task = match matches.subcommand() {
-                Some((name, words)) => asking::task(alloc, name, words)?,
+            let invocation = match matches.subcommand() {
+                Some((name, words)) => asking::invocation(alloc, name, words)?,
                 None => None,
             };
-            if task.is_none() {
+            if invocation.is_none() {
                 println!(rt;
                     "error: SELF and NODES are decimal numbers, NODES from 1 to {NODES}, and SELF is below NODES; SLOTS is from {LEAST_SLOTS} to {MOST_SLOTS}, FIRST below 2^64, the stride 512 or 4096, and ROUND_TRIP_MS from 1 to {MOST_ROUND_TRIP}\n\nFor more information, try '--help'."
                 )?;
             }
-            Ok(task.ok_or(UNREADABLE))
+            Ok(invocation.ok_or(UNREADABLE))
         }
         Err(error) => unread(rt, words, error),
     }
 }
 
 /// Prints what `clap` found in place of a command, and answers the exit status.
-fn unread(rt: &HostRuntime, words: &[String], error: clap::Error) -> io::Result<Result<Task, u8>> {
+fn unread(
+    rt: &HostRuntime,
+    words: &[String],
+    error: clap::Error,
+) -> io::Result<Result<Invocation, u8>> {
     if error.kind() == clap::error::ErrorKind::OutOfMemory {
         return Err(io::Error::from(ErrorKind::OutOfMemory));
     }

@@ -3,7 +3,7 @@ ghost use Rattle.std.specs.Prelude.{◌≡◌, ◌≤◌, ◌+◌};
 ghost use Rattle.console_text.specs.Ends.{Prints, status_of};
 ghost use Rattle.command_line.specs.Performed.{IsOutcomeOf, IsWhyOf};
 
-use crate::task::Batch;
+use crate::invocation::Batch;
 use console_text::{Ended, Source};
 use std::alloc::Global;
 use std::fs::{File, Files};

@@ -1,5 +1,5 @@
 // What standard error says of how a command ended.
-use console_text::{Ended, Ending, MAX_READS};
+use console_text::{Ended, ExitKind, MAX_READS};
 use std::io;
 use std::io::Write;
 
@@ -22,16 +22,16 @@ pub fn reason_of(
 ) -> Option<Reason> {
     let Ended { ending, why } = ended;
     match ending {
-        Ending::Done | Ending::Refused => {
+        ExitKind::Done | ExitKind::Refused => {
             if why.is_empty() {
                 None
             } else {
                 Some(Reason::Input(why))
             }
         }
-        Ending::NoMemory => Some(Reason::NoMemory),
-        Ending::Unread => Some(Reason::Unread(unread)),
-        Ending::Unwritten => Some(Reason::Unwritten(unwritten)),
+        ExitKind::NoMemory => Some(Reason::NoMemory),
+        ExitKind::Unread => Some(Reason::Unread(unread)),
+        ExitKind::Unwritten => Some(Reason::Unwritten(unwritten)),
     }
 }
 

@@ -3,13 +3,13 @@ ghost use Rattle.std.specs.Prelude.{◌<◌, ◌≤◌, ◌≡◌};
 ghost use Rattle.group_task.specs.declared.node.TheConstants.{NODES};
 
 use crate::keys::{Keys, read_seal};
-use crate::label::{Owner, is_own, owner_of};
+use crate::label::{LabelOwner, is_own, owner_of};
 use crate::status::{Status, stopped};
 use file_disk::FileDisk;
 use group_task::NodeId;
 use memchr::memchr;
 use node_session::{Seal, Session};
-use pace::Setting;
+use pace::TimerSettings;
 use sector_disk::SectorDisk;
 use std::alloc::Global;
 use std::fs::{File, Files};
@@ -51,9 +51,9 @@ pub fn serve_file<P: AsPath, R: Read, W: Write>(
         Err(error) => return Status::Device(Some(error)),
     }
     if disk.sectors() < 24 {
-        return Status::Foreign(Owner::Nobody);
+        return Status::Foreign(LabelOwner::Nobody);
     }
-    let setting = Setting::measured(round_trip);
+    let setting = TimerSettings::measured(round_trip);
     let mut session = Session::new(alloc, id, nodes, disk, setting, u64::from(id.number()));
     if let Some(seal) = seal {
         session.seal(seal);

@@ -1,7 +1,7 @@
 ghost use Rattle.std.specs.Prelude.{◌≡◌};
 ghost use Rattle.command_line.specs.Ends.{code_for, stopped};
 
-use crate::label::Owner;
+use crate::label::LabelOwner;
 use file_disk::OpenFault;
 use std::fmt::{Display, Formatter};
 use std::io::ErrorKind;
@@ -17,7 +17,7 @@ pub enum Status {
     /// The file can't be made or opened.
     File(OpenFault),
     /// The file isn't this node's, but another one's or nobody's.
-    Foreign(Owner),
+    Foreign(LabelOwner),
     /// The device failed, and this is what the system said of it. Nothing is asked of the file any more.
     Device(Option<io::Error>),
     /// The file of keys can't be read, isn't one of keys, or others than its owner may read it.
@@ -94,19 +94,19 @@ impl Display for Status {
     }
 }
 
-impl Display for Owner {
+impl Display for LabelOwner {
     fn fmt<W: fmt::Write>(&self, f: &mut Formatter<W>) -> fmt::Result {
         match self {
-            Owner::Nobody => f.write_str(
+            LabelOwner::Nobody => f.write_str(
                 "it is no node's file: it was never formatted, or its end was cut off",
             ),
-            Owner::Unread(version) => {
+            LabelOwner::Unread(version) => {
                 write!(
                     f,
                     "its format is of version {version}, which isn't read here"
                 )
             }
-            Owner::Node { id, nodes } => write!(f, "it is the file of node {id} of {nodes}"),
+            LabelOwner::Node { id, nodes } => write!(f, "it is the file of node {id} of {nodes}"),
         }
     }
 }

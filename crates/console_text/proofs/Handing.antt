@@ -31,10 +31,3 @@ part_out None b c p q x printed empty part = tt
 part_out (Some xs) None c p q x printed empty part = absurd printed
 part_out (Some xs) (Some ys) None p q x printed empty part = absurd part
 part_out (Some xs) (Some ys) (Some zs) p q x printed empty part = ap (λ l. zs ++ l) empty ∙ append-nil zs ∙ part ∙ ap (λ l. l ++ x) printed
-
--- what was handed on is printed with the last page
-pub all_out : (a b c : Option (List ℕ)) (q x : List ℕ) → Hands a [] b q x → Appends b c q → Appends a c x
-all_out None b c q x handed printed = tt
-all_out (Some xs) None c q x handed printed = absurd handed
-all_out (Some xs) (Some ys) None q x handed printed = absurd printed
-all_out (Some xs) (Some ys) (Some zs) q x handed printed = printed ∙ handed ∙ ap (λ l. l ++ x) (append-nil xs)

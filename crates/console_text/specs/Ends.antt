@@ -1,12 +1,12 @@
 -- What a command prints, and how it ends.
 use Rattle.std.specs.Prelude.{◌≡◌, ℕ, List, [], ◌∷◌, ◌++◌, Bool, false, if◌then◌else◌, codes, Option, IfSome, Result, Ok, Err}
 use Rattle.std.specs.Io.KnownBytes.{Appends, Keeps}
-use Rattle.console_text.specs.declared.ends.Ending.{Ending}
-use Rattle.console_text.specs.declared.ends.Ending.TheVariants.{Done, Refused, NoMemory, Unread, Unwritten}
-use Rattle.console_text.specs.declared.ends.Trouble.{Trouble}
-use Rattle.console_text.specs.declared.ends.Trouble.TheVariants as trouble
-use Rattle.console_text.specs.declared.ends.Printout.{Printout}
-use Rattle.console_text.specs.declared.ends.Explained.{Explained}
+use Rattle.console_text.specs.declared.ends.ExitKind.{ExitKind}
+use Rattle.console_text.specs.declared.ends.ExitKind.TheVariants.{Done, Refused, NoMemory, Unread, Unwritten}
+use Rattle.console_text.specs.declared.ends.IoTrouble.{IoTrouble}
+use Rattle.console_text.specs.declared.ends.IoTrouble.TheVariants as trouble
+use Rattle.console_text.specs.declared.ends.Output.{Output}
+use Rattle.console_text.specs.declared.ends.CommandError.{CommandError}
 
 -- a text, ended as a line
 abbrev pub line : List ℕ → List ℕ
@@ -25,13 +25,13 @@ refused text = record { text = line text; good = false }
 abbrev pub before : List ℕ → Outcome → Outcome
 before text outcome = record { text = text ++ outcome.text; good = outcome.good }
 
-abbrev pub outcome_of : Printout → Outcome
+abbrev pub outcome_of : Output → Outcome
 outcome_of printout = record { text = printout.text.items; good = printout.good }
 
-abbrev pub ending_of : Bool → Ending
+abbrev pub ending_of : Bool → ExitKind
 ending_of good = if good then Done else Refused
 
-abbrev pub status_of : Ending → ℕ
+abbrev pub status_of : ExitKind → ℕ
 status_of Done = 0
 status_of Refused = 1
 status_of NoMemory = 1
@@ -39,25 +39,25 @@ status_of Unread = 1
 status_of Unwritten = 1
 
 -- the text is written, unless a write failed
-abbrev pub PrintsText : List ℕ → Option (List ℕ) → Option (List ℕ) → Ending → Ending → Type 0
+abbrev pub PrintsText : List ℕ → Option (List ℕ) → Option (List ℕ) → ExitKind → ExitKind → Type 0
 PrintsText text old new wanted Unwritten = Unit {0}
 PrintsText text old new wanted Done = (Done ≡ wanted) × Appends old new text
 PrintsText text old new wanted Refused = (Refused ≡ wanted) × Appends old new text
 PrintsText text old new wanted NoMemory = (NoMemory ≡ wanted) × Appends old new text
 PrintsText text old new wanted Unread = (Unread ≡ wanted) × Appends old new text
 
-abbrev pub PrintsIt : Result Printout Trouble → Option (List ℕ) → Option (List ℕ) → Ending → Type 0
+abbrev pub PrintsIt : Result Output IoTrouble → Option (List ℕ) → Option (List ℕ) → ExitKind → Type 0
 PrintsIt (Ok printout) old new ending = PrintsText printout.text.items old new (ending_of printout.good) ending
 PrintsIt (Err trouble.NoMemory) old new ending = PrintsText (line (codes "no memory")) old new NoMemory ending
 PrintsIt (Err trouble.Unread) old new ending = (ending ≡ Unread) × Keeps old new
 
--- the printout is printed
-abbrev pub PrintsExplained : Result Explained Trouble → Option (List ℕ) → Option (List ℕ) → Ending → Type 0
+-- the output is printed
+abbrev pub PrintsExplained : Result CommandError IoTrouble → Option (List ℕ) → Option (List ℕ) → ExitKind → Type 0
 PrintsExplained (Ok explained) old new ending = PrintsIt (Ok explained.printout) old new ending
 PrintsExplained (Err trouble) old new ending = PrintsIt (Err trouble) old new ending
 
 -- what was wrong with the input is handed on
-abbrev pub HandsOn : Result Explained Trouble → List ℕ → Type 0
+abbrev pub HandsOn : Result CommandError IoTrouble → List ℕ → Type 0
 HandsOn (Ok explained) why = why ≡ explained.why.items
 HandsOn (Err trouble) why = why ≡ []
 
@@ -66,7 +66,7 @@ abbrev pub IsFlawOf : (List ℕ → List ℕ) → Option (List ℕ) → List ℕ
 IsFlawOf flaw input why = (bytes : List ℕ) × IfSome input (λ known. known ≡ bytes) × (why ≡ flaw bytes)
 
 -- What was wrong with the input, where the text for it was printed.
-abbrev pub IsWhy : (List ℕ → List ℕ) → Option (List ℕ) → Ending → List ℕ → Type 0
+abbrev pub IsWhy : (List ℕ → List ℕ) → Option (List ℕ) → ExitKind → List ℕ → Type 0
 IsWhy flaw input Done why = IsFlawOf flaw input why
 IsWhy flaw input Refused why = IsFlawOf flaw input why
 IsWhy flaw input NoMemory why = Unit {0}
@@ -78,12 +78,12 @@ abbrev pub IsFixed : (List ℕ → Outcome) → List ℕ → Outcome → Type 0
 IsFixed fixed bytes outcome = outcome ≡ fixed bytes
 
 -- The text of an outcome for the bytes that were read, and nothing else, is written. Where the reader says its bytes, they are these.
-abbrev pub Answered : (List ℕ → Outcome → Type 0) → Option (List ℕ) → Option (List ℕ) → Option (List ℕ) → Ending → Type 0
+abbrev pub Answered : (List ℕ → Outcome → Type 0) → Option (List ℕ) → Option (List ℕ) → Option (List ℕ) → ExitKind → Type 0
 Answered Is input old new ending =
     (bytes : List ℕ) × (outcome : Outcome) × IfSome input (λ known. known ≡ bytes) × Is bytes outcome × (ending ≡ ending_of outcome.good) × Appends old new outcome.text
 
 -- What a command writes for what it reads, by how it ends. Nothing is said of a writer that failed.
-abbrev pub Prints : (List ℕ → Outcome → Type 0) → Option (List ℕ) → Option (List ℕ) → Option (List ℕ) → Ending → Type 0
+abbrev pub Prints : (List ℕ → Outcome → Type 0) → Option (List ℕ) → Option (List ℕ) → Option (List ℕ) → ExitKind → Type 0
 Prints Is input old new Done = Answered Is input old new Done
 Prints Is input old new Refused = Answered Is input old new Refused
 Prints Is input old new NoMemory = Appends old new (line (codes "no memory"))

@@ -1,8 +1,8 @@
 -- What was written to an output.
 use Rattle.std.specs.Prelude.{◌≡◌, true, Option}
 use Rattle.std.specs.declared.io.Error.{Error}
-use Rattle.console_text.specs.declared.ends.Ending.{Ending}
-use Rattle.console_text.specs.declared.ends.Ending.TheVariants.{Done, Refused, NoMemory, Unread, Unwritten}
+use Rattle.console_text.specs.declared.ends.ExitKind.{ExitKind}
+use Rattle.console_text.specs.declared.ends.ExitKind.TheVariants.{Done, Refused, NoMemory, Unread, Unwritten}
 use Rattle.console_text.specs.declared.progress.Progress.{Progress}
 
 -- a writer, and the error of the last write or flush that failed
@@ -16,7 +16,7 @@ pub record IsOut (old new : Progress) : Type 0 where
   pub flushed : new.flushed ≡ true
 
 -- An ending tells whether the text went out: no, only where a write or a flush failed; yes, only where none did and a flush came last.
-abbrev pub TellsProgress : Progress → Progress → Ending → Type 0
+abbrev pub TellsProgress : Progress → Progress → ExitKind → Type 0
 TellsProgress old new Done = IsOut old new
 TellsProgress old new Refused = IsOut old new
 TellsProgress old new NoMemory = IsOut old new

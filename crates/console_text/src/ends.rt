@@ -5,7 +5,7 @@ use thiserror::Error;
 
 /// How a command ended.
 #[derive(Clone, Copy, Debug, PartialEq, Eq)]
-pub enum Ending {
+pub enum ExitKind {
     /// All was printed, and nothing was wrong.
     Done,
     /// What was printed says what was wrong.
@@ -20,7 +20,7 @@ pub enum Ending {
 
 /// Why a command has nothing to print for an input.
 #[derive(Clone, Copy, Debug, Drop, PartialEq, Eq, Error)]
-pub enum Trouble {
+pub enum IoTrouble {
     #[error("no memory")]
     NoMemory,
     /// A read failed, or the input had no end within the reads that are made of it.
@@ -30,52 +30,52 @@ pub enum Trouble {
 
 /// What a command prints, and whether it ends with status 0.
 #[derive(Debug, Drop)]
-pub struct Printout {
+pub struct Output {
     pub text: Vec<u8>,
     pub good: bool,
 }
 
 /// What a command prints for an input, and what is wrong with the input: a line without its line feed, empty where nothing is.
 #[derive(Debug, Drop)]
-pub struct Explained {
-    pub printout: Printout,
+pub struct CommandError {
+    pub printout: Output,
     pub why: Vec<u8>,
 }
 
 /// How a command ended. Where it was refused, `why` says what was wrong with the input.
 #[derive(Debug, Drop)]
 pub struct Ended {
-    pub ending: Ending,
+    pub ending: ExitKind,
     pub why: Vec<u8>,
 }
 
-impl Printout {
+impl Output {
     ghost use Rattle.std.specs.Prelude.{◌≡◌, []};
     ghost use Rattle.console_text.specs.Ends.{outcome_of};
 
     /// What is printed where nothing is wrong with the input.
-    pub fn without_why(self, alloc: Global) -> Explained
+    pub fn without_why(self, alloc: Global) -> CommandError
         ensures outcome { outcome_of result.printout ≡ outcome_of self }
         ensures why { result.why.items ≡ [] }
     {
-        Explained {
+        CommandError {
             printout: self,
             why: Vec::new(alloc),
         }
     }
 }
 
-impl From<AllocError> for Trouble {
-    ghost use Rattle.console_text.specs.declared.ends.Trouble.TheVariants.{NoMemory};
+impl From<AllocError> for IoTrouble {
+    ghost use Rattle.console_text.specs.declared.ends.IoTrouble.TheVariants.{NoMemory};
 
     ghost from_gives = { λ _ trouble. trouble ≡ NoMemory };
 
-    fn from(_error: AllocError) -> Trouble {
-        Trouble::NoMemory
+    fn from(_error: AllocError) -> IoTrouble {
+        IoTrouble::NoMemory
     }
 }
 
-impl Ending {
+impl ExitKind {
     ghost use Rattle.console_text.specs.Ends.{status_of};
 
     /// The exit status of the program.
@@ -85,8 +85,8 @@ impl Ending {
         ensures { result ≡ status_of self }
     {
         match self {
-            Ending::Done => 0,
-            Ending::Refused | Ending::NoMemory | Ending::Unread | Ending::Unwritten => 1,
+            ExitKind::Done => 0,
+            ExitKind::Refused | ExitKind::NoMemory | ExitKind::Unread | ExitKind::Unwritten => 1,
         }
     }
 }

@@ -1,8 +1,8 @@
 ghost use Rattle.std.specs.Prelude.{◌≡◌, ◌⊎◌, ◌≤◌, ◌+◌, IfOk, IsErrOf, IsSome};
 ghost use Rattle.console_text.specs.Input.{HoldsAll};
-ghost use Rattle.console_text.specs.declared.ends.Trouble.TheVariants.{Unread};
+ghost use Rattle.console_text.specs.declared.ends.IoTrouble.TheVariants.{Unread};
 
-use crate::ends::Trouble;
+use crate::ends::IoTrouble;
 use crate::source::{MAX_READS, Source};
 use std::alloc::Global;
 use std::io::Read;
@@ -11,7 +11,7 @@ use std::io::Read;
 const PIECE: usize = 65_536;
 
 /// All bytes of an input, by at most `MAX_READS` reads. A read that fails is not made again.
-pub fn read_source<R: Read>(alloc: Global, input: &mut Source<R>) -> Result<Vec<u8>, Trouble>
+pub fn read_source<R: Read>(alloc: Global, input: &mut Source<R>) -> Result<Vec<u8>, IoTrouble>
     // Promise: At most 16,777,216 reads are made of an input, and an input that was read was read whole.
     // Refuses: one_read_too_many, half_of_a_read_lost, nothing_read.
     ensures bytes { IfOk result (λ bytes. HoldsAll (R.remaining input.old.reader) bytes.items) }
@@ -25,12 +25,12 @@ pub fn read_source<R: Read>(alloc: Global, input: &mut Source<R>) -> Result<Vec<
     let mut piece = [0u8; PIECE];
     for _read in 0..MAX_READS {
         let Ok(count) = input.read(&mut piece) else {
-            return Err(Trouble::Unread);
+            return Err(IoTrouble::Unread);
         };
         if count == 0 {
             return Ok(bytes);
         }
         bytes.extend_from_slice(&piece[..count])?;
     }
-    Err(Trouble::Unread)
+    Err(IoTrouble::Unread)
 }

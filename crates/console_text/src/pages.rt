@@ -6,6 +6,7 @@ ghost use Rattle.console_text.specs.Pages.{Hands};
 
 use std::alloc::{AllocError, Global};
 use std::io::Write;
+use thiserror::Error;
 
 /// A page with so many bytes is full.
 const FULL: usize = 61_440;
@@ -14,7 +15,8 @@ const FULL: usize = 61_440;
 const ROOM: usize = 65_536;
 
 /// A text was not printed to its end. How much of it went out is not known.
-#[derive(Clone, Copy, Debug, PartialEq, Eq)]
+#[derive(Clone, Copy, Debug, PartialEq, Eq, Error)]
+#[error("the text wasn't printed to its end")]
 pub struct Unprinted;
 
 impl From<AllocError> for Unprinted {

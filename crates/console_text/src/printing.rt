@@ -2,14 +2,14 @@ ghost use Rattle.std.specs.Prelude.{◌≡◌, ◌++◌, IfOk, codes, decimal};
 ghost use Rattle.console_text.specs.Ends.{HandsOn, PrintsIt, PrintsExplained, outcome_of, refused};
 ghost use Rattle.console_text.specs.Output.{TellsProgress};
 
-use crate::ends::{Ended, Ending, Explained, Printout, Trouble};
+use crate::ends::{CommandError, Ended, ExitKind, IoTrouble, Output};
 use crate::progress::{Progress, flush_to, write_to};
 use crate::words::{push_number, push_text};
 use std::alloc::{AllocError, Global};
 use std::io::Write;
 
 /// Prints what a command came to, in one write, and nothing else.
-pub fn print<W: Write>(output: &mut W, outcome: Result<Printout, Trouble>) -> Ending
+pub fn print<W: Write>(output: &mut W, outcome: Result<Output, IoTrouble>) -> ExitKind
     // Promise: What a command came to is written, and nothing else: its text, `no memory` where memory ran out, nothing where the
     // input couldn't be read; how it ended goes with it.
     // Refuses: refusal_ends_well.
@@ -22,8 +22,8 @@ pub fn print<W: Write>(output: &mut W, outcome: Result<Printout, Trouble>) -> En
 fn print_to<W: Write>(
     output: &mut W,
     progress: &mut Progress,
-    outcome: Result<Printout, Trouble>,
-) -> Ending
+    outcome: Result<Output, IoTrouble>,
+) -> ExitKind
     ensures prints { PrintsIt outcome (W.contents output.old) (W.contents output.new) result }
     // Promise: A text is told as unwritten only where a write or a flush of the output failed, and as written only where none did
     // and a flush came last.
@@ -32,29 +32,29 @@ fn print_to<W: Write>(
     ensures told { TellsProgress progress.old progress.new result }
 {
     let (text, ending) = match &outcome {
-        Ok(printout) if printout.good => (printout.text.as_slice(), Ending::Done),
-        Ok(printout) => (printout.text.as_slice(), Ending::Refused),
-        Err(Trouble::NoMemory) => (b"no memory\n".as_slice(), Ending::NoMemory),
-        Err(Trouble::Unread) => return Ending::Unread,
+        Ok(printout) if printout.good => (printout.text.as_slice(), ExitKind::Done),
+        Ok(printout) => (printout.text.as_slice(), ExitKind::Refused),
+        Err(IoTrouble::NoMemory) => (b"no memory\n".as_slice(), ExitKind::NoMemory),
+        Err(IoTrouble::Unread) => return ExitKind::Unread,
     };
     if write_to(output, progress, text) && flush_to(output, progress) {
         return ending;
     }
-    Ending::Unwritten
+    ExitKind::Unwritten
 }
 
 /// Prints what a command came to, as `print` does, and hands on what was wrong with the input.
 pub fn print_explained<W: Write>(
     alloc: Global,
     output: &mut W,
-    outcome: Result<Explained, Trouble>,
+    outcome: Result<CommandError, IoTrouble>,
 ) -> Ended
     ensures prints { PrintsExplained outcome (W.contents output.old) (W.contents output.new) result.ending }
     ensures why { HandsOn outcome result.why.items }
 {
     match outcome {
         Ok(explained) => {
-            let Explained { printout, why } = explained;
+            let CommandError { printout, why } = explained;
             Ended {
                 ending: print(output, Ok(printout)),
                 why,
@@ -68,12 +68,12 @@ pub fn print_explained<W: Write>(
 }
 
 /// What a command prints where the line of this number can't be read.
-pub fn bad_line(alloc: Global, number: u64) -> Result<Printout, AllocError>
+pub fn bad_line(alloc: Global, number: u64) -> Result<Output, AllocError>
     ensures { IfOk result (λ printout. outcome_of printout ≡ refused (codes "bad line " ++ decimal number)) }
 {
     let mut text = Vec::new(alloc);
     push_text(&mut text, "bad line ")?;
     push_number(&mut text, number)?;
     push_text(&mut text, "\n")?;
-    Ok(Printout { text, good: false })
+    Ok(Output { text, good: false })
 }

@@ -74,6 +74,14 @@ fn push_long(text: &mut Vec<u8>, number: u64) -> Result<(), AllocError>
     push_text(text, digits.format(number))
 }
 
+/// Adds a name, and behind it a number.
+pub fn push_named_number(text: &mut Vec<u8>, name: &str, number: u64) -> Result<(), AllocError>
+    ensures { OnOk result (text.new.items ≡ text.old.items ++ (name.now ++ decimal number)) }
+{
+    push_text(text, name)?;
+    push_number(text, number)
+}
+
 /// The two hex digits of each byte, in the order of the bytes.
 const PAIRS: [u8; 512] = *b"000102030405060708090a0b0c0d0e0f101112131415161718191a1b1c1d1e1f\
     202122232425262728292a2b2c2d2e2f303132333435363738393a3b3c3d3e3f\

@@ -4,7 +4,7 @@ ghost use Rattle.std.specs.Prelude.{◌≢◌, ◌<◌, ◌≤◌};
 use crate::groups::members;
 use group_task::{GroupNo, Members, NodeId, Task, share};
 use job_model::{Command, JobTable, Payload, Queue, Work};
-use node_core::{CoreFault, Event, InHand, NodeCore, Phase, Standing, Timer, Wanted};
+use node_core::{CoreFault, Event, GroupState, InHand, NodeCore, Phase, Timer, Wanted};
 use std::alloc::Global;
 use std::process::Abort;
 use wire_msg::{Body, Message};
@@ -76,13 +76,13 @@ impl Node {
     }
 
     /// Expects this whole state.
-    fn expect(&self, rt: &impl Abort, want: &Standing, hand: &[InHand]) {
-        let standing = &self.core.vector().standing;
-        assert_eq!(rt; standing.phase, want.phase);
-        assert!(rt; standing.coordinator == want.coordinator && standing.group == want.group);
-        assert!(rt; standing.up == want.up && standing.task == want.task);
-        assert!(rt; standing.found == want.found && standing.unready == want.unready);
-        assert!(rt; standing.checking == want.checking && standing.probing == want.probing);
+    fn expect(&self, rt: &impl Abort, want: &GroupState, hand: &[InHand]) {
+        let group_state = &self.core.vector().group_state;
+        assert_eq!(rt; group_state.phase, want.phase);
+        assert!(rt; group_state.coordinator == want.coordinator && group_state.group == want.group);
+        assert!(rt; group_state.up == want.up && group_state.task == want.task);
+        assert!(rt; group_state.found == want.found && group_state.unready == want.unready);
+        assert!(rt; group_state.checking == want.checking && group_state.probing == want.probing);
         assert!(rt; self.core.vector().hand.jobs() == hand);
     }
 }
@@ -109,8 +109,8 @@ fn task(rt: &impl Abort, group: GroupNo, numbers: &[u8]) -> Task {
 }
 
 /// The state of node 0 where it is Down.
-fn down() -> Standing {
-    Standing {
+fn down() -> GroupState {
+    GroupState {
         phase: Phase::Down,
         coordinator: NodeId::numbered(0),
         group: group(0, 1),
@@ -124,7 +124,7 @@ fn down() -> Standing {
 }
 
 /// The state of node 0 where it is Normal in its group of this count, which has these members.
-fn leading(rt: &impl Abort, count: u64, numbers: &[u8]) -> Standing
+fn leading(rt: &impl Abort, count: u64, numbers: &[u8]) -> GroupState
     requires { 1 ≤ count }
 {
     let mut state = down();

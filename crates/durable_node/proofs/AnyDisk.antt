@@ -7,9 +7,9 @@ use Rattle.node_store.specs.declared.fault.StoreFault.{StoreFault}
 use Rattle.node_store.specs.Store.{StoreState, durable_of}
 use Rattle.node_store.specs.Mounting.{IsMountFault, IsReadFault}
 use Rattle.node_store.specs.declared.fault.StoreFault.TheVariants as by_store
-use Rattle.histories.specs.declared.fate.Fate.{Fate}
-use Rattle.histories.specs.declared.fate.Fate.TheVariants as fate
-use Rattle.durable_node.specs.declared.came.Came.{Came}
+use Rattle.histories.specs.declared.event_outcome.EventOutcome.{EventOutcome}
+use Rattle.histories.specs.declared.event_outcome.EventOutcome.TheVariants as event_outcome
+use Rattle.durable_node.specs.declared.step_report.StepReport.{StepReport}
 use Rattle.durable_node.specs.Faults.{fault_for, fault_of, answered_as}
 use Rattle.durable_node.specs.declared.node_disk.NodeDisk.{NodeDisk}
 use Rattle.durable_node.specs.declared.node_disk.NodeDisk.TheVariants.{Bare, Mounted}
@@ -32,10 +32,10 @@ pub unmounted_at : {Disk : Type 0} (id nodes : ℕ) (core : Core) (disk : NodeDi
 unmounted_at id nodes core disk back doubt before fault of_mount = (mount_answered fault of_mount, refl, refl)
 
 -- what a raise leaves, by what came of it
-module _ {Disk : Type 0} (id nodes : ℕ) (core core' : Core) (disk : NodeDisk Disk) (mid end : StoreState Disk) (doubt doubt' : Option (Wanted × ℕ)) (before : Option ℕ) (kept : Bool) (came : Came) where
-  pub remounted_at : (w : Fate) → HasRisen id kept core core' mid end doubt doubt' came w
+module _ {Disk : Type 0} (id nodes : ℕ) (core core' : Core) (disk : NodeDisk Disk) (mid end : StoreState Disk) (doubt doubt' : Option (Wanted × ℕ)) (before : Option ℕ) (kept : Bool) (came : StepReport) where
+  pub remounted_at : (w : EventOutcome) → HasRisen id kept core core' mid end doubt doubt' came w
       → Remounted (node_with id nodes core disk doubt before) (node_with id nodes core' (Mounted end) doubt' (Some (durable_of mid).counter)) (answered_as came (fault_of w)) (Some (durable_of mid))
-  remounted_at (fate.Recovered k) is = (let risen = is.1 in (rw risen.state (ap (λ (d : Durable). Some d) risen.kept), risen.state, risen.doubt, risen.sent, risen.answer, risen.fits))
-  remounted_at (fate.RaiseFailed k) is = (is.1.state, inl (refl, is.1.doubt, is.1.fits))
-  remounted_at (fate.RaiseRefused k) is = (is.3.same_state, inr (refl, is.1, is.3.same_doubt))
+  remounted_at (event_outcome.Recovered k) is = (let risen = is.1 in (rw risen.state (ap (λ (d : Durable). Some d) risen.kept), risen.state, risen.doubt, risen.sent, risen.answer, risen.fits))
+  remounted_at (event_outcome.RaiseFailed k) is = (is.1.state, inl (refl, is.1.doubt, is.1.fits))
+  remounted_at (event_outcome.RaiseRefused k) is = (is.3.same_state, inr (refl, is.1, is.3.same_doubt))
   remounted_at end is = absurd is

@@ -16,9 +16,9 @@ use Rattle.node_core.specs.Core.{Core}
 use Rattle.node_core.specs.State.{is_down}
 use Rattle.node_core.specs.Wants.{wants_of}
 use Rattle.node_store.specs.Store.{StoreState, durable_of}
-use Rattle.histories.specs.declared.fate.Fate.{Fate}
-use Rattle.histories.specs.declared.fate.Fate.TheVariants as fate
-use Rattle.durable_node.specs.declared.came.Came.{Came}
+use Rattle.histories.specs.declared.event_outcome.EventOutcome.{EventOutcome}
+use Rattle.histories.specs.declared.event_outcome.EventOutcome.TheVariants as event_outcome
+use Rattle.durable_node.specs.declared.step_report.StepReport.{StepReport}
 use Rattle.durable_node.specs.declared.fault.NodeFault.{NodeFault}
 use Rattle.durable_node.specs.declared.fault.NodeFault.TheVariants as node
 use Rattle.durable_node.specs.declared.node_disk.NodeDisk.TheVariants.{Mounted}
@@ -67,24 +67,24 @@ area_hidden down store area is at = (let none = rw is at at in cc)
 
 module _ {Disk : Type 0} (id nodes : ℕ) (core core' : Core) (store store' : StoreState Disk) (doubt doubt' : Option (Wanted × ℕ)) (was : Option ℕ) (event : Event) (up : is_down core.state.phase ≡ false) where
   -- what a call that isn't a failure leaves is shown
-  by_fate : (came : Came) (end : Fate) → IsServed nodes id core core' store store' doubt doubt' event came end
+  by_fate : (came : StepReport) (end : EventOutcome) → IsServed nodes id core core' store store' doubt doubt' event came end
       → LeavesArea (durable_of store) (area_of store) (wants_of id (durable_of store).pending event core.state) (answered_as came (fault_of end)) (Some (area_of store'))
       → LeavesArea (durable_of store) (area_of store) (wants_of id (durable_of store).pending event core.state) (answered_as came (fault_of end)) (area_in (is_down core'.state.phase) (Some store'))
-  by_fate came fate.Done is leaves =
+  by_fate came event_outcome.Done is leaves =
       rw (done_up store.journal.slots nodes id core.state core'.state (durable_of store) (durable_of store') event came up is.0) leaves
-  by_fate came (fate.Refused why) is leaves = λ other. rw (is.2.same_state, is.2.same_store, up) refl
-  by_fate came fate.Faulted is leaves = λ other. absurd (other refl)
+  by_fate came (event_outcome.Refused why) is leaves = λ other. rw (is.2.same_state, is.2.same_store, up) refl
+  by_fate came event_outcome.Faulted is leaves = λ other. absurd (other refl)
   by_fate came end is leaves = absurd is
 
-  by_result : (result : Result Came NodeFault) → IfOk result (λ came. IsServed nodes id core core' store store' doubt doubt' event came came.fate)
+  by_result : (result : Result StepReport NodeFault) → IfOk result (λ came. IsServed nodes id core core' store store' doubt doubt' event came came.event_outcome)
       → IfErr result (λ fault. (fault ≡ node.Core NoMemory) × IsAsBefore core core' store store' doubt doubt')
       → LeavesArea (durable_of store) (area_of store) (wants_of id (durable_of store).pending event core.state) (answered result) (Some (area_of store'))
       → LeavesArea (durable_of store) (area_of store) (wants_of id (durable_of store).pending event core.state) (answered result) (area_in (is_down core'.state.phase) (Some store'))
   by_result (Err fault) served stuck leaves = λ other. rw (stuck.1.same_state, stuck.1.same_store, up) refl
-  by_result (Ok came) served stuck leaves = by_fate came came.fate served leaves
+  by_result (Ok came) served stuck leaves = by_fate came came.event_outcome served leaves
 
   -- and it is spelled on the disk
-  spelled_by : (disks : Disk → DiskState) (result : Result Came NodeFault)
+  spelled_by : (disks : Disk → DiskState) (result : Result StepReport NodeFault)
       → LeavesArea (durable_of store) (area_of store) (wants_of id (durable_of store).pending event core.state) (answered result) (Some (area_of store'))
       → Writes disks store store' (wants_of id (durable_of store).pending event core.state) (IsOk (answered result)) → (was now : Disk) → Some store.disk ≡ Some was → Some store'.disk ≡ Some now
       → IsTrue (disks was).honest → IsOk (answered result)
@@ -100,7 +100,7 @@ module _ {Disk : Type 0} (id nodes : ℕ) (core core' : Core) (store store' : St
       subst (λ (d : Disk). AllEndIn after records (disks d)) here (subst (λ (a : Area). AllEndIn a records (disks store'.disk)) area
       (writes.spelled (subst (λ (d : Disk). IsTrue (disks d).honest) (sym there) honest) ok))
 
-  pub area_goes_on : (disks : Disk → DiskState) (result : Result Came NodeFault) → IfOk result (λ came. IsServed nodes id core core' store store' doubt doubt' event came came.fate)
+  pub area_goes_on : (disks : Disk → DiskState) (result : Result StepReport NodeFault) → IfOk result (λ came. IsServed nodes id core core' store store' doubt doubt' event came came.event_outcome)
       → IfErr result (λ fault. (fault ≡ node.Core NoMemory) × IsAsBefore core core' store store' doubt doubt')
       → LeavesArea (durable_of store) (area_of store) (wants_of id (durable_of store).pending event core.state) (answered result) (Some (area_of store'))
       → Writes disks store store' (wants_of id (durable_of store).pending event core.state) (IsOk (answered result))

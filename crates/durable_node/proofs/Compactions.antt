@@ -6,13 +6,13 @@ use Rattle.job_model.specs.Durable.{Durable}
 use Rattle.node_core.specs.declared.wanted.Wanted.{Wanted}
 use Rattle.node_core.specs.declared.fault.CoreFault.TheVariants.{Down}
 use Rattle.node_core.specs.Core.{Core}
-use Rattle.node_core.specs.declared.fault.Refusal.TheVariants.{Worn}
+use Rattle.node_core.specs.declared.fault.Refusal.TheVariants.{AreaExhausted}
 use Rattle.node_core.specs.State.{is_down}
 use Rattle.node_store.specs.Store.{StoreState, durable_of, slots_for, StaysAs}
 use Rattle.histories.specs.NodeState.{NodeState}
-use Rattle.histories.specs.declared.what.What.TheVariants.{Rests, Crashed}
+use Rattle.histories.specs.declared.history_event.HistoryEvent.TheVariants.{NoOp, Crashed}
 use Rattle.histories.specs.After.{after}
-use Rattle.histories.specs.declared.what.Rest.TheVariants.{Compacted, CompactDown, CompactWorn}
+use Rattle.histories.specs.declared.history_event.NoOpKind.TheVariants.{Compacted, CompactDown, CompactAreaExhausted}
 use Rattle.durable_node.specs.Carrying.{KeepsSound}
 use Rattle.durable_node.specs.declared.fault.NodeFault.{NodeFault}
 use Rattle.durable_node.specs.declared.node_disk.NodeDisk.{NodeDisk}
@@ -25,7 +25,7 @@ use Rattle.durable_node.proofs.Mounts.{left_done}
 use Rattle.durable_node.proofs.Parts.{is_some, stands_at, stands_down}
 
 -- how a compaction ends
-ends_as : {A : Type 0} (b : Bool) (result : Result A NodeFault) → AnswersTo (if b then Some Worn else None) result → IsOk result ⊎ ((result ≡ Err node.Device) ⊎ (result ≡ Err node.Exhausted))
+ends_as : {A : Type 0} (b : Bool) (result : Result A NodeFault) → AnswersTo (if b then Some AreaExhausted else None) result → IsOk result ⊎ ((result ≡ Err node.Device) ⊎ (result ≡ Err node.Exhausted))
 ends_as true result answers = inr (inr answers)
 ends_as false result answers = ⊎_elim (λ ok. inl ok) (λ d. inr (inl d)) answers
 
@@ -36,7 +36,7 @@ ok_is_none (Err f) fault ok is = absurd cc
 -- a node that is down refuses it
 pub compact_down : {Disk A : Type 0} (disks : Disk → DiskState) (id nodes : ℕ) (core : Core) (disk : NodeDisk Disk) (doubt : Option (Wanted × ℕ)) (was : Option ℕ) (result : Result A NodeFault)
     → is_down core.state.phase ≡ true → result ≡ Err (node.Core Down) → Compacts disks (node_with id nodes core disk doubt was) (node_with id nodes core disk doubt None) result
-compact_down disks id nodes core disk doubt was result fallen is on s at stands = (Rests CompactDown, is, rw stands.state at fallen, assumption stands)
+compact_down disks id nodes core disk doubt was result fallen is on s at stands = (NoOp CompactDown, is, rw stands.state at fallen, assumption stands)
 
 module _ {Disk A : Type 0} (disks : Disk → DiskState) (id nodes : ℕ) (core core' : Core) (store store' : StoreState Disk) (doubt : Option (Wanted × ℕ)) (was : Option ℕ) (up : is_down core.state.phase ≡ false) where
   pub compacts : (result : Result A NodeFault) → store.journal.slots ≡ slots_for (disks store.disk).sectors → IsRewrittenCore id nodes core core' result
@@ -45,9 +45,9 @@ module _ {Disk A : Type 0} (disks : Disk → DiskState) (id nodes : ℕ) (core c
       → Compacts disks (node_with id nodes core (Mounted store) doubt was) (node_with id nodes core' (Mounted store') doubt None) result
   compacts result slots left answers same_kept failed keeps each on s at stands =
       elim (ends_as (is_last (area_of store)) result answers) [
-        | inl ok ↦ (Rests Compacted, ok, rw stands.state at up, stays (left.stays (ok_is_none result node.Device ok)))
+        | inl ok ↦ (NoOp Compacted, ok, rw stands.state at up, stays (left.stays (ok_is_none result node.Device ok)))
         | inr (inl device) ↦ (Crashed, device, tt, stands_down disks _ (after id nodes s Crashed) store'.disk id (left.falls device) refl (ends (after id nodes s Crashed) refl) (left.falls device) stands.doubt)
-        | inr (inr worn) ↦ (Rests CompactWorn, worn, rw stands.state at up, stays (left.stays (λ e. cc)))
+        | inr (inr worn) ↦ (NoOp CompactAreaExhausted, worn, rw stands.state at up, stays (left.stays (λ e. cc)))
       ]
     where
       kept : durable_of store ≡ s.durable

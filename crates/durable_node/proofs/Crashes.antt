@@ -12,7 +12,7 @@ use Rattle.node_core.specs.State.{is_down}
 use Rattle.node_store.specs.Store.{slots_for, StoreState}
 use Rattle.histories.specs.After.{after}
 use Rattle.histories.specs.NodeState.{NodeState, settled}
-use Rattle.histories.specs.declared.what.What.TheVariants.{Crashed}
+use Rattle.histories.specs.declared.history_event.HistoryEvent.TheVariants.{Crashed}
 use Rattle.durable_node.specs.Arming.{with_left, with_left_in}
 use Rattle.durable_node.specs.Forgetting.{forgotten_disk, forgotten_in}
 use Rattle.durable_node.specs.declared.node_disk.NodeDisk.{NodeDisk}

@@ -6,8 +6,8 @@ use Rattle.job_journal.specs.Journal.{RisesByOne}
 use Rattle.node_core.specs.declared.event.Event.{Event}
 use Rattle.histories.specs.NodeState.{NodeState}
 use Rattle.histories.specs.After.{after}
-use Rattle.histories.specs.Fates.{what_of}
-use Rattle.durable_node.specs.declared.came.Came.{Came}
+use Rattle.histories.specs.EventOutcomes.{what_of}
+use Rattle.durable_node.specs.declared.step_report.StepReport.{StepReport}
 use Rattle.durable_node.specs.declared.fault.NodeFault.{NodeFault}
 use Rattle.durable_node.specs.Forgetting.{forgotten_disk}
 use Rattle.durable_node.specs.Node.{IsLeft, Stands, Node}
@@ -33,9 +33,9 @@ counts_forgotten old (Some disk) result counts = record {
 }
 
 -- a step after which the disk forgets is still one
-pub steps_and_forgets : (old new last : Node Memory) (event : Event) (came : Came) → last ≡ record new { disk = forgotten_disk new.disk } → Steps state_of old new event came → Steps state_of old last event came
+pub steps_and_forgets : (old new last : Node Memory) (event : Event) (came : StepReport) → last ≡ record new { disk = forgotten_disk new.disk } → Steps state_of old new event came → Steps state_of old last event came
 steps_and_forgets old new last event came is steps = λ disk s at stands honest.
-    let step = steps disk s at stands honest in (rw (ap (λ (n : Node Memory). n.mounted) is) step.0, forgets new last (after old.id old.nodes s (what_of event came.fate)) is step.1)
+    let step = steps disk s at stands honest in (rw (ap (λ (n : Node Memory). n.mounted) is) step.0, forgets new last (after old.id old.nodes s (what_of event came.event_outcome)) is step.1)
 
 -- and its failures are counted as they were
 pub counts_and_forgets : {A : Type 0} (old new last : Option Memory) (result : Result A NodeFault) → last ≡ forgotten_disk new → CountsOf state_of old new result → CountsOf state_of old last result

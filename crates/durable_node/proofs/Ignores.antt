@@ -21,15 +21,15 @@ use Rattle.node_core.specs.Refusals.{refusal_of}
 use Rattle.node_core.specs.Start.{down}
 use Rattle.node_store.specs.Store.{slots_for}
 use Rattle.histories.specs.NodeState.{NodeState}
-use Rattle.histories.specs.declared.what.What.TheVariants.{Did}
-use Rattle.histories.specs.declared.fate.Fate.{Fate}
-use Rattle.histories.specs.Fates.{what_of}
+use Rattle.histories.specs.declared.history_event.HistoryEvent.TheVariants.{Did}
+use Rattle.histories.specs.declared.event_outcome.EventOutcome.{EventOutcome}
+use Rattle.histories.specs.EventOutcomes.{what_of}
 use Rattle.histories.specs.After.{after}
 use Rattle.histories.proofs.PublicLaws.{tried_none, StaysDown, at_down}
-use Rattle.histories.specs.declared.fate.Fate.TheVariants as fate
+use Rattle.histories.specs.declared.event_outcome.EventOutcome.TheVariants as event_outcome
 use Rattle.node_core.specs.declared.fault.Refusal.TheVariants as refusal
 use Rattle.durable_node.specs.declared.fault.NodeFault.{NodeFault}
-use Rattle.durable_node.specs.declared.came.Came.{Came}
+use Rattle.durable_node.specs.declared.step_report.StepReport.{StepReport}
 use Rattle.durable_node.specs.declared.node_disk.NodeDisk.{NodeDisk}
 use Rattle.durable_node.specs.Node.{node_with, Stands}
 use Rattle.durable_node.specs.Stepping.{Does, IsIgnored, Steps}
@@ -42,9 +42,9 @@ module _ {Disk : Type 0} (disks : Disk → DiskState) (id nodes : ℕ) (core cor
   still s is same stands = record { state = same ∙ stands.state; doubt = stands.doubt; up = λ up. absurd (not_up id core'.state (same ∙ is) up); disk = stands.disk }
 
   by_fate : (slots : ℕ) (s : NodeState) → core.state ≡ down id → core'.state ≡ core.state → event ≢ Recover → Stands disks (node_with id nodes core disk doubt was) s
-      → (came : Came) (end : Fate) → IsIgnored (refusal_of nodes id event core.state) came end → came.tried ≡ None
+      → (came : StepReport) (end : EventOutcome) → IsIgnored (refusal_of nodes id event core.state) came end → came.tried ≡ None
       → Does slots id nodes s event came None (what_of event end) × Stands disks (node_with id nodes core' disk doubt None) (after id nodes s (what_of event end))
-  by_fate slots s is same other stands came fate.Done done tried =
+  by_fate slots s is same other stands came event_outcome.Done done tried =
       let at : s.state ≡ down id = sym stands.state ∙ is in
       let stays : StaysDown id nodes s event = at_down id nodes s event at (λ is. absurd (other is)) (rw stands.state at done.0) in
       let kept : s ≡ after id nodes s (Did event) = (λ i. record {
@@ -56,29 +56,29 @@ module _ {Disk : Type 0} (disks : Disk → DiskState) (id nodes : ℕ) (core cor
             (rw stays.wants (λ full. full)) (rw stays.wants (tried_none event came.tried tried)) (rw stays.wants done.1.1) (done.1.0 ∙ sym stays.sent) refl,
         subst (λ (t : NodeState). Stands disks (node_with id nodes core' disk doubt None) t) kept (still s is same stands),
       )
-  by_fate slots s is same other stands came (fate.Refused (refusal.Core why)) done tried =
+  by_fate slots s is same other stands came (event_outcome.Refused (refusal.Core why)) done tried =
       (does refl (λ is. absurd (other is), rw stands.state at done.0) tt (tried_none event came.tried tried) done.1.1 done.1.0 refl, still s is same stands)
   by_fate slots s is same other stands came end done tried = absurd done
 
-  pub ignores : core.state ≡ down id → core'.state ≡ core.state → event ≢ Recover → (result : Result Came NodeFault)
-      → IfOk result (λ came. IsIgnored (refusal_of nodes id event core.state) came came.fate) → IfOk result (λ came. came.tried ≡ None)
+  pub ignores : core.state ≡ down id → core'.state ≡ core.state → event ≢ Recover → (result : Result StepReport NodeFault)
+      → IfOk result (λ came. IsIgnored (refusal_of nodes id event core.state) came came.event_outcome) → IfOk result (λ came. came.tried ≡ None)
       → IfOk result (Steps disks (node_with id nodes core disk doubt was) (node_with id nodes core' disk doubt None) event)
-  ignores is same other (Ok came) done tried = λ at s on stands mounting. by_fate (slots_for (disks at).sectors) s is same other stands came came.fate done tried
+  ignores is same other (Ok came) done tried = λ at s on stands mounting. by_fate (slots_for (disks at).sectors) s is same other stands came came.event_outcome done tried
   ignores is same other (Err fault) done tried = tt
 
 -- ---- what a caller is answered
 
-quiet_as : (why : Option CoreFault) (came : Came) (end : Fate) → IsIgnored why came end → (IsErrOf (answered_as came (fault_of end)) node.Device → ⊥) × (came.sent.items ≡ [])
-quiet_as why came fate.Done is = (λ device. cc, is.1.0)
-quiet_as why came (fate.Refused (refusal.Core f)) is = (λ device. cc, is.1.0)
+quiet_as : (why : Option CoreFault) (came : StepReport) (end : EventOutcome) → IsIgnored why came end → (IsErrOf (answered_as came (fault_of end)) node.Device → ⊥) × (came.sent.items ≡ [])
+quiet_as why came event_outcome.Done is = (λ device. cc, is.1.0)
+quiet_as why came (event_outcome.Refused (refusal.Core f)) is = (λ device. cc, is.1.0)
 quiet_as why came end is = absurd is
 
 -- no device was called
-pub no_device : (why : Option CoreFault) (came : Came) → IsIgnored why came came.fate → IsErrOf (answered_as came (fault_of came.fate)) node.Device → ⊥
-no_device why came is device = (quiet_as why came came.fate is).0 device
+pub no_device : (why : Option CoreFault) (came : StepReport) → IsIgnored why came came.event_outcome → IsErrOf (answered_as came (fault_of came.event_outcome)) node.Device → ⊥
+no_device why came is device = (quiet_as why came came.event_outcome is).0 device
 
-pub few_ignored : (n : ℕ) (why : Option CoreFault) (came : Came) → IsIgnored why came came.fate → length came.sent.items ≤ n
-few_ignored n why came is = (let none : length came.sent.items ≡ 0 = ap length (quiet_as why came came.fate is).1 in omega (arith, none))
+pub few_ignored : (n : ℕ) (why : Option CoreFault) (came : StepReport) → IsIgnored why came came.event_outcome → length came.sent.items ≤ n
+few_ignored n why came is = (let none : length came.sent.items ≡ 0 = ap length (quiet_as why came came.event_outcome is).1 in omega (arith, none))
 
 -- ---- no memory is taken
 

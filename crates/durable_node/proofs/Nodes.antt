@@ -10,10 +10,10 @@ use Rattle.node_core.specs.Memory.{takes_memory}
 use Rattle.node_core.specs.Start.{down}
 use Rattle.node_core.specs.State.{State, is_down}
 use Rattle.node_store.specs.Store.{StoreState, durable_of, slots_for}
-use Rattle.histories.specs.declared.fate.Fate.{Fate}
-use Rattle.histories.specs.declared.fate.Fate.TheVariants as fate
+use Rattle.histories.specs.declared.event_outcome.EventOutcome.{EventOutcome}
+use Rattle.histories.specs.declared.event_outcome.EventOutcome.TheVariants as event_outcome
 use Rattle.durable_node.specs.declared.fault.NodeFault.{NodeFault}
-use Rattle.durable_node.specs.declared.came.Came.{Came}
+use Rattle.durable_node.specs.declared.step_report.StepReport.{StepReport}
 use Rattle.durable_node.specs.declared.node_disk.NodeDisk.{NodeDisk}
 use Rattle.durable_node.specs.declared.node_disk.NodeDisk.TheVariants.{Bare, Mounted}
 use Rattle.durable_node.specs.Carrying.{KeepsSound}
@@ -73,28 +73,28 @@ module _ {Disk : Type 0} (id nodes : ℕ) (core core' : Core) (store store' : St
   pub as_before : IsUpOrDown id core store → IsAsBefore core core' store store' doubt doubt' → IsUpOrDown id core' store'
   as_before settled same = rw (same.same_state, same.same_store) settled
 
-  served_by : (event : Event) (came : Came) (end : Fate) → is_down core.state.phase ≡ false → IsFalse store.broken → IsServed nodes id core core' store store' doubt doubt' event came end → IsUpOrDown id core' store'
-  served_by event came fate.Done up whole is = inl (done_up store.journal.slots nodes id core.state core'.state (durable_of store) (durable_of store') event came up is.0, is.1)
-  served_by event came (fate.Refused why) up whole is = as_before (inl (up, whole)) is.2
-  served_by event came fate.Faulted up whole is = inr is.2
+  served_by : (event : Event) (came : StepReport) (end : EventOutcome) → is_down core.state.phase ≡ false → IsFalse store.broken → IsServed nodes id core core' store store' doubt doubt' event came end → IsUpOrDown id core' store'
+  served_by event came event_outcome.Done up whole is = inl (done_up store.journal.slots nodes id core.state core'.state (durable_of store) (durable_of store') event came up is.0, is.1)
+  served_by event came (event_outcome.Refused why) up whole is = as_before (inl (up, whole)) is.2
+  served_by event came event_outcome.Faulted up whole is = inr is.2
   served_by event came end up whole is = absurd is
 
   -- after an event
-  pub served : (event : Event) (result : Result Came NodeFault) → is_down core.state.phase ≡ false → IsFalse store.broken
-      → IfOk result (λ came. IsServed nodes id core core' store store' doubt doubt' event came came.fate)
+  pub served : (event : Event) (result : Result StepReport NodeFault) → is_down core.state.phase ≡ false → IsFalse store.broken
+      → IfOk result (λ came. IsServed nodes id core core' store store' doubt doubt' event came came.event_outcome)
       → IfErr result (λ fault. (fault ≡ node.Core NoMemory) × IsAsBefore core core' store store' doubt doubt') → IsUpOrDown id core' store'
-  served event (Ok came) up whole is stuck = served_by event came came.fate up whole is
+  served event (Ok came) up whole is stuck = served_by event came came.event_outcome up whole is
   served event (Err fault) up whole is stuck = as_before (inl (up, whole)) stuck.1
 
   -- after a raise
-  pub risen : (kept : Bool) (came : Came) (end : Fate) → core.state ≡ down id → HasRisen id kept core core' store store' doubt doubt' came end → IsUpOrDown id core' store'
-  risen kept came (fate.Recovered k) fallen is = inl (ap (λ (s : State). is_down s.phase) is.1.state, is.2)
-  risen kept came (fate.RaiseFailed k) fallen is = inr (is.1.state ∙ fallen)
-  risen kept came (fate.RaiseRefused k) fallen is = inr (is.3.same_state ∙ fallen)
+  pub risen : (kept : Bool) (came : StepReport) (end : EventOutcome) → core.state ≡ down id → HasRisen id kept core core' store store' doubt doubt' came end → IsUpOrDown id core' store'
+  risen kept came (event_outcome.Recovered k) fallen is = inl (ap (λ (s : State). is_down s.phase) is.1.state, is.2)
+  risen kept came (event_outcome.RaiseFailed k) fallen is = inr (is.1.state ∙ fallen)
+  risen kept came (event_outcome.RaiseRefused k) fallen is = inr (is.3.same_state ∙ fallen)
   risen kept came end fallen is = absurd is
 
   -- where there is no memory the node is as it was
-  pub served_stuck : (disks : Disk → DiskState) (before : Option ℕ) (event : Event) (result : Result Came NodeFault) → IfErr result (λ fault. (fault ≡ node.Core NoMemory) × IsAsBefore core core' store store' doubt doubt')
+  pub served_stuck : (disks : Disk → DiskState) (before : Option ℕ) (event : Event) (result : Result StepReport NodeFault) → IfErr result (λ fault. (fault ≡ node.Core NoMemory) × IsAsBefore core core' store store' doubt doubt')
       → is_down core.state.phase ≡ false → IfErr result (λ _. takes_memory id event core.state ≡ true)
       → IfErr result (Stuck disks (node_with id nodes core (Mounted store) doubt before) (node_with id nodes core' (Mounted store') doubt' None) event)
   served_stuck disks before event (Ok came) is up takes = tt

@@ -9,11 +9,11 @@ use Rattle.node_core.specs.Start.{down}
 use Rattle.node_store.specs.Store.{slots_for}
 use Rattle.histories.specs.NodeState.{NodeState, opening}
 use Rattle.histories.specs.After.{after}
-use Rattle.histories.specs.declared.fate.Fate.{Fate}
-use Rattle.histories.specs.Fates.{what_of}
-use Rattle.histories.specs.declared.fate.Fate.TheVariants as fate
+use Rattle.histories.specs.declared.event_outcome.EventOutcome.{EventOutcome}
+use Rattle.histories.specs.EventOutcomes.{what_of}
+use Rattle.histories.specs.declared.event_outcome.EventOutcome.TheVariants as event_outcome
 use Rattle.durable_node.specs.Fresh.{IsFresh}
-use Rattle.durable_node.specs.declared.came.Came.{Came}
+use Rattle.durable_node.specs.declared.step_report.StepReport.{StepReport}
 use Rattle.durable_node.specs.Node.{Node, Stands}
 use Rattle.durable_node.specs.Stepping.{Does, Steps}
 use Rattle.durable_node.proofs.Mounts.{left_by}
@@ -28,18 +28,18 @@ abbrev pub new_node : ℕ → ℕ → Memory → Node Memory
 new_node id nodes disk = record { id = id; nodes = nodes; state = down id; disk = Some disk; kept = None; area = None; doubt = None; mounted = None }
 
 -- no command was in doubt
-none_kept : (slots id nodes : ℕ) (new : Node Memory) (came : Came) (end : Fate) (kept : Bool) → end ≡ fate.Recovered kept → Does slots id nodes (fresh id) Recover came new.mounted (what_of Recover end)
+none_kept : (slots id nodes : ℕ) (new : Node Memory) (came : StepReport) (end : EventOutcome) (kept : Bool) → end ≡ event_outcome.Recovered kept → Does slots id nodes (fresh id) Recover came new.mounted (what_of Recover end)
     → Stands state_of new (after id nodes (fresh id) (what_of Recover end)) → Stands state_of new (opening id)
-none_kept slots id nodes new came (fate.Recovered true) kept is does stands = (let none : false ≡ true = does.possible.1 refl in absurd cc)
-none_kept slots id nodes new came (fate.Recovered false) kept is does stands = assumption stands
+none_kept slots id nodes new came (event_outcome.Recovered true) kept is does stands = (let none : false ≡ true = does.possible.1 refl in absurd cc)
+none_kept slots id nodes new came (event_outcome.Recovered false) kept is does stands = assumption stands
 none_kept slots id nodes new came end kept is does stands = absurd cc
 
-pub opens : (id nodes : ℕ) (disk : Memory) (new : Node Memory) (came : Came) (kept : Bool) → came.fate ≡ fate.Recovered kept → IsFresh disk → Steps state_of (new_node id nodes disk) new Recover came
+pub opens : (id nodes : ℕ) (disk : Memory) (new : Node Memory) (came : StepReport) (kept : Bool) → came.event_outcome ≡ event_outcome.Recovered kept → IsFresh disk → Steps state_of (new_node id nodes disk) new Recover came
     → Stands state_of new (opening id)
 opens id nodes disk new came kept is new_disk steps =
     let left = left_by (state_of disk) (fresh id) new_disk.enough (λ honest. new_disk.formatted) new_disk.sound in
     let did = steps disk (fresh id) refl (stands_at state_of (new_node id nodes disk) (fresh id) disk refl left refl refl (λ up. absurd cc)) (λ _. refl) in
-    none_kept (slots_for (state_of disk).sectors) id nodes new came came.fate kept is did.0 did.1
+    none_kept (slots_for (state_of disk).sectors) id nodes new came came.event_outcome kept is did.0 did.1
 
 -- a copy of a disk that was just formatted
 pub copy_fresh : (disk : Memory) → IsFresh disk → IsFresh (all_synced disk.contents disk.failures)

@@ -6,12 +6,12 @@ use Rattle.node_core.specs.State.{State, is_down}
 use Rattle.node_core.specs.Start.{down}
 use Rattle.node_core.specs.declared.event.Event.{Event}
 use Rattle.histories.specs.NodeState.{NodeState}
-use Rattle.histories.specs.declared.what.What.{What}
-use Rattle.histories.specs.What.{IsOf}
+use Rattle.histories.specs.declared.history_event.HistoryEvent.{HistoryEvent}
+use Rattle.histories.specs.HistoryEvent.{IsOf}
 use Rattle.histories.specs.Possible.{IsPossible, IsOfSlots}
-use Rattle.histories.specs.Fates.{IsTriedAt}
+use Rattle.histories.specs.EventOutcomes.{IsTriedAt}
 use Rattle.histories.specs.After.{sent_at, mounted_at}
-use Rattle.durable_node.specs.declared.came.Came.{Came}
+use Rattle.durable_node.specs.declared.step_report.StepReport.{StepReport}
 use Rattle.durable_node.specs.Node.{IsLeft, Node, Stands, shown_doubt}
 use Rattle.durable_node.specs.Stepping.{Does, command_at, answer_at}
 
@@ -44,6 +44,6 @@ pub stands_down : {Disk : Type 0} (disks : Disk → DiskState) (n : Node Disk) (
 stands_down disks n s disk id fallen at left state doubt = stands_at disks n s disk at left state doubt (λ up. absurd (not_up id n.state fallen up))
 
 -- this came of an event
-pub does : {slots self nodes : ℕ} {s : NodeState} {event : Event} {came : Came} {mounted : Option Durable} {what : What} → IsOf event what → IsPossible self nodes s what → IsOfSlots slots self nodes s what
+pub does : {slots self nodes : ℕ} {s : NodeState} {event : Event} {came : StepReport} {mounted : Option Durable} {what : HistoryEvent} → IsOf event what → IsPossible self nodes s what → IsOfSlots slots self nodes s what
     → IsTriedAt event came.tried (command_at self nodes s what) → came.answer ≡ answer_at self nodes s what → came.sent.items ≡ sent_at self nodes s what → mounted ≡ mounted_at s what → Does slots self nodes s event came mounted what
 does of possible of_slots tried answer sent mounted = record { of = of; possible = possible; of_slots = of_slots; tried = tried; answer = answer; sent = sent; mounted = mounted }

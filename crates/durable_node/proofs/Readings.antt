@@ -8,7 +8,7 @@ use Rattle.node_store.specs.Store.{slots_for, stands_for}
 use Rattle.node_store.specs.Mounting.{IsRefusedFor}
 use Rattle.node_store.specs.declared.fault.StoreFault.TheVariants as by_store
 use Rattle.durable_node.specs.declared.fault.NodeFault.{NodeFault}
-use Rattle.durable_node.specs.declared.came.Came.{Came}
+use Rattle.durable_node.specs.declared.step_report.StepReport.{StepReport}
 use Rattle.durable_node.specs.Faults.{fault_for}
 use Rattle.durable_node.specs.Node.{Node}
 use Rattle.durable_node.specs.Reading.{IsRead, IsUnread}
@@ -47,16 +47,16 @@ unread_at disks was back fault small untouched refusal run = record {
 }
 
 module _ {Disk : Type 0} (disks : Disk → DiskState) (was now : Disk) (old new : Node Disk) (d : Durable) where
-  not_small : (result : Result Came NodeFault) → Remounted old new result (Some d) → result ≡ Err node.TooSmall → ⊥
+  not_small : (result : Result StepReport NodeFault) → Remounted old new result (Some d) → result ≡ Err node.TooSmall → ⊥
   not_small (Ok came) is e = absurd cc
   not_small (Err fault) is e = ⊎_elim (λ device. absurd (let same = device.0 in cc)) (λ spent. absurd (let same = spent.0 in cc)) is.1
 
-  raise_refused : (slots : ℕ) (image : Image) (result : Result Came NodeFault) → Remounted old new result (Some d) → IfErr result (IsUnread slots image)
+  raise_refused : (slots : ℕ) (image : Image) (result : Result StepReport NodeFault) → Remounted old new result (Some d) → IfErr result (IsUnread slots image)
   raise_refused slots image (Ok came) is = tt
   raise_refused slots image (Err fault) is = ⊎_elim (λ device. rw device.0 tt) (λ spent. rw spent.0 tt) is.1
 
   -- a mounting that is done
-  pub read_at : (result : Result Came NodeFault) → Remounted old new result (Some d) → 24 ≤ (disks was).sectors
+  pub read_at : (result : Result StepReport NodeFault) → Remounted old new result (Some d) → 24 ≤ (disks was).sectors
       → (IsTrue (disks was).honest → stands_for (slots_for (disks was).sectors) (disks was).contents ≡ Some d)
       → IsRead disks was now result (Some d)
   read_at result is enough reads = record {

@@ -11,10 +11,10 @@ use Rattle.node_store.specs.Store.{slots_for, stands_for}
 use Rattle.durable_node.specs.declared.fault.NodeFault.{NodeFault}
 use Rattle.durable_node.specs.declared.fault.NodeFault.TheVariants as node
 use Rattle.histories.specs.NodeState.{NodeState}
-use Rattle.histories.specs.declared.what.What.{What}
-use Rattle.histories.specs.declared.what.What.TheVariants.{Did, Refused, Faulted, Rests, Crashed, Recovered, MountFailed, RaiseFailed, RaiseRefused}
-use Rattle.histories.specs.declared.what.Rest.{Rest}
-use Rattle.histories.specs.declared.what.Rest.TheVariants.{Nothing, Compacted, CompactDown, CompactWorn}
+use Rattle.histories.specs.declared.history_event.HistoryEvent.{HistoryEvent}
+use Rattle.histories.specs.declared.history_event.HistoryEvent.TheVariants.{Did, Refused, Faulted, NoOp, Crashed, Recovered, MountFailed, RaiseFailed, RaiseRefused}
+use Rattle.histories.specs.declared.history_event.NoOpKind.{NoOpKind}
+use Rattle.histories.specs.declared.history_event.NoOpKind.TheVariants.{Nothing, Compacted, CompactDown, CompactAreaExhausted}
 use Rattle.histories.specs.After.{after}
 use Rattle.histories.specs.Possible.{IsPossible}
 use Rattle.durable_node.specs.Area.{AllEndIn, jobs_in}
@@ -22,18 +22,18 @@ pub use Rattle.durable_node.specs.Area.{moved}
 use Rattle.durable_node.specs.Node.{Node, Area, IsCoreOf, Stands}
 
 -- what a compaction that rests answers
-abbrev pub RestAnswers : {A : Type 0} → Rest → Result A NodeFault → Type 0
+abbrev pub RestAnswers : {A : Type 0} → NoOpKind → Result A NodeFault → Type 0
 RestAnswers Nothing result = ⊥
 RestAnswers Compacted result = IsOk result
 RestAnswers CompactDown result = result ≡ Err (node.Core Down)
-RestAnswers CompactWorn result = result ≡ Err node.Exhausted
+RestAnswers CompactAreaExhausted result = result ≡ Err node.Exhausted
 
 -- what a compaction answers, by what came of it: where the device fails in it, the node falls as in a crash
-abbrev pub CompactionAnswers : {A : Type 0} → What → Result A NodeFault → Type 0
+abbrev pub CompactionAnswers : {A : Type 0} → HistoryEvent → Result A NodeFault → Type 0
 CompactionAnswers (Did event) result = ⊥
 CompactionAnswers (Refused event fault) result = ⊥
 CompactionAnswers (Faulted event) result = ⊥
-CompactionAnswers (Rests rest) result = RestAnswers rest result
+CompactionAnswers (NoOp rest) result = RestAnswers rest result
 CompactionAnswers Crashed result = result ≡ Err node.Device
 CompactionAnswers (Recovered kept) result = ⊥
 CompactionAnswers MountFailed result = ⊥
@@ -45,7 +45,7 @@ CompactionAnswers (RaiseRefused kept) result = ⊥
 abbrev pub Compacts : {Disk A : Type 0} → (Disk → DiskState) → Node Disk → Node Disk → Result A NodeFault → Type 0
 Compacts {Disk} disks old new result =
     (disk : Disk) (s : NodeState) → old.disk ≡ Some disk → Stands disks old s →
-    (what : What) × CompactionAnswers what result × IsPossible old.id old.nodes s what × Stands disks new (after old.id old.nodes s what)
+    (what : HistoryEvent) × CompactionAnswers what result × IsPossible old.id old.nodes s what × Stands disks new (after old.id old.nodes s what)
 
 -- in each image since the compaction began the disk of a node that was up stands for what it kept
 abbrev pub StaysKept : {Disk : Type 0} → (Disk → DiskState) → Node Disk → Node Disk → Type 0

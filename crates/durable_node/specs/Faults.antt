@@ -2,21 +2,21 @@
 use Rattle.std.specs.Prelude.{Option, Some, None, Result, Ok, Err}
 use Rattle.node_core.specs.declared.fault.CoreFault.TheVariants as core
 use Rattle.node_core.specs.declared.fault.Refusal.{Refusal}
-use Rattle.node_core.specs.declared.fault.Refusal.TheVariants.{Core, Full, Exhausted, Worn}
+use Rattle.node_core.specs.declared.fault.Refusal.TheVariants.{Core, Full, Exhausted, AreaExhausted}
 use Rattle.node_store.specs.declared.fault.StoreFault.{StoreFault}
 use Rattle.node_store.specs.declared.fault.StoreFault.TheVariants as store
 use Rattle.durable_node.specs.declared.fault.NodeFault.{NodeFault}
 use Rattle.durable_node.specs.declared.fault.NodeFault.TheVariants as node
-use Rattle.durable_node.specs.declared.came.Came.{Came}
-use Rattle.histories.specs.declared.fate.Fate.{Fate}
-use Rattle.histories.specs.declared.fate.Fate.TheVariants.{Done, Refused, Faulted, Recovered, MountFailed, RaiseFailed, RaiseRefused}
+use Rattle.durable_node.specs.declared.step_report.StepReport.{StepReport}
+use Rattle.histories.specs.declared.event_outcome.EventOutcome.{EventOutcome}
+use Rattle.histories.specs.declared.event_outcome.EventOutcome.TheVariants.{Done, Refused, Faulted, Recovered, MountFailed, RaiseFailed, RaiseRefused}
 
 -- why an event is refused, as it is answered: a caller sees no areas
 abbrev pub shown : Refusal → NodeFault
 shown (Core fault) = node.Core fault
 shown Full = node.Full
 shown Exhausted = node.Exhausted
-shown Worn = node.Exhausted
+shown AreaExhausted = node.Exhausted
 
 -- a fault of the store, as it is answered: a node that is up has no broken store, and asks for no job that isn't pending
 abbrev pub fault_for : StoreFault → NodeFault
@@ -31,7 +31,7 @@ fault_for store.NoMemory = node.Core core.NoMemory
 fault_for store.TooSmall = node.TooSmall
 
 -- why an event wasn't done, by what came of it: it was refused, or the device failed
-abbrev pub fault_of : Fate → Option NodeFault
+abbrev pub fault_of : EventOutcome → Option NodeFault
 fault_of Done = None
 fault_of (Refused why) = Some (shown why)
 fault_of Faulted = Some node.Device
@@ -40,11 +40,11 @@ fault_of MountFailed = Some node.Device
 fault_of (RaiseFailed kept) = Some node.Device
 fault_of (RaiseRefused kept) = Some node.Exhausted
 
-abbrev pub answered_as : Came → Option NodeFault → Result Came NodeFault
+abbrev pub answered_as : StepReport → Option NodeFault → Result StepReport NodeFault
 answered_as came None = Ok came
 answered_as came (Some fault) = Err fault
 
 -- what a call answers, where what wasn't done is a fault
-abbrev pub answered : Result Came NodeFault → Result Came NodeFault
-answered (Ok came) = answered_as came (fault_of came.fate)
+abbrev pub answered : Result StepReport NodeFault → Result StepReport NodeFault
+answered (Ok came) = answered_as came (fault_of came.event_outcome)
 answered (Err fault) = Err fault

@@ -8,5 +8,6 @@ pub mod Reading
 pub mod Arming
 pub mod Forgetting
 pub mod Refusing
+pub mod Calls
 pub mod Compacting
 pub mod Fresh

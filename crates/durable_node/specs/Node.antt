@@ -85,7 +85,8 @@ node_with id nodes core disk doubt mounted = record {
 -- Each image that a crash now may leave stands for what is kept, with or without the command in doubt.
 pub record IsLeft (disk : DiskState) (s : NodeState) : Type 0 where
   pub sectors : 24 ≤ disk.sectors
-  pub images : IsTrue disk.honest → (image : Image) → IsImage disk image → (kept : Bool) × IsSettling kept s.doubt × (stands_for (slots_for disk.sectors) image ≡ Some (settled kept s))
+  pub images : IsTrue disk.honest → (image : Image) → IsImage disk image →
+      (kept : Bool) × IsSettling kept s.doubt × (stands_for (slots_for disk.sectors) image ≡ Some (settled kept s))
   pub sound : IsSound (slots_for disk.sectors) disk
 
 -- The node is in this state, and its disk too.

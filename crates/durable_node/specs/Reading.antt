@@ -8,7 +8,7 @@ use Rattle.node_store.specs.Store.{slots_for, stands_for}
 use Rattle.node_store.specs.Mounting.{IsRefusedFor}
 use Rattle.durable_node.specs.declared.fault.NodeFault.{NodeFault}
 use Rattle.durable_node.specs.declared.fault.NodeFault.TheVariants as node
-use Rattle.durable_node.specs.declared.came.Came.{Came}
+use Rattle.durable_node.specs.declared.step_report.StepReport.{StepReport}
 
 -- an image that can't be read is answered by what was read first of all that isn't allowed
 abbrev pub IsUnread : ℕ → Image → NodeFault → Type 0
@@ -21,7 +21,7 @@ IsUnread slots image (node.Damaged sector) = IsRefusedFor slots image (store.Dam
 IsUnread slots image node.TooSmall = Unit {0}
 
 -- what a mounting answers and gives, by what its disk held before
-pub record IsRead {Disk : Type 0} (disks : Disk → DiskState) (was now : Disk) (result : Result Came NodeFault) (mounted : Option Durable) : Type 0 where
+pub record IsRead {Disk : Type 0} (disks : Disk → DiskState) (was now : Disk) (result : Result StepReport NodeFault) (mounted : Option Durable) : Type 0 where
   -- with fewer than 24 sectors, and only then, it is too small, and isn't called
   pub too_small : IsErrOf result node.TooSmall ↔ ((disks was).sectors < 24)
   pub uncalled : IsErrOf result node.TooSmall → now ≡ was
@@ -32,5 +32,5 @@ pub record IsRead {Disk : Type 0} (disks : Disk → DiskState) (was now : Disk) 
   pub unwritten : IsTrue (disks was).honest → mounted ≡ None → Run nothing (disks was) (disks now)
 
 -- the same of a node's disk, from before the call and after it
-abbrev pub ReadsDisk : {Disk : Type 0} → (Disk → DiskState) → Option Disk → Option Disk → Result Came NodeFault → Option Durable → Type 0
+abbrev pub ReadsDisk : {Disk : Type 0} → (Disk → DiskState) → Option Disk → Option Disk → Result StepReport NodeFault → Option Durable → Type 0
 ReadsDisk {Disk} disks old new result mounted = (was now : Disk) → old ≡ Some was → new ≡ Some now → IsRead disks was now result mounted

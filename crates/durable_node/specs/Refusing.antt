@@ -7,12 +7,12 @@ use Rattle.node_core.specs.declared.event.Event.{Event}
 use Rattle.node_core.specs.declared.fault.CoreFault.{CoreFault}
 use Rattle.node_core.specs.declared.fault.CoreFault.TheVariants.{Down, NoMemory}
 use Rattle.node_core.specs.declared.fault.Refusal.{Refusal}
-use Rattle.node_core.specs.declared.fault.Refusal.TheVariants.{Core, Full, Exhausted, Worn}
+use Rattle.node_core.specs.declared.fault.Refusal.TheVariants.{Core, Full, Exhausted, AreaExhausted}
 use Rattle.node_core.specs.Refusals.{refusal_of}
 use Rattle.node_core.specs.Wants.{wants_of}
 use Rattle.durable_node.specs.declared.fault.NodeFault.{NodeFault}
 use Rattle.durable_node.specs.declared.fault.NodeFault.TheVariants as node
-use Rattle.durable_node.specs.declared.came.Came.{Came}
+use Rattle.durable_node.specs.declared.step_report.StepReport.{StepReport}
 use Rattle.durable_node.specs.Faults.{shown}
 use Rattle.durable_node.specs.Node.{Node, Area}
 
@@ -24,7 +24,7 @@ is_last area = area.number == 2 ^ 64 - 1
 
 -- no slot is free, and no compaction can free one
 abbrev pub area_refusal : Area → Option Refusal
-area_refusal area = if area.used == area.slots && is_last area then Some Worn else None
+area_refusal area = if area.used == area.slots && is_last area then Some AreaExhausted else None
 
 -- why the disk can't take a command
 abbrev pub disk_refusal : Durable → Area → Option Command → Option Refusal
@@ -52,7 +52,7 @@ AnswersEvent (Some fault) why result = result ≡ Err (node.Core fault)
 AnswersEvent None why result = OrNoMemory result (AnswersTo why result)
 
 -- what a node that is up answers to an event
-abbrev pub Answers : {Disk : Type 0} → Node Disk → Event → Result Came NodeFault → Type 0
+abbrev pub Answers : {Disk : Type 0} → Node Disk → Event → Result StepReport NodeFault → Type 0
 Answers node event result = (d : Durable) (area : Area) → node.kept ≡ Some d → node.area ≡ Some area →
     AnswersEvent (refusal_of node.nodes node.id event node.state) (disk_refusal d area (wants_of node.id d.pending event node.state)) result
 
@@ -61,4 +61,4 @@ Answers node event result = (d : Durable) (area : Area) → node.kept ≡ Some d
 -- why a compaction is refused, by the area of a node that is up
 abbrev pub compaction_refusal : Option Area → Option Refusal
 compaction_refusal None = Some (Core Down)
-compaction_refusal (Some area) = if is_last area then Some Worn else None
+compaction_refusal (Some area) = if is_last area then Some AreaExhausted else None

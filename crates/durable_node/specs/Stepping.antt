@@ -17,16 +17,16 @@ use Rattle.node_core.specs.Most.{most_of}
 use Rattle.node_store.specs.Store.{StoreState, durable_of, slots_for}
 use Rattle.durable_node.specs.declared.fault.NodeFault.{NodeFault}
 use Rattle.durable_node.specs.declared.fault.NodeFault.TheVariants as node
-use Rattle.durable_node.specs.declared.came.Came.{Came}
+use Rattle.durable_node.specs.declared.step_report.StepReport.{StepReport}
 use Rattle.histories.specs.NodeState.{NodeState, wants_at, settled}
-use Rattle.histories.specs.What.{IsOf}
-use Rattle.histories.specs.declared.what.What.{What}
-use Rattle.histories.specs.declared.what.What.TheVariants.{Did, Faulted, Recovered, RaiseFailed}
+use Rattle.histories.specs.HistoryEvent.{IsOf}
+use Rattle.histories.specs.declared.history_event.HistoryEvent.{HistoryEvent}
+use Rattle.histories.specs.declared.history_event.HistoryEvent.TheVariants.{Did, Faulted, Recovered, RaiseFailed}
 use Rattle.histories.specs.After.{after, sent_at, mounted_at}
 use Rattle.histories.specs.Possible.{IsPossible, IsOfSlots, FitsSlots}
-use Rattle.histories.specs.Fates.{IsTriedAt, what_of}
-use Rattle.histories.specs.declared.fate.Fate.{Fate}
-use Rattle.histories.specs.declared.fate.Fate.TheVariants as fate
+use Rattle.histories.specs.EventOutcomes.{IsTriedAt, what_of}
+use Rattle.histories.specs.declared.event_outcome.EventOutcome.{EventOutcome}
+use Rattle.histories.specs.declared.event_outcome.EventOutcome.TheVariants as event_outcome
 use Rattle.node_core.specs.declared.fault.Refusal.{Refusal}
 use Rattle.node_core.specs.declared.fault.Refusal.TheVariants as refusal
 use Rattle.job_model.specs.declared.node_command.NodeCommand.{NodeCommand as Command}
@@ -44,7 +44,7 @@ is_recover event = false
 -- ---- an event at a node that is up
 
 -- the event was handled, and its command is on the disk
-pub record IsDone (slots nodes self : ℕ) (s : State) (d : Durable) (event : Event) (s' : State) (d' : Durable) (came : Came) : Type 0 where
+pub record IsDone (slots nodes self : ℕ) (s : State) (d : Durable) (event : Event) (s' : State) (d' : Durable) (came : StepReport) : Type 0 where
   pub handled : IsHandled nodes self s d event s' d' came.sent.items
   pub fits : IsFull slots d (wants_of self d.pending event s) → ⊥
   pub answer : came.answer ≡ option_map (answer_of d) (wants_of self d.pending event s)
@@ -61,7 +61,7 @@ pub record IsTurnedAway (slots nodes self : ℕ) (s : State) (d : Durable) (even
   pub of_slots : FitsSlots slots d (wants_of self d.pending event s) why
 
 -- nothing is sent or answered
-abbrev pub IsSilent : Came → Type 0
+abbrev pub IsSilent : StepReport → Type 0
 IsSilent came = (came.sent.items ≡ []) × (came.answer ≡ None)
 
 -- the core's state, the store and the command in doubt are as they were
@@ -71,34 +71,34 @@ pub record IsAsBefore {Disk : Type 0} (core core' : Core) (store store' : StoreS
   pub same_doubt : doubt' ≡ doubt
 
 -- what came of the event, and what it left
-abbrev pub IsServed : {Disk : Type 0} → ℕ → ℕ → Core → Core → StoreState Disk → StoreState Disk → Option (Wanted × ℕ) → Option (Wanted × ℕ) → Event → Came → Fate → Type 0
-IsServed nodes self core core' store store' doubt doubt' event came fate.Done =
+abbrev pub IsServed : {Disk : Type 0} → ℕ → ℕ → Core → Core → StoreState Disk → StoreState Disk → Option (Wanted × ℕ) → Option (Wanted × ℕ) → Event → StepReport → EventOutcome → Type 0
+IsServed nodes self core core' store store' doubt doubt' event came event_outcome.Done =
     IsDone store.journal.slots nodes self core.state (durable_of store) event core'.state (durable_of store') came × IsFalse store'.broken × (doubt' ≡ doubt)
-IsServed nodes self core core' store store' doubt doubt' event came (fate.Refused why) =
+IsServed nodes self core core' store store' doubt doubt' event came (event_outcome.Refused why) =
     IsTurnedAway store.journal.slots nodes self core.state (durable_of store) event why × IsSilent came × IsAsBefore core core' store store' doubt doubt'
-IsServed nodes self core core' store store' doubt doubt' event came fate.Faulted =
+IsServed nodes self core core' store store' doubt doubt' event came event_outcome.Faulted =
     IsFailed store.journal.slots nodes self core.state (durable_of store) event × IsSilent came × (core'.state ≡ down self)
     × (doubt' ≡ shown_doubt (durable_of store) (wants_of self (durable_of store).pending event core.state))
 IsServed nodes self core core' store store' doubt doubt' event came other = ⊥
 
 -- the command that was tried, of one that was wanted
-abbrev pub command_by : Option Command → Fate → Option Command
-command_by wants fate.Done = wants
-command_by wants fate.Faulted = wants
+abbrev pub command_by : Option Command → EventOutcome → Option Command
+command_by wants event_outcome.Done = wants
+command_by wants event_outcome.Faulted = wants
 command_by wants other = None
 
 -- ---- an event at a node that is down
 
 -- it did nothing, or was refused for this reason
-abbrev pub IsIgnored : Option CoreFault → Came → Fate → Type 0
-IsIgnored why came fate.Done = (why ≡ None) × IsSilent came
-IsIgnored why came (fate.Refused (refusal.Core fault)) = (why ≡ Some fault) × IsSilent came
+abbrev pub IsIgnored : Option CoreFault → StepReport → EventOutcome → Type 0
+IsIgnored why came event_outcome.Done = (why ≡ None) × IsSilent came
+IsIgnored why came (event_outcome.Refused (refusal.Core fault)) = (why ≡ Some fault) × IsSilent came
 IsIgnored why came other = ⊥
 
 -- ---- any call
 
 -- the command that was tried on the disk, if there was one
-abbrev pub command_at : ℕ → ℕ → NodeState → What → Option Command
+abbrev pub command_at : ℕ → ℕ → NodeState → HistoryEvent → Option Command
 command_at self nodes s (Did event) = wants_at self nodes s event
 command_at self nodes s (Faulted event) = wants_at self nodes s event
 command_at self nodes s (Recovered kept) = Some Raise
@@ -106,13 +106,13 @@ command_at self nodes s (RaiseFailed kept) = Some Raise
 command_at self nodes s what = None
 
 -- the answer to the command that was carried out, if there was one
-abbrev pub answer_at : ℕ → ℕ → NodeState → What → Option ℕ
+abbrev pub answer_at : ℕ → ℕ → NodeState → HistoryEvent → Option ℕ
 answer_at self nodes s (Did event) = option_map (answer_of s.durable) (wants_at self nodes s event)
 answer_at self nodes s (Recovered kept) = Some ((settled kept s).counter + 1)
 answer_at self nodes s what = None
 
 -- this came of the event, and so the call answers it
-pub record Does (slots self nodes : ℕ) (s : NodeState) (event : Event) (came : Came) (shown : Option Durable) (what : What) : Type 0 where
+pub record Does (slots self nodes : ℕ) (s : NodeState) (event : Event) (came : StepReport) (shown : Option Durable) (what : HistoryEvent) : Type 0 where
   pub of : IsOf event what
   pub possible : IsPossible self nodes s what
   pub of_slots : IsOfSlots slots self nodes s what
@@ -126,10 +126,10 @@ abbrev pub IsMounting : State → Event → Type 0
 IsMounting s event = (is_down s.phase ≡ true) × (is_recover event ≡ true)
 
 -- whatever state the node stood for, what is answered is what came of the event, and the node stands for the state after it
-abbrev pub Steps : {Disk : Type 0} → (Disk → DiskState) → Node Disk → Node Disk → Event → Came → Type 0
+abbrev pub Steps : {Disk : Type 0} → (Disk → DiskState) → Node Disk → Node Disk → Event → StepReport → Type 0
 Steps {Disk} disks old new event came =
     (disk : Disk) (s : NodeState) → old.disk ≡ Some disk → Stands disks old s → (IsMounting old.state event → IsTrue (disks disk).honest) →
-    Does (slots_for (disks disk).sectors) old.id old.nodes s event came new.mounted (what_of event came.fate) × Stands disks new (after old.id old.nodes s (what_of event came.fate))
+    Does (slots_for (disks disk).sectors) old.id old.nodes s event came new.mounted (what_of event came.event_outcome) × Stands disks new (after old.id old.nodes s (what_of event came.event_outcome))
 
 -- the disk can't be mounted, which no disk of a node's history is, and nothing but the disk has changed
 pub record IsUnmountable {Disk : Type 0} (disks : Disk → DiskState) (old new : Node Disk) (event : Event) : Type 0 where
@@ -158,7 +158,7 @@ pub record IsAreaAfter {Disk A : Type 0} (disks : Disk → DiskState) (old new :
       → AllEndIn (area_after d area wants) (records_at d area wants) (disks now)
 
 -- what becomes of the area of a node that is up: its command is one record more, behind a compaction where no slot was free
-abbrev pub AreaGoesOn : {Disk : Type 0} → (Disk → DiskState) → Node Disk → Node Disk → Event → Result Came NodeFault → Type 0
+abbrev pub AreaGoesOn : {Disk : Type 0} → (Disk → DiskState) → Node Disk → Node Disk → Event → Result StepReport NodeFault → Type 0
 AreaGoesOn disks old new event result = (d : Durable) (area : Area) → old.kept ≡ Some d → old.area ≡ Some area →
     IsAreaAfter disks old new d area (wants_of old.id d.pending event old.state) result
 

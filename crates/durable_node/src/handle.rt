@@ -8,7 +8,7 @@ ghost use Rattle.node_core.specs.Planned.{lent_by};
 ghost use Rattle.node_core.specs.Refusals.{refusal_of};
 ghost use Rattle.node_core.specs.Wants.{wants_of};
 ghost use Rattle.node_store.specs.Store.{durable_of};
-ghost use Rattle.histories.specs.Fates.{attempt_of};
+ghost use Rattle.histories.specs.EventOutcomes.{attempt_of};
 ghost use Rattle.durable_node.specs.Area.{LeavesArea};
 ghost use Rattle.durable_node.specs.Carrying.{CantCarry, KeepsSound, Writes};
 ghost use Rattle.durable_node.specs.Faults.{answered};
@@ -16,11 +16,11 @@ ghost use Rattle.durable_node.specs.Node.{IsCoreOf, IsOver, area_of, shown_doubt
 ghost use Rattle.durable_node.specs.Refusing.{AnswersEvent, disk_refusal};
 ghost use Rattle.durable_node.specs.Stepping.{IsAsBefore, IsServed, command_by};
 
-use crate::came::{Came, attempt_in};
 use crate::carry::carry;
 use crate::fault::NodeFault;
+use crate::step_report::{StepReport, attempt_in};
 use group_task::NodeId;
-use histories::{Fate, Refusal};
+use histories::{EventOutcome, Refusal};
 use job_model::JobTable;
 use node_core::{CoreFault, Event, NodeCore, Plan, Wanted, WantedRef};
 use node_store::NodeStore;
@@ -38,12 +38,12 @@ pub(crate) fn handle<D: SectorDisk>(
     store: &mut NodeStore<D>,
     doubt: &mut Option<(Wanted, u64)>,
     event: &Event,
-) -> Result<Came, NodeFault>
+) -> Result<StepReport, NodeFault>
     requires over { IsOver D.state id nodes core.old store.old }
     ensures core { IsCoreOf id nodes core.new }
     // What came of the event, and which command it wanted, if it was tried.
-    ensures what { IfOk result (λ came. IsServed nodes id core.old core.new store.old store.new doubt.old doubt.new event.now came came.fate) }
-    ensures tried { IfOk result (λ came. came.tried ≡ option_map attempt_of (command_by (wants_of id (durable_of store.old).pending event.now core.old.state) came.fate)) }
+    ensures what { IfOk result (λ came. IsServed nodes id core.old core.new store.old store.new doubt.old doubt.new event.now came came.event_outcome) }
+    ensures tried { IfOk result (λ came. came.tried ≡ option_map attempt_of (command_by (wants_of id (durable_of store.old).pending event.now core.old.state) came.event_outcome)) }
     ensures few { IfOk result (λ came. length came.sent.items ≤ most_of nodes (durable_of store.old).pending) }
     ensures stuck { IfErr result (λ fault. (fault ≡ NodeFault.Core NoMemory) × IsAsBefore core.old core.new store.old store.new doubt.old doubt.new) }
     ensures spares { IfErr result (λ _. takes_memory id event.now core.old.state ≡ true) }
@@ -57,8 +57,8 @@ pub(crate) fn handle<D: SectorDisk>(
         Ok(plan) => plan,
         Err(CoreFault::NoMemory) => return Err(NodeFault::Core(CoreFault::NoMemory)),
         Err(fault) => {
-            let fate = Fate::Refused(Refusal::Core(fault));
-            return Ok(Came::silent(alloc, fate, None));
+            let event_outcome = EventOutcome::Refused(Refusal::Core(fault));
+            return Ok(StepReport::silent(alloc, event_outcome, None));
         }
     };
     let wants = plan.wanted();
@@ -67,17 +67,17 @@ pub(crate) fn handle<D: SectorDisk>(
         Ok(answer) => answer,
         Err(fault) => {
             if !fault.is_device() {
-                let fate = Fate::Refused(refusal(store, &wants, fault));
-                return Ok(Came::silent(alloc, fate, None));
+                let event_outcome = EventOutcome::Refused(refusal(store, &wants, fault));
+                return Ok(StepReport::silent(alloc, event_outcome, None));
             }
             put_in_doubt(store, &wants, doubt);
             *core = NodeCore::down(alloc, id, nodes);
-            return Ok(Came::silent(alloc, Fate::Faulted, tried));
+            return Ok(StepReport::silent(alloc, EventOutcome::Faulted, tried));
         }
     };
     let sent = core.commit_step(plan, answer.unwrap_or(0));
-    Ok(Came {
-        fate: Fate::Done,
+    Ok(StepReport {
+        event_outcome: EventOutcome::Done,
         tried,
         answer,
         sent,
@@ -114,7 +114,7 @@ fn refusal<D: SectorDisk>(store: &NodeStore<D>, wants: &WantedRef<'_>, fault: No
     match fault {
         NodeFault::Full => Refusal::Full,
         _ if is_spent(store, wants) => Refusal::Exhausted,
-        _ => Refusal::Worn,
+        _ => Refusal::AreaExhausted,
     }
 }
 

@@ -3,9 +3,9 @@ ghost use Rattle.node_core.specs.Start.{down};
 ghost use Rattle.node_core.specs.Refusals.{refusal_of};
 ghost use Rattle.durable_node.specs.Stepping.{IsIgnored};
 
-use crate::came::Came;
 use crate::node_disk::NodeDisk;
-use histories::{Fate, Refusal};
+use crate::step_report::StepReport;
+use histories::{EventOutcome, Refusal};
 use job_model::JobTable;
 use node_core::{CoreFault, Event, NodeCore};
 use sector_disk::SectorDisk;
@@ -17,19 +17,19 @@ pub(crate) fn ignore<D: SectorDisk>(
     core: &mut NodeCore,
     disk: &NodeDisk<D>,
     event: &Event,
-) -> Came
+) -> StepReport
     requires fallen { core.old.state ≡ down core.old.id }
     requires other { event.now ≢ Event.Recover }
     ensures kept { core.new ≡ record core.old { room = core.new.room } }
-    ensures what { IsIgnored (refusal_of core.old.nodes core.old.id event.now core.old.state) result result.fate }
+    ensures what { IsIgnored (refusal_of core.old.nodes core.old.id event.now core.old.state) result result.event_outcome }
     ensures tried { result.tried ≡ None }
 {
-    let fate = match plan_over(alloc, core, disk, event) {
-        Ok(()) => Fate::Done,
-        Err(fault) => Fate::Refused(Refusal::Core(fault)),
+    let event_outcome = match plan_over(alloc, core, disk, event) {
+        Ok(()) => EventOutcome::Done,
+        Err(fault) => EventOutcome::Refused(Refusal::Core(fault)),
     };
-    Came {
-        fate,
+    StepReport {
+        event_outcome,
         tried: None,
         answer: None,
         sent: Vec::new(alloc),

@@ -13,7 +13,6 @@
 #![tactic(auto)]
 
 mod advance;
-mod came;
 mod carry;
 mod compacting;
 mod fault;
@@ -23,8 +22,9 @@ mod memory;
 mod node;
 mod node_disk;
 mod remount;
+mod step_report;
 
-pub use came::Came;
 pub use fault::NodeFault;
 pub use memory::formatted_disk;
 pub use node::DurableNode;
+pub use step_report::StepReport;

@@ -13,13 +13,13 @@ ghost use Rattle.durable_node.specs.Forgetting.{forgotten_disk};
 ghost use Rattle.durable_node.specs.Fresh.{IsFresh};
 ghost use Rattle.durable_node.specs.Node.{Stands};
 ghost use Rattle.histories.specs.NodeState.{NodeState, opening};
-ghost use Rattle.histories.specs.declared.what.What.TheVariants.{Crashed};
+ghost use Rattle.histories.specs.declared.history_event.HistoryEvent.TheVariants.{Crashed};
 
 use crate::node::DurableNode;
 use crate::node_disk::NodeDisk;
 use disk_sector::sectors_for;
 use group_task::NodeId;
-use histories::Fate;
+use histories::EventOutcome;
 use node_core::NodeCore;
 use node_store::format;
 use sector_disk::MemDisk;
@@ -108,7 +108,7 @@ impl DurableNode<MemDisk> {
         let Ok(came) = node.recover() else {
             return Err(AllocError);
         };
-        let Fate::Recovered(_) = came.fate else {
+        let EventOutcome::Recovered(_) = came.event_outcome else {
             return Err(AllocError);
         };
         node.disarm();

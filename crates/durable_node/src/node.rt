@@ -7,6 +7,7 @@ ghost use Rattle.node_core.specs.Start.{down};
 ghost use Rattle.node_core.specs.State.{state_of, is_down};
 ghost use Rattle.node_store.specs.Store.{slots_for};
 ghost use Rattle.durable_node.specs.Area.{Area};
+ghost use Rattle.durable_node.specs.Calls.{IsCall};
 ghost use Rattle.durable_node.specs.Compacting.{Compacts, StaysKept, IsMovedNode, IsMovedInto, IsFallenNode};
 ghost use Rattle.durable_node.specs.Faults.{answered};
 ghost use Rattle.durable_node.specs.Reading.{ReadsDisk};
@@ -15,10 +16,10 @@ ghost use Rattle.durable_node.specs.Remounting.{IsMountedBy, Remounted};
 ghost use Rattle.durable_node.specs.Stepping.{AreaGoesOn, CountsOf, Steps, Stuck, most_by};
 
 use crate::advance::{advance, is_down};
-use crate::came::Came;
 use crate::compacting::compact;
 use crate::fault::NodeFault;
 use crate::node_disk::NodeDisk;
+use crate::step_report::StepReport;
 use group_task::NodeId;
 use job_model::JobTable;
 use node_core::{Event, NodeCore, Vector, Wanted};
@@ -168,12 +169,12 @@ impl<D: SectorDisk + Drop> DurableNode<D> {
     /// A node that is up refuses it as the core does, then for want of memory, and then where the disk can't take its
     /// command: a raise is `Exhausted` at the greatest counter; a Submit is `Exhausted` where no id is left, then `Full` where
     /// the pending jobs and three more are more than the slots; and a Submit or a job that is done is `Exhausted` where no
-    /// slot is free and the area's number is the greatest. [`Came::fault`] names them so. A refusal leaves the node as it was.
+    /// slot is free and the area's number is the greatest. [`StepReport::fault`] names them so. A refusal leaves the node as it was.
     /// Where the device failed the node is Down.
     ///
     /// An error is no entry of the node's history, and leaves the node as it was: there is no memory, or the disk can't be
     /// mounted, which is `NotFormatted`, `Damaged` or `TooSmall`.
-    pub fn step(&mut self, event: &Event) -> Result<Came, NodeFault>
+    pub fn step(&mut self, event: &Event) -> Result<StepReport, NodeFault>
         // Promise: Messages are handed out only where the event was done, and then the command is on the disk: every image that a
         // crash may leave stands for the state with it.
         // Refuses: messages_before_the_store.
@@ -242,7 +243,7 @@ impl<D: SectorDisk + Drop> DurableNode<D> {
         // Refuses: unformatted_answered_as_too_small.
         // Promise: What is mounted is what the disk reads; and where nothing is mounted nothing was written.
         // Also: DurableNode::recover.
-        ensures mounted { is_down self.old.state.phase ≡ true → event.now ≡ Event.Recover → IfOk result (λ came. IsMountedBy self.old.doubt came.fate self.new.mounted) × ReadsDisk D.state self.old.disk self.new.disk (answered result) self.new.mounted }
+        ensures mounted { is_down self.old.state.phase ≡ true → event.now ≡ Event.Recover → IfOk result (λ came. IsMountedBy self.old.doubt came.event_outcome self.new.mounted) × ReadsDisk D.state self.old.disk self.new.disk (answered result) self.new.mounted }
         // Promise: No call hands out more messages than there are other nodes or pending jobs, and a node that is Down hands out
         // none; `most` answers that number.
         // Also: DurableNode::most.
@@ -262,18 +263,10 @@ impl<D: SectorDisk + Drop> DurableNode<D> {
     }
 
     /// The event Recover: a node that is Down mounts its disk, and each node is then alone in a new group.
-    pub fn recover(&mut self) -> Result<Came, NodeFault>
+    pub fn recover(&mut self) -> Result<StepReport, NodeFault>
         ensures id { self.new.id ≡ self.old.id }
         ensures nodes { self.new.nodes ≡ self.old.nodes }
-        // What came of it, the command that was tried with its answer, and the messages.
-        ensures step { IfOk result (Steps D.state self.old self.new Event.Recover) }
-        ensures stuck { IfErr result (Stuck D.state self.old self.new Event.Recover) }
-        ensures answers { Answers self.old Event.Recover (answered result) }
-        ensures counts { CountsOf D.state self.old.disk self.new.disk (answered result) }
-        ensures area { AreaGoesOn D.state self.old self.new Event.Recover (answered result) }
-        ensures mounting { is_down self.old.state.phase ≡ true → Remounted self.old self.new (answered result) self.new.mounted }
-        ensures mounted { is_down self.old.state.phase ≡ true → IfOk result (λ came. IsMountedBy self.old.doubt came.fate self.new.mounted) × ReadsDisk D.state self.old.disk self.new.disk (answered result) self.new.mounted }
-        ensures few { IfOk result (λ came. length came.sent.items ≤ most_by self.old.nodes self.old.kept) }
+        ensures call { IsCall D.state self.old self.new Event.Recover result }
     {
         self.step(&Event::Recover)
     }

@@ -1,22 +1,22 @@
-ghost use Rattle.std.specs.Prelude.{◌≡◌, ◌≢◌, IsOk, IfOk, IfErr, IsErrOf, Ok, Err, Some, None, option_map, true, []};
+ghost use Rattle.std.specs.Prelude.{◌≡◌, ◌≢◌, IsOk, IfOk, IfErr, IsErrOf, Ok, Err, Some, None, option_map, true};
 ghost use Rattle.job_model.specs.declared.node_command.NodeCommand.TheVariants.{Raise};
 ghost use Rattle.node_core.specs.declared.event.Event.TheVariants.{Recover};
 ghost use Rattle.node_core.specs.State.{is_down};
 ghost use Rattle.node_store.specs.Store.{durable_of};
-ghost use Rattle.histories.specs.Fates.{attempt_of};
+ghost use Rattle.histories.specs.EventOutcomes.{attempt_of};
+ghost use Rattle.durable_node.specs.Calls.{IsCall};
 ghost use Rattle.durable_node.specs.Carrying.{KeepsSound, Writes};
 ghost use Rattle.durable_node.specs.Faults.{answered};
-ghost use Rattle.durable_node.specs.Node.{disk_in, store_in, mounted_in, IsCoreOf, IsNode, IsOver, node_with};
-ghost use Rattle.durable_node.specs.Reading.{ReadsDisk};
-ghost use Rattle.durable_node.specs.Remounting.{HasRisen, IsMountedBy, IsKeptIn, Remounted, raise_by};
-ghost use Rattle.durable_node.specs.Stepping.{CountsOf, IsSilent, Steps, Stuck};
+ghost use Rattle.durable_node.specs.Node.{IsCoreOf, IsNode, IsOver, node_with};
+ghost use Rattle.durable_node.specs.Remounting.{HasRisen, IsKeptIn, raise_by};
+ghost use Rattle.durable_node.specs.Stepping.{IsSilent};
 
-use crate::came::Came;
 use crate::carry::carry;
 use crate::fault::{NodeFault, node_fault};
 use crate::node_disk::NodeDisk;
+use crate::step_report::StepReport;
 use group_task::NodeId;
-use histories::{Attempt, Fate};
+use histories::{CommandKind, EventOutcome};
 use node_core::{NodeCore, Wanted, WantedRef};
 use node_store::NodeStore;
 use sector_disk::SectorDisk;
@@ -31,17 +31,11 @@ pub(crate) fn remount<D: SectorDisk + Drop>(
     disk: &mut NodeDisk<D>,
     doubt: &mut Option<(Wanted, u64)>,
     mounted: &mut Option<u64>,
-) -> Result<Came, NodeFault>
+) -> Result<StepReport, NodeFault>
     requires node { IsNode D.state id nodes core.old disk.old }
     requires down { is_down core.old.state.phase ≡ true }
     ensures node { IsNode D.state id nodes core.new disk.new }
-    ensures step { IfOk result (Steps D.state (node_with id nodes core.old disk.old doubt.old mounted.old) (node_with id nodes core.new disk.new doubt.new mounted.new) Recover) }
-    ensures stuck { IfErr result (Stuck D.state (node_with id nodes core.old disk.old doubt.old mounted.old) (node_with id nodes core.new disk.new doubt.new mounted.new) Recover) }
-    ensures counts { CountsOf D.state (disk_in disk.old) (disk_in disk.new) (answered result) }
-    ensures mounting { Remounted (node_with id nodes core.old disk.old doubt.old mounted.old) (node_with id nodes core.new disk.new doubt.new mounted.new) (answered result) (mounted_in mounted.new (store_in disk.new)) }
-    ensures kept { IfOk result (λ came. IsMountedBy doubt.old came.fate (mounted_in mounted.new (store_in disk.new))) }
-    ensures reads { ReadsDisk D.state (disk_in disk.old) (disk_in disk.new) (answered result) (mounted_in mounted.new (store_in disk.new)) }
-    ensures quiet { IfOk result (λ came. came.sent.items ≡ []) }
+    ensures call { IsCall D.state (node_with id nodes core.old disk.old doubt.old mounted.old) (node_with id nodes core.new disk.new doubt.new mounted.new) Recover result }
 {
     let mut store = match NodeStore::mount(alloc, disk.take()) {
         Ok(store) => store,
@@ -59,18 +53,18 @@ pub(crate) fn remount<D: SectorDisk + Drop>(
 }
 
 /// What came of a disk that can't be mounted.
-fn unmounted(alloc: Global, fault: NodeFault) -> Result<Came, NodeFault>
+fn unmounted(alloc: Global, fault: NodeFault) -> Result<StepReport, NodeFault>
     ensures answered { answered result ≡ Err fault }
     ensures stuck { IfErr result (λ why. (why ≡ fault) × (fault ≢ NodeFault.Device)) }
-    ensures what { IfOk result (λ came. (came.fate ≡ Fate.MountFailed) × (fault ≡ NodeFault.Device)) }
+    ensures what { IfOk result (λ came. (came.event_outcome ≡ EventOutcome.MountFailed) × (fault ≡ NodeFault.Device)) }
     ensures quiet { IfOk result IsSilent }
     ensures tried { IfOk result (λ came. came.tried ≡ None) }
 {
     if !fault.is_device() {
         return Err(fault);
     }
-    Ok(Came {
-        fate: Fate::MountFailed,
+    Ok(StepReport {
+        event_outcome: EventOutcome::MountFailed,
         tried: None,
         answer: None,
         sent: Vec::new(alloc),
@@ -98,11 +92,11 @@ fn rise<D: SectorDisk>(
     store: &mut NodeStore<D>,
     doubt: &mut Option<(Wanted, u64)>,
     kept: bool,
-) -> Came
+) -> StepReport
     requires over { IsOver D.state id nodes core.old store.old }
     ensures core { IsCoreOf id nodes core.new }
-    ensures what { HasRisen id kept core.old core.new store.old store.new doubt.old doubt.new result result.fate }
-    ensures tried { result.tried ≡ option_map attempt_of (raise_by result.fate) }
+    ensures what { HasRisen id kept core.old core.new store.old store.new doubt.old doubt.new result result.event_outcome }
+    ensures tried { result.tried ≡ option_map attempt_of (raise_by result.event_outcome) }
     ensures store { KeepsSound D.state store.old store.new (IsErrOf (answered (Ok result)) NodeFault.Device) }
     ensures disk { Writes D.state store.old store.new (Some Raise) (IsOk (answered (Ok result))) }
 {
@@ -111,24 +105,24 @@ fn rise<D: SectorDisk>(
         Ok(answer) => {
             *core = NodeCore::new(alloc, id, nodes, store.counter());
             *doubt = None;
-            Came {
-                fate: Fate::Recovered(kept),
-                tried: Some(Attempt::Raise),
+            StepReport {
+                event_outcome: EventOutcome::Recovered(kept),
+                tried: Some(CommandKind::Raise),
                 answer,
                 sent: Vec::new(alloc),
             }
         }
         Err(NodeFault::Device) => {
             *doubt = Some((Wanted::Raise, count));
-            Came {
-                fate: Fate::RaiseFailed(kept),
-                tried: Some(Attempt::Raise),
+            StepReport {
+                event_outcome: EventOutcome::RaiseFailed(kept),
+                tried: Some(CommandKind::Raise),
                 answer: None,
                 sent: Vec::new(alloc),
             }
         }
-        Err(_) => Came {
-            fate: Fate::RaiseRefused(kept),
+        Err(_) => StepReport {
+            event_outcome: EventOutcome::RaiseRefused(kept),
             tried: None,
             answer: None,
             sent: Vec::new(alloc),

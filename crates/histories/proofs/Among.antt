@@ -7,7 +7,7 @@ use Rattle.node_core.specs.Priorities.{by_priority}
 use Rattle.node_core.proofs.PublicLaws.{by_priority_keeps}
 use Rattle.wire_msg.specs.Envelope.{Envelope}
 use Rattle.histories.specs.Lists.{IsAmong, Each}
-use Rattle.histories.specs.What.{Entry}
+use Rattle.histories.specs.HistoryEvent.{Entry}
 use Rattle.histories.specs.History.{sent_in}
 use Rattle.histories.specs.Bundle.{sent_by_all}
 

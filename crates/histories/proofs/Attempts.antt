@@ -7,9 +7,9 @@ use Rattle.job_model.specs.declared.node_command.NodeCommand.TheVariants.{Raise}
 use Rattle.node_core.specs.declared.event.Event.{Event}
 use Rattle.node_core.specs.State.{State}
 use Rattle.node_core.specs.Wants.{wants_of}
-use Rattle.histories.specs.declared.attempt.Attempt.{Attempt}
-use Rattle.histories.specs.declared.attempt.Attempt.TheVariants as attempt
-use Rattle.histories.specs.Fates.{IsTriedAt, attempt_of, command_for, command_with, work_of}
+use Rattle.histories.specs.declared.command_kind.CommandKind.{CommandKind}
+use Rattle.histories.specs.declared.command_kind.CommandKind.TheVariants as attempt
+use Rattle.histories.specs.EventOutcomes.{IsTriedAt, attempt_of, command_for, command_with, work_of}
 use Rattle.histories.proofs.Wanted.{MayWant, wants_none, raises, puts, ends, may_want}
 
 -- what is said of a command, with this work beside it, is all of it
@@ -26,11 +26,11 @@ is_whole self pending event wants (ends id there why is) = rw is refl
 pub wanted_whole : (self : ℕ) (pending : List Job) (event : Event) (s : State) → command_for event (option_map attempt_of (wants_of self pending event s)) ≡ wants_of self pending event s
 wanted_whole self pending event s = is_whole self pending event (wants_of self pending event s) (may_want self pending event s)
 
-pub tried_wanted : (self : ℕ) (pending : List Job) (event : Event) (s : State) (tried : Option Attempt) → tried ≡ option_map attempt_of (wants_of self pending event s) → IsTriedAt event tried (wants_of self pending event s)
-tried_wanted self pending event s tried is = record { which = is; whole = ap (λ (t : Option Attempt). command_for event t) is ∙ wanted_whole self pending event s }
+pub tried_wanted : (self : ℕ) (pending : List Job) (event : Event) (s : State) (tried : Option CommandKind) → tried ≡ option_map attempt_of (wants_of self pending event s) → IsTriedAt event tried (wants_of self pending event s)
+tried_wanted self pending event s tried is = record { which = is; whole = ap (λ (t : Option CommandKind). command_for event t) is ∙ wanted_whole self pending event s }
 
-pub tried_raise : (event : Event) (tried : Option Attempt) → tried ≡ Some attempt.Raise → IsTriedAt event tried (Some Raise)
-tried_raise event tried is = record { which = is; whole = ap (λ (t : Option Attempt). command_for event t) is }
+pub tried_raise : (event : Event) (tried : Option CommandKind) → tried ≡ Some attempt.Raise → IsTriedAt event tried (Some Raise)
+tried_raise event tried is = record { which = is; whole = ap (λ (t : Option CommandKind). command_for event t) is }
 
-pub tried_none : (event : Event) (tried : Option Attempt) → tried ≡ None → IsTriedAt event tried None
-tried_none event tried is = record { which = is; whole = ap (λ (t : Option Attempt). command_for event t) is }
+pub tried_none : (event : Event) (tried : Option CommandKind) → tried ≡ None → IsTriedAt event tried None
+tried_none event tried is = record { which = is; whole = ap (λ (t : Option CommandKind). command_for event t) is }

@@ -5,9 +5,9 @@ use Rattle.job_model.specs.declared.node_command.NodeCommand.TheVariants.{Raise,
 use Rattle.job_model.specs.Durable.{Durable}
 use Rattle.job_model.specs.Fold.{after_wanted}
 use Rattle.histories.specs.NodeState.{NodeState, opening, wants_at, settled}
-use Rattle.histories.specs.declared.what.What.{What}
-use Rattle.histories.specs.declared.what.What.TheVariants.{Did, Refused, Faulted, Rests, Crashed, Recovered, MountFailed, RaiseFailed, RaiseRefused}
-use Rattle.histories.specs.What.{Entry}
+use Rattle.histories.specs.declared.history_event.HistoryEvent.{HistoryEvent}
+use Rattle.histories.specs.declared.history_event.HistoryEvent.TheVariants.{Did, Refused, Faulted, NoOp, Crashed, Recovered, MountFailed, RaiseFailed, RaiseRefused}
+use Rattle.histories.specs.HistoryEvent.{Entry}
 use Rattle.histories.specs.After.{after, given_at, raised}
 use Rattle.histories.specs.History.{counts_given, replay}
 use Rattle.histories.specs.Rising.{Rises, EachBundleRises}
@@ -34,11 +34,11 @@ settled_grows : (kept : Bool) (s : NodeState) → s.durable.counter ≤ (settled
 settled_grows true s = wanted_grows s.durable s.doubt
 settled_grows false s = omega arith
 
-step_rises : (self nodes : ℕ) (s : NodeState) (what : What) (last : ℕ) (rest : List ℕ) → last ≤ s.durable.counter → Rises (after self nodes s what).durable.counter rest
+step_rises : (self nodes : ℕ) (s : NodeState) (what : HistoryEvent) (last : ℕ) (rest : List ℕ) → last ≤ s.durable.counter → Rises (after self nodes s what).durable.counter rest
     → Rises last (given_at self nodes s what ++ rest)
 step_rises self nodes s (Did event) last rest le h = wanted_rises s.durable (wants_at self nodes s event) last rest le h (rises_lower rest)
 step_rises self nodes s (Refused event fault) last rest le h = rises_lower rest last s.durable.counter le h
-step_rises self nodes s (Rests why) last rest le h = rises_lower rest last s.durable.counter le h
+step_rises self nodes s (NoOp why) last rest le h = rises_lower rest last s.durable.counter le h
 step_rises self nodes s (Faulted event) last rest le h = rises_lower rest last s.durable.counter le h
 step_rises self nodes s Crashed last rest le h = rises_lower rest last s.durable.counter le h
 step_rises self nodes s (Recovered kept) last rest le h = (omega (arith, settled_grows kept s), h)
@@ -84,11 +84,11 @@ pub settled_highest : (kept : Bool) (s : NodeState) → (settled kept s).counter
 settled_highest true s = wanted_highest s.durable s.doubt
 settled_highest false s = omega arith
 
-pub highest_after : (self nodes : ℕ) (s : NodeState) (what : What) → highest (after self nodes s what) ≤ highest s + 1
+pub highest_after : (self nodes : ℕ) (s : NodeState) (what : HistoryEvent) → highest (after self nodes s what) ≤ highest s + 1
 highest_after self nodes s (Did event) = omega (arith, wanted_highest s.durable (wants_at self nodes s event), raises_once (wants_at self nodes s event))
 highest_after self nodes s (Refused event fault) = omega arith
 highest_after self nodes s (Faulted event) = omega (arith, raises_once (wants_at self nodes s event))
-highest_after self nodes s (Rests why) = omega arith
+highest_after self nodes s (NoOp why) = omega arith
 highest_after self nodes s Crashed = omega arith
 highest_after self nodes s (Recovered kept) = omega (arith, settled_highest kept s)
 highest_after self nodes s MountFailed = omega arith

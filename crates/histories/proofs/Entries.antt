@@ -10,14 +10,14 @@ use Rattle.node_core.specs.Refusals.{refusal_of, is_known}
 use Rattle.node_core.specs.declared.fault.CoreFault.{CoreFault}
 use Rattle.std.specs.Prelude.{not, if◌then◌else◌}
 use Rattle.histories.specs.NodeState.{NodeState, settled}
-use Rattle.histories.specs.declared.what.What.{What}
-use Rattle.histories.specs.declared.what.What.TheVariants.{Did, Refused, Faulted, Rests, Crashed, Recovered, MountFailed, RaiseFailed, RaiseRefused}
+use Rattle.histories.specs.declared.history_event.HistoryEvent.{HistoryEvent}
+use Rattle.histories.specs.declared.history_event.HistoryEvent.TheVariants.{Did, Refused, Faulted, NoOp, Crashed, Recovered, MountFailed, RaiseFailed, RaiseRefused}
 use Rattle.histories.specs.Possible.{IsPossible}
 use Rattle.histories.proofs.Tests.{and_left, eq_nat}
 use Rattle.histories.proofs.Moves.{stays, falls, starts_alone, Enters}
 use Rattle.histories.proofs.Rows.{event_does}
 
-pub entry_does : (P : Group → Type 0) (J Q : ℕ → ℕ → Work → Type 0) (self nodes : ℕ) (s : NodeState) (what : What) → IsPossible self nodes s what → Enters P J Q self nodes s what
+pub entry_does : (P : Group → Type 0) (J Q : ℕ → ℕ → Work → Type 0) (self nodes : ℕ) (s : NodeState) (what : HistoryEvent) → IsPossible self nodes s what → Enters P J Q self nodes s what
 entry_does P J Q self nodes s (Did event) may =
     let row = event_does P J Q self s.state s.durable nodes event may.1.by_core in record {
       made = row.made;
@@ -28,7 +28,7 @@ entry_does P J Q self nodes s (Did event) may =
     }
 entry_does P J Q self nodes s (Refused event fault) may = record { made = []; moves = stays refl refl refl refl refl refl; names = λ k. k.place; holds = λ now next w h. h; says = λ k now next. tt }
 entry_does P J Q self nodes s (Faulted event) may = record { made = []; moves = falls refl refl refl; names = λ k up. absurd (up refl); holds = λ now next w h. tt; says = λ k now next. tt }
-entry_does P J Q self nodes s (Rests rest) may = record { made = []; moves = stays refl refl refl refl refl refl; names = λ k. k.place; holds = λ now next w h. h; says = λ k now next. tt }
+entry_does P J Q self nodes s (NoOp rest) may = record { made = []; moves = stays refl refl refl refl refl refl; names = λ k. k.place; holds = λ now next w h. h; says = λ k now next. tt }
 entry_does P J Q self nodes s Crashed may = record { made = []; moves = falls refl refl refl; names = λ k up. absurd (up refl); holds = λ now next w h. tt; says = λ k now next. tt }
 entry_does P J Q self nodes s (Recovered kept) may = record {
   made = [];

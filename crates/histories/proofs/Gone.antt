@@ -4,24 +4,23 @@ use Rattle.std.specs.Prelude.{not, ◌==◌, if◌then◌else◌}
 use Rattle.std.proofs.lemmas.Bool.Decides.{nat_tests}
 use Rattle.job_model.specs.declared.job.Job.{Job}
 use Rattle.job_model.specs.declared.node_command.NodeCommand.{NodeCommand as Command}
-use Rattle.job_model.specs.declared.node_command.NodeCommand.TheVariants.{Raise, Put, Done}
+use Rattle.job_model.specs.declared.node_command.NodeCommand.TheVariants.{Raise, Done}
 use Rattle.job_model.specs.Answer.{answer_of}
 use Rattle.job_model.specs.Durable.{Durable}
 use Rattle.job_model.specs.Fold.{after_command, after_wanted, is_pending, without_job}
 use Rattle.histories.specs.Lists.{IsAmong}
 use Rattle.histories.specs.NodeState.{NodeState, opening, wants_at, settled}
-use Rattle.histories.specs.declared.what.What.{What}
-use Rattle.histories.specs.declared.what.What.TheVariants.{Did, Refused, Faulted, Rests, Crashed, Recovered, MountFailed, RaiseFailed, RaiseRefused}
-use Rattle.histories.specs.What.{Entry}
+use Rattle.histories.specs.declared.history_event.HistoryEvent.{HistoryEvent}
+use Rattle.histories.specs.declared.history_event.HistoryEvent.TheVariants.{Did, Refused, Faulted, NoOp, Crashed, Recovered, MountFailed, RaiseFailed, RaiseRefused}
+use Rattle.histories.specs.HistoryEvent.{Entry}
 use Rattle.histories.specs.After.{after}
-use Rattle.histories.specs.History.{Follows}
 use Rattle.histories.specs.Kept.{Mounting}
 use Rattle.histories.specs.Jobs.{DoneIsGone}
-use Rattle.histories.specs.declared.tried.Tried.{Tried}
+use Rattle.histories.specs.declared.attempt.Attempt.{Attempt}
 use Rattle.histories.specs.Marks.{Mark, Acknowledged, Unanswered, Mounted, commands_of, mountings_of, tried_marks, failed_marks, marks_at, marks_from}
 use Rattle.histories.proofs.Among.{among_either}
 use Rattle.histories.proofs.Owners.{commands_append}
-use Rattle.histories.proofs.Pending.{AreGiven, Goes, goes_after, goes_settled, among_filtered}
+use Rattle.histories.proofs.Pending.{AreGiven, Goes, goes_after, goes_settled}
 use Rattle.histories.proofs.Tests.{eq_nat}
 use Rattle.histories.proofs.Wanted.{wanted_pending}
 
@@ -87,11 +86,11 @@ one_mounted n kept s w i = elim i [
   | inr none ↦ absurd none
 ]
 
-mounts : (self nodes : ℕ) (s : NodeState) (n : ℕ) (what : What) (w : Mounting) → IsAmong w (mountings_of (marks_at self nodes s n what)) → Mounts n s w
+mounts : (self nodes : ℕ) (s : NodeState) (n : ℕ) (what : HistoryEvent) (w : Mounting) → IsAmong w (mountings_of (marks_at self nodes s n what)) → Mounts n s w
 mounts self nodes s n (Did event) w i = absurd (none_tried s.durable (wants_at self nodes s event) w i)
 mounts self nodes s n (Refused event fault) w i = absurd i
 mounts self nodes s n (Faulted event) w i = absurd (none_failed (wants_at self nodes s event) w i)
-mounts self nodes s n (Rests rest) w i = absurd i
+mounts self nodes s n (NoOp rest) w i = absurd i
 mounts self nodes s n Crashed w i = absurd i
 mounts self nodes s n (Recovered kept) w i = one_mounted n kept s w i
 mounts self nodes s n MountFailed w i = absurd i
@@ -119,29 +118,29 @@ get_either (y ∷ xs) ys (suc k) x at = elim (get_either xs ys k x at) [ inl her
 
 none_acked : (wants : Option Command) (k id a : ℕ) → slice_get (commands_of (failed_marks wants)) k ≡ Some (record { command = Done id; acked = Some a }) → ⊥
 none_acked None k id a at = absurd cc
-none_acked (Some c) zero id a at = (let it : ◌≡◌ {A = Tried} (record { command = c; acked = None }) (record { command = Done id; acked = Some a }) = cc at in
-    let bad : ◌≡◌ {A = Option ℕ} None (Some a) = ap (λ (t : Tried). t.acked) it in absurd cc)
+none_acked (Some c) zero id a at = (let it : ◌≡◌ {A = Attempt} (record { command = c; acked = None }) (record { command = Done id; acked = Some a }) = cc at in
+    let bad : ◌≡◌ {A = Option ℕ} None (Some a) = ap (λ (t : Attempt). t.acked) it in absurd cc)
 none_acked (Some c) (suc k) id a at = absurd cc
 
-raise_alone : (acked : Option ℕ) (k id : ℕ) (a : Option ℕ) → slice_get {X = Tried} (record { command = Raise; acked = acked } ∷ []) k ≡ Some (record { command = Done id; acked = a }) → ⊥
-raise_alone acked zero id a at = (let it : ◌≡◌ {A = Tried} (record { command = Raise; acked = acked }) (record { command = Done id; acked = a }) = cc at in
-    let bad : Raise ≡ Done id = ap (λ (t : Tried). t.command) it in absurd cc)
+raise_alone : (acked : Option ℕ) (k id : ℕ) (a : Option ℕ) → slice_get {X = Attempt} (record { command = Raise; acked = acked } ∷ []) k ≡ Some (record { command = Done id; acked = a }) → ⊥
+raise_alone acked zero id a at = (let it : ◌≡◌ {A = Attempt} (record { command = Raise; acked = acked }) (record { command = Done id; acked = a }) = cc at in
+    let bad : Raise ≡ Done id = ap (λ (t : Attempt). t.command) it in absurd cc)
 raise_alone acked (suc k) id a at = absurd cc
 
 -- an entry that acknowledges a Done leaves no such job
 tried_done : (d : Durable) (wants : Option Command) (k id a : ℕ) → slice_get (commands_of (tried_marks d wants)) k ≡ Some (record { command = Done id; acked = Some a }) → wants ≡ Some (Done id)
 tried_done d None k id a at = absurd cc
-tried_done d (Some c) zero id a at = (let it : ◌≡◌ {A = Tried} (record { command = c; acked = Some (answer_of d c) }) (record { command = Done id; acked = Some a }) = cc at in ap Some (ap (λ (t : Tried). t.command) it))
+tried_done d (Some c) zero id a at = (let it : ◌≡◌ {A = Attempt} (record { command = c; acked = Some (answer_of d c) }) (record { command = Done id; acked = Some a }) = cc at in ap Some (ap (λ (t : Attempt). t.command) it))
 tried_done d (Some c) (suc k) id a at = absurd cc
 
-entry_gone : (self nodes : ℕ) (s : NodeState) (n : ℕ) (what : What) (k id a : ℕ) → AreGiven s.durable → slice_get (commands_of (marks_at self nodes s n what)) k ≡ Some (record { command = Done id; acked = Some a })
+entry_gone : (self nodes : ℕ) (s : NodeState) (n : ℕ) (what : HistoryEvent) (k id a : ℕ) → AreGiven s.durable → slice_get (commands_of (marks_at self nodes s n what)) k ≡ Some (record { command = Done id; acked = Some a })
     → IsGone id (after self nodes s what).durable
 entry_gone self nodes s n (Did event) k id a given at =
     let wants : wants_at self nodes s event ≡ Some (Done id) = tried_done s.durable (wants_at self nodes s event) k id a at in
     subst (λ (c : Option Command). IsGone id (after_wanted s.durable c)) (sym wants) (done_gone s.durable id given (wanted_pending self s.durable.pending event s.state id wants))
 entry_gone self nodes s n (Refused event fault) k id a given at = absurd cc
 entry_gone self nodes s n (Faulted event) k id a given at = absurd (none_acked (wants_at self nodes s event) k id a at)
-entry_gone self nodes s n (Rests rest) k id a given at = absurd cc
+entry_gone self nodes s n (NoOp rest) k id a given at = absurd cc
 entry_gone self nodes s n Crashed k id a given at = absurd cc
 entry_gone self nodes s n (Recovered kept) k id a given at = absurd (raise_alone (Some ((settled kept s).counter + 1)) k id (Some a) at)
 entry_gone self nodes s n MountFailed k id a given at = absurd cc
@@ -157,7 +156,7 @@ all_gone self nodes s n (e ∷ es) k id a given at w i lt =
     let rest : List Mark = marks_from self nodes (after self nodes s e.what) next es in
     elim (among_either w (mountings_of now) (mountings_of rest) (subst (λ (ws : List Mounting). IsAmong w ws) (mountings_append now rest) i)) [
       | inl here ↦ absurd (omega (arith, lt, (mounts self nodes s n e.what w here).before))
-      | inr later ↦ elim (get_either (commands_of now) (commands_of rest) k _ (subst (λ (ts : List Tried). slice_get ts k ≡ Some (record { command = Done id; acked = Some a })) (commands_append now rest) at)) [
+      | inr later ↦ elim (get_either (commands_of now) (commands_of rest) k _ (subst (λ (ts : List Attempt). slice_get ts k ≡ Some (record { command = Done id; acked = Some a })) (commands_append now rest) at)) [
         | inl here ↦ later_gone self nodes (after self nodes s e.what) next id es (entry_gone self nodes s n e.what k id a given here) w later
         | inr it ↦ all_gone self nodes (after self nodes s e.what) next es it.0 id a ((goes_after self nodes s e.what).given given) it.2 w later (omega (arith, lt, it.1))
       ]

@@ -19,9 +19,9 @@ use Rattle.node_core.specs.Effects.{effect_of}
 use Rattle.node_core.specs.Refusals.{ids_in, is_known, refusal_of}
 use Rattle.histories.specs.Lists.{Each}
 use Rattle.histories.specs.NodeState.{NodeState, opening, wants_at}
-use Rattle.histories.specs.declared.what.What.{What}
-use Rattle.histories.specs.declared.what.What.TheVariants.{Did, Faulted, Crashed, Recovered, RaiseFailed}
-use Rattle.histories.specs.What.{Entry}
+use Rattle.histories.specs.declared.history_event.HistoryEvent.{HistoryEvent}
+use Rattle.histories.specs.declared.history_event.HistoryEvent.TheVariants.{Did, Faulted, Crashed, Recovered, RaiseFailed}
+use Rattle.histories.specs.HistoryEvent.{Entry}
 use Rattle.histories.specs.After.{after, sent_at}
 use Rattle.histories.specs.Possible.{IsPossible}
 use Rattle.histories.specs.History.{Follows, sent_in}
@@ -100,7 +100,7 @@ pub record IsInside (nodes self : ℕ) (s : NodeState) : Type 0 where
   pub node : self < nodes
   pub names : NamesNodes nodes s.state
 
-pub after_inside : (nodes self : ℕ) (s : NodeState) (what : What) → IsPossible self nodes s what → IsInside nodes self s → NamesNodes nodes (after self nodes s what).state
+pub after_inside : (nodes self : ℕ) (s : NodeState) (what : HistoryEvent) → IsPossible self nodes s what → IsInside nodes self s → NamesNodes nodes (after self nodes s what).state
 after_inside nodes self s (Did event) may h =
     (event_inside nodes self s.state h.node h.names s.durable.pending event (answer_to s.durable (wants_at self nodes s event)) may.1.by_core).state
 after_inside nodes self s (Faulted event) may h = down_inside nodes self h.node
@@ -109,7 +109,7 @@ after_inside nodes self s (Recovered kept) may h = alone_inside nodes self _ h.n
 after_inside nodes self s (RaiseFailed kept) may h = down_inside nodes self h.node
 after_inside nodes self s what may h = h.names
 
-pub sent_inside : (nodes self : ℕ) (s : NodeState) (what : What) → IsPossible self nodes s what → IsInside nodes self s → AreToNodes nodes (sent_at self nodes s what)
+pub sent_inside : (nodes self : ℕ) (s : NodeState) (what : HistoryEvent) → IsPossible self nodes s what → IsInside nodes self s → AreToNodes nodes (sent_at self nodes s what)
 sent_inside nodes self s (Did event) may h = each_more (Goes (SaidTo nodes) self) (λ (m : Envelope). m.receiver < nodes) (sent_at self nodes s (Did event)) (λ m goes. goes.1)
     (event_inside nodes self s.state h.node h.names s.durable.pending event (answer_to s.durable (wants_at self nodes s event)) may.1.by_core).sent
 sent_inside nodes self s what may h = tt

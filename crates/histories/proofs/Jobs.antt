@@ -10,8 +10,8 @@ use Rattle.node_core.specs.declared.event.Event.{Event}
 use Rattle.node_core.specs.State.{State}
 use Rattle.histories.specs.Lists.{IsAmong}
 use Rattle.histories.specs.NodeState.{NodeState, opening}
-use Rattle.histories.specs.declared.what.What.{What}
-use Rattle.histories.specs.What.{Entry, event_of, brought}
+use Rattle.histories.specs.declared.history_event.HistoryEvent.{HistoryEvent}
+use Rattle.histories.specs.HistoryEvent.{Entry, event_of, brought}
 use Rattle.histories.specs.After.{after, sent_at, given_at}
 use Rattle.histories.specs.Possible.{IsPossible}
 use Rattle.histories.specs.History.{Follows, states, vectors, brought_in, sent_in}
@@ -34,7 +34,7 @@ first_state self nodes s (e ∷ es) = inl refl
 abbrev pub StatesKnown : (ℕ → ℕ → Work → Type 0) → ℕ → ℕ → NodeState → List Entry → Type 0
 StatesKnown P self nodes s es = (t : NodeState) → IsAmong t (states self nodes s es) → JobsHold P self t.durable.pending
 
-entry_sends : (J : ℕ → ℕ → Work → Type 0) (self nodes : ℕ) (s : NodeState) (what : What) → IsPossible self nodes s what → JobsHold J self s.durable.pending → JobsHold J self (after self nodes s what).durable.pending
+entry_sends : (J : ℕ → ℕ → Work → Type 0) (self nodes : ℕ) (s : NodeState) (what : HistoryEvent) → IsPossible self nodes s what → JobsHold J self s.durable.pending → JobsHold J self (after self nodes s what).durable.pending
     → AllWork J (sent_at self nodes s what)
 entry_sends J self nodes s what may now next =
     let row = entry_does AnyGroup J AnyWork self nodes s what may in

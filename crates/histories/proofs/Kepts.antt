@@ -1,36 +1,42 @@
 -- What is kept step by step is kept, and so are the commands and mountings of every history.
 use Rattle.std.proofs.Common.{◌≡◌, ◌⊎◌, ℕ, zero, suc, ◌+◌, ◌<◌, ◌≤◌, ◌^◌, Bool, true, false, List, [], ◌∷◌, ◌++◌, length, take, slice_get, refl, sym, ◌∙◌, ap, subst, inl, inr, arith, Option, Some, None, IsSome, add-zero}
+use Rattle.std.specs.Prelude.{map, fold}
+use Rattle.std.specs.List.{items_where_true}
 use Rattle.job_model.specs.declared.node_command.NodeCommand.{NodeCommand as Command}
 use Rattle.job_model.specs.Durable.{Durable, formatted}
-use Rattle.job_model.specs.Fold.{after_command, after_commands, after_wanted}
+use Rattle.job_model.specs.Fold.{after_command, after_wanted}
 use Rattle.job_model.specs.Answer.{answer_of}
 use Rattle.node_core.specs.declared.event.Event.{Event}
 use Rattle.node_core.specs.Start.{down}
 use Rattle.histories.specs.NodeState.{NodeState, opening, wants_at, settled}
-use Rattle.histories.specs.declared.what.What.{What}
-use Rattle.histories.specs.declared.what.What.TheVariants.{Did, Refused, Faulted, Rests, Crashed, Recovered, MountFailed, RaiseFailed, RaiseRefused}
-use Rattle.histories.specs.What.{Entry}
+use Rattle.histories.specs.declared.history_event.HistoryEvent.{HistoryEvent}
+use Rattle.histories.specs.declared.history_event.HistoryEvent.TheVariants.{Did, Refused, Faulted, NoOp, Crashed, Recovered, MountFailed, RaiseFailed, RaiseRefused}
+use Rattle.histories.specs.HistoryEvent.{Entry}
 use Rattle.histories.specs.After.{after}
 use Rattle.histories.specs.Possible.{Takes, IsSettling, IsPossible}
 use Rattle.histories.specs.History.{Follows}
-use Rattle.histories.specs.Kept.{CountsOnce, Mounting, counted, stands_after}
-use Rattle.histories.specs.declared.tried.Tried.{Tried}
+use Rattle.histories.specs.Kept.{CountsOnce, Mounting, stands_after}
+use Rattle.histories.specs.declared.attempt.Attempt.{Attempt}
 use Rattle.histories.specs.Marks.{Mark, Acknowledged, Unanswered, Mounted, commands_of, mountings_of, MayMount, IsNone, KeptFrom, StepByStep, EachKept, marks_at, marks_from, marks_of, tried_marks, failed_marks}
 use Rattle.histories.proofs.Downs.{at_down}
 use Rattle.histories.proofs.Counts.{highest, settled_highest, highest_after}
 
+-- the commands that count, by a flag for each
+abbrev counted : List Bool → List Attempt → List Command
+counted counts ts = map (λ (t : Attempt). t.command) (items_where_true counts ts)
+
 -- kept, over a state d that the first n commands left: `b` commands came before these
-record KeptAfter (d : Durable) (b : ℕ) (commands : List Tried) (mountings : List Mounting) : Type 0 where
+record KeptAfter (d : Durable) (b : ℕ) (commands : List Attempt) (mountings : List Mounting) : Type 0 where
   counts : List Bool
   as_many : length counts ≡ length commands
-  only_unacknowledged : (k : ℕ) (t : Tried) → slice_get counts k ≡ Some false → slice_get commands k ≡ Some t → t.acked ≡ None
-  last_of_life : (k : ℕ) (t : Tried) → slice_get commands k ≡ Some t → t.acked ≡ None →
+  only_unacknowledged : (k : ℕ) (t : Attempt) → slice_get counts k ≡ Some false → slice_get commands k ≡ Some t → t.acked ≡ None
+  last_of_life : (k : ℕ) (t : Attempt) → slice_get commands k ≡ Some t → t.acked ≡ None →
       (k + 1 ≡ length commands) ⊎ ((j : ℕ) × (w : Mounting) × (slice_get mountings j ≡ Some w) × (w.before ≡ b + (k + 1)))
-  mounted : (j : ℕ) (w : Mounting) → slice_get mountings j ≡ Some w → (r : ℕ) × (w.before ≡ b + r) × (r ≤ length commands) × (w.state ≡ after_commands d (counted counts (take r commands)))
-  answered : (k : ℕ) (t : Tried) (a : ℕ) → slice_get commands k ≡ Some t → t.acked ≡ Some a → a ≡ answer_of (after_commands d (counted counts (take k commands))) t.command
+  mounted : (j : ℕ) (w : Mounting) → slice_get mountings j ≡ Some w → (r : ℕ) × (w.before ≡ b + r) × (r ≤ length commands) × (w.state ≡ fold after_command d (counted counts (take r commands)))
+  answered : (k : ℕ) (t : Attempt) (a : ℕ) → slice_get commands k ≡ Some t → t.acked ≡ Some a → a ≡ answer_of (fold after_command d (counted counts (take k commands))) t.command
 
 -- the command in doubt stands before the others
-abbrev with_doubt : Option Command → List Tried → List Tried
+abbrev with_doubt : Option Command → List Attempt → List Attempt
 with_doubt None ts = ts
 with_doubt (Some c) ts = record { command = c; acked = None } ∷ ts
 
@@ -43,7 +49,7 @@ abbrev left_by : Bool → Durable → Command → Durable
 left_by true d c = after_command d c
 left_by false d c = d
 
-fold_flag : (flag : Bool) (d : Durable) (t : Tried) (cs : List Bool) (ts : List Tried) → after_commands (left_by flag d t.command) (counted cs ts) ≡ after_commands d (counted (flag ∷ cs) (t ∷ ts))
+fold_flag : (flag : Bool) (d : Durable) (t : Attempt) (cs : List Bool) (ts : List Attempt) → fold after_command (left_by flag d t.command) (counted cs ts) ≡ fold after_command d (counted (flag ∷ cs) (t ∷ ts))
 fold_flag true d t cs ts = refl
 fold_flag false d t cs ts = refl
 
@@ -53,7 +59,7 @@ counted_none (true ∷ cs) = refl
 counted_none (false ∷ cs) = refl
 
 -- one more command before the others
-one_before : (flag : Bool) (d : Durable) (b : ℕ) (t : Tried) (ts : List Tried) (ws : List Mounting)
+one_before : (flag : Bool) (d : Durable) (b : ℕ) (t : Attempt) (ts : List Attempt) (ws : List Mounting)
     → (flag ≡ false → t.acked ≡ None)
     → (t.acked ≡ None → (1 ≡ length (t ∷ ts)) ⊎ ((j : ℕ) × (w : Mounting) × (slice_get ws j ≡ Some w) × (w.before ≡ b + 1)))
     → ((a : ℕ) → t.acked ≡ Some a → a ≡ answer_of d t.command)
@@ -62,11 +68,11 @@ one_before flag d b t ts ws dropped last answer rest = record {
   counts = flag ∷ rest.counts;
   as_many = ap suc rest.as_many;
   only_unacknowledged = elim [
-    | zero ↦ λ u e f. (let same : t ≡ u = cc f in ap (λ (x : Tried). x.acked) (sym same) ∙ dropped (cc e))
+    | zero ↦ λ u e f. (let same : t ≡ u = cc f in ap (λ (x : Attempt). x.acked) (sym same) ∙ dropped (cc e))
     | suc k ↦ λ u e f. rest.only_unacknowledged k u e f
   ];
   last_of_life = elim [
-    | zero ↦ λ u e none. (let same : t ≡ u = cc e in elim (last (ap (λ (x : Tried). x.acked) same ∙ none)) [
+    | zero ↦ λ u e none. (let same : t ≡ u = cc e in elim (last (ap (λ (x : Attempt). x.acked) same ∙ none)) [
       | inl end ↦ inl (omega (arith, end))
       | inr m ↦ inr (m.0, m.1, m.2, omega (arith, m.3))
     ])
@@ -79,13 +85,13 @@ one_before flag d b t ts ws dropped last answer rest = record {
       (suc it.0, omega (arith, it.1), omega (arith, it.2), it.3 ∙ fold_flag flag d t rest.counts (take it.0 ts)));
   answered = elim [
     | zero ↦ λ u a e f. (let same : t ≡ u = cc e in
-        rw (counted_none (flag ∷ rest.counts)) (subst (λ (x : Tried). a ≡ answer_of d x.command) same (answer a (ap (λ (x : Tried). x.acked) same ∙ f))))
+        (subst (λ (x : Attempt). a ≡ answer_of d x.command) same (answer a (ap (λ (x : Attempt). x.acked) same ∙ f))))
     | suc k ↦ λ u a e f. rest.answered k u a e f ∙ ap (λ (x : Durable). answer_of x u.command) (fold_flag flag d t rest.counts (take k ts))
   ];
 }
 
 -- one more mounting before the others, which gives what is settled
-mounted_before : (d : Durable) (b : ℕ) (ts : List Tried) (w : Mounting) (ws : List Mounting) → w.before ≡ b → w.state ≡ d
+mounted_before : (d : Durable) (b : ℕ) (ts : List Attempt) (w : Mounting) (ws : List Mounting) → w.before ≡ b → w.state ≡ d
     → KeptAfter d b ts ws → KeptAfter d b ts (w ∷ ws)
 mounted_before d b ts w ws before state rest = record {
   counts = rest.counts;
@@ -156,11 +162,11 @@ step_by_step ms kept =
 abbrev pub DoubtIsDown : ℕ → NodeState → Type 0
 DoubtIsDown self s = IsNone s.doubt ⊎ (s.state ≡ down self)
 
-pub doubt_after : (self nodes : ℕ) (s : NodeState) (what : What) → IsPossible self nodes s what → DoubtIsDown self s → DoubtIsDown self (after self nodes s what)
+pub doubt_after : (self nodes : ℕ) (s : NodeState) (what : HistoryEvent) → IsPossible self nodes s what → DoubtIsDown self s → DoubtIsDown self (after self nodes s what)
 doubt_after self nodes s (Did event) may h = elim h [ inl none ↦ inl none | inr is ↦ inr (at_down self nodes s event is may.0 may.1.by_core).state ]
 doubt_after self nodes s (Refused event fault) may h = h
 doubt_after self nodes s (Faulted event) may h = inr refl
-doubt_after self nodes s (Rests why) may h = h
+doubt_after self nodes s (NoOp why) may h = h
 doubt_after self nodes s Crashed may h = inr refl
 doubt_after self nodes s (Recovered kept) may h = inl tt
 doubt_after self nodes s MountFailed may h = h
@@ -196,12 +202,12 @@ history_kept self nodes s n [] short follows h = tt
 history_kept self nodes s n (e ∷ es) short follows h = entry_kept e.what follows.0
     (history_kept self nodes (after self nodes s e.what) (n + length (commands_of (marks_at self nodes s n e.what))) es (omega (arith, short, highest_after self nodes s e.what)) follows.2 (doubt_after self nodes s e.what follows.0 h))
   where
-    entry_kept : (what : What) → IsPossible self nodes s what
+    entry_kept : (what : HistoryEvent) → IsPossible self nodes s what
         → KeptFrom (after self nodes s what).durable (after self nodes s what).doubt (n + length (commands_of (marks_at self nodes s n what))) (marks_from self nodes (after self nodes s e.what) (n + length (commands_of (marks_at self nodes s n e.what))) es)
         → KeptFrom s.durable s.doubt n (marks_at self nodes s n what ++ marks_from self nodes (after self nodes s e.what) (n + length (commands_of (marks_at self nodes s n e.what))) es)
     entry_kept (Did event) may kept = tried_kept s.durable (wants_at self nodes s event) s.doubt n _ (free_row self nodes s event may h) kept
     entry_kept (Refused event fault) may kept = rw add-zero at kept
-    entry_kept (Rests why) may kept = rw add-zero at kept
+    entry_kept (NoOp why) may kept = rw add-zero at kept
     entry_kept (Faulted event) may kept = failed_kept s.durable (wants_at self nodes s event) s.doubt n _ (free_row self nodes s event may.0 h) may.1 kept
     entry_kept Crashed may kept = rw add-zero at kept
     entry_kept (Recovered kept') may kept = (refl, may_mount kept' s s.doubt refl may.1, (tt, refl, kept))

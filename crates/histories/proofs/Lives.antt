@@ -15,7 +15,7 @@ use Rattle.node_core.specs.Words.{own_group, task_of}
 use Rattle.group_task.proofs.PublicLaws.{with_has_same}
 use Rattle.histories.specs.Lists.{IsAmong, Each}
 use Rattle.histories.specs.NodeState.{NodeState}
-use Rattle.histories.specs.What.{Entry, brought, event_of}
+use Rattle.histories.specs.HistoryEvent.{Entry, brought, event_of}
 use Rattle.histories.specs.After.{after, sent_at, given_at}
 use Rattle.histories.specs.History.{Follows, vectors, counts_given, sent_in, brought_in}
 use Rattle.histories.specs.Rising.{Rises}

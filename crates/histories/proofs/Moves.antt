@@ -23,8 +23,8 @@ use Rattle.node_core.specs.Start.{alone}
 use Rattle.wire_msg.specs.Kinds.{group_in}
 use Rattle.histories.specs.Lists.{IsAmong, Each}
 use Rattle.histories.specs.NodeState.{NodeState}
-use Rattle.histories.specs.declared.what.What.{What}
-use Rattle.histories.specs.What.{event_of, brought}
+use Rattle.histories.specs.declared.history_event.HistoryEvent.{HistoryEvent}
+use Rattle.histories.specs.HistoryEvent.{event_of, brought}
 use Rattle.histories.specs.After.{raised, after, sent_at, given_at}
 use Rattle.histories.specs.Named.{AllHold, StateHolds}
 
@@ -90,7 +90,7 @@ pub record Does (P : Group → Type 0) (J Q : ℕ → ℕ → Work → Type 0) (
   pub says : Knows P self s (raised d wants) (brought (Some event)) → KnowsJobs J self d wants → Each (Says P J self made (Some event)) e.sent
 
 -- what an entry makes, as all laws need it
-pub record Enters (P : Group → Type 0) (J Q : ℕ → ℕ → Work → Type 0) (self nodes : ℕ) (s : NodeState) (what : What) : Type 0 where
+pub record Enters (P : Group → Type 0) (J Q : ℕ → ℕ → Work → Type 0) (self nodes : ℕ) (s : NodeState) (what : HistoryEvent) : Type 0 where
   pub made : List Assignment
   pub moves : GroupMove self s.state (brought (event_of what)) (given_at self nodes s what) made (after self nodes s what).state
   pub names : Knows P self s.state (given_at self nodes s what) (brought (event_of what)) → StateHolds P (after self nodes s what).state

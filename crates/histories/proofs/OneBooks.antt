@@ -12,7 +12,7 @@ use Rattle.node_core.specs.State.{State}
 use Rattle.node_core.specs.Words.{own_group, task_of}
 use Rattle.histories.specs.Lists.{IsAmong}
 use Rattle.histories.specs.NodeState.{opening}
-use Rattle.histories.specs.What.{Entry}
+use Rattle.histories.specs.HistoryEvent.{Entry}
 use Rattle.histories.specs.History.{brought_in, sent_in, Follows, counts_given}
 use Rattle.histories.specs.Rising.{Rises, EachRises}
 use Rattle.histories.specs.Bundle.{Bundle}

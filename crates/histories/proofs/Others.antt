@@ -16,9 +16,9 @@ use Rattle.node_core.specs.Effects.{effect_of}
 use Rattle.node_core.specs.Refusals.{ids_in}
 use Rattle.histories.specs.Lists.{IsAmong, Each}
 use Rattle.histories.specs.NodeState.{NodeState, opening, wants_at}
-use Rattle.histories.specs.declared.what.What.{What}
-use Rattle.histories.specs.declared.what.What.TheVariants.{Did, Faulted, Crashed, Recovered, RaiseFailed}
-use Rattle.histories.specs.What.{Entry, event_of, brought}
+use Rattle.histories.specs.declared.history_event.HistoryEvent.{HistoryEvent}
+use Rattle.histories.specs.declared.history_event.HistoryEvent.TheVariants.{Did, Faulted, Crashed, Recovered, RaiseFailed}
+use Rattle.histories.specs.HistoryEvent.{Entry, event_of, brought}
 use Rattle.histories.specs.After.{after, sent_at}
 use Rattle.histories.specs.History.{Follows, sent_in, brought_in}
 use Rattle.histories.specs.Bundle.{Bundle}
@@ -91,7 +91,7 @@ alone_out B self count = record { coordinator = tt; up = tt; found = tt; members
 down_out : (B : Type 0) (self : ℕ) → NamesOthers B self (down self)
 down_out B self = record { coordinator = tt; up = tt; found = tt; members = tt; hand = tt }
 
-after_out : (A B : Type 0) (self nodes : ℕ) (s : NodeState) (what : What) → AreOfOthers A B self (brought (event_of what)) → NamesOthers B self s.state → NamesOthers B self (after self nodes s what).state
+after_out : (A B : Type 0) (self nodes : ℕ) (s : NodeState) (what : HistoryEvent) → AreOfOthers A B self (brought (event_of what)) → NamesOthers B self s.state → NamesOthers B self (after self nodes s what).state
 after_out A B self nodes s (Did event) came h = (event_out A B self nodes s.state h s.durable.pending event (answer_to s.durable (wants_at self nodes s event)) came).state
 after_out A B self nodes s (Faulted event) came h = down_out B self
 after_out A B self nodes s Crashed came h = down_out B self
@@ -99,7 +99,7 @@ after_out A B self nodes s (Recovered kept) came h = alone_out B self _
 after_out A B self nodes s (RaiseFailed kept) came h = down_out B self
 after_out A B self nodes s what came h = h
 
-entry_out : (A B : Type 0) (self nodes : ℕ) (s : NodeState) (what : What) → AreOfOthers A B self (brought (event_of what)) → NamesOthers B self s.state → AreToOthers A B self (sent_at self nodes s what)
+entry_out : (A B : Type 0) (self nodes : ℕ) (s : NodeState) (what : HistoryEvent) → AreOfOthers A B self (brought (event_of what)) → NamesOthers B self s.state → AreToOthers A B self (sent_at self nodes s what)
 entry_out A B self nodes s (Did event) came h = each_more (Goes (ToOther A B self) self) (λ (m : Envelope). ToOther A B self m.receiver m.body) (sent_at self nodes s (Did event)) (λ m goes. goes.1)
     (event_out A B self nodes s.state h s.durable.pending event (answer_to s.durable (wants_at self nodes s event)) came).sent
 entry_out A B self nodes s what came h = tt

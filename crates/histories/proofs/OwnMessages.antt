@@ -3,15 +3,15 @@ use Rattle.std.proofs.Common.{◌≡◌, ℕ, List, [], ◌∷◌, sym, subst}
 use Rattle.job_model.specs.Answer.{answer_to}
 use Rattle.wire_msg.specs.Envelope.{Envelope}
 use Rattle.histories.specs.NodeState.{NodeState, wants_at}
-use Rattle.histories.specs.declared.what.What.{What}
-use Rattle.histories.specs.declared.what.What.TheVariants.{Did}
+use Rattle.histories.specs.declared.history_event.HistoryEvent.{HistoryEvent}
+use Rattle.histories.specs.declared.history_event.HistoryEvent.TheVariants.{Did}
 use Rattle.histories.specs.After.{after, sent_at}
 use Rattle.histories.specs.History.{sent_in}
 use Rattle.histories.specs.Ends.{AreOf, HistorySendsItsOwn}
 use Rattle.histories.proofs.Among.{each_append, each_more}
 use Rattle.histories.proofs.Reaches.{AnySaid, Goes, any_reaches}
 
-entry_of : (self nodes : ℕ) (s : NodeState) (what : What) → AreOf self (sent_at self nodes s what)
+entry_of : (self nodes : ℕ) (s : NodeState) (what : HistoryEvent) → AreOf self (sent_at self nodes s what)
 entry_of self nodes s (Did event) = each_more (Goes AnySaid self) (λ (m : Envelope). m.sender ≡ self) (sent_at self nodes s (Did event)) (λ m goes. goes.0)
     (any_reaches nodes self s.durable.pending event (answer_to s.durable (wants_at self nodes s event)) s.state).sent
 entry_of self nodes s what = tt

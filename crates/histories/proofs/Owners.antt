@@ -17,13 +17,13 @@ use Rattle.node_core.specs.State.{State}
 use Rattle.node_core.specs.Words.{members_of, owner, holds}
 use Rattle.histories.specs.Lists.{IsAmong, Each}
 use Rattle.histories.specs.NodeState.{NodeState, opening, wants_at}
-use Rattle.histories.specs.declared.what.What.{What}
-use Rattle.histories.specs.declared.what.What.TheVariants.{Did, Refused, Faulted, Rests, Crashed, Recovered, MountFailed, RaiseFailed, RaiseRefused}
-use Rattle.histories.specs.What.{Entry, event_of, brought}
+use Rattle.histories.specs.declared.history_event.HistoryEvent.{HistoryEvent}
+use Rattle.histories.specs.declared.history_event.HistoryEvent.TheVariants.{Did, Refused, Faulted, NoOp, Crashed, Recovered, MountFailed, RaiseFailed, RaiseRefused}
+use Rattle.histories.specs.HistoryEvent.{Entry, event_of, brought}
 use Rattle.histories.specs.After.{after, sent_at, given_at}
 use Rattle.histories.specs.Possible.{Takes, IsPossible}
 use Rattle.histories.specs.History.{Follows, brought_in, sent_in, vectors}
-use Rattle.histories.specs.declared.tried.Tried.{Tried}
+use Rattle.histories.specs.declared.attempt.Attempt.{Attempt}
 use Rattle.histories.specs.Marks.{Mark, Acknowledged, Unanswered, Mounted, commands_of, tried_marks, failed_marks, marks_at, marks_from}
 use Rattle.histories.specs.Owners.{acted, acted_in, FinishedBy, OwnerFinishes, OneWorker}
 use Rattle.histories.proofs.Tests.{eq_nat, and_left, and_right}
@@ -42,7 +42,7 @@ IsHeld self phase task job = Held AnyWork self phase task job
 abbrev pub OwnedAt : ℕ → NodeState → Type 0
 OwnedAt self s = HandHolds AnyWork self s.state
 
-pub owned_after : (self nodes : ℕ) (s : NodeState) (what : What) → IsPossible self nodes s what → OwnedAt self s → OwnedAt self (after self nodes s what)
+pub owned_after : (self nodes : ℕ) (s : NodeState) (what : HistoryEvent) → IsPossible self nodes s what → OwnedAt self s → OwnedAt self (after self nodes s what)
 owned_after self nodes s what may h =
     (entry_does AnyGroup AnyWork AnyWork self nodes s what may).holds (any_pending self s.durable.pending) (any_pending self (after self nodes s what).durable.pending) (all_any_work (brought (event_of what))) h
 
@@ -100,7 +100,7 @@ has_work self s origin id owned is =
     record { is_normal = it.is_normal; job = it.job; held = it.held; of_origin = it.of_origin; of_id = it.of_id; owned = it.owned }
 
 -- the entry itself is the Finish
-finished_now : (self nodes : ℕ) (s : NodeState) (what : What) (sent : List Envelope) (es : List Entry) (event : Event) (origin id : ℕ) → OwnedAt self s → event ≡ Finish origin id
+finished_now : (self nodes : ℕ) (s : NodeState) (what : HistoryEvent) (sent : List Envelope) (es : List Entry) (event : Event) (origin id : ℕ) → OwnedAt self s → event ≡ Finish origin id
     → Takes self nodes s event → acted what ≡ event ∷ [] → FinishedIn self nodes s (record { what = what; sent = sent } ∷ es) origin id
 finished_now self nodes s what sent es event origin id owned is may acts =
     let taken : Takes self nodes s (Finish origin id) = subst (λ (e : Event). Takes self nodes s e) is may in record {
@@ -119,7 +119,7 @@ finished_later self nodes s e es origin id h = record {
 }
 
 -- a Done that an entry sends
-pub done_said : (self nodes : ℕ) (s : NodeState) (what : What) (m : Envelope) (id : ℕ) → IsPossible self nodes s what → IsAmong m (sent_at self nodes s what) → m.body ≡ DoneMessage id → event_of what ≡ Some (Finish m.receiver id)
+pub done_said : (self nodes : ℕ) (s : NodeState) (what : HistoryEvent) (m : Envelope) (id : ℕ) → IsPossible self nodes s what → IsAmong m (sent_at self nodes s what) → m.body ≡ DoneMessage id → event_of what ≡ Some (Finish m.receiver id)
 done_said self nodes s what m id may i body =
     let row = entry_does AnyGroup AnyWork AnyWork self nodes s what may in
     let said = row.says (knows_any self s.state (given_at self nodes s what) (brought (event_of what))) (any_pending self s.durable.pending) (any_pending self (after self nodes s what).durable.pending) in
@@ -128,13 +128,13 @@ done_said self nodes s what m id may i body =
 the_event : (e f : Event) → Some e ≡ Some f → e ≡ f
 the_event e f is = cc
 
-sent_done : (self nodes : ℕ) (s : NodeState) (what : What) (sent : List Envelope) (es : List Entry) (m : Envelope) (id : ℕ) → OwnedAt self s → IsPossible self nodes s what
+sent_done : (self nodes : ℕ) (s : NodeState) (what : HistoryEvent) (sent : List Envelope) (es : List Entry) (m : Envelope) (id : ℕ) → OwnedAt self s → IsPossible self nodes s what
     → IsAmong m (sent_at self nodes s what) → m.body ≡ DoneMessage id → FinishedIn self nodes s (record { what = what; sent = sent } ∷ es) m.receiver id
 sent_done self nodes s (Did event) sent es m id owned may i body =
     finished_now self nodes s (Did event) sent es event m.receiver id owned (the_event event (Finish m.receiver id) (done_said self nodes s (Did event) m id may i body)) may refl
 sent_done self nodes s (Refused event fault) sent es m id owned may i body = absurd i
 sent_done self nodes s (Faulted event) sent es m id owned may i body = absurd i
-sent_done self nodes s (Rests why) sent es m id owned may i body = absurd i
+sent_done self nodes s (NoOp why) sent es m id owned may i body = absurd i
 sent_done self nodes s Crashed sent es m id owned may i body = absurd i
 sent_done self nodes s (Recovered kept) sent es m id owned may i body = absurd i
 sent_done self nodes s MountFailed sent es m id owned may i body = absurd i
@@ -160,7 +160,7 @@ record WasDone (self : ℕ) (es : List Entry) (id : ℕ) : Type 0 where
 abbrev Because : ℕ → ℕ → NodeState → List Entry → ℕ → Type 0
 Because self nodes s es id = FinishedIn self nodes s es self id ⊎ WasDone self es id
 
-because_of : (self nodes : ℕ) (s : NodeState) (what : What) (sent : List Envelope) (es : List Entry) (event : Event) (id : ℕ) → OwnedAt self s → Cause self event id
+because_of : (self nodes : ℕ) (s : NodeState) (what : HistoryEvent) (sent : List Envelope) (es : List Entry) (event : Event) (id : ℕ) → OwnedAt self s → Cause self event id
     → Takes self nodes s event → acted what ≡ event ∷ [] → event_of what ≡ Some event → Because self nodes s (record { what = what; sent = sent } ∷ es) id
 because_of self nodes s what sent es event id owned cause may acts is = elim cause [
   | inl own ↦ inl (finished_now self nodes s what sent es event self id owned own may acts)
@@ -173,23 +173,23 @@ because_of self nodes s what sent es event id owned cause may acts is = elim cau
       }))
 ]
 
-tried_wants : (d : Durable) (wants : Option Command) (t : Tried) (id : ℕ) → IsAmong t (commands_of (tried_marks d wants)) → t.command ≡ Done id → wants ≡ Some (Done id)
+tried_wants : (d : Durable) (wants : Option Command) (t : Attempt) (id : ℕ) → IsAmong t (commands_of (tried_marks d wants)) → t.command ≡ Done id → wants ≡ Some (Done id)
 tried_wants d None t id i c = absurd i
-tried_wants d (Some x) t id i c = elim i [ inl e ↦ ap Some (ap (λ (y : Tried). y.command) (sym e) ∙ c) | inr none ↦ absurd none ]
+tried_wants d (Some x) t id i c = elim i [ inl e ↦ ap Some (ap (λ (y : Attempt). y.command) (sym e) ∙ c) | inr none ↦ absurd none ]
 
-failed_wants : (wants : Option Command) (t : Tried) (id : ℕ) → IsAmong t (commands_of (failed_marks wants)) → t.command ≡ Done id → wants ≡ Some (Done id)
+failed_wants : (wants : Option Command) (t : Attempt) (id : ℕ) → IsAmong t (commands_of (failed_marks wants)) → t.command ≡ Done id → wants ≡ Some (Done id)
 failed_wants None t id i c = absurd i
-failed_wants (Some x) t id i c = elim i [ inl e ↦ ap Some (ap (λ (y : Tried). y.command) (sym e) ∙ c) | inr none ↦ absurd none ]
+failed_wants (Some x) t id i c = elim i [ inl e ↦ ap Some (ap (λ (y : Attempt). y.command) (sym e) ∙ c) | inr none ↦ absurd none ]
 
-raise_only : (t : Tried) (u : Tried) (id : ℕ) → u.command ≡ Raise → t ≡ u → t.command ≡ Done id → ⊥
-raise_only t u id raise e c = (let same : Raise ≡ Done id = sym raise ∙ (ap (λ (y : Tried). y.command) (sym e) ∙ c) in absurd cc)
+raise_only : (t : Attempt) (u : Attempt) (id : ℕ) → u.command ≡ Raise → t ≡ u → t.command ≡ Done id → ⊥
+raise_only t u id raise e c = (let same : Raise ≡ Done id = sym raise ∙ (ap (λ (y : Attempt). y.command) (sym e) ∙ c) in absurd cc)
 
-entry_because : (self nodes : ℕ) (s : NodeState) (n : ℕ) (what : What) (sent : List Envelope) (es : List Entry) (t : Tried) (id : ℕ) → OwnedAt self s → IsPossible self nodes s what
+entry_because : (self nodes : ℕ) (s : NodeState) (n : ℕ) (what : HistoryEvent) (sent : List Envelope) (es : List Entry) (t : Attempt) (id : ℕ) → OwnedAt self s → IsPossible self nodes s what
     → IsAmong t (commands_of (marks_at self nodes s n what)) → t.command ≡ Done id → Because self nodes s (record { what = what; sent = sent } ∷ es) id
 entry_because self nodes s n (Did event) sent es t id owned may i c =
     because_of self nodes s (Did event) sent es event id owned (causes self s.durable.pending event s.state id (tried_wants s.durable (wants_at self nodes s event) t id i c)) may refl refl
 entry_because self nodes s n (Refused event fault) sent es t id owned may i c = absurd i
-entry_because self nodes s n (Rests why) sent es t id owned may i c = absurd i
+entry_because self nodes s n (NoOp why) sent es t id owned may i c = absurd i
 entry_because self nodes s n (Faulted event) sent es t id owned may i c =
     because_of self nodes s (Faulted event) sent es event id owned (causes self s.durable.pending event s.state id (failed_wants (wants_at self nodes s event) t id i c)) may.0 refl refl
 entry_because self nodes s n Crashed sent es t id owned may i c = absurd i
@@ -200,17 +200,17 @@ entry_because self nodes s n (RaiseRefused kept) sent es t id owned may i c = ab
 
 pub commands_append : (ms ns : List Mark) → commands_of (ms ++ ns) ≡ commands_of ms ++ commands_of ns
 commands_append [] ns = refl
-commands_append (Acknowledged c a ∷ ms) ns = ap (λ (ts : List Tried). record { command = c; acked = Some a } ∷ ts) (commands_append ms ns)
-commands_append (Unanswered c ∷ ms) ns = ap (λ (ts : List Tried). record { command = c; acked = None } ∷ ts) (commands_append ms ns)
+commands_append (Acknowledged c a ∷ ms) ns = ap (λ (ts : List Attempt). record { command = c; acked = Some a } ∷ ts) (commands_append ms ns)
+commands_append (Unanswered c ∷ ms) ns = ap (λ (ts : List Attempt). record { command = c; acked = None } ∷ ts) (commands_append ms ns)
 commands_append (Mounted w ∷ ms) ns = commands_append ms ns
 
-all_because : (self nodes : ℕ) (s : NodeState) (n : ℕ) (es : List Entry) (t : Tried) (id : ℕ) → OwnedAt self s → Follows self nodes s es
+all_because : (self nodes : ℕ) (s : NodeState) (n : ℕ) (es : List Entry) (t : Attempt) (id : ℕ) → OwnedAt self s → Follows self nodes s es
     → IsAmong t (commands_of (marks_from self nodes s n es)) → t.command ≡ Done id → Because self nodes s es id
 all_because self nodes s n [] t id owned follows i c = absurd i
 all_because self nodes s n (e ∷ es) t id owned follows i c =
     let next : ℕ = n + length (commands_of (marks_at self nodes s n e.what)) in
     let rest : List Mark = marks_from self nodes (after self nodes s e.what) next es in
-    let split : IsAmong t (commands_of (marks_at self nodes s n e.what) ++ commands_of rest) = subst (λ (ts : List Tried). IsAmong t ts) (commands_append (marks_at self nodes s n e.what) rest) i in
+    let split : IsAmong t (commands_of (marks_at self nodes s n e.what) ++ commands_of rest) = subst (λ (ts : List Attempt). IsAmong t ts) (commands_append (marks_at self nodes s n e.what) rest) i in
     elim (among_either t (commands_of (marks_at self nodes s n e.what)) (commands_of rest) split) [
       | inl now ↦ entry_because self nodes s n e.what e.sent es t id owned follows.0 now c
       | inr later ↦ elim (all_because self nodes (after self nodes s e.what) next es t id (owned_after self nodes s e.what follows.0 owned) follows.2 later c) [

@@ -9,9 +9,9 @@ use Rattle.job_model.specs.Durable.{Durable}
 use Rattle.job_model.specs.Fold.{after_command, after_wanted, without_job}
 use Rattle.histories.specs.Lists.{IsAmong}
 use Rattle.histories.specs.NodeState.{NodeState, opening, wants_at, settled}
-use Rattle.histories.specs.declared.what.What.{What}
-use Rattle.histories.specs.declared.what.What.TheVariants.{Did, Refused, Faulted, Rests, Crashed, Recovered, MountFailed, RaiseFailed, RaiseRefused}
-use Rattle.histories.specs.What.{Entry}
+use Rattle.histories.specs.declared.history_event.HistoryEvent.{HistoryEvent}
+use Rattle.histories.specs.declared.history_event.HistoryEvent.TheVariants.{Did, Refused, Faulted, NoOp, Crashed, Recovered, MountFailed, RaiseFailed, RaiseRefused}
+use Rattle.histories.specs.HistoryEvent.{Entry}
 use Rattle.histories.specs.After.{after}
 use Rattle.histories.specs.History.{states}
 use Rattle.histories.specs.Jobs.{OneJob}
@@ -90,11 +90,11 @@ pub goes_settled : (kept : Bool) (s : NodeState) → Goes s.durable (settled kep
 goes_settled true s = goes_wanted s.durable s.doubt
 goes_settled false s = goes_nowhere s.durable
 
-pub goes_after : (self nodes : ℕ) (s : NodeState) (what : What) → Goes s.durable (after self nodes s what).durable
+pub goes_after : (self nodes : ℕ) (s : NodeState) (what : HistoryEvent) → Goes s.durable (after self nodes s what).durable
 goes_after self nodes s (Did event) = goes_wanted s.durable (wants_at self nodes s event)
 goes_after self nodes s (Refused event fault) = goes_nowhere s.durable
 goes_after self nodes s (Faulted event) = goes_nowhere s.durable
-goes_after self nodes s (Rests why) = goes_nowhere s.durable
+goes_after self nodes s (NoOp why) = goes_nowhere s.durable
 goes_after self nodes s Crashed = goes_nowhere s.durable
 goes_after self nodes s (Recovered kept) = goes_on s.durable (settled kept s) _ (goes_settled kept s) (goes_by (settled kept s) Raise)
 goes_after self nodes s MountFailed = goes_nowhere s.durable

@@ -14,15 +14,14 @@ use Rattle.node_core.specs.declared.event.Event.TheVariants as on
 use Rattle.node_core.specs.declared.timer.Timer.{Timer}
 use Rattle.node_core.specs.declared.timer.Timer.TheVariants as timer
 use Rattle.node_core.specs.declared.in_hand.InHand.{InHand}
-use Rattle.node_core.specs.declared.phase.Phase.TheVariants.{Reorganization, Normal}
-use Rattle.node_core.specs.State.{State, is_down, is_election, is_reorganization, is_normal}
+use Rattle.node_core.specs.declared.phase.Phase.TheVariants.{Election, Reorganization, Normal}
+use Rattle.node_core.specs.State.{State, is_down, in_phase}
 use Rattle.node_core.specs.Start.{alone, down}
 use Rattle.node_core.specs.Effect.{Effect, quietly}
-use Rattle.node_core.specs.Words.{letter, to_each, is_empty, leads, members_of, owner, holds, own_group, task_of}
+use Rattle.node_core.specs.Words.{letter, to_each, is_empty, leads_in, members_of, owner, holds, own_group, task_of}
 use Rattle.node_core.specs.Priorities.{by_priority}
-use Rattle.node_core.specs.Timers.{timed, merges, awaits_ready, follows, is_own}
+use Rattle.node_core.specs.Timers.{timed, merges, follows}
 use Rattle.node_core.specs.Messages.{delivered, was_probed, takes_invitation, passed_on, is_told}
-use Rattle.node_core.specs.Operator.{submit, finish}
 use Rattle.node_core.specs.Effects.{effect_of}
 use Rattle.node_core.specs.Refusals.{ids_in, refusal_of}
 use Rattle.histories.specs.Lists.{Each}
@@ -141,7 +140,7 @@ module _ (C U : ℕ → Type 0) (R : ℕ → Body → Type 0) (nodes self : ℕ)
 
   body_reaches : (from : ℕ) (body : Body) (answer : ℕ) → Comes C U R from body → Reaches C U R self s (delivered self from body answer s)
   unfolding delivered
-  body_reaches from says.AreYouCoordinator answer c = by (is_down s.phase) _ _ (λ t. same) (λ f. record { up = λ u. u; state = h; sent = ((refl, c.asks (leads self s)), tt) })
+  body_reaches from says.AreYouCoordinator answer c = by (is_down s.phase) _ _ (λ t. same) (λ f. record { up = λ u. u; state = h; sent = ((refl, c.asks (leads_in Normal self s)), tt) })
   body_reaches from (says.Coordinator agreed) answer c = when (agreed && merges self s) _ (λ t. record {
     up = λ u. u;
     state = record { coordinator = h.coordinator; up = h.up; found = with_each U s.found from c.asks h.found; members = h.members; hand = h.hand };
@@ -158,25 +157,25 @@ module _ (C U : ℕ → Type 0) (R : ℕ → Body → Type 0) (nodes self : ℕ)
     sent = each_append (Goes R self) (to_each self (passed_on self group s) (says.Invitation group)) (letter self group.creator (says.Accept group) ∷ [])
         (passes group) (goes group.creator (says.Accept group) c.names.0 (not_true _ (and_right _ _ (and_left _ _ t))), tt);
   })
-  body_reaches from (says.Accept group) answer c = when (is_election s.phase && s.coordinator == self && same_group group s.group) _ (λ t. record {
+  body_reaches from (says.Accept group) answer c = when (in_phase Election s.phase && s.coordinator == self && same_group group s.group) _ (λ t. record {
     up = λ u. u;
     state = record { coordinator = h.coordinator; up = with_each U s.up from c.asks h.up; found = h.found; members = h.members; hand = h.hand };
     sent = tt;
   })
-  body_reaches from (says.Ready task) answer c = by (is_told self from task s && is_reorganization s.phase) _ _
+  body_reaches from (says.Ready task) answer c = by (is_told self from task s && in_phase Reorganization s.phase) _ _
       (λ t. record {
         up = λ u. refl;
         state = record { coordinator = h.coordinator; up = h.up; found = h.found; members = c.names.1; hand = h.hand };
         sent = tells from task c.known (and_left _ _ t);
       })
-      (λ f. when (is_told self from task s && is_normal s.phase) _ (λ t. record { up = λ u. u; state = h; sent = tells from task c.known (and_left _ _ t) }))
-  body_reaches from (says.ReadyAck group) answer c = when (awaits_ready self s && same_group group s.group) _ (λ t. record {
+      (λ f. when (is_told self from task s && in_phase Normal s.phase) _ (λ t. record { up = λ u. u; state = h; sent = tells from task c.known (and_left _ _ t) }))
+  body_reaches from (says.ReadyAck group) answer c = when (leads_in Reorganization self s && same_group group s.group) _ (λ t. record {
     up = λ u. either_up (is_empty (without_id s.unready from));
     state = record { coordinator = h.coordinator; up = h.up; found = h.found; members = h.members; hand = h.hand };
     sent = tt;
   })
   body_reaches from (says.Work group id work) answer c =
-      when (is_normal s.phase && same_group group s.group && has (members_of s.task) from && owner s work.queue == self && not (holds s.hand from id)) _ (λ t. record {
+      when (in_phase Normal s.phase && same_group group s.group && has (members_of s.task) from && owner s work.queue == self && not (holds s.hand from id)) _ (λ t. record {
         up = λ u. u;
         state = record {
           coordinator = h.coordinator;
@@ -191,7 +190,7 @@ module _ (C U : ℕ → Type 0) (R : ℕ → Body → Type 0) (nodes self : ℕ)
 
   timer_reaches : (pending : List Job) (timer : Timer) (answer : ℕ) → Reaches C U R self s (timed nodes self pending timer answer s)
   unfolding timed
-  timer_reaches pending timer.Check answer = when (leads self s) _ (λ t. record {
+  timer_reaches pending timer.Check answer = when (leads_in Normal self s) _ (λ t. record {
     up = λ u. u;
     state = record { coordinator = h.coordinator; up = h.up; found = tt; members = h.members; hand = h.hand };
     sent = each_chosen C (Goes R self) (λ (id : ℕ). letter self id says.AreYouCoordinator) (λ (id : ℕ). not (id == self)) (ids_below nodes)
@@ -204,18 +203,18 @@ module _ (C U : ℕ → Type 0) (R : ℕ → Body → Type 0) (nodes self : ℕ)
         state = record { coordinator = w.own; up = tt; found = tt; members = tt; hand = tt };
         sent = to_those (says.Invitation (own_group self answer)) (λ id u. w.called id (own_group self answer) u) (either_of s.up s.found) (either_each U s.up s.found h.up h.found);
       }))
-  timer_reaches pending timer.Accept answer = when (is_election s.phase && s.coordinator == self) _ (λ t. record {
+  timer_reaches pending timer.Accept answer = when (in_phase Election s.phase && s.coordinator == self) _ (λ t. record {
     up = λ u. either_up (is_empty s.up);
     state = record { coordinator = h.coordinator; up = h.up; found = h.found; members = with_each C s.up self w.own (each_more U C s.up w.within h.up); hand = h.hand };
     sent = to_those (says.Ready (task_of s.group (with_id s.up self))) (λ id u. w.told id (task_of s.group (with_id s.up self)) u) s.up h.up;
   })
-  timer_reaches pending timer.Ready answer = when (awaits_ready self s) _ (λ t. recovers answer)
+  timer_reaches pending timer.Ready answer = when (leads_in Reorganization self s) _ (λ t. recovers answer)
   timer_reaches pending timer.Coord answer = when (follows self s) _ (λ t. by s.probing _ _ (λ p. recovers answer) (λ f. record {
     up = λ u. u;
     state = record { coordinator = h.coordinator; up = h.up; found = h.found; members = h.members; hand = h.hand };
     sent = (goes s.coordinator (says.AreYouThere s.group) h.coordinator (not_true _ (and_right _ _ t)), tt);
   }))
-  timer_reaches pending timer.Dispatch answer = when (is_normal s.phase) _ (λ t. record {
+  timer_reaches pending timer.Dispatch answer = when (in_phase Normal s.phase) _ (λ t. record {
     up = λ u. u;
     state = record {
       coordinator = h.coordinator;
@@ -223,19 +222,18 @@ module _ (C U : ℕ → Type 0) (R : ℕ → Body → Type 0) (nodes self : ℕ)
       found = h.found;
       members = h.members;
       hand = each_append (λ (job : InHand). C job.origin) s.hand _ h.hand
-          (each_map (λ (job : InHand). C job.origin) (λ (job : Job). record { origin = self; id = job.id; work = job.work }) (filter (λ job. is_own self s job && not (holds s.hand self job.id)) (by_priority pending)) (λ job. w.own));
+          (each_map (λ (job : InHand). C job.origin) (λ (job : Job). record { origin = self; id = job.id; work = job.work }) (filter (λ job. owner s job.work.queue == self && not (holds s.hand self job.id)) (by_priority pending)) (λ job. w.own));
     };
-    sent = each_chosen (λ (job : Job). Unit {0}) (Goes R self) (λ (job : Job). letter self (owner s job.work.queue) (says.Work s.group job.id job.work)) (λ (job : Job). not (is_own self s job)) (by_priority pending)
+    sent = each_chosen (λ (job : Job). Unit {0}) (Goes R self) (λ (job : Job). letter self (owner s job.work.queue) (says.Work s.group job.id job.work)) (λ (job : Job). not (owner s job.work.queue == self)) (by_priority pending)
         (λ job is u. goes (owner s job.work.queue) (says.Work s.group job.id job.work) (owner_known job.work.queue) (not_true _ is))
         (each_of (λ (job : Job). Unit {0}) (by_priority pending) (λ job i. tt));
   })
 
-  ends : (origin id : ℕ) → C origin → (b : Bool) → (origin == self) ≡ b → Each (Goes R self) (if b then [] else letter self origin (says.Done id) ∷ [])
+  ends : (origin id : ℕ) → C origin → (b : Bool) → (origin == self) ≡ b → Each (Goes R self) (to_each self (if b then [] else origin ∷ []) (says.Done id))
   ends origin id known true is = tt
   ends origin id known false is = (goes origin (says.Done id) known is, tt)
 
   pub event_reaches : (pending : List Job) (event : Event) (answer : ℕ) → Brings C U R event → Reaches C U R self s (effect_of nodes self pending event answer s)
-  unfolding submit finish
   event_reaches pending (on.Timer timer) answer c = timer_reaches pending timer answer
   event_reaches pending (on.Deliver m) answer c = body_reaches m.sender m.body answer c
   event_reaches pending (on.Submit work) answer c = by (owner s work.queue == self) _ _

@@ -22,15 +22,14 @@ use Rattle.node_core.specs.declared.timer.Timer.{Timer}
 use Rattle.node_core.specs.declared.timer.Timer.TheVariants as timer
 use Rattle.node_core.specs.declared.phase.Phase.{Phase}
 use Rattle.node_core.specs.declared.phase.Phase.TheVariants.{Down, Election, Reorganization, Normal}
-use Rattle.node_core.specs.State.{State, is_down, is_election, is_reorganization, is_normal}
-use Rattle.node_core.specs.Effect.{Effect, quietly}
-use Rattle.node_core.specs.Start.{alone}
-use Rattle.node_core.specs.Words.{letter, to_each, is_empty, leads, members_of, owner, holds, own_group, task_of, stopped}
+use Rattle.node_core.specs.State.{State, is_down, in_phase}
+use Rattle.node_core.specs.Effect.{Effect, quietly, tells}
+use Rattle.node_core.specs.Start.{alone, entering}
+use Rattle.node_core.specs.Words.{letter, to_each, is_empty, leads_in, members_of, owner, holds, own_group, task_of}
 use Rattle.node_core.specs.Priorities.{by_priority}
-use Rattle.node_core.specs.Timers.{timed, merges, awaits_ready, follows, is_own}
+use Rattle.node_core.specs.Timers.{timed, merges, follows}
 use Rattle.wire_msg.specs.Kinds.{group_in}
 use Rattle.node_core.specs.Messages.{delivered, was_probed, takes_invitation, passed_on, is_told}
-use Rattle.node_core.specs.Operator.{submit, finish}
 use Rattle.node_core.specs.Effects.{effect_of}
 use Rattle.node_core.specs.Wants.{delivered_wants, wants_of}
 use Rattle.node_core.specs.Refusals.{refusal_of}
@@ -54,9 +53,9 @@ not_down : {p q : Phase} → p ≡ q → is_down q ≡ false → p ≢ Down
 not_down is up down = (let fallen : is_down Down ≡ false = subst (λ (x : Phase). is_down x ≡ false) (sym is ∙ down) up in absurd cc)
 
 -- outside Normal there is nothing in hand
-no_hand : (Q : ℕ → ℕ → Work → Type 0) (self : ℕ) (p q : Phase) (t u : Option Assignment) (hand : List InHand) → is_normal p ≡ false → Each (Held Q self p t) hand → Each (Held Q self q u) hand
+no_hand : (Q : ℕ → ℕ → Work → Type 0) (self : ℕ) (p q : Phase) (t u : Option Assignment) (hand : List InHand) → in_phase Normal p ≡ false → Each (Held Q self p t) hand → Each (Held Q self q u) hand
 no_hand Q self p q t u [] not_normal h = tt
-no_hand Q self p q t u (w ∷ ws) not_normal h = (let off : is_normal Normal ≡ false = subst (λ (x : Phase). is_normal x ≡ false) h.0.0 not_normal in absurd cc)
+no_hand Q self p q t u (w ∷ ws) not_normal h = (let off : in_phase Normal Normal ≡ false = subst (λ (x : Phase). in_phase Normal x ≡ false) h.0.0 not_normal in absurd cc)
 
 of_phase : (p q : Phase) (b : Bool) (f : Phase → Bool) → p ≡ q → f q ≡ b → f p ≡ b
 of_phase p q b f e h = ap f e ∙ h
@@ -106,7 +105,7 @@ module _ (P : Group → Type 0) (J Q : ℕ → ℕ → Work → Type 0) (self : 
 
   timer_does : (nodes : ℕ) (timer : Timer) → Does P J Q self s d (TimerEvent timer) (wants_of self d.pending (TimerEvent timer) s) (timed nodes self d.pending timer (answer_to d (wants_of self d.pending (TimerEvent timer) s)) s)
   unfolding timed
-  timer_does nodes timer.Check = guarded (λ e. Does P J Q self s d (TimerEvent timer.Check) None e) (leads self s) _ _
+  timer_does nodes timer.Check = guarded (λ e. Does P J Q self s d (TimerEvent timer.Check) None e) (leads_in Normal self s) _ _
       (λ t. record {
         made = [];
         moves = stays refl refl refl refl refl refl;
@@ -116,7 +115,7 @@ module _ (P : Group → Type 0) (J Q : ℕ → ℕ → Work → Type 0) (self : 
       })
       (λ f. quiet (TimerEvent timer.Check))
   timer_does nodes timer.Merge = raises_unless (TimerEvent timer.Merge) (merges self s) (is_empty s.found)
-      (λ k. record { state = record (stopped s) { coordinator = self; group = own_group self k; up = []; phase = Election }; sent = to_each self (either_of s.up s.found) (Invitation (own_group self k)) }) _
+      (λ k. tells self (entering Election (own_group self k)) (either_of s.up s.found) (Invitation (own_group self k))) _
       (record {
         made = [];
         moves = calls (d.counter + 1) refl refl refl refl refl;
@@ -125,28 +124,28 @@ module _ (P : Group → Type 0) (J Q : ℕ → ℕ → Work → Type 0) (self : 
         says = λ k j. each_map (Says P J self [] (Some (TimerEvent timer.Merge))) (λ x. letter self x (Invitation (own_group self (d.counter + 1)))) (either_of s.up s.found) (λ x. k.fresh.0);
       })
       (record { made = []; moves = stays refl refl refl refl refl refl; names = λ k. k.place; holds = λ k w h. h; says = λ k j. tt })
-  timer_does nodes timer.Accept = guarded (λ e. Does P J Q self s d (TimerEvent timer.Accept) None e) (is_election s.phase && s.coordinator == self) _ _
+  timer_does nodes timer.Accept = guarded (λ e. Does P J Q self s d (TimerEvent timer.Accept) None e) (in_phase Election s.phase && s.coordinator == self) _ _
       (λ t. (let phase = in_election s.phase (and_left _ _ t) in
       let mine : Knows P self s [] [] → P s.group = λ k. (k.place (not_down phase refl)).0 in
       record {
         made = task_of s.group (with_id s.up self) ∷ [];
         moves = assigns (with_id s.up self) phase (with_has_same s.up self) refl refl refl (either_phase (is_empty s.up)) refl refl;
         names = λ k up. (mine k, mine k);
-        holds = λ k w h. no_hand Q self s.phase _ s.task (Some (task_of s.group (with_id s.up self))) s.hand (of_phase s.phase Election false is_normal phase refl) h;
+        holds = λ k w h. no_hand Q self s.phase _ s.task (Some (task_of s.group (with_id s.up self))) s.hand (of_phase s.phase Election false (in_phase Normal) phase refl) h;
         says = λ k j. each_map (Says P J self (task_of s.group (with_id s.up self) ∷ []) (Some (TimerEvent timer.Accept))) (λ x. letter self x (Ready (task_of s.group (with_id s.up self)))) s.up (λ x. (refl, inl refl, mine k));
       }))
       (λ f. quiet (TimerEvent timer.Accept))
-  timer_does nodes timer.Ready = ready_by (awaits_ready self s)
+  timer_does nodes timer.Ready = ready_by (leads_in Reorganization self s)
   timer_does nodes timer.Coord = coord_by (follows self s) s.probing (λ t. in_either s.phase (and_left _ _ t))
-  timer_does nodes timer.Dispatch = guarded (λ e. Does P J Q self s d (TimerEvent timer.Dispatch) None e) (is_normal s.phase) _ _
+  timer_does nodes timer.Dispatch = guarded (λ e. Does P J Q self s d (TimerEvent timer.Dispatch) None e) (in_phase Normal s.phase) _ _
       (λ t. (let phase = in_normal s.phase t in record {
         made = [];
         moves = stays refl refl refl refl refl refl;
         names = λ k. k.place;
         holds = λ k w h. each_append (Held Q self s.phase s.task) s.hand _ h
-            (each_chosen (λ job. Q self job.id job.work) (Held Q self s.phase s.task) (λ (job : Job). record { origin = self; id = job.id; work = job.work }) (λ job. is_own self s job && not (holds s.hand self job.id)) (by_priority d.pending)
+            (each_chosen (λ job. Q self job.id job.work) (Held Q self s.phase s.task) (λ (job : Job). record { origin = self; id = job.id; work = job.work }) (λ job. owner s job.work.queue == self && not (holds s.hand self job.id)) (by_priority d.pending)
             (λ job own q. (phase, eq_nat _ _ (and_left _ _ own), q)) (each_by_priority _ d.pending k.before));
-        says = λ k j. each_chosen (λ job. J self job.id job.work) (Says P J self [] (Some (TimerEvent timer.Dispatch))) (λ (job : Job). letter self (owner s job.work.queue) (WorkMessage s.group job.id job.work)) (λ job. not (is_own self s job)) (by_priority d.pending)
+        says = λ k j. each_chosen (λ job. J self job.id job.work) (Says P J self [] (Some (TimerEvent timer.Dispatch))) (λ (job : Job). letter self (owner s job.work.queue) (WorkMessage s.group job.id job.work)) (λ job. not (owner s job.work.queue == self)) (by_priority d.pending)
             (λ job other it. ((k.place (not_down phase refl)).0, it)) (each_by_priority _ d.pending j.before);
       }))
       (λ f. quiet (TimerEvent timer.Dispatch))
@@ -159,14 +158,14 @@ module _ (P : Group → Type 0) (J Q : ℕ → ℕ → Work → Type 0) (self : 
     made = [];
     moves = completes p c refl refl refl refl refl refl;
     names = λ k up. k.place (not_down p refl);
-    holds = λ k w h. no_hand Q self s.phase Normal s.task s.task s.hand (of_phase s.phase Reorganization false is_normal p refl) h;
+    holds = λ k w h. no_hand Q self s.phase Normal s.task s.task s.hand (of_phase s.phase Reorganization false (in_phase Normal) p refl) h;
     says = λ k j. tt;
   }
   ack_by m rest false p c = record {
     made = [];
     moves = stays (sym p) refl refl refl refl refl;
     names = λ k up. k.place (not_down p refl);
-    holds = λ k w h. no_hand Q self s.phase Reorganization s.task s.task s.hand (of_phase s.phase Reorganization false is_normal p refl) h;
+    holds = λ k w h. no_hand Q self s.phase Reorganization s.task s.task s.hand (of_phase s.phase Reorganization false (in_phase Normal) p refl) h;
     says = λ k j. tt;
   }
 
@@ -202,10 +201,10 @@ module _ (P : Group → Type 0) (J Q : ℕ → ℕ → Work → Type 0) (self : 
             (subst (λ b. IfSome (group_in b) P) is k.heard.0, tt);
       })
       (λ f. quiet (Deliver m))
-  delivered_does m (Accept group) is = guarded (λ e. Does P J Q self s d (Deliver m) None e) (is_election s.phase && s.coordinator == self && same_group group s.group) _ _
+  delivered_does m (Accept group) is = guarded (λ e. Does P J Q self s d (Deliver m) None e) (in_phase Election s.phase && s.coordinator == self && same_group group s.group) _ _
       (λ t. record { made = []; moves = stays refl refl refl refl refl refl; names = λ k. k.place; holds = λ k w h. h; says = λ k j. tt })
       (λ f. quiet (Deliver m))
-  delivered_does m (Ready task) is = guarded (λ e. Does P J Q self s d (Deliver m) None e) (is_told self m.sender task s && is_reorganization s.phase) _ _
+  delivered_does m (Ready task) is = guarded (λ e. Does P J Q self s d (Deliver m) None e) (is_told self m.sender task s && in_phase Reorganization s.phase) _ _
       (λ t. (let told = told_parts self m.sender task s (and_left _ _ t) in
       let phase = in_reorganization s.phase (and_right _ _ t) in
       let mine : Knows P self s [] (m ∷ []) → P s.group = λ k. (k.place (not_down phase refl)).0 in
@@ -213,10 +212,10 @@ module _ (P : Group → Type 0) (J Q : ℕ → ℕ → Work → Type 0) (self : 
         made = [];
         moves = takes m task phase refl is told.0 told.1 told.2 refl refl refl refl refl refl;
         names = λ k up. (mine k, subst (λ b. IfSome (group_in b) P) is k.heard.0);
-        holds = λ k w h. no_hand Q self s.phase Normal s.task (Some task) s.hand (of_phase s.phase Reorganization false is_normal phase refl) h;
+        holds = λ k w h. no_hand Q self s.phase Normal s.task (Some task) s.hand (of_phase s.phase Reorganization false (in_phase Normal) phase refl) h;
         says = λ k j. (mine k, tt);
       }))
-      (λ f. guarded (λ e. Does P J Q self s d (Deliver m) None e) (is_told self m.sender task s && is_normal s.phase) _ _
+      (λ f. guarded (λ e. Does P J Q self s d (Deliver m) None e) (is_told self m.sender task s && in_phase Normal s.phase) _ _
       (λ t. record {
         made = [];
         moves = stays refl refl refl refl refl refl;
@@ -225,10 +224,10 @@ module _ (P : Group → Type 0) (J Q : ℕ → ℕ → Work → Type 0) (self : 
         says = λ k j. ((k.place (not_down (in_normal s.phase (and_right _ _ t)) refl)).0, tt);
       })
       (λ g. quiet (Deliver m)))
-  delivered_does m (ReadyAck group) is = guarded (λ e. Does P J Q self s d (Deliver m) None e) (awaits_ready self s && same_group group s.group) _ _
+  delivered_does m (ReadyAck group) is = guarded (λ e. Does P J Q self s d (Deliver m) None e) (leads_in Reorganization self s && same_group group s.group) _ _
       (λ t. ack_by m (without_id s.unready m.sender) (is_empty (without_id s.unready m.sender)) (in_reorganization s.phase (and_left _ _ (and_left _ _ t))) (eq_nat _ _ (and_right _ _ (and_left _ _ t))))
       (λ f. quiet (Deliver m))
-  delivered_does m (WorkMessage group id work) is = guarded (λ e. Does P J Q self s d (Deliver m) None e) (is_normal s.phase && same_group group s.group && has (members_of s.task) m.sender && owner s work.queue == self && not (holds s.hand m.sender id)) _ _
+  delivered_does m (WorkMessage group id work) is = guarded (λ e. Does P J Q self s d (Deliver m) None e) (in_phase Normal s.phase && same_group group s.group && has (members_of s.task) m.sender && owner s work.queue == self && not (holds s.hand m.sender id)) _ _
       (λ t. record {
         made = [];
         moves = stays refl refl refl refl refl refl;
@@ -242,9 +241,8 @@ module _ (P : Group → Type 0) (J Q : ℕ → ℕ → Work → Type 0) (self : 
 
   -- ---- the operator
 
-  submit_does : (work : Work) → is_normal s.phase ≡ true → Does P J Q self s d (Submit work) (Some (Put work)) (submit self work d.next s)
-  unfolding submit
-  submit_does work normal = guarded (λ e. Does P J Q self s d (Submit work) (Some (Put work)) e) (owner s work.queue == self) _ _
+  submit_does : (nodes : ℕ) (work : Work) → in_phase Normal s.phase ≡ true → Does P J Q self s d (Submit work) (Some (Put work)) (effect_of nodes self d.pending (Submit work) d.next s)
+  submit_does nodes work normal = guarded (λ e. Does P J Q self s d (Submit work) (Some (Put work)) e) (owner s work.queue == self) _ _
       (λ t. record {
         made = [];
         moves = stays refl refl refl refl refl refl;
@@ -267,13 +265,12 @@ module _ (P : Group → Type 0) (J Q : ℕ → ℕ → Work → Type 0) (self : 
         );
       })
 
-  finish_says : (origin id : ℕ) (b : Bool) → Each (Says P J self [] (Some (Finish origin id))) (if b then [] else letter self origin (DoneMessage id) ∷ [])
+  finish_says : (origin id : ℕ) (b : Bool) → Each (Says P J self [] (Some (Finish origin id))) (to_each self (if b then [] else origin ∷ []) (DoneMessage id))
   finish_says origin id true = tt
   finish_says origin id false = (refl, tt)
 
-  finish_does : (origin id : ℕ) → Does P J Q self s d (Finish origin id) (wants_of self d.pending (Finish origin id) s) (finish self origin id s)
-  unfolding finish
-  finish_does origin id = record {
+  finish_does : (nodes origin id : ℕ) → Does P J Q self s d (Finish origin id) (wants_of self d.pending (Finish origin id) s) (effect_of nodes self d.pending (Finish origin id) 0 s)
+  finish_does nodes origin id = record {
     made = [];
     moves = stays refl refl refl refl (no_count d (origin == self && is_pending d.pending id) id) refl;
     names = λ k. k.place;
@@ -291,6 +288,6 @@ module _ (P : Group → Type 0) (J Q : ℕ → ℕ → Work → Type 0) (self : 
       → Does P J Q self s d event (wants_of self d.pending event s) (effect_of nodes self d.pending event (answer_to d (wants_of self d.pending event s)) s)
   event_does nodes (TimerEvent timer) h = timer_does nodes timer
   event_does nodes (Deliver m) h = delivered_does m m.body refl
-  event_does nodes (Submit work) h = submit_does work (not_refused (is_down s.phase) (is_normal s.phase) (s.coordinator == self) _ _ _ h)
-  event_does nodes (Finish origin id) h = finish_does origin id
+  event_does nodes (Submit work) h = submit_does nodes work (not_refused (is_down s.phase) (in_phase Normal s.phase) (s.coordinator == self) _ _ _ h)
+  event_does nodes (Finish origin id) h = finish_does nodes origin id
   event_does nodes Recover h = recovers Recover

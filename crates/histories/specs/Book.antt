@@ -7,7 +7,7 @@ use Rattle.group_task.specs.Ids.{has}
 use Rattle.node_core.specs.declared.phase.Phase.{Phase}
 use Rattle.node_core.specs.declared.phase.Phase.TheVariants.{Reorganization, Normal}
 use Rattle.node_core.specs.State.{State}
-use Rattle.histories.specs.What.{Entry}
+use Rattle.histories.specs.HistoryEvent.{Entry}
 use Rattle.histories.specs.Bundle.{Bundle}
 use Rattle.histories.specs.Rising.{EachRises}
 use Rattle.histories.specs.Moments.{IsMoment}
@@ -19,13 +19,15 @@ members_in (t ∷ ts) group = if same_group t.group group then Some t.members el
 
 -- the task is that of the group, with the members that the book has, and the node among them
 abbrev pub IsTaskOf : List Assignment → ℕ → Group → Option Assignment → Type 0
-IsTaskOf book node group task = IsSomeAnd task (λ t. (t.group ≡ group) × (members_in book group ≡ Some t.members) × (has t.members node ≡ true))
+IsTaskOf book node group task =
+    IsSomeAnd task (λ t. (t.group ≡ group) × (members_in book group ≡ Some t.members) × (has t.members node ≡ true))
 
 -- in a group, on its way into it or working in it
 abbrev pub IsInGroup : Phase → Type 0
 IsInGroup phase = (phase ≡ Reorganization) ⊎ (phase ≡ Normal)
 
--- the book agrees with the state of a node: in a group, its creator is the coordinator, and a node that works has the task that the book has
+-- the book agrees with the state of a node: in a group, its creator is the coordinator, and a node that works has the task that the
+-- book has
 abbrev pub AgreesAt : List Assignment → ℕ → State → Type 0
 AgreesAt book node v = (IsInGroup v.phase → v.coordinator ≡ v.group.creator) × (v.phase ≡ Normal → IsTaskOf book node v.group v.task)
 

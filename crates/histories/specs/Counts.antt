@@ -1,7 +1,7 @@
 -- How far a history can bring the counter.
 use Rattle.std.specs.Prelude.{ℕ, ◌+◌, ◌≤◌, ◌<◌, ◌^◌, Bool, List, length}
 use Rattle.histories.specs.NodeState.{opening, settled}
-use Rattle.histories.specs.What.{Entry}
+use Rattle.histories.specs.HistoryEvent.{Entry}
 use Rattle.histories.specs.History.{replay}
 
 -- Entries, steps or acts, each of which raises a counter by one at most: too few of them for a raise to be refused because

@@ -3,19 +3,21 @@ use Rattle.std.specs.Prelude.{ℕ, ◌≡◌, List, [], ◌∷◌, ◌++◌}
 use Rattle.wire_msg.specs.Envelope.{Envelope}
 use Rattle.node_core.specs.State.{State}
 use Rattle.histories.specs.NodeState.{NodeState}
-use Rattle.histories.specs.What.{Entry, event_of, brought}
+use Rattle.histories.specs.HistoryEvent.{Entry, event_of, brought}
 use Rattle.histories.specs.After.{after, sent_at, given_at}
 use Rattle.histories.specs.Possible.{IsPossible, IsOfSlots}
 
 -- from s on, the entries are steps of the node, one after another
 abbrev pub Follows : ℕ → ℕ → NodeState → List Entry → Type 0
 Follows self nodes s [] = Unit {0}
-Follows self nodes s (e ∷ es) = IsPossible self nodes s e.what × (e.sent ≡ sent_at self nodes s e.what) × Follows self nodes (after self nodes s e.what) es
+Follows self nodes s (e ∷ es) =
+    IsPossible self nodes s e.what × (e.sent ≡ sent_at self nodes s e.what) × Follows self nodes (after self nodes s e.what) es
 
 -- and the journal of its disk has so many slots
 abbrev pub FollowsSlots : ℕ → ℕ → ℕ → NodeState → List Entry → Type 0
 FollowsSlots slots self nodes s [] = Unit {0}
-FollowsSlots slots self nodes s (e ∷ es) = IsOfSlots slots self nodes s e.what × FollowsSlots slots self nodes (after self nodes s e.what) es
+FollowsSlots slots self nodes s (e ∷ es) =
+    IsOfSlots slots self nodes s e.what × FollowsSlots slots self nodes (after self nodes s e.what) es
 
 -- the state that a history leaves
 abbrev pub replay : ℕ → ℕ → NodeState → List Entry → NodeState
@@ -49,7 +51,8 @@ brought_in (e ∷ es) = brought (event_of e.what) ++ brought_in es
 
 -- a history with one more possible entry is one, and leaves the state after that entry
 abbrev pub HistoryGoesOn : Type 0
-HistoryGoesOn = (self nodes : ℕ) (s : NodeState) (es : List Entry) (e : Entry) → Follows self nodes s es → IsPossible self nodes (replay self nodes s es) e.what →
+HistoryGoesOn = (self nodes : ℕ) (s : NodeState) (es : List Entry) (e : Entry) → Follows self nodes s es →
+    IsPossible self nodes (replay self nodes s es) e.what →
     e.sent ≡ sent_at self nodes (replay self nodes s es) e.what →
     Follows self nodes s (es ++ e ∷ []) × (replay self nodes s (es ++ e ∷ []) ≡ after self nodes (replay self nodes s es) e.what)
 

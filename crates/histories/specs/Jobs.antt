@@ -7,9 +7,9 @@ use Rattle.node_core.specs.declared.in_hand.InHand.{InHand}
 use Rattle.node_core.specs.State.{State}
 use Rattle.histories.specs.Lists.{IsAmong}
 use Rattle.histories.specs.NodeState.{NodeState, opening}
-use Rattle.histories.specs.What.{Entry}
+use Rattle.histories.specs.HistoryEvent.{Entry}
 use Rattle.histories.specs.History.{Follows, states}
-use Rattle.histories.specs.declared.tried.Tried.{Tried}
+use Rattle.histories.specs.declared.attempt.Attempt.{Attempt}
 use Rattle.histories.specs.Marks.{commands_of, mountings_of, marks_of}
 use Rattle.histories.specs.Kept.{Mounting}
 use Rattle.histories.specs.Bundle.{Bundle}
@@ -28,24 +28,28 @@ pub record IsJobOf (histories : List (List Entry)) (origin id : ℕ) (work : Wor
 
 -- the work in hand was a pending job of its origin, of the same id and with the same work
 abbrev pub WorkIsJob : Type 0
-WorkIsJob = (histories : List (List Entry)) → Bundle histories → (n : ℕ) (v : State) → IsMoment histories n v → (w : InHand) → IsAmong w v.hand → IsJobOf histories w.origin w.id w.work
+WorkIsJob = (histories : List (List Entry)) → Bundle histories → (n : ℕ) (v : State) → IsMoment histories n v →
+    (w : InHand) → IsAmong w v.hand → IsJobOf histories w.origin w.id w.work
 
 -- jobs of one id that are pending at two moments of a history are one job, with one queue, one priority and one payload
 abbrev pub OneJob : Type 0
-OneJob = (self nodes : ℕ) (h : List Entry) (s t : NodeState) → IsAmong s (states self nodes (opening self) h) → IsAmong t (states self nodes (opening self) h) →
+OneJob = (self nodes : ℕ) (h : List Entry) (s t : NodeState) →
+    IsAmong s (states self nodes (opening self) h) → IsAmong t (states self nodes (opening self) h) →
     (a b : Job) → IsAmong a s.durable.pending → IsAmong b t.durable.pending → a.id ≡ b.id → a ≡ b
 
 -- one of these commands put a job of this work: where it was acknowledged, under this id
-abbrev pub WasPut : List Tried → ℕ → Work → Type 0
-WasPut ts id work = (t : Tried) × IsAmong t ts × (t.command ≡ Put work) × ((a : ℕ) → t.acked ≡ Some a → a ≡ id)
+abbrev pub WasPut : List Attempt → ℕ → Work → Type 0
+WasPut ts id work = (t : Attempt) × IsAmong t ts × (t.command ≡ Put work) × ((a : ℕ) → t.acked ≡ Some a → a ≡ id)
 
 -- each job that is pending at some moment of a history was put by one of its commands
 abbrev pub PendingWasPut : Type 0
-PendingWasPut = (self nodes : ℕ) (h : List Entry) → Follows self nodes (opening self) h → (s : NodeState) → IsAmong s (states self nodes (opening self) h) →
+PendingWasPut = (self nodes : ℕ) (h : List Entry) → Follows self nodes (opening self) h →
+    (s : NodeState) → IsAmong s (states self nodes (opening self) h) →
     (job : Job) → IsAmong job s.durable.pending → WasPut (commands_of (marks_of self nodes h)) job.id job.work
 
 -- a job whose Done was acknowledged is in nothing that is mounted after that command
 abbrev pub DoneIsGone : Type 0
 DoneIsGone = (self nodes : ℕ) (h : List Entry) → Follows self nodes (opening self) h → (k id a : ℕ) →
     slice_get (commands_of (marks_of self nodes h)) k ≡ Some (record { command = Done id; acked = Some a }) →
-    (w : Mounting) → IsAmong w (mountings_of (marks_of self nodes h)) → k < w.before → (job : Job) → IsAmong job w.state.pending → job.id ≢ id
+    (w : Mounting) → IsAmong w (mountings_of (marks_of self nodes h)) → k < w.before →
+    (job : Job) → IsAmong job w.state.pending → job.id ≢ id

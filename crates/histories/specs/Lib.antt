@@ -1,7 +1,7 @@
 pub mod Lists
 pub mod NodeState
-pub mod What
-pub mod Fates
+pub mod HistoryEvent
+pub mod EventOutcomes
 pub mod After
 pub mod Possible
 pub mod History

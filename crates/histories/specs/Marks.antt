@@ -6,14 +6,14 @@ use Rattle.job_model.specs.Durable.{Durable, formatted}
 use Rattle.job_model.specs.Fold.{after_command}
 use Rattle.job_model.specs.Answer.{answer_of}
 use Rattle.histories.specs.NodeState.{NodeState, opening, wants_at, settled}
-use Rattle.histories.specs.declared.what.What.{What}
-use Rattle.histories.specs.declared.what.What.TheVariants.{Did, Faulted, Recovered, RaiseFailed, RaiseRefused}
-use Rattle.histories.specs.What.{Entry}
+use Rattle.histories.specs.declared.history_event.HistoryEvent.{HistoryEvent}
+use Rattle.histories.specs.declared.history_event.HistoryEvent.TheVariants.{Did, Faulted, Recovered, RaiseFailed, RaiseRefused}
+use Rattle.histories.specs.HistoryEvent.{Entry}
 use Rattle.histories.specs.After.{after}
 use Rattle.histories.specs.History.{Follows}
 use Rattle.histories.specs.Counts.{IsShort}
 use Rattle.histories.specs.Kept.{Mounting, Kept}
-use Rattle.histories.specs.declared.tried.Tried.{Tried}
+use Rattle.histories.specs.declared.attempt.Attempt.{Attempt}
 
 -- a command that was tried on the device, with the answer if it was acknowledged, or a mounting that succeeded
 pub data Mark : Type 0 where
@@ -22,7 +22,7 @@ pub data Mark : Type 0 where
   Mounted : (mounting : Mounting) → Mark
 
 -- the commands alone
-abbrev pub commands_of : List Mark → List Tried
+abbrev pub commands_of : List Mark → List Attempt
 commands_of [] = []
 commands_of (Acknowledged c a ∷ ms) = record { command = c; acked = Some a } ∷ commands_of ms
 commands_of (Unanswered c ∷ ms) = record { command = c; acked = None } ∷ commands_of ms
@@ -63,10 +63,11 @@ failed_marks None = []
 failed_marks (Some c) = Unanswered c ∷ []
 
 -- the marks of an entry, after n commands
-abbrev pub marks_at : ℕ → ℕ → NodeState → ℕ → What → List Mark
+abbrev pub marks_at : ℕ → ℕ → NodeState → ℕ → HistoryEvent → List Mark
 marks_at self nodes s n (Did event) = tried_marks s.durable (wants_at self nodes s event)
 marks_at self nodes s n (Faulted event) = failed_marks (wants_at self nodes s event)
-marks_at self nodes s n (Recovered kept) = Mounted (record { before = n; state = settled kept s }) ∷ Acknowledged Raise ((settled kept s).counter + 1) ∷ []
+marks_at self nodes s n (Recovered kept) =
+    Mounted (record { before = n; state = settled kept s }) ∷ Acknowledged Raise ((settled kept s).counter + 1) ∷ []
 marks_at self nodes s n (RaiseFailed kept) = Mounted (record { before = n; state = settled kept s }) ∷ Unanswered Raise ∷ []
 marks_at self nodes s n (RaiseRefused kept) = Mounted (record { before = n; state = settled kept s }) ∷ []
 marks_at self nodes s n what = []
@@ -75,7 +76,8 @@ marks_at self nodes s n what = []
 abbrev pub marks_from : ℕ → ℕ → NodeState → ℕ → List Entry → List Mark
 marks_from self nodes s n [] = []
 marks_from self nodes s n (e ∷ es) =
-    marks_at self nodes s n e.what ++ marks_from self nodes (after self nodes s e.what) (n + length (commands_of (marks_at self nodes s n e.what))) es
+    marks_at self nodes s n e.what
+    ++ marks_from self nodes (after self nodes s e.what) (n + length (commands_of (marks_at self nodes s n e.what))) es
 
 -- the opening mounts an empty disk and raises the counter
 abbrev pub opening_marks : List Mark

@@ -3,7 +3,7 @@ use Rattle.std.specs.Prelude.{ℕ, ◌≡◌, List, length, slice_get, Some}
 use Rattle.node_core.specs.State.{State}
 use Rattle.histories.specs.Lists.{IsAmong}
 use Rattle.histories.specs.NodeState.{opening}
-use Rattle.histories.specs.What.{Entry}
+use Rattle.histories.specs.HistoryEvent.{Entry}
 use Rattle.histories.specs.History.{vectors}
 
 -- a state that a node has in its opening or after an entry

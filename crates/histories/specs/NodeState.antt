@@ -1,5 +1,5 @@
 -- A node with its disk, as its history leaves it.
-use Rattle.std.specs.Prelude.{ℕ, Bool, true, false, [], Option, Some, None}
+use Rattle.std.specs.Prelude.{ℕ, Bool, if◌then◌else◌, [], Option, None}
 use Rattle.job_model.specs.declared.node_command.NodeCommand.{NodeCommand as Command}
 use Rattle.job_model.specs.Durable.{Durable}
 use Rattle.job_model.specs.Fold.{after_wanted}
@@ -32,5 +32,4 @@ effect_at self nodes s event = effect_of nodes self s.durable.pending event (ans
 
 -- what the disk keeps once the doubt is settled: with the command in doubt, or without it
 abbrev pub settled : Bool → NodeState → Durable
-settled true s = after_wanted s.durable s.doubt
-settled false s = s.durable
+settled kept s = if kept then after_wanted s.durable s.doubt else s.durable

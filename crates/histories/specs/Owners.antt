@@ -8,16 +8,16 @@ use Rattle.node_core.specs.declared.event.Event.TheVariants.{Finish}
 use Rattle.node_core.specs.State.{State}
 use Rattle.node_core.specs.Words.{owner}
 use Rattle.histories.specs.Lists.{IsAmong}
-use Rattle.histories.specs.declared.what.What.{What}
-use Rattle.histories.specs.declared.what.What.TheVariants.{Did, Faulted}
-use Rattle.histories.specs.What.{Entry}
+use Rattle.histories.specs.declared.history_event.HistoryEvent.{HistoryEvent}
+use Rattle.histories.specs.declared.history_event.HistoryEvent.TheVariants.{Did, Faulted}
+use Rattle.histories.specs.HistoryEvent.{Entry}
 use Rattle.histories.specs.Bundle.{Bundle}
 use Rattle.histories.specs.Moments.{IsMoment}
-use Rattle.histories.specs.declared.tried.Tried.{Tried}
+use Rattle.histories.specs.declared.attempt.Attempt.{Attempt}
 use Rattle.histories.specs.Marks.{commands_of, marks_of}
 
 -- the event of an entry, where it wasn't refused
-abbrev pub acted : What → List Event
+abbrev pub acted : HistoryEvent → List Event
 acted (Did event) = event ∷ []
 acted (Faulted event) = event ∷ []
 acted what = []
@@ -46,7 +46,7 @@ pub record FinishedBy (histories : List (List Entry)) (origin id : ℕ) : Type 0
 -- each job that a node takes out of its journal was finished by an owner of its queue
 abbrev pub OwnerFinishes : Type 0
 OwnerFinishes = (histories : List (List Entry)) → Bundle histories → (n : ℕ) (h : List Entry) → slice_get histories n ≡ Some h →
-    (t : Tried) (id : ℕ) → IsAmong t (commands_of (marks_of n (length histories) h)) → t.command ≡ Done id → FinishedBy histories n id
+    (t : Attempt) (id : ℕ) → IsAmong t (commands_of (marks_of n (length histories) h)) → t.command ≡ Done id → FinishedBy histories n id
 
 -- two moments in Normal of one group, with jobs of one queue in hand, are of one node
 abbrev pub OneWorker : Type 0

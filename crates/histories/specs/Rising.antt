@@ -1,7 +1,7 @@
 -- The counts that a node gives to its groups rise.
 use Rattle.std.specs.Prelude.{ℕ, ◌≡◌, ◌<◌, List, [], ◌∷◌, length, slice_get, Some}
 use Rattle.histories.specs.NodeState.{opening}
-use Rattle.histories.specs.What.{Entry}
+use Rattle.histories.specs.HistoryEvent.{Entry}
 use Rattle.histories.specs.History.{counts_given}
 use Rattle.histories.specs.Bundle.{Bundle}
 

@@ -1,40 +1,11 @@
-// Which command was tried, without the work of a job.
-ghost use Rattle.std.specs.Prelude.{◌≡◌, Some};
-ghost use Rattle.histories.specs.Fates.{command_with, work_of};
+// A command that a node tried on its disk.
+use job_model::NodeCommand as Command;
 
-use job_model::{NodeCommand as Command, Work};
-use node_core::Event;
-
-/// Which command was tried at an event, for who has the event: a [`Command`] holds the work of a job.
+/// A command that was tried on the device, with the answer if it was acknowledged.
 #[derive(Clone, Copy, Debug, PartialEq, Eq)]
-pub enum Attempt {
-    /// The counter of groups rises by one.
-    Raise,
-    /// The job that the event submits becomes pending.
-    Put,
-    /// The job of this id, which is pending, is done.
-    Done(u64),
-}
-
-impl Attempt {
-    /// The whole command, by the work that the event submits ([`submitted`]). None for a Put where there is no work.
-    pub fn command(self, work: Option<Work>) -> Option<Command>
-        ensures { result ≡ command_with work (Some self) }
-    {
-        match self {
-            Attempt::Raise => Some(Command::Raise),
-            Attempt::Put => Some(Command::Put(work?)),
-            Attempt::Done(id) => Some(Command::Done(id)),
-        }
-    }
-}
-
-/// The work that an event submits.
-pub fn submitted(event: &Event) -> Option<Work>
-    ensures { result ≡ work_of event.now }
-{
-    match event {
-        Event::Submit(work) => Some(*work),
-        _ => None,
-    }
+pub struct Attempt {
+    pub command: Command,
+    /// The new count, the new id, or the id that is done. None where the device failed: whether the disk keeps the command is
+    /// open until it is mounted.
+    pub acked: Option<u64>,
 }

@@ -4,9 +4,9 @@ use Rattle.wire_msg.specs.Envelope.{Envelope}
 use Rattle.node_core.specs.declared.event.Event.{Event}
 use Rattle.node_core.specs.declared.event.Event.TheVariants as on
 use Rattle.histories.specs.Lists.{Each}
-use Rattle.histories.specs.declared.what.What.{What}
-use Rattle.histories.specs.declared.what.What.TheVariants.{Did, Refused, Faulted, Rests, Crashed, Recovered, MountFailed, RaiseFailed, RaiseRefused}
-use Rattle.histories.specs.What.{Entry}
+use Rattle.histories.specs.declared.history_event.HistoryEvent.{HistoryEvent}
+use Rattle.histories.specs.declared.history_event.HistoryEvent.TheVariants.{Did, Refused, Faulted, NoOp, Crashed, Recovered, MountFailed, RaiseFailed, RaiseRefused}
+use Rattle.histories.specs.HistoryEvent.{Entry}
 use Rattle.schedule.specs.declared.act.Act.{Act}
 use Rattle.runs.specs.Step.{Step, Takes, Changes, Denies}
 use Rattle.runs.specs.Run.{histories_from}
@@ -14,7 +14,7 @@ use Rattle.trace_check.specs.declared.order.Order.{Order}
 use Rattle.trace_check.specs.Claims.{Claim}
 use Rattle.trace_text.specs.Fits.{AreNamed, HasName, IsWritable}
 use Rattle.trace_text.specs.Ordered.{IsEven, ordered_by}
-use Rattle.run_trace.specs.Traced.{IsRecordOf, claim_of, deed_of, done, failed, messages_in, nodes_in, trace_in}
+use Rattle.cluster_sim.specs.Traced.{IsRecordOf, claim_of, deed_of, done, failed, messages_in, nodes_in, trace_in}
 
 done_named : (e : Event) → HasName (done e)
 done_named (on.Timer timer) = tt
@@ -30,11 +30,11 @@ failed_named (on.Submit work) = tt
 failed_named (on.Finish origin id) = tt
 failed_named on.Recover = tt
 
-deed_named : (what : What) → HasName (deed_of what)
+deed_named : (what : HistoryEvent) → HasName (deed_of what)
 deed_named (Did event) = done_named event
 deed_named (Refused event fault) = tt
 deed_named (Faulted event) = failed_named event
-deed_named (Rests rest) = tt
+deed_named (NoOp rest) = tt
 deed_named Crashed = tt
 deed_named (Recovered kept) = tt
 deed_named MountFailed = tt

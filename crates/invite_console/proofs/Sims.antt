@@ -7,16 +7,16 @@ use Rattle.sim_net.specs.Network.{Network}
 use Rattle.sector_disk.specs.Memory.{Memory, state_of}
 use Rattle.durable_node.specs.Node.{Node, Stands}
 use Rattle.histories.specs.NodeState.{NodeState}
-use Rattle.histories.specs.declared.what.What.{What}
-use Rattle.histories.specs.declared.what.What.TheVariants.{Rests, Crashed}
-use Rattle.histories.specs.declared.what.Rest.TheVariants.{Nothing, Compacted, CompactDown, CompactWorn}
+use Rattle.histories.specs.declared.history_event.HistoryEvent.{HistoryEvent}
+use Rattle.histories.specs.declared.history_event.HistoryEvent.TheVariants.{NoOp, Crashed}
+use Rattle.histories.specs.declared.history_event.NoOpKind.TheVariants.{Nothing, Compacted, CompactDown, CompactAreaExhausted}
 use Rattle.schedule.specs.declared.act.Act.{Act}
 use Rattle.schedule.specs.declared.act.Act.TheVariants as an
 use Rattle.runs.specs.declared.outcome.Outcome.{Outcome}
 use Rattle.runs.specs.declared.outcome.Outcome.TheVariants as outcome
 use Rattle.runs.specs.declared.outcome.Outcome.TheVariants.{Done}
 use Rattle.runs.specs.World.{World, node_in, start}
-use Rattle.node_core.specs.declared.fault.Refusal.TheVariants.{Worn}
+use Rattle.node_core.specs.declared.fault.Refusal.TheVariants.{AreaExhausted}
 use Rattle.runs.specs.declared.outcome.Outcome.TheVariants.{Refused}
 use Rattle.runs.specs.declared.outcome.Refusal.TheVariants.{Node as OfNode}
 use Rattle.runs.proofs.PublicLaws.{step_adds, step_length, length_openings}
@@ -43,12 +43,12 @@ messages_part names (outcome.Refused why) sent = []
 messages_part names outcome.Faulted sent = []
 
 -- An act that was done says how many messages had been sent before it, and another one sends none.
-outcome_said : (names : Bool) (n nodes first : ℕ) (s : NodeState) (what : What) (a : Act)
+outcome_said : (names : Bool) (n nodes first : ℕ) (s : NodeState) (what : HistoryEvent) (a : Act)
     → messages_part names (what_outcome n nodes first s what a) (sent_at n nodes s what) ≡ sent_text names first (sent_at n nodes s what)
-outcome_said names n nodes first s (Rests Nothing) a = refl
-outcome_said names n nodes first s (Rests Compacted) a = refl
-outcome_said names n nodes first s (Rests CompactDown) a = refl
-outcome_said names n nodes first s (Rests CompactWorn) a = refl
+outcome_said names n nodes first s (NoOp Nothing) a = refl
+outcome_said names n nodes first s (NoOp Compacted) a = refl
+outcome_said names n nodes first s (NoOp CompactDown) a = refl
+outcome_said names n nodes first s (NoOp CompactAreaExhausted) a = refl
 outcome_said names n nodes first s Crashed (an.Compact m) = refl
 outcome_said names n nodes first s Crashed _ = refl
 outcome_said names n nodes first s _ a = refl
@@ -102,8 +102,8 @@ further grow details nodes slots old new acts a outcome text headed behind so ac
     let outcome_is : outcome ≡ act_outcome nodes w a act.step = act.outcome_is ∙ ap (λ (n : ℕ). act_outcome n w a act.step) so.count in
     let ms = so.report.moments in
     let risen = rises w so.stands (length ms + 2) so.areas in
-    let other : act_outcome nodes w a act.step ≢ Refused (OfNode Worn) =
-    subst (λ (o : Outcome). o ≢ Refused (OfNode Worn)) outcome_is (risen.1 (omega (arith, short, numbered acts ms so.acts_are))) in
+    let other : act_outcome nodes w a act.step ≢ Refused (OfNode AreaExhausted) =
+    subst (λ (o : Outcome). o ≢ Refused (OfNode AreaExhausted)) outcome_is (risen.1 (omega (arith, short, numbered acts ms so.acts_are))) in
     let grew = grow nodes slots w so.report a act.step so.left next (omega (arith, short, numbered acts ms so.acts_are)) other in
     record {
       world = world_after nodes w act.step;

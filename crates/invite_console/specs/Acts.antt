@@ -32,7 +32,7 @@ abbrev pub fault_name : NodeRefusal → List ℕ
 fault_name (node.Core fault) = core_name fault
 fault_name node.Full = codes "Full"
 fault_name node.Exhausted = codes "Exhausted"
-fault_name node.Worn = codes "Exhausted"
+fault_name node.AreaExhausted = codes "Exhausted"
 
 abbrev pub net_name : NetFault → List ℕ
 net_name net.NoSuch = codes "NoSuch"

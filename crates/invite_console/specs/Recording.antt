@@ -6,7 +6,7 @@ use Rattle.console_text.specs.Ends.{Outcome, line, refused}
 use Rattle.trace_check.specs.Claims.{Claim}
 use Rattle.trace_check.specs.declared.order.Order.{Order}
 use Rattle.trace_text.specs.Ordered.{ordered_by, ordered_data}
-use Rattle.run_trace.specs.Traced.{IsOrder, IsRecordOf}
+use Rattle.cluster_sim.specs.Traced.{IsOrder, IsRecordOf}
 
 -- the text of the trace of some run of these acts, and of the order of that run's turns, in which all entries can be taken
 pub record IsRecordText (plan : Plan) (text : List ℕ) : Type 0 where

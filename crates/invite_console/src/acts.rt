@@ -70,7 +70,7 @@ fn push_fault(text: &mut Vec<u8>, why: NodeRefusal) -> Result<(), AllocError>
     match why {
         NodeRefusal::Core(fault) => push_core_fault(text, fault),
         NodeRefusal::Full => push_text(text, "Full"),
-        NodeRefusal::Exhausted | NodeRefusal::Worn => push_text(text, "Exhausted"),
+        NodeRefusal::Exhausted | NodeRefusal::AreaExhausted => push_text(text, "Exhausted"),
     }
 }
 

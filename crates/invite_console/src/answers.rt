@@ -11,7 +11,7 @@ ghost use Rattle.invite_console.specs.Answer.{answer_text, answers_to, first_cou
 use crate::lines::hex_lines;
 use crate::reasons::{bad_hex, with_reason};
 use crate::session::Session;
-use console_text::{Ended, Explained, Printout, Source, Trouble, print_explained, read_source};
+use console_text::{CommandError, Ended, IoTrouble, Output, Source, print_explained, read_source};
 use group_task::NodeId;
 use line_words::LineFault;
 use std::alloc::{AllocError, Global};
@@ -49,7 +49,7 @@ pub fn answer<R: Read, W: Write>(
     ensures reads { input.old.left ≤ input.new.left + 16777216 }
 {
     let outcome = match read_source(alloc, input) {
-        Ok(bytes) => answer_to(alloc, id, nodes, bytes).map_err(Trouble::from),
+        Ok(bytes) => answer_to(alloc, id, nodes, bytes).map_err(IoTrouble::from),
         Err(trouble) => Err(trouble),
     };
     print_explained(alloc, output, outcome)
@@ -61,7 +61,7 @@ fn answer_to(
     id: NodeId,
     nodes: u8,
     mut input: Vec<u8>,
-) -> Result<Explained, AllocError>
+) -> Result<CommandError, AllocError>
     requires within { id < nodes }
     requires limit { nodes ≤ NODES }
     ensures printed { IfOk result (λ explained. outcome_of explained.printout ≡ answer_text id nodes input.items) }
@@ -85,7 +85,7 @@ fn answers_to(
     nodes: u8,
     bytes: &[u8],
     text: Vec<u8>,
-) -> Result<Printout, AllocError>
+) -> Result<Output, AllocError>
     requires within { id < nodes }
     requires limit { nodes ≤ NODES }
     requires empty { text.items ≡ [] }

@@ -19,7 +19,7 @@ mod showing;
 mod simulating;
 
 pub use answers::{answer, needs_no_disk};
-pub use console_text::Ending;
+pub use console_text::ExitKind;
 pub use details::Details;
 pub use recording::record;
 pub use showing::show;

@@ -6,7 +6,7 @@ ghost use Rattle.console_text.specs.Ends.{outcome_of, refused};
 ghost use Rattle.console_text.specs.Reasons.{line_head};
 ghost use Rattle.invite_console.specs.Reasons.{act_flaw, flaw_text, hex_flaw, stream_flaw};
 
-use console_text::{Explained, Printout, bad_line, line_reason, push_text, push_unknown};
+use console_text::{CommandError, Output, bad_line, line_reason, push_text, push_unknown};
 use line_words::{first_word, line_numbered};
 use schedule::{Flaw, flaw_in};
 use std::alloc::{AllocError, Global};
@@ -16,7 +16,7 @@ pub(crate) fn bad_schedule(
     alloc: Global,
     input: &[u8],
     number: u64,
-) -> Result<Explained, AllocError>
+) -> Result<CommandError, AllocError>
     ensures printed { IfOk result (λ explained. outcome_of explained.printout ≡ refused (codes "bad line " ++ decimal number)) }
     ensures why { IfOk result (λ explained. explained.why.items ≡ line_head number ++ act_flaw (line_numbered number (lines_of input.now))) }
 {
@@ -24,7 +24,7 @@ pub(crate) fn bad_schedule(
     let flaw = flaw_in(alloc, line)?;
     let mut why = line_reason(alloc, number)?;
     push_flaw(&mut why, line, flaw)?;
-    Ok(Explained {
+    Ok(CommandError {
         printout: bad_line(alloc, number)?,
         why,
     })
@@ -54,29 +54,29 @@ fn push_flaw(text: &mut Vec<u8>, line: &[u8], flaw: Flaw) -> Result<(), AllocErr
 }
 
 /// What is printed for hex lines of which the line of this number can't be read.
-pub(crate) fn bad_hex(alloc: Global, number: u64) -> Result<Explained, AllocError>
+pub(crate) fn bad_hex(alloc: Global, number: u64) -> Result<CommandError, AllocError>
     ensures printed { IfOk result (λ explained. outcome_of explained.printout ≡ refused (codes "bad line " ++ decimal number)) }
     ensures why { IfOk result (λ explained. explained.why.items ≡ line_head number ++ hex_flaw) }
 {
     let mut why = line_reason(alloc, number)?;
     push_text(&mut why, "neither pairs of hex digits nor a dash")?;
-    Ok(Explained {
+    Ok(CommandError {
         printout: bad_line(alloc, number)?,
         why,
     })
 }
 
 /// What is printed for a stream of messages, with what is wrong with it.
-pub(crate) fn with_reason(alloc: Global, printout: Printout) -> Result<Explained, AllocError>
+pub(crate) fn with_reason(alloc: Global, printout: Output) -> Result<CommandError, AllocError>
     ensures printed { IfOk result (λ explained. outcome_of explained.printout ≡ outcome_of printout) }
     ensures why { IfOk result (λ explained. explained.why.items ≡ stream_flaw (outcome_of printout)) }
 {
     let mut why = Vec::new(alloc);
     push_text(&mut why, stream_word(&printout))?;
-    Ok(Explained { printout, why })
+    Ok(CommandError { printout, why })
 }
 
-fn stream_word(printout: &Printout) -> &'static str
+fn stream_word(printout: &Output) -> &'static str
     ensures { result.now ≡ stream_flaw (outcome_of printout.now) }
 {
     if printout.good {

@@ -7,11 +7,11 @@ ghost use Rattle.schedule.specs.Limits.{IsWithinLimits};
 ghost use Rattle.schedule.specs.Text.{plan};
 
 use crate::reasons::bad_schedule;
+use cluster_sim::record_of;
 use console_text::{
-    Ended, Explained, Printout, Source, Trouble, print_explained, push_text, read_source,
+    CommandError, Ended, IoTrouble, Output, Source, print_explained, push_text, read_source,
 };
 use line_words::LineFault;
-use run_trace::record_of;
 use schedule::{Schedule, read_schedule};
 use std::alloc::{AllocError, Global};
 use std::io::{Read, Write};
@@ -27,14 +27,14 @@ pub fn record<R: Read, W: Write>(alloc: Global, input: &mut Source<R>, output: &
     ensures reads { input.old.left ≤ input.new.left + 16777216 }
 {
     let outcome = match read_source(alloc, input) {
-        Ok(bytes) => record_text(alloc, &bytes).map_err(Trouble::from),
+        Ok(bytes) => record_text(alloc, &bytes).map_err(IoTrouble::from),
         Err(trouble) => Err(trouble),
     };
     print_explained(alloc, output, outcome)
 }
 
 /// What `record` prints for an input, and what is wrong with it.
-fn record_text(alloc: Global, input: &[u8]) -> Result<Explained, AllocError>
+fn record_text(alloc: Global, input: &[u8]) -> Result<CommandError, AllocError>
     ensures printed { IfOk result (λ explained. IsRecording input.now (outcome_of explained.printout)) }
     ensures why { IfOk result (λ explained. explained.why.items ≡ schedule_flaw input.now) }
 {
@@ -42,7 +42,7 @@ fn record_text(alloc: Global, input: &[u8]) -> Result<Explained, AllocError>
         Ok(schedule) => {
             let mut text = recorded(alloc, &schedule)?;
             push_text(&mut text, "\n")?;
-            let printout = Printout { text, good: true };
+            let printout = Output { text, good: true };
             Ok(printout.without_why(alloc))
         }
         Err(LineFault::BadLine(number)) => bad_schedule(alloc, input, number),

@@ -31,7 +31,7 @@ pub(crate) fn push_row(
 {
     let vector = node.vector();
     match node.durable() {
-        Some((count, table)) if !matches!(vector.standing.phase, Phase::Down) => {
+        Some((count, table)) if !matches!(vector.group_state.phase, Phase::Down) => {
             push_up_row(alloc, text, id, vector, count, table)
         }
         _ => push_down_row(text, id),
@@ -100,18 +100,18 @@ fn push_head(text: &mut Vec<u8>, id: NodeId, vector: &Vector) -> Result<(), Allo
     push_text(text, "node ")?;
     push_number(text, u64::from(id.number()))?;
     push_text(text, " ")?;
-    push_text(text, phase_word(vector.standing.phase))
+    push_text(text, phase_word(vector.group_state.phase))
 }
 
 fn push_sets(text: &mut Vec<u8>, vector: &Vector) -> Result<(), AllocError>
     ensures { OnOk result (text.new.items ≡ text.old.items ++ sets_part (state_of vector.now)) }
 {
-    let members = match &vector.standing.task {
+    let members = match &vector.group_state.task {
         Some(task) => task.members(),
         None => Members::new(),
     };
     push_text(text, " up ")?;
-    push_ids(text, vector.standing.up)?;
+    push_ids(text, vector.group_state.up)?;
     push_text(text, " members ")?;
     push_ids(text, members)
 }

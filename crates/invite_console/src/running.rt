@@ -103,7 +103,7 @@ fn keep_act(
     left_by_a_run();
     push_nodes(alloc, details, text, world)?;
     match world.step(act) {
-        Ok(outcome) => keep(text, kept, world.net().sent().len(), act, outcome),
+        Ok(report) => keep(text, kept, world.net().sent().len(), act, report.outcome),
         Err(error) => Err(error),
     }
 }

@@ -8,7 +8,7 @@ ghost use Rattle.invite_console.specs.Answer.{is_strange, message_lines};
 ghost use Rattle.invite_console.specs.Session.{after_message, Delivers, SameButRoom, TakesNext};
 ghost use Rattle.node_core.specs.Quiet.{IsQuiet};
 
-use console_text::{Printout, push_hex, push_text};
+use console_text::{Output, push_hex, push_text};
 use group_task::NodeId;
 use job_model::JobTable;
 use node_core::{CoreFault, NodeCore};
@@ -100,10 +100,10 @@ impl Session {
     }
 
     /// What was printed, where the stream was good or not.
-    pub fn ended(self, good: bool) -> Printout
+    pub fn ended(self, good: bool) -> Output
         ensures { outcome_of result ≡ record { text = self.text; good = good } }
     {
-        Printout {
+        Output {
             text: self.text,
             good,
         }

@@ -7,7 +7,7 @@ ghost use Rattle.node_words.specs.Words.{group_text, truth_text};
 use crate::lines::hex_lines;
 use crate::reasons::{bad_hex, with_reason};
 use console_text::{
-    Ended, Explained, Printout, Source, Trouble, print_explained, push_number, push_text,
+    CommandError, Ended, IoTrouble, Output, Source, print_explained, push_number, push_text,
     read_source,
 };
 use group_task::{GroupNo, Task};
@@ -29,14 +29,14 @@ pub fn show<R: Read, W: Write>(alloc: Global, input: &mut Source<R>, output: &mu
     ensures reads { input.old.left ≤ input.new.left + 16777216 }
 {
     let outcome = match read_source(alloc, input) {
-        Ok(bytes) => show_to(alloc, bytes).map_err(Trouble::from),
+        Ok(bytes) => show_to(alloc, bytes).map_err(IoTrouble::from),
         Err(trouble) => Err(trouble),
     };
     print_explained(alloc, output, outcome)
 }
 
 /// What `show` prints for an input, and what is wrong with it. The text is written in the input's memory.
-fn show_to(alloc: Global, mut input: Vec<u8>) -> Result<Explained, AllocError>
+fn show_to(alloc: Global, mut input: Vec<u8>) -> Result<CommandError, AllocError>
     ensures printed { IfOk result (λ explained. outcome_of explained.printout ≡ show_text input.items) }
     ensures why { IfOk result (λ explained. explained.why.items ≡ show_flaw input.items) }
 {
@@ -52,7 +52,7 @@ fn show_to(alloc: Global, mut input: Vec<u8>) -> Result<Explained, AllocError>
 }
 
 /// The messages of a stream as text, written into `text`, which is empty.
-fn show_stream(bytes: &[u8], mut text: Vec<u8>) -> Result<Printout, AllocError>
+fn show_stream(bytes: &[u8], mut text: Vec<u8>) -> Result<Output, AllocError>
     requires { text.items ≡ [] }
     ensures { IfOk result (λ printout. outcome_of printout ≡ shown_of bytes.now) }
 {
@@ -66,11 +66,11 @@ fn show_stream(bytes: &[u8], mut text: Vec<u8>) -> Result<Printout, AllocError>
             }
             Ok(None) => {
                 push_rest(&mut text, left.len() as u64)?;
-                return Ok(Printout { text, good: true });
+                return Ok(Output { text, good: true });
             }
             Err(_) => {
                 push_text(&mut text, "malformed\n")?;
-                return Ok(Printout { text, good: false });
+                return Ok(Output { text, good: false });
             }
         }
     }

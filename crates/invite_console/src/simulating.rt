@@ -13,7 +13,7 @@ use crate::printing::print_run;
 use crate::reasons::bad_schedule;
 use crate::running::{Run, run_schedule};
 use console_text::{
-    Ended, Ending, Source, Trouble, new_page, print, print_explained, print_page, read_source,
+    Ended, ExitKind, IoTrouble, Source, new_page, print, print_explained, print_page, read_source,
 };
 use line_words::LineFault;
 use schedule::{Schedule, read_schedule};
@@ -63,9 +63,9 @@ fn sim_to<W: Write>(alloc: Global, details: Details, input: Vec<u8>, output: &mu
         }
         Err(LineFault::BadLine(number)) => match bad_schedule(alloc, &input, number) {
             Ok(explained) => print_explained(alloc, output, Ok(explained)),
-            Err(_) => print_explained(alloc, output, Err(Trouble::NoMemory)),
+            Err(_) => print_explained(alloc, output, Err(IoTrouble::NoMemory)),
         },
-        Err(LineFault::NoMemory) => print_explained(alloc, output, Err(Trouble::NoMemory)),
+        Err(LineFault::NoMemory) => print_explained(alloc, output, Err(IoTrouble::NoMemory)),
     }
 }
 
@@ -75,7 +75,7 @@ fn simulate<W: Write>(
     details: Details,
     schedule: &Schedule,
     output: &mut W,
-) -> Ending
+) -> ExitKind
     requires least { 1 ≤ schedule.now.size.nodes }
     requires most { schedule.now.size.nodes ≤ NODES }
     requires least_slots { 4 ≤ schedule.now.size.slots }
@@ -84,27 +84,27 @@ fn simulate<W: Write>(
 {
     match run_schedule(alloc, details, schedule) {
         Ok(run) => print_pages(alloc, output, details.names, &run),
-        Err(_) => print(output, Err(Trouble::NoMemory)),
+        Err(_) => print(output, Err(IoTrouble::NoMemory)),
     }
 }
 
 /// Prints a run. All memory for it is taken first, so that nothing is printed where there is none.
-fn print_pages<W: Write>(alloc: Global, output: &mut W, names: bool, run: &Run) -> Ending
+fn print_pages<W: Write>(alloc: Global, output: &mut W, names: bool, run: &Run) -> ExitKind
     requires { AreKept run.now.kept.items (length run.now.world.net.sent) (length run.now.text.items) }
     ensures { Prints (λ _ outcome. outcome ≡ record { text = run_text names run.now.kept.items run.now.text.items run.now.world.net.sent; good = true }) None
         (W.contents output.old) (W.contents output.new) result }
 {
     let Ok(mut page) = new_page(alloc) else {
-        return print(output, Err(Trouble::NoMemory));
+        return print(output, Err(IoTrouble::NoMemory));
     };
     let Ok(mut bytes) = Vec::with_capacity(alloc, LONGEST_SPELLING) else {
-        return print(output, Err(Trouble::NoMemory));
+        return print(output, Err(IoTrouble::NoMemory));
     };
     if print_run(output, &mut page, &mut bytes, names, run).is_err() {
-        return Ending::Unwritten;
+        return ExitKind::Unwritten;
     }
     if print_page(output, &mut page).is_err() || output.flush().is_err() {
-        return Ending::Unwritten;
+        return ExitKind::Unwritten;
     }
-    Ending::Done
+    ExitKind::Done
 }

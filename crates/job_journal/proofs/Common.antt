@@ -7,7 +7,7 @@ pub use Rattle.std.proofs.lemmas.List.{length-append, append-nil, append_assoc, 
 pub use Rattle.sector_disk.proofs.PublicLaws.{run_widen, each_of_two, run_of_two}
 pub use Rattle.sector_disk.specs.Disk.{Image, DiskState, IsImage, AllSynced, SameBut, Laws, Counts, sector_at, nothing}
 pub use Rattle.sector_disk.specs.Run.{Run, Each}
-pub use Rattle.slot_gate.proofs.PublicLaws.{run_on, Erased, erased_start, erased_run, erased_more, slot_same, slot_kept}
+pub use Rattle.slot_gate.proofs.PublicLaws.{run_on, writes_on, Erased, erased_start, erased_run, erased_more, slot_same, slot_kept}
 pub use Rattle.slot_gate.specs.Slot.{slot_at, InSlot, InSlots}
 pub use Rattle.safe_cell.proofs.PublicLaws.{reads_on, value_stands_same as stands_same, value_stands_for as stands_for}
 pub use Rattle.safe_cell.specs.Answered.{OnlyReads}

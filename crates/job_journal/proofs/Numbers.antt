@@ -1,6 +1,6 @@
 -- The number of the area, while a journal is appended to and compacted.
-use Rattle.job_journal.proofs.Common.{◌≡◌, ◌⊎◌, ⊎_elim, ◌+◌, ◌≤◌, ◌∙◌, ℕ, Some, inl, inr, refl, subst, sym, ap, arith, nat_tests, IsTrue, Image, IsImage, DiskState, Laws, Run, Each, each_of_two, InSlot, InSlots}
-use Rattle.job_journal.proofs.Common.{cell_at, AllStand, IsNumbered, AllWithin, JournalState, AllHold, IsJournal, with_slot, other_sector, first_of, InJournal}
+use Rattle.job_journal.proofs.Common.{◌≡◌, ⊎_elim, ◌+◌, ◌≤◌, ◌∙◌, ℕ, Some, inl, refl, subst, arith, nat_tests, IsTrue, Image, IsImage, DiskState, Laws, Run, Each, each_of_two, InSlot, InSlots}
+use Rattle.job_journal.proofs.Common.{cell_at, AllStand, IsNumbered, AllWithin, JournalState, AllHold, with_slot, other_sector}
 use Rattle.job_journal.proofs.Frames.{cell_same_from, first_between, value_is}
 use Rattle.job_journal.proofs.Changes.{Written, area_stays}
 

@@ -1,9 +1,8 @@
 -- The records that a call has written, slot by slot: each in the spelling that is written today.
-use Rattle.job_journal.proofs.Common.{◌≡◌, ◌+◌, ◌*◌, ◌<◌, ◌≤◌, ◌⊎◌, inl, inr, ⊎_elim, ℕ, zero, suc, List, [], ◌∷◌, ◌++◌, length, map, slice_get, get_or, Some, sym, ◌∙◌, ap, subst, refl, arith, IsTrue, Bool, true, false, ◌==◌, if◌then◌else◌, length-append, length-map}
-use Rattle.job_journal.proofs.Common.{nat_tests, Image, DiskState, SameBut, AllSynced, IsImage, Run, slot_at, sector_at, InSlot, IsCellAt, Record, bytes_of, Jobs, first_of, jobs_of, JournalState, IsJournal, next_slot}
-use Rattle.job_journal.proofs.Common.{CellState, raised, records_for, IsWritten, EndsIn, with_slot, records_written, appended, compacted, record_for, Command, Table}
-use Rattle.std.proofs.lemmas.List.{map-append, get_or-append-add, get_or_append_left}
-use Rattle.std.proofs.lemmas.Option.{slice_get-get_or}
+use Rattle.job_journal.proofs.Common.{◌≡◌, ◌+◌, ◌*◌, ◌<◌, ◌≤◌, ◌⊎◌, ⊎_elim, ℕ, zero, suc, List, [], ◌∷◌, ◌++◌, length, map, slice_get, Some, sym, ◌∙◌, ap, subst, refl, arith, IsTrue, Bool, true, false, ◌==◌, if◌then◌else◌, length-append, length-map}
+use Rattle.job_journal.proofs.Common.{nat_tests, Image, DiskState, SameBut, AllSynced, IsImage, Run, slot_at, sector_at, InSlot, Record, bytes_of, first_of, jobs_of, JournalState, IsJournal, next_slot}
+use Rattle.job_journal.proofs.Common.{CellState, raised, records_for, EndsIn, with_slot, records_written, appended, compacted, record_for, Command, Table}
+use Rattle.std.proofs.lemmas.List.{map-append}
 use Rattle.slot_gate.proofs.PublicLaws.{slot_same}
 use Rattle.job_journal.proofs.Frames.{synced_image, first_between}
 use Rattle.job_journal.proofs.Changes.{Written}

@@ -1,8 +1,8 @@
 // An area written anew: unsealed, then filled with the records of some jobs, and then sealed.
-ghost use Rattle.std.specs.Prelude.{◌≡◌, ◌⊎◌, ◌<◌, ◌≤◌, ◌+◌, ◌*◌, ◌^◌, ℕ, length, slice_get, IsTrue, IsOk, IsErrOf, Some, None};
-ghost use Rattle.sector_disk.specs.Disk.{Counts, AllSynced};
-ghost use Rattle.sector_disk.specs.Run.{Run};
+ghost use Rattle.std.specs.Prelude.{◌≡◌, ◌<◌, ◌≤◌, ◌+◌, ◌*◌, ◌^◌, ℕ, length, slice_get, IsTrue, IsOk, IsErrOf, Some, None};
+ghost use Rattle.sector_disk.specs.Disk.{AllSynced};
 ghost use Rattle.slot_gate.specs.Slot.{slot_at, InSlots};
+ghost use Rattle.slot_gate.specs.Writing.{WritesOnly};
 ghost use Rattle.job_journal.specs.Compacting.{records_for, IsWritten};
 ghost use Rattle.job_journal.specs.Jobs.{jobs_of};
 ghost use Rattle.job_model.specs.Order.{IsInOrder};
@@ -23,11 +23,8 @@ pub(crate) fn write_area<D: SectorDisk>(
     requires on_disk { first + 2 * slots ≤ (D.state disk.old).sectors }
     requires fits { first + 2 * slots < 2 ^ 64 }
     requires room { length table.now.pending + 2 ≤ slots }
-    ensures device_alone { IsOk result ⊎ IsErrOf result JournalFault.Device }
-    ensures counts { Counts (D.state disk.old) (D.state disk.new)
-        (IsErrOf result JournalFault.Device) (IsErrOf result JournalFault.Device → ⊥) }
-    ensures run { IsTrue (D.state disk.old).honest
-        → Run (InSlots first slots) (D.state disk.old) (D.state disk.new) }
+    ensures writes { WritesOnly (InSlots first slots) (D.state disk.old) (D.state disk.new)
+        (IsErrOf result JournalFault.Device) (IsOk result) }
     ensures written { IsTrue (D.state disk.old).honest → IsOk result
         → IsWritten first slots (records_for (jobs_of table.now)) (length table.now.pending + 1)
         (length table.now.pending + 1) (D.state disk.new).contents }
@@ -47,11 +44,8 @@ pub(crate) fn write_area<D: SectorDisk>(
 fn erase<D: SectorDisk>(disk: &mut D, first: u64, slots: u64) -> Result<(), JournalFault>
     requires on_disk { first + 2 * slots ≤ (D.state disk.old).sectors }
     requires fits { first + 2 * slots < 2 ^ 64 }
-    ensures device_alone { IsOk result ⊎ IsErrOf result JournalFault.Device }
-    ensures counts { Counts (D.state disk.old) (D.state disk.new)
-        (IsErrOf result JournalFault.Device) (IsErrOf result JournalFault.Device → ⊥) }
-    ensures run { IsTrue (D.state disk.old).honest
-        → Run (InSlots first slots) (D.state disk.old) (D.state disk.new) }
+    ensures writes { WritesOnly (InSlots first slots) (D.state disk.old) (D.state disk.new)
+        (IsErrOf result JournalFault.Device) (IsOk result) }
     ensures unsealed { IsTrue (D.state disk.old).honest → IsOk result
         → (k : ℕ) → k < slots → slot_at (D.state disk.new).contents (first + 2 * k) ≡ None }
 {
@@ -73,11 +67,8 @@ pub(crate) fn fill_area<D: SectorDisk>(
     requires on_disk { first + 2 * slots ≤ (D.state disk.old).sectors }
     requires fits { first + 2 * slots < 2 ^ 64 }
     requires room { length table.now.pending + 2 ≤ slots }
-    ensures device_alone { IsOk result ⊎ IsErrOf result JournalFault.Device }
-    ensures counts { Counts (D.state disk.old) (D.state disk.new)
-        (IsErrOf result JournalFault.Device) (IsErrOf result JournalFault.Device → ⊥) }
-    ensures run { IsTrue (D.state disk.old).honest
-        → Run (InSlots first slots) (D.state disk.old) (D.state disk.new) }
+    ensures writes { WritesOnly (InSlots first slots) (D.state disk.old) (D.state disk.new)
+        (IsErrOf result JournalFault.Device) (IsOk result) }
     ensures filled { IsTrue (D.state disk.old).honest → IsOk result
         → IsWritten first slots (records_for (jobs_of table.now)) 0 0 (D.state disk.old).contents
         → IsWritten first slots (records_for (jobs_of table.now)) (length table.now.pending + 1)
@@ -108,11 +99,8 @@ pub(crate) fn seal_area<D: SectorDisk>(
     requires fits { first + 2 * slots < 2 ^ 64 }
     requires room { length table.now.pending + 2 ≤ slots }
     requires synced { IsTrue (D.state disk.old).honest → AllSynced (D.state disk.old) }
-    ensures device_alone { IsOk result ⊎ IsErrOf result JournalFault.Device }
-    ensures counts { Counts (D.state disk.old) (D.state disk.new)
-        (IsErrOf result JournalFault.Device) (IsErrOf result JournalFault.Device → ⊥) }
-    ensures run { IsTrue (D.state disk.old).honest
-        → Run (InSlots first slots) (D.state disk.old) (D.state disk.new) }
+    ensures writes { WritesOnly (InSlots first slots) (D.state disk.old) (D.state disk.new)
+        (IsErrOf result JournalFault.Device) (IsOk result) }
     ensures sealed { IsTrue (D.state disk.old).honest → IsOk result
         → IsWritten first slots (records_for (jobs_of table.now)) (length table.now.pending + 1)
         0 (D.state disk.old).contents

@@ -1,10 +1,10 @@
 // A journal begun with jobs.
-ghost use Rattle.std.specs.Prelude.{◌≡◌, ◌⊎◌, ◌<◌, ◌≤◌, ◌+◌, ◌*◌, length, IsTrue, IsOk, IsErrOf, Some};
+ghost use Rattle.std.specs.Prelude.{◌≡◌, ◌<◌, ◌≤◌, ◌+◌, ◌*◌, length, IsTrue, IsOk, IsErrOf, Some};
 ghost use Rattle.disk_sector.specs.Layout.{sectors_for};
 ghost use Rattle.disk_sector.specs.declared.layout.TheConstants.{MOST_SLOTS};
-ghost use Rattle.sector_disk.specs.Disk.{Image, IsImage, Counts, AllSynced};
-ghost use Rattle.sector_disk.specs.Run.{Run};
+ghost use Rattle.sector_disk.specs.Disk.{Image, IsImage, AllSynced};
 ghost use Rattle.slot_gate.specs.Slot.{InSlots};
+ghost use Rattle.slot_gate.specs.Writing.{WritesOnly};
 ghost use Rattle.job_journal.specs.Compacting.{IsWritten, records_for};
 ghost use Rattle.job_journal.specs.Jobs.{jobs_of};
 ghost use Rattle.job_model.specs.Order.{IsInOrder};
@@ -19,17 +19,13 @@ use slot_gate::unseal_all;
 /// Makes a journal of the jobs of a table, with areas of so many slots: unseals the gates of both areas by one write each and one sync for all,
 /// writes a Base of the next id and a Keep for each job into the first area, and then gives the area cell the value 1, in `2 * slots + 9` device
 /// calls and four for each record. `Device` is the only fault; what was there before may then be lost.
-#[tactic(auto, using(crate::proofs::Areas::areas_within))]
 pub fn begin<D: SectorDisk>(disk: &mut D, slots: u64, table: &JobTable) -> Result<(), JournalFault>
     requires on_disk { sectors_for slots ≤ (D.state disk.old).sectors }
     requires most { slots ≤ MOST_SLOTS }
     requires room { length table.now.pending + 2 ≤ slots }
 
-    ensures device_alone { IsOk result ⊎ IsErrOf result JournalFault.Device }
-    ensures counts { Counts (D.state disk.old) (D.state disk.new)
-        (IsErrOf result JournalFault.Device) (IsErrOf result JournalFault.Device → ⊥) }
-    ensures run { IsTrue (D.state disk.old).honest
-        → Run (InJournal slots) (D.state disk.old) (D.state disk.new) }
+    ensures writes { WritesOnly (InJournal slots) (D.state disk.old) (D.state disk.new)
+        (IsErrOf result JournalFault.Device) (IsOk result) }
 
     // After `Ok` each image stands for these jobs; the disk is sound, and nothing is unsynced.
     // Promise: After a journal was begun with jobs, each image has just these jobs, under their ids.
@@ -59,11 +55,8 @@ fn write_records<D: SectorDisk>(
     requires on_disk { sectors_for slots ≤ (D.state disk.old).sectors }
     requires most { slots ≤ MOST_SLOTS }
     requires room { length table.now.pending + 2 ≤ slots }
-    ensures device_alone { IsOk result ⊎ IsErrOf result JournalFault.Device }
-    ensures counts { Counts (D.state disk.old) (D.state disk.new)
-        (IsErrOf result JournalFault.Device) (IsErrOf result JournalFault.Device → ⊥) }
-    ensures run { IsTrue (D.state disk.old).honest
-        → Run (InSlots 8 slots) (D.state disk.old) (D.state disk.new) }
+    ensures writes { WritesOnly (InSlots 8 slots) (D.state disk.old) (D.state disk.new)
+        (IsErrOf result JournalFault.Device) (IsOk result) }
     ensures written { IsTrue (D.state disk.old).honest → IsOk result
         → IsWritten 8 slots (records_for (jobs_of table.now)) 0 0 (D.state disk.old).contents
         → IsWritten 8 slots (records_for (jobs_of table.now)) (length table.now.pending + 1)

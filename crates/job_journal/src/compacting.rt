@@ -1,9 +1,10 @@
 // A journal moved into its other area, with no record in it but those of the pending jobs.
-ghost use Rattle.std.specs.Prelude.{◌≡◌, ◌≢◌, ◌⊎◌, ◌<◌, ◌≤◌, ◌+◌, ◌-◌, ◌*◌, ◌^◌, IsTrue, IsOk, IsErrOf, IsSome, Some, None};
+ghost use Rattle.std.specs.Prelude.{◌≡◌, ◌≢◌, ◌<◌, ◌≤◌, ◌+◌, ◌-◌, ◌*◌, ◌^◌, IsTrue, IsOk, IsErrOf, IsSome, Some, None};
 ghost use Rattle.disk_sector.specs.Layout.{sectors_for};
 ghost use Rattle.disk_sector.specs.declared.layout.TheConstants.{MOST_SLOTS};
 ghost use Rattle.sector_disk.specs.Disk.{Counts};
 ghost use Rattle.sector_disk.specs.Run.{Run, Each};
+ghost use Rattle.slot_gate.specs.Writing.{WritesOnly};
 ghost use Rattle.job_journal.specs.Appending.{Answers};
 ghost use Rattle.job_journal.specs.Areas.{first_of, EndsIn};
 ghost use Rattle.job_journal.specs.Compacting.{compaction_refusal, compacted, records_for, with_slot, KeepsJobs, IsGivenUp};
@@ -88,14 +89,11 @@ impl JobJournal {
     pub(crate) fn make_room<D: SectorDisk>(&mut self, disk: &mut D) -> Result<(), JournalFault>
         requires on_disk { sectors_for self.old.slots ≤ (D.state disk.old).sectors }
         requires can { self.old.used ≡ self.old.slots → compaction_refusal self.old ≡ None }
-        ensures counts { Counts (D.state disk.old) (D.state disk.new)
-            (IsErrOf result JournalFault.Device) (IsErrOf result JournalFault.Device → ⊥) }
-        ensures device_alone { IsOk result ⊎ IsErrOf result JournalFault.Device }
+        ensures writes { WritesOnly (InJournal self.old.slots) (D.state disk.old) (D.state disk.new)
+            (IsErrOf result JournalFault.Device) (IsOk result) }
         ensures device { IsErrOf result JournalFault.Device → IsGivenUp self.old self.new }
         ensures ok { IsOk result → self.new ≡ with_slot self.old }
         ensures kept { KeepsJobs self.old self.new }
-        ensures run { IsTrue (D.state disk.old).honest
-            → Run (InJournal self.old.slots) (D.state disk.old) (D.state disk.new) }
         ensures images { IsTrue (D.state disk.old).honest → AllHold self.old (D.state disk.old)
             → ImagesSince self.old.slots (D.state disk.old) (D.state disk.new)
             (λ image. jobs_in self.old.slots image ≡ Some (jobs_of self.old.table)) }

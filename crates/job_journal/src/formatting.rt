@@ -1,9 +1,9 @@
 // A journal made on its disk.
-ghost use Rattle.std.specs.Prelude.{◌≡◌, ◌⊎◌, ◌<◌, ◌≤◌, ◌+◌, ◌*◌, IsTrue, IsOk, IsErrOf, Some};
+ghost use Rattle.std.specs.Prelude.{◌≡◌, ◌<◌, ◌≤◌, ◌+◌, ◌*◌, IsTrue, IsOk, IsErrOf, Some};
 ghost use Rattle.disk_sector.specs.Layout.{sectors_for};
 ghost use Rattle.disk_sector.specs.declared.layout.TheConstants.{MOST_SLOTS};
-ghost use Rattle.sector_disk.specs.Disk.{Image, IsImage, Counts, AllSynced};
-ghost use Rattle.sector_disk.specs.Run.{Run};
+ghost use Rattle.sector_disk.specs.Disk.{Image, IsImage, AllSynced};
+ghost use Rattle.slot_gate.specs.Writing.{WritesOnly};
 ghost use Rattle.job_journal.specs.Jobs.{no_jobs};
 ghost use Rattle.job_journal.specs.Journal.{jobs_in, IsFormatted, IsSound, InJournal};
 
@@ -14,16 +14,12 @@ use slot_gate::unseal_all;
 /// Makes an empty journal with areas of so many slots: unseals the gates of both areas by one write each and one sync
 /// for all, and then gives the area cell the value 1, in `2 * slots + 9` device calls. `Device` is the only fault; what
 /// was there before may then be lost.
-#[tactic(auto, using(crate::proofs::Areas::areas_within))]
 pub fn format<D: SectorDisk>(disk: &mut D, slots: u64) -> Result<(), JournalFault>
     requires on_disk { sectors_for slots ≤ (D.state disk.old).sectors }
     requires most { slots ≤ MOST_SLOTS }
 
-    ensures device_alone { IsOk result ⊎ IsErrOf result JournalFault.Device }
-    ensures counts { Counts (D.state disk.old) (D.state disk.new)
-        (IsErrOf result JournalFault.Device) (IsErrOf result JournalFault.Device → ⊥) }
-    ensures run { IsTrue (D.state disk.old).honest
-        → Run (InJournal slots) (D.state disk.old) (D.state disk.new) }
+    ensures writes { WritesOnly (InJournal slots) (D.state disk.old) (D.state disk.new)
+        (IsErrOf result JournalFault.Device) (IsOk result) }
 
     // After `Ok` each image has the area cell's 1 and no sealed slot in either area, so it stands for no jobs; the disk
     // is sound, and nothing is unsynced.

@@ -1,5 +1,5 @@
 -- What the disk answers when it has taken a command.
-use Rattle.std.specs.Prelude.{ℕ, ◌+◌, Option, Some, None}
+use Rattle.std.specs.Prelude.{ℕ, ◌+◌, Option, option_map, unwrap_or}
 use Rattle.job_model.specs.declared.node_command.NodeCommand.{NodeCommand as Command}
 use Rattle.job_model.specs.declared.node_command.NodeCommand.TheVariants.{Raise, Put, Done}
 use Rattle.job_model.specs.Durable.{Durable}
@@ -12,5 +12,4 @@ answer_of d (Done id) = id
 
 -- the answer to the command that an event wants; where it wants none, it isn't looked at
 abbrev pub answer_to : Durable → Option Command → ℕ
-answer_to d None = 0
-answer_to d (Some c) = answer_of d c
+answer_to d wants = unwrap_or (option_map (answer_of d) wants) 0

@@ -1,4 +1,11 @@
 //! Lines of text, their words, and the numbers and bytes that words spell.
+//!
+//! ```
+//! let (name, fields) = cut_word(b"submit 3 6869")?;                // None: the line has one word
+//! let (queue, payload) = cut_word(fields)?;
+//! assert!(is_word(name, "submit") && number(queue) == Some(3));
+//! let payload = bytes(alloc, payload)?;                            // b"hi"; None: it isn't hex
+//! ```
 #![tactic(auto)]
 
 mod digits;

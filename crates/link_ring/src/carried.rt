@@ -11,7 +11,7 @@ use wire_msg::{Body, Form, Short};
 #[derive(Drop)]
 pub(crate) enum Carried {
     Short(Short),
-    Long(Box<Body>),
+    Overflow(Box<Body>),
 }
 
 /// Boxes for long bodies. They are made before messages are put, so that a put takes no memory.
@@ -69,6 +69,6 @@ impl Spares {
         }
         let mut long = self.boxes.pop()?;
         *long = *body;
-        Some(Carried::Long(long))
+        Some(Carried::Overflow(long))
     }
 }

@@ -3,7 +3,7 @@ ghost use Rattle.rtrb.specs.Ring.{sent, known_free, producer_capacity};
 ghost use Rattle.link_ring.specs.Sides.{unused, with_message, with_room};
 
 use crate::carried::Spares;
-use crate::parcel::Parcel;
+use crate::slot::Slot;
 use group_task::NodeId;
 use message_list::MessageList;
 use rtrb::Producer;
@@ -16,7 +16,7 @@ use wire_msg::{Body, Message};
 pub struct PutEnd {
     sender: NodeId,
     receiver: NodeId,
-    producer: Producer<Parcel>,
+    producer: Producer<Slot>,
     spares: Spares,
     put: MessageList,
 }
@@ -40,7 +40,7 @@ impl PutEnd {
         alloc: Global,
         sender: NodeId,
         receiver: NodeId,
-        producer: Producer<Parcel>,
+        producer: Producer<Slot>,
     ) -> PutEnd
         requires slots { (sent producer ≡ []) × (known_free producer ≡ producer_capacity producer) }
         ensures { result ≡ unused sender receiver (producer_capacity producer) }
@@ -133,7 +133,8 @@ impl PutEnd {
         let Some(body) = self.spares.pack(message.body()) else {
             return false;
         };
-        self.producer.push_reserved(Parcel::between(message.sender(), message.receiver(), body));
+        self.producer
+            .push_reserved(Slot::between(message.sender(), message.receiver(), body));
         self.put.push(message);
         true
     }

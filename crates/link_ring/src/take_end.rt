@@ -3,7 +3,7 @@ ghost use mathlib.Core.List.{IsPrefix};
 ghost use Rattle.rtrb.specs.Ring.{received, known_items, consumer_capacity};
 ghost use Rattle.link_ring.specs.Sides.{unused, with_room, TookNext};
 
-use crate::parcel::Parcel;
+use crate::slot::Slot;
 use group_task::NodeId;
 use message_list::MessageList;
 use rtrb::Consumer;
@@ -16,7 +16,7 @@ use wire_msg::Message;
 pub struct TakeEnd {
     sender: NodeId,
     receiver: NodeId,
-    consumer: Consumer<Parcel>,
+    consumer: Consumer<Slot>,
     taken: MessageList,
 }
 
@@ -38,7 +38,7 @@ impl TakeEnd {
         alloc: Global,
         sender: NodeId,
         receiver: NodeId,
-        consumer: Consumer<Parcel>,
+        consumer: Consumer<Slot>,
     ) -> TakeEnd
         requires { (received consumer ≡ []) × (known_items consumer ≡ []) }
         ensures { result ≡ unused sender receiver (consumer_capacity consumer) }
@@ -125,7 +125,7 @@ impl TakeEnd {
 
 /// Takes the first message of the ring, into a place with no message.
 #[inline]
-fn pop(consumer: &mut Consumer<Parcel>, place: &mut Option<Message>)
+fn pop(consumer: &mut Consumer<Slot>, place: &mut Option<Message>)
     requires none { place.old ≡ None }
     ensures slots { consumer_capacity consumer.new ≡ consumer_capacity consumer.old }
     ensures taken { IfSome place.new (λ m. received consumer.new ≡ received consumer.old ++ m ∷ []) }
@@ -141,7 +141,7 @@ fn pop(consumer: &mut Consumer<Parcel>, place: &mut Option<Message>)
 
 /// The same where a message was seen. It stands apart, since most looks find none, and here a whole message is made.
 #[inline(never)]
-fn pop_seen(consumer: &mut Consumer<Parcel>, place: &mut Option<Message>)
+fn pop_seen(consumer: &mut Consumer<Slot>, place: &mut Option<Message>)
     requires seen { 0 < length (known_items consumer.old) }
     ensures slots { consumer_capacity consumer.new ≡ consumer_capacity consumer.old }
     ensures taken { IfSome place.new (λ m. (received consumer.new ≡ received consumer.old ++ m ∷ []) × (known_items consumer.old ≡ m ∷ known_items consumer.new)) }

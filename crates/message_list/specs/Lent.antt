@@ -9,7 +9,7 @@ use Rattle.wire_msg.specs.Spelling.{truth}
 use Rattle.wire_msg.specs.Kinds.{Shape, Brief, Tells, Gives, shape_of, number_of}
 use Rattle.wire_msg.specs.declared.body.Body.TheVariants.{AreYouCoordinator}
 use Rattle.message_list.specs.declared.opened.Opened.{Opened}
-use Rattle.message_list.specs.Letters.{shape_kept, message_of, HasBody, HasPayload}
+use Rattle.message_list.specs.PackedMessages.{shape_kept, message_of, HasBody, HasPayload}
 
 -- the message at a place of a list
 abbrev pub message_at : List Envelope → ℕ → Envelope
@@ -56,15 +56,15 @@ marked numbers = fed.u128 (mark numbers) ++ fed.u64 (count numbers)
 pub same_mark : (m n : Envelope) → IsTrue (same_message m n) → marked (numbers_of m) ≡ marked (numbers_of n)
 same_mark m n same = ap marked ((bytes_decides (numbers_of m) (numbers_of n)).0 same)
 
--- ---- a letter, lent with what is kept beside it
+-- ---- a packed message, lent with what is kept beside it
 
 abbrev pub shape_opened : Opened → Shape
-shape_opened o = shape_kept o.tasks.now o.works.now o.payloads.now o.letter.now
+shape_opened o = shape_kept o.tasks.now o.works.now o.payloads.now o.packed_message.now
 
 abbrev pub message_opened : Opened → Envelope
-message_opened o = message_of o.tasks.now o.works.now o.payloads.now o.letter.now
+message_opened o = message_of o.tasks.now o.works.now o.payloads.now o.packed_message.now
 
 -- it can be read
 pub record IsOpened (o : Opened) : Type 0 where
-  pub body : HasBody (length o.tasks.now) (length o.works.now) o.letter.now.kind o.letter.now
+  pub body : HasBody (length o.tasks.now) (length o.works.now) o.packed_message.now.kind o.packed_message.now
   pub payloads : All (HasPayload (length o.payloads.now)) o.works.now

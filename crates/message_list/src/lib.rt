@@ -6,9 +6,9 @@
 #![tactic(auto)]
 
 mod lent;
-mod letter;
 mod list;
 mod opened;
+mod packed_message;
 mod spelling;
 
 pub use lent::LentMessage;

@@ -1,13 +1,14 @@
 ghost use Rattle.std.specs.Prelude.{◌≡◌, ◌-◌, ◌+◌, ◌<◌, ◌≤◌, ◌↔◌, [], ◌∷◌, ◌++◌, length, max, option_map, slice_get, Some, None, IfSome, IsTrue, MatchBool, OnOk, OnErr};
 ghost use Rattle.wire_msg.specs.Spelling.{spelling, IsMessage};
 ghost use Rattle.message_list.specs.Lent.{message_at, message_opened, IsOpened};
-ghost use Rattle.message_list.specs.Letters.{ends_of};
+ghost use Rattle.message_list.specs.PackedMessages.{ends_of};
 
 use crate::lent::LentMessage;
-use crate::letter::{
-    KeptWork, Letter, is_message, keep_payload, keep_task, keep_work, letter_of, read_letter,
-};
 use crate::opened::Opened;
+use crate::packed_message::{
+    PackedMessage, PackedWork, is_message, keep_payload, keep_task, keep_work, letter_of,
+    read_letter,
+};
 use crate::spelling::{spell_letter, spell_message};
 use group_task::{NodeId, Task};
 use job_model::PAYLOAD_CAPACITY;
@@ -21,9 +22,9 @@ use wire_msg::Message;
 /// spellings of its messages take.
 #[derive(Drop)]
 pub struct MessageList {
-    letters: Vec<Letter>,
+    letters: Vec<PackedMessage>,
     tasks: Vec<Task>,
-    works: Vec<KeptWork>,
+    works: Vec<PackedWork>,
     payloads: Vec<u8>,
     // for so many more messages there is room, whatever they say
     room: usize,
@@ -31,7 +32,7 @@ pub struct MessageList {
 
 impl Model for MessageList {
     ghost use Rattle.std.specs.Prelude.{map};
-    ghost use Rattle.message_list.specs.Letters.{Kept, message_of};
+    ghost use Rattle.message_list.specs.PackedMessages.{Kept, message_of};
 
     ghost Value = { Kept };
 
@@ -112,11 +113,11 @@ impl MessageList {
         ensures { self.new ≡ record { messages = self.old.messages ++ message.now ∷ []; room = self.old.room - 1 } }
     {
         let body = message.body();
-        let letter = letter_of(message, self.tasks.len(), self.works.len());
+        let packed_message = letter_of(message, self.tasks.len(), self.works.len());
         keep_task(&mut self.tasks, body);
         keep_work(&mut self.works, self.payloads.len(), body);
         keep_payload(&mut self.payloads, body);
-        self.letters.push_reserved(letter);
+        self.letters.push_reserved(packed_message);
         self.room -= 1;
     }
 
@@ -142,10 +143,16 @@ impl MessageList {
     pub fn read(&self, place: usize, message: &mut Message) -> bool
         ensures { MatchBool result (slice_get self.now.messages place ≡ Some message.new) ((slice_get self.now.messages place ≡ None) × (message.new ≡ message.old)) }
     {
-        let Some(letter) = self.letters.get(place) else {
+        let Some(packed_message) = self.letters.get(place) else {
             return false;
         };
-        read_letter(&self.tasks, &self.works, &self.payloads, letter, message);
+        read_letter(
+            &self.tasks,
+            &self.works,
+            &self.payloads,
+            packed_message,
+            message,
+        );
         true
     }
 
@@ -156,7 +163,13 @@ impl MessageList {
         ensures { IsTrue result ↔ (slice_get self.now.messages place ≡ Some message.now) }
     {
         match self.letters.get(place) {
-            Some(letter) => is_message(&self.tasks, &self.works, &self.payloads, letter, message),
+            Some(packed_message) => is_message(
+                &self.tasks,
+                &self.works,
+                &self.payloads,
+                packed_message,
+                message,
+            ),
             None => false,
         }
     }
@@ -175,7 +188,7 @@ impl MessageList {
         }
     }
 
-    /// The letter at a place, with what is kept beside it.
+    /// The packed message at a place, with what is kept beside it.
     pub(crate) fn opened(&self, place: usize) -> Opened<'_>
         requires { place < length self.now.messages }
         ensures message { message_opened result ≡ message_at self.now.messages place }
@@ -185,7 +198,7 @@ impl MessageList {
             tasks: &self.tasks,
             works: &self.works,
             payloads: &self.payloads,
-            letter: &self.letters[place],
+            packed_message: &self.letters[place],
         }
     }
 
@@ -195,8 +208,8 @@ impl MessageList {
         // Refuses: ends_swapped.
         ensures { result ≡ option_map ends_of (slice_get self.now.messages place) }
     {
-        let letter = self.letters.get(place)?;
-        Some((letter.sender, letter.receiver))
+        let packed_message = self.letters.get(place)?;
+        Some((packed_message.sender, packed_message.receiver))
     }
 
     /// Writes the spelling of the message at a place, counted from 0, in place of what `bytes` held. A list that is used again and
@@ -210,10 +223,10 @@ impl MessageList {
         ensures message { IfSome (slice_get self.now.messages place) (λ message. OnOk result (IsMessage message)) }
         ensures refused { OnErr result (bytes.new.items ≡ []) }
     {
-        let Some(letter) = self.letters.get(place) else {
+        let Some(packed_message) = self.letters.get(place) else {
             unreachable!()
         };
-        let is_whole = spell_letter(bytes, letter);
+        let is_whole = spell_letter(bytes, packed_message);
         if is_whole.is_err() {
             bytes.clear();
         }
@@ -223,7 +236,7 @@ impl MessageList {
         self.spell_kept(place, bytes)
     }
 
-    /// The same for a message whose body is kept beside its letter. It stands apart, since each call of a function pays for the size of
+    /// The same for a message whose body is kept beside its packed message. It stands apart, since each call of a function pays for the size of
     /// its locals, and here a whole message is one.
     #[inline(never)]
     fn spell_kept(&self, place: usize, bytes: &mut Vec<u8>) -> Result<(), AllocError>

@@ -1,20 +1,20 @@
 //! A message as it is kept, with the lists beside it, in which its longer parts stand.
 
 ghost use Rattle.std.specs.Prelude.{◌≡◌, ◌↔◌, IsTrue, length};
-ghost use Rattle.message_list.specs.Letters.{HasPayload, work_said};
+ghost use Rattle.message_list.specs.PackedMessages.{HasPayload, work_said};
 ghost use Rattle.wire_msg.specs.Kinds.{body_of};
 ghost use Rattle.message_list.specs.Lent.{shape_opened, message_opened, mark_by, mark_of, count_of, IsOpened};
 
-use crate::letter::{KeptWork, Letter, LetterKind};
+use crate::packed_message::{PackedKind, PackedMessage, PackedWork};
 use group_task::Task;
 
-/// A letter, lent with what is kept beside it.
+/// A packed message, lent with what is kept beside it.
 #[derive(Clone, Copy)]
 pub struct Opened<'a> {
     pub tasks: &'a [Task],
-    pub works: &'a [KeptWork],
+    pub works: &'a [PackedWork],
     pub payloads: &'a [u8],
-    pub letter: &'a Letter,
+    pub packed_message: &'a PackedMessage,
 }
 
 /// Whether they are one message.
@@ -23,8 +23,8 @@ pub fn is_same(one: &Opened<'_>, other: &Opened<'_>) -> bool
     requires other { IsOpened other.now }
     ensures { IsTrue result ↔ (message_opened one.now ≡ message_opened other.now) }
 {
-    one.letter.sender == other.letter.sender
-        && one.letter.receiver == other.letter.receiver
+    one.packed_message.sender == other.packed_message.sender
+        && one.packed_message.receiver == other.packed_message.receiver
         && is_same_body(one, other)
 }
 
@@ -43,16 +43,16 @@ fn has_same_shape(one: &Opened<'_>, other: &Opened<'_>) -> bool
     requires other { IsOpened other.now }
     ensures { IsTrue result ↔ (shape_opened one.now ≡ shape_opened other.now) }
 {
-    let (a, b) = (one.letter, other.letter);
+    let (a, b) = (one.packed_message, other.packed_message);
     if a.kind != b.kind {
         return false;
     }
     match a.kind {
-        LetterKind::Short(_) => a.answer == b.answer
+        PackedKind::Short(_) => a.answer == b.answer
             && a.creator == b.creator
             && a.number == b.number,
-        LetterKind::Ready => one.tasks[a.number as usize] == other.tasks[b.number as usize],
-        LetterKind::Work => is_same_work(
+        PackedKind::Ready => one.tasks[a.number as usize] == other.tasks[b.number as usize],
+        PackedKind::Work => is_same_work(
             one.payloads,
             &one.works[a.number as usize],
             other.payloads,
@@ -62,7 +62,12 @@ fn has_same_shape(one: &Opened<'_>, other: &Opened<'_>) -> bool
 }
 
 /// Whether two Works say the same.
-fn is_same_work(payloads: &[u8], one: &KeptWork, other_payloads: &[u8], other: &KeptWork) -> bool
+fn is_same_work(
+    payloads: &[u8],
+    one: &PackedWork,
+    other_payloads: &[u8],
+    other: &PackedWork,
+) -> bool
     requires one { HasPayload (length payloads.now) one.now }
     requires other { HasPayload (length other_payloads.now) other.now }
     ensures { IsTrue result ↔ (work_said payloads.now one.now ≡ work_said other_payloads.now other.now) }
@@ -81,17 +86,22 @@ pub fn mark(one: &Opened<'_>) -> u128
     requires { IsOpened one.now }
     ensures { result ≡ mark_of (message_opened one.now) }
 {
-    let letter = one.letter;
-    let number = letter.number;
-    match letter.kind {
-        LetterKind::Short(kind) => mark_by(letter, kind.number(), letter.creator.number(), number),
-        LetterKind::Ready => {
+    let packed_message = one.packed_message;
+    let number = packed_message.number;
+    match packed_message.kind {
+        PackedKind::Short(kind) => mark_by(
+            packed_message,
+            kind.number(),
+            packed_message.creator.number(),
+            number,
+        ),
+        PackedKind::Ready => {
             let group = one.tasks[number as usize].group();
-            mark_by(letter, 7, group.creator().number(), group.count())
+            mark_by(packed_message, 7, group.creator().number(), group.count())
         }
-        LetterKind::Work => {
+        PackedKind::Work => {
             let work = &one.works[number as usize];
-            mark_by(letter, 9, work.group.creator().number(), work.id)
+            mark_by(packed_message, 9, work.group.creator().number(), work.id)
         }
     }
 }
@@ -102,17 +112,18 @@ pub fn count(one: &Opened<'_>) -> u64
     requires { IsOpened one.now }
     ensures { result ≡ count_of (message_opened one.now) }
 {
-    match one.letter.kind {
-        LetterKind::Work => one.works[one.letter.number as usize].group.count(),
-        LetterKind::Short(_) | LetterKind::Ready => 0,
+    match one.packed_message.kind {
+        PackedKind::Work => one.works[one.packed_message.number as usize].group.count(),
+        PackedKind::Short(_) | PackedKind::Ready => 0,
     }
 }
 
-/// The mark of a message between the ends of a letter, whose body has this kind, and names this node and this number.
-fn mark_by(letter: &Letter, kind: u8, node: u8, number: u64) -> u128
-    ensures { result ≡ mark_by letter.now.sender letter.now.receiver kind node number }
+/// The mark of a message between the ends of a packed message, whose body has this kind, and names this node and this number.
+fn mark_by(packed_message: &PackedMessage, kind: u8, node: u8, number: u64) -> u128
+    ensures { result ≡ mark_by packed_message.now.sender packed_message.now.receiver kind node number }
 {
-    let ends = u64::from(letter.sender.number()) * 256 + u64::from(letter.receiver.number());
+    let ends = u64::from(packed_message.sender.number()) * 256
+        + u64::from(packed_message.receiver.number());
     let named = (ends * 256 + u64::from(node)) * 256 + u64::from(kind);
     u128::from(named) * 2u128.pow(64) + u128::from(number)
 }

@@ -23,7 +23,8 @@ pub record CanCarry (core : Core) (plan : Plan) : Type 0 where
 
 -- carrying the plan out does what the event does: it is what the last planning of this core left
 pub record IsPlanFor (core : Core) (pending : List Job) (event : Event) (plan : Plan) : Type 0 where
-  pub effect_is : (answer : ℕ) → planned_effect core.id plan answer core.state ≡ effect_of core.nodes core.id pending event answer core.state
+  pub effect_is : (answer : ℕ) →
+      planned_effect core.id plan answer core.state ≡ effect_of core.nodes core.id pending event answer core.state
   pub wants_is : plan_wants plan ≡ wants_of core.id pending event core.state
   pub few : plan_sends core.id plan ≤ most_of core.nodes pending
   pub can_carry : CanCarry core plan

@@ -10,8 +10,9 @@ use Rattle.node_core.specs.declared.timer.Timer.TheVariants as timer
 use Rattle.node_core.specs.declared.fault.CoreFault.{CoreFault}
 use Rattle.node_core.specs.declared.fault.CoreFault.TheVariants.{NoMemory}
 use Rattle.node_core.specs.declared.plan.Plan.{Plan}
-use Rattle.node_core.specs.State.{State, is_down, is_election, is_reorganization, is_normal}
-use Rattle.node_core.specs.Words.{leads, members_of, owner, holds}
+use Rattle.node_core.specs.declared.phase.Phase.TheVariants.{Down, Election, Reorganization, Normal}
+use Rattle.node_core.specs.State.{State, in_phase}
+use Rattle.node_core.specs.Words.{leads_in, members_of, owner, holds}
 use Rattle.node_core.specs.Timers.{merges, follows}
 use Rattle.node_core.specs.Messages.{was_probed, takes_invitation, is_told}
 use Rattle.node_core.specs.Planned.{gain_of}
@@ -23,20 +24,21 @@ delivered_takes self from (says.Coordinator agreed) s = false
 delivered_takes self from (says.Here group agreed) s = was_probed from group s && agreed
 delivered_takes self from (says.Invitation group) s = takes_invitation self group s
 delivered_takes self from (says.Accept group) s = false
-delivered_takes self from (says.Ready task) s = is_told self from task s && (is_reorganization s.phase || is_normal s.phase)
+delivered_takes self from (says.Ready task) s = is_told self from task s && (in_phase Reorganization s.phase || in_phase Normal s.phase)
 delivered_takes self from (says.ReadyAck group) s = false
 delivered_takes self from (says.Work group id work) s =
-    is_normal s.phase && same_group group s.group && has (members_of s.task) from && owner s work.queue == self && not (holds s.hand from id)
+    in_phase Normal s.phase && same_group group s.group && has (members_of s.task) from
+    && owner s work.queue == self && not (holds s.hand from id)
 delivered_takes self from (says.Done id) s = false
-delivered_takes self from body s = not (is_down s.phase)
+delivered_takes self from body s = not (in_phase Down s.phase)
 
 abbrev pub takes_memory : ℕ → Event → State → Bool
-takes_memory self (on.Timer timer.Check) s = leads self s
+takes_memory self (on.Timer timer.Check) s = leads_in Normal self s
 takes_memory self (on.Timer timer.Merge) s = merges self s
-takes_memory self (on.Timer timer.Accept) s = is_election s.phase && s.coordinator == self
+takes_memory self (on.Timer timer.Accept) s = leads_in Election self s
 takes_memory self (on.Timer timer.Ready) s = false
 takes_memory self (on.Timer timer.Coord) s = follows self s && not s.probing
-takes_memory self (on.Timer timer.Dispatch) s = is_normal s.phase
+takes_memory self (on.Timer timer.Dispatch) s = in_phase Normal s.phase
 takes_memory self (on.Deliver m) s = delivered_takes self m.sender m.body s
 takes_memory self on.Recover s = false
 takes_memory self event s = true

@@ -12,18 +12,18 @@ use Rattle.node_core.specs.declared.wanted.WantedRef.TheVariants as lent
 use Rattle.node_core.specs.declared.in_hand.InHand.{InHand}
 use Rattle.node_core.specs.declared.plan.HandChange.{HandChange}
 use Rattle.node_core.specs.declared.plan.HandChange.TheVariants.{Keep, Clear, Lose, Gain}
-use Rattle.node_core.specs.declared.plan.Act.{Act}
-use Rattle.node_core.specs.declared.plan.Act.TheVariants.{Stay, Mark, Apply, Invite, Recover, Place}
+use Rattle.node_core.specs.declared.plan.PlannedEffect.{PlannedEffect}
+use Rattle.node_core.specs.declared.plan.PlannedEffect.TheVariants.{Stay, Mark, Apply, Invite, Recover, Place}
 use Rattle.node_core.specs.declared.plan.Plan.{Plan}
-use Rattle.node_core.specs.declared.seat.Seat.{Seat}
+use Rattle.node_core.specs.declared.node_view.NodeView.{NodeView}
 use Rattle.node_core.specs.declared.phase.Phase.TheVariants.{Election}
 use Rattle.node_core.specs.State.{State, with_standing}
-use Rattle.node_core.specs.Effect.{Effect, quietly}
-use Rattle.node_core.specs.Words.{letter, to_each, own_group, stopped, without_held}
+use Rattle.node_core.specs.Effect.{Effect, quietly, tells}
+use Rattle.node_core.specs.Words.{own_group, without_held}
 use Rattle.node_core.specs.Noted.{noted}
-use Rattle.node_core.specs.Start.{alone}
+use Rattle.node_core.specs.Start.{alone, entering}
 use Rattle.node_core.specs.Consistent.{IsConsistent}
-use Rattle.node_core.specs.Seat.{state_at}
+use Rattle.node_core.specs.NodeView.{state_at}
 
 abbrev pub hand_after : HandChange → List InHand → List InHand
 hand_after Keep hand = hand
@@ -32,22 +32,18 @@ hand_after (Lose origin id) hand = without_held hand origin id
 hand_after (Gain jobs) hand = hand ++ jobs.items
 
 -- what carrying out the plan makes of the state, where answer is the new count or the new id
-abbrev pub carried : ℕ → Act → ℕ → State → Effect → Effect
+abbrev pub carried : ℕ → PlannedEffect → ℕ → State → Effect → Effect
 carried self (Stay job) answer s ready = ready
 carried self (Mark note) answer s ready = record ready { state = noted note s }
-carried self (Apply change) answer s ready = record ready { state = with_standing change.value.standing (hand_after change.value.hand s.hand) }
-carried self (Invite receivers) answer s ready = record {
-  state = record (stopped s) { coordinator = self; group = own_group self answer; up = []; phase = Election };
-  sent = to_each self receivers (Invitation (own_group self answer));
-}
+carried self (Apply change) answer s ready =
+    record ready { state = with_standing change.value.group_state (hand_after change.value.hand s.hand) }
+carried self (Invite receivers) answer s ready =
+    tells self (entering Election (own_group self answer)) receivers (Invitation (own_group self answer))
 carried self Recover answer s ready = quietly (alone self answer)
 carried self (Place to work) answer s ready =
     if to == self
     then quietly (record s { hand = s.hand ++ (record { origin = self; id = answer; work = work.value }) ∷ [] })
-    else record {
-      state = s;
-      sent = letter self to (Work s.group answer work.value) ∷ [];
-    }
+    else tells self s (to ∷ []) (Work s.group answer work.value)
 
 abbrev pub planned_effect : ℕ → Plan → ℕ → State → Effect
 planned_effect self plan answer s = carried self plan.act answer s (record { state = s; sent = plan.messages.items })
@@ -58,7 +54,7 @@ done_wanted None = None
 done_wanted (Some id) = Some (Done id)
 
 -- the command that a plan with this act wants
-abbrev pub act_wants : Act → Option Command
+abbrev pub act_wants : PlannedEffect → Option Command
 act_wants (Stay job) = done_wanted job
 act_wants (Mark note) = None
 act_wants (Apply change) = done_wanted change.value.done
@@ -85,7 +81,7 @@ lent_by (lent.Put work) = Some (Put work.now)
 lent_by (lent.Done id) = Some (Done id)
 
 -- how many messages carrying out the plan sends
-abbrev pub act_sends : ℕ → Act → List Envelope → ℕ
+abbrev pub act_sends : ℕ → PlannedEffect → List Envelope → ℕ
 act_sends self (Stay job) messages = length messages
 act_sends self (Mark note) messages = length messages
 act_sends self (Apply change) messages = length messages
@@ -103,7 +99,7 @@ hand_gain Clear = 0
 hand_gain (Lose origin id) = 0
 hand_gain (Gain jobs) = vec_len jobs
 
-abbrev pub gain_of : Act → ℕ
+abbrev pub gain_of : PlannedEffect → ℕ
 gain_of (Stay job) = 0
 gain_of (Mark note) = 0
 gain_of (Apply change) = hand_gain change.value.hand
@@ -112,16 +108,17 @@ gain_of Recover = 0
 gain_of (Place to work) = 1
 
 -- the plan can be carried out without growth, and leaves a consistent state
-abbrev pub CanAct : ℕ → ℕ → State → Act → List Envelope → ℕ → Type 0
+abbrev pub CanAct : ℕ → ℕ → State → PlannedEffect → List Envelope → ℕ → Type 0
 CanAct nodes self s (Stay job) sent room = Unit {0}
 CanAct nodes self s (Mark note) sent room = IsConsistent nodes self (noted note s)
-CanAct nodes self s (Apply change) sent room = IsConsistent nodes self (with_standing change.value.standing (hand_after change.value.hand s.hand))
+CanAct nodes self s (Apply change) sent room =
+    IsConsistent nodes self (with_standing change.value.group_state (hand_after change.value.hand s.hand))
 CanAct nodes self s (Invite receivers) sent room = (sent ≡ []) × (length receivers ≤ room) × AreOthers nodes self receivers
 CanAct nodes self s Recover sent room = sent ≡ []
 CanAct nodes self s (Place to work) sent room = (sent ≡ []) × (1 ≤ room)
 
 -- the plan makes this effect, for every answer, and wants this command
-pub record IsPlanOf (seat : Seat) (plan : Plan) (wants : Option Command) (effect : ℕ → Effect) : Type 0 where
-  pub effect_is : (answer : ℕ) → planned_effect seat.id plan answer (state_at seat) ≡ effect answer
+pub record IsPlanOf (node_view : NodeView) (plan : Plan) (wants : Option Command) (effect : ℕ → Effect) : Type 0 where
+  pub effect_is : (answer : ℕ) → planned_effect node_view.id plan answer (state_at node_view) ≡ effect answer
   pub wants_is : plan_wants plan ≡ wants
-  pub fits : CanAct seat.nodes seat.id (state_at seat) plan.act plan.messages.items (vec_capacity plan.messages)
+  pub fits : CanAct node_view.nodes node_view.id (state_at node_view) plan.act plan.messages.items (vec_capacity plan.messages)

@@ -1,49 +1,53 @@
 ghost use Rattle.std.specs.Prelude.{◌≡◌, ◌≢◌, ◌≤◌, ◌<◌, ◌+◌, length, None, false, [], ◌∷◌, ◌++◌, ℕ, vec_capacity};
 ghost use Rattle.group_task.specs.Ids.{has};
 ghost use Rattle.node_core.specs.State.{state_of, with_standing};
-ghost use Rattle.node_core.specs.Words.{own_group, stopped, letter, to_each};
-ghost use Rattle.node_core.specs.Start.{alone};
+ghost use Rattle.node_core.specs.Words.{own_group, letter, to_each};
+ghost use Rattle.node_core.specs.Start.{alone, entering};
 ghost use Rattle.node_core.specs.Consistent.{IsConsistent};
 ghost use Rattle.node_core.specs.Planned.{hand_gain, hand_after};
 
 use crate::in_hand::InHand;
 use crate::phase::Phase;
-use crate::plan::{Change, HandChange, write_to_each};
+use crate::plan::{HandChange, StateChange, write_to_each};
 use crate::vector::Vector;
 use group_task::{GroupNo, Members, NodeId, share};
 use job_model::Work;
 use wire_msg::{Body, Message};
 
 /// Takes a new standing, and changes the work in hand within its room.
-pub fn apply(vector: &mut Vector, change: Box<Change>)
+pub fn apply(vector: &mut Vector, change: Box<StateChange>)
     requires { length vector.old.hand.jobs + hand_gain change.value.hand ≤ vector.old.hand.room }
-    ensures { state_of vector.new ≡ with_standing change.value.standing (hand_after change.value.hand vector.old.hand.jobs) }
+    ensures { state_of vector.new ≡ with_standing change.value.group_state (hand_after change.value.hand vector.old.hand.jobs) }
 {
-    let Change { standing, hand, .. } = Box::into_inner(change);
+    let StateChange {
+        group_state,
+        hand,
+        ..
+    } = Box::into_inner(change);
     match hand {
         HandChange::Keep => {}
         HandChange::Clear => vector.hand.clear(),
         HandChange::Lose(origin, id) => vector.hand.remove(origin, id),
         HandChange::Gain(jobs) => vector.hand.append(jobs),
     }
-    vector.standing = standing;
+    vector.group_state = group_state;
 }
 
 /// Stops work, and starts this group.
 pub fn regroup(vector: &mut Vector, id: NodeId, group: GroupNo)
     requires { group ≡ own_group id group.count }
-    ensures { state_of vector.new ≡ record (stopped (state_of vector.old)) { coordinator = id; group = own_group id group.count; up = [] } }
+    ensures { state_of vector.new ≡ entering vector.old.group_state.phase (own_group id group.count) }
 {
     vector.hand.clear();
-    let standing = &mut vector.standing;
-    standing.found = Members::new();
-    standing.unready = Members::new();
-    standing.task = None;
-    standing.checking = false;
-    standing.probing = false;
-    standing.coordinator = id;
-    standing.group = group;
-    standing.up = Members::new();
+    let group_state = &mut vector.group_state;
+    group_state.found = Members::new();
+    group_state.unready = Members::new();
+    group_state.task = None;
+    group_state.checking = false;
+    group_state.probing = false;
+    group_state.coordinator = id;
+    group_state.group = group;
+    group_state.up = Members::new();
 }
 
 /// Starts this group, alone in it.
@@ -53,8 +57,8 @@ pub fn recover(vector: &mut Vector, id: NodeId, group: GroupNo)
     ensures { state_of vector.new ≡ alone id group.count }
 {
     regroup(vector, id, group);
-    vector.standing.task = Some(share(group, Members::new().with(id)));
-    vector.standing.phase = Phase::Normal;
+    vector.group_state.task = Some(share(group, Members::new().with(id)));
+    vector.group_state.phase = Phase::Normal;
 }
 
 /// Takes a new job in hand, or writes the message that sends it to its owner, in the room that is there. It stands apart, since each
@@ -77,7 +81,7 @@ pub fn place(
     })
         × (messages.new.items ≡ []) }
     ensures other { to ≢ id → (state_of vector.new ≡ state_of vector.old)
-        × (messages.new.items ≡ letter id to (Body.Work vector.old.standing.group job work.value) ∷ []) }
+        × (messages.new.items ≡ letter id to (Body.Work vector.old.group_state.group job work.value) ∷ []) }
     ensures consistent { (nodes : ℕ) → IsConsistent nodes id (state_of vector.old) → IsConsistent nodes id (state_of vector.new) }
 {
     let work = Box::into_inner(work);
@@ -89,7 +93,7 @@ pub fn place(
         });
     } else {
         let order = Body::Work {
-            group: vector.standing.group,
+            group: vector.group_state.group,
             id: job,
             work,
         };

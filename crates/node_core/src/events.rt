@@ -1,6 +1,6 @@
 ghost use Rattle.std.specs.Prelude.{◌≡◌, [], ◌≢◌, ◌<◌, ◌≤◌, nat_lt, true, None, Some, IfOk, IfErr, IfSome};
 ghost use Rattle.std.specs.List.{list_all};
-ghost use Rattle.node_core.specs.Seat.{state_at};
+ghost use Rattle.node_core.specs.NodeView.{state_at};
 ghost use Rattle.node_core.specs.declared.event.Event.TheVariants as on;
 ghost use Rattle.node_core.specs.Timers.{timed};
 ghost use Rattle.node_core.specs.Messages.{delivered};
@@ -14,9 +14,9 @@ ghost use Rattle.node_core.specs.Memory.{takes_memory, delivered_takes, Spares, 
 use crate::event::Event;
 use crate::fault::CoreFault;
 use crate::known::is_known;
+use crate::node_view::NodeView;
 use crate::phase::Phase;
 use crate::plan::Plan;
-use crate::seat::Seat;
 use crate::timer::Timer;
 use crate::{dispatch, messages, operator, timers};
 use group_task::NodeId;
@@ -27,44 +27,44 @@ use wire_msg::{Body, Message};
 /// What an event makes of a node: the row of the event, where it is not refused.
 pub fn plan_event(
     alloc: Global,
-    seat: &Seat<'_>,
+    node_view: &NodeView<'_>,
     event: &Event,
     table: &JobTable,
 ) -> Result<Plan, CoreFault>
-    ensures plan { IfOk result (λ plan. IsPlanOf seat.now plan
-        (wants_of seat.now.id table.now.pending event.now (state_at seat.now))
-        (λ answer. effect_of seat.now.nodes seat.now.id table.now.pending event.now answer (state_at seat.now))) }
-    ensures few { IfOk result (λ plan. plan_sends seat.now.id plan ≤ most_of seat.now.nodes table.now.pending) }
-    ensures done { IfOk result (λ _. refusal_of seat.now.nodes seat.now.id event.now (state_at seat.now) ≡ None) }
-    ensures refused { IfSome (refusal_of seat.now.nodes seat.now.id event.now (state_at seat.now)) (λ fault. result ≡ Err fault) }
+    ensures plan { IfOk result (λ plan. IsPlanOf node_view.now plan
+        (wants_of node_view.now.id table.now.pending event.now (state_at node_view.now))
+        (λ answer. effect_of node_view.now.nodes node_view.now.id table.now.pending event.now answer (state_at node_view.now))) }
+    ensures few { IfOk result (λ plan. plan_sends node_view.now.id plan ≤ most_of node_view.now.nodes table.now.pending) }
+    ensures done { IfOk result (λ _. refusal_of node_view.now.nodes node_view.now.id event.now (state_at node_view.now) ≡ None) }
+    ensures refused { IfSome (refusal_of node_view.now.nodes node_view.now.id event.now (state_at node_view.now)) (λ fault. result ≡ Err fault) }
     ensures memory { IfErr result (λ fault. fault ≢ CoreFault.NoMemory
-        → refusal_of seat.now.nodes seat.now.id event.now (state_at seat.now) ≡ Some fault) }
-    ensures spares { SparesMemory (takes_memory seat.now.id event.now (state_at seat.now)) result }
+        → refusal_of node_view.now.nodes node_view.now.id event.now (state_at node_view.now) ≡ Some fault) }
+    ensures spares { SparesMemory (takes_memory node_view.now.id event.now (state_at node_view.now)) result }
 {
     match event {
-        Event::Timer(timer) => Ok(plan_timer(alloc, seat, *timer, table)?),
-        Event::Recover => Ok(operator::recovery(Vec::new(alloc), seat)),
-        Event::Deliver(message) => plan_delivery(alloc, Vec::new(alloc), seat, message, table),
+        Event::Timer(timer) => Ok(plan_timer(alloc, node_view, *timer, table)?),
+        Event::Recover => Ok(operator::recovery(Vec::new(alloc), node_view)),
+        Event::Deliver(message) => plan_delivery(alloc, Vec::new(alloc), node_view, message, table),
         Event::Submit(work) => {
-            let standing = &seat.vector.standing;
-            match standing.phase {
+            let group_state = &node_view.vector.group_state;
+            match group_state.phase {
                 Phase::Down => return Err(CoreFault::Down),
                 Phase::Normal => {}
                 Phase::Election | Phase::Reorganization => return Err(CoreFault::NotNormal),
             }
-            if !standing.coordinator.is(seat.id) {
-                return Err(CoreFault::NotCoordinator(standing.coordinator));
+            if !group_state.coordinator.is(node_view.id) {
+                return Err(CoreFault::NotCoordinator(group_state.coordinator));
             }
-            Ok(operator::submit(alloc, seat, work)?)
+            Ok(operator::submit(alloc, node_view, work)?)
         }
         Event::Finish(origin, job) => {
-            if matches!(seat.vector.standing.phase, Phase::Down) {
+            if matches!(node_view.vector.group_state.phase, Phase::Down) {
                 return Err(CoreFault::Down);
             }
-            if !seat.vector.hand.contains(*origin, *job) {
+            if !node_view.vector.hand.contains(*origin, *job) {
                 return Err(CoreFault::UnknownJob);
             }
-            Ok(operator::finish(alloc, seat, *origin, *job, table)?)
+            Ok(operator::finish(alloc, node_view, *origin, *job, table)?)
         }
     }
 }
@@ -72,23 +72,23 @@ pub fn plan_event(
 /// What a timer makes of a node.
 fn plan_timer(
     alloc: Global,
-    seat: &Seat<'_>,
+    node_view: &NodeView<'_>,
     timer: Timer,
     table: &JobTable,
 ) -> Result<Plan, AllocError>
-    ensures row { IfOk result (λ plan. IsPlanOf seat.now plan
-        (wants_of seat.now.id table.now.pending (on.Timer timer) (state_at seat.now))
-        (λ answer. timed seat.now.nodes seat.now.id table.now.pending timer answer (state_at seat.now))) }
-    ensures few { IfOk result (λ plan. plan_sends seat.now.id plan ≤ most_of seat.now.nodes table.now.pending) }
-    ensures memory { Spares (takes_memory seat.now.id (on.Timer timer) (state_at seat.now)) result }
+    ensures row { IfOk result (λ plan. IsPlanOf node_view.now plan
+        (wants_of node_view.now.id table.now.pending (on.Timer timer) (state_at node_view.now))
+        (λ answer. timed node_view.now.nodes node_view.now.id table.now.pending timer answer (state_at node_view.now))) }
+    ensures few { IfOk result (λ plan. plan_sends node_view.now.id plan ≤ most_of node_view.now.nodes table.now.pending) }
+    ensures memory { Spares (takes_memory node_view.now.id (on.Timer timer) (state_at node_view.now)) result }
 {
     match timer {
-        Timer::Check => timers::check_timer(alloc, seat),
-        Timer::Merge => timers::merge_timer(alloc, seat),
-        Timer::Accept => timers::accept_timer(alloc, seat),
-        Timer::Ready => Ok(timers::ready_timer(alloc, seat)),
-        Timer::Coord => timers::coord_timer(alloc, seat),
-        Timer::Dispatch => dispatch::dispatch_timer(alloc, seat, table),
+        Timer::Check => timers::check_timer(alloc, node_view),
+        Timer::Merge => timers::merge_timer(alloc, node_view),
+        Timer::Accept => timers::accept_timer(alloc, node_view),
+        Timer::Ready => Ok(timers::ready_timer(alloc, node_view)),
+        Timer::Coord => timers::coord_timer(alloc, node_view),
+        Timer::Dispatch => dispatch::dispatch_timer(alloc, node_view, table),
     }
 }
 
@@ -96,26 +96,26 @@ fn plan_timer(
 pub fn plan_delivery(
     alloc: Global,
     room: Vec<Message>,
-    seat: &Seat<'_>,
+    node_view: &NodeView<'_>,
     message: &Message,
     table: &JobTable,
 ) -> Result<Plan, CoreFault>
     requires room { room.items ≡ [] }
-    ensures plan { IfOk result (λ plan. IsPlanOf seat.now plan
-        (wants_of seat.now.id table.now.pending (on.Deliver message.now) (state_at seat.now))
-        (λ answer. effect_of seat.now.nodes seat.now.id table.now.pending (on.Deliver message.now) answer (state_at seat.now))) }
-    ensures few { IfOk result (λ plan. plan_sends seat.now.id plan < seat.now.nodes) }
-    ensures done { IfOk result (λ _. refusal_of seat.now.nodes seat.now.id (on.Deliver message.now) (state_at seat.now) ≡ None) }
-    ensures refused { IfSome (refusal_of seat.now.nodes seat.now.id (on.Deliver message.now) (state_at seat.now)) (λ fault. result ≡ Err fault) }
+    ensures plan { IfOk result (λ plan. IsPlanOf node_view.now plan
+        (wants_of node_view.now.id table.now.pending (on.Deliver message.now) (state_at node_view.now))
+        (λ answer. effect_of node_view.now.nodes node_view.now.id table.now.pending (on.Deliver message.now) answer (state_at node_view.now))) }
+    ensures few { IfOk result (λ plan. plan_sends node_view.now.id plan < node_view.now.nodes) }
+    ensures done { IfOk result (λ _. refusal_of node_view.now.nodes node_view.now.id (on.Deliver message.now) (state_at node_view.now) ≡ None) }
+    ensures refused { IfSome (refusal_of node_view.now.nodes node_view.now.id (on.Deliver message.now) (state_at node_view.now)) (λ fault. result ≡ Err fault) }
     ensures memory { IfErr result (λ fault. fault ≢ CoreFault.NoMemory
-        → refusal_of seat.now.nodes seat.now.id (on.Deliver message.now) (state_at seat.now) ≡ Some fault) }
-    ensures spares { SparesMemory (takes_memory seat.now.id (on.Deliver message.now) (state_at seat.now)) result }
+        → refusal_of node_view.now.nodes node_view.now.id (on.Deliver message.now) (state_at node_view.now) ≡ Some fault) }
+    ensures spares { SparesMemory (takes_memory node_view.now.id (on.Deliver message.now) (state_at node_view.now)) result }
 {
-    if !is_known(seat, message) {
+    if !is_known(node_view, message) {
         return Err(CoreFault::Stranger);
     }
     let from = message.sender();
-    Ok(plan_message(alloc, room, seat, from, message.body(), table)?)
+    Ok(plan_message(alloc, room, node_view, from, message.body(), table)?)
 }
 
 /// What a message makes of a node, by what it says.
@@ -123,37 +123,39 @@ pub fn plan_delivery(
 fn plan_message(
     alloc: Global,
     room: Vec<Message>,
-    seat: &Seat<'_>,
+    node_view: &NodeView<'_>,
     from: NodeId,
     body: &Body,
     table: &JobTable,
 ) -> Result<Plan, AllocError>
     requires room { room.items ≡ [] }
-    requires other { seat.now.id ≢ from }
-    requires known { from < seat.now.nodes }
-    requires names { list_all (λ id. nat_lt id seat.now.nodes) (ids_in body.now) ≡ true }
-    ensures row { IfOk result (λ plan. IsPlanOf seat.now plan
-        (delivered_wants from table.now.pending body.now (state_at seat.now))
-        (λ answer. delivered seat.now.id from body.now answer (state_at seat.now))) }
-    ensures few { IfOk result (λ plan. plan_sends seat.now.id plan < seat.now.nodes) }
-    ensures memory { Spares (delivered_takes seat.now.id from body.now (state_at seat.now)) result }
+    requires other { node_view.now.id ≢ from }
+    requires known { from < node_view.now.nodes }
+    requires names { list_all (λ id. nat_lt id node_view.now.nodes) (ids_in body.now) ≡ true }
+    ensures row { IfOk result (λ plan. IsPlanOf node_view.now plan
+        (delivered_wants from table.now.pending body.now (state_at node_view.now))
+        (λ answer. delivered node_view.now.id from body.now answer (state_at node_view.now))) }
+    ensures few { IfOk result (λ plan. plan_sends node_view.now.id plan < node_view.now.nodes) }
+    ensures memory { Spares (delivered_takes node_view.now.id from body.now (state_at node_view.now)) result }
 {
     match body {
-        Body::AreYouCoordinator => messages::asked_coordinator(room, seat, from),
-        Body::Coordinator(agreed) => Ok(messages::answered_coordinator(room, seat, from, *agreed)),
-        Body::Invitation(group) => messages::invited(alloc, room, seat, *group),
-        Body::Accept(group) => Ok(messages::accepted(room, seat, from, *group)),
-        Body::Ready(task) => messages::told_ready(room, seat, from, *task),
-        Body::ReadyAck(group) => Ok(messages::acknowledged(room, seat, from, *group)),
-        Body::AreYouThere(group) => messages::asked_there(room, seat, from, *group),
+        Body::AreYouCoordinator => messages::asked_coordinator(room, node_view, from),
+        Body::Coordinator(agreed) => Ok(messages::answered_coordinator(
+            room, node_view, from, *agreed,
+        )),
+        Body::Invitation(group) => messages::invited(alloc, room, node_view, *group),
+        Body::Accept(group) => Ok(messages::accepted(room, node_view, from, *group)),
+        Body::Ready(task) => messages::told_ready(room, node_view, from, *task),
+        Body::ReadyAck(group) => Ok(messages::acknowledged(room, node_view, from, *group)),
+        Body::AreYouThere(group) => messages::asked_there(room, node_view, from, *group),
         Body::Here(group, agreed) => {
-            messages::answered_there(alloc, room, seat, from, *group, *agreed)
+            messages::answered_there(alloc, room, node_view, from, *group, *agreed)
         }
         Body::Work {
             group,
             id: job,
             work,
-        } => messages::got_work(alloc, room, seat, from, *group, *job, work),
-        Body::Done(job) => Ok(messages::told_done(room, seat, *job, table)),
+        } => messages::got_work(alloc, room, node_view, from, *group, *job, work),
+        Body::Done(job) => Ok(messages::told_done(room, node_view, *job, table)),
     }
 }

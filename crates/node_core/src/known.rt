@@ -2,17 +2,17 @@ ghost use Rattle.std.specs.Prelude.{◌≡◌, nat_lt};
 ghost use Rattle.std.specs.List.{list_all};
 ghost use Rattle.node_core.specs.Refusals.{is_known, ids_in};
 
-use crate::seat::Seat;
+use crate::node_view::NodeView;
 use group_task::{Members, NodeId};
 use wire_msg::{Body, Message};
 
 /// Whether a message is for this node, and names nodes of the cluster alone.
-pub fn is_known(seat: &Seat<'_>, message: &Message) -> bool
-    ensures { result ≡ is_known seat.now.nodes seat.now.id message.now }
+pub fn is_known(node_view: &NodeView<'_>, message: &Message) -> bool
+    ensures { result ≡ is_known node_view.now.nodes node_view.now.id message.now }
 {
-    message.receiver().is(seat.id)
-        && message.sender().number() < seat.nodes
-        && names_known(seat.nodes, message.body())
+    message.receiver().is(node_view.id)
+        && message.sender().number() < node_view.nodes
+        && names_known(node_view.nodes, message.body())
 }
 
 fn names_known(nodes: u8, body: &Body) -> bool

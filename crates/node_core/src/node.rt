@@ -5,7 +5,7 @@ ghost use Rattle.group_task.specs.declared.node.TheConstants.{NODES};
 ghost use Rattle.node_core.specs.declared.event.Event.{Event};
 ghost use Rattle.node_core.specs.declared.event.Event.TheVariants.{Deliver};
 ghost use Rattle.node_core.specs.State.{state_of};
-ghost use Rattle.node_core.specs.Seat.{state_at};
+ghost use Rattle.node_core.specs.NodeView.{state_at};
 ghost use Rattle.node_core.specs.Effects.{effect_of};
 ghost use Rattle.node_core.specs.Refusals.{refusal_of};
 ghost use Rattle.node_core.specs.Planned.{gain_of, plan_wants};
@@ -19,10 +19,10 @@ use crate::commit::{apply, invite_each, place, recover, regroup};
 use crate::event::Event;
 use crate::events::{plan_delivery, plan_event};
 use crate::fault::CoreFault;
-use crate::notes::take_note;
+use crate::node_view::NodeView;
 use crate::phase::Phase;
-use crate::plan::{Act, Plan};
-use crate::seat::Seat;
+use crate::plan::{Plan, PlannedEffect};
+use crate::state_update::take_note;
 use crate::vector::Vector;
 use group_task::{GroupNo, Members, NodeId};
 use job_model::JobTable;
@@ -144,7 +144,7 @@ impl NodeCore {
         ensures none { IsNone result ↔ (self.now.state.found ≡ []) }
         ensures wait { IfSome result (IsMergeWait self.now.id self.now.state.found) }
     {
-        let found = self.vector.standing.found;
+        let found = self.vector.group_state.found;
         if found.is_empty() {
             return None;
         }
@@ -181,7 +181,7 @@ impl NodeCore {
         ensures spares { result ≡ Err CoreFault.NoMemory → takes_memory self.old.id event.now self.old.state ≡ true }
         ensures unchanged { OnErr result (self.new ≡ self.old) }
     {
-        let plan = plan_event(self.alloc, &self.seat(), event, table)?;
+        let plan = plan_event(self.alloc, &self.node_view(), event, table)?;
         self.make_room(&plan)?;
         Ok(plan)
     }
@@ -208,18 +208,18 @@ impl NodeCore {
         ensures spares { result ≡ Err CoreFault.NoMemory → takes_memory self.old.id (Deliver message.now) self.old.state ≡ true }
         ensures unchanged { OnErr result (self.new ≡ self.old) }
     {
-        let plan = plan_delivery(self.alloc, room, &self.seat(), message, table)?;
+        let plan = plan_delivery(self.alloc, room, &self.node_view(), message, table)?;
         self.make_room(&plan)?;
         Ok(plan)
     }
 
     /// The node as the rows of the table take it.
-    fn seat(&self) -> Seat<'_>
+    fn node_view(&self) -> NodeView<'_>
         ensures id { result.id ≡ self.now.id }
         ensures nodes { result.nodes ≡ self.now.nodes }
         ensures state { state_at result ≡ self.now.state }
     {
-        Seat {
+        NodeView {
             id: self.id,
             nodes: self.nodes,
             vector: &self.vector,
@@ -261,20 +261,20 @@ impl NodeCore {
     {
         let Plan { act, mut messages } = plan;
         match act {
-            Act::Stay(_) => {}
-            Act::Mark(note) => take_note(&mut self.vector, note),
-            Act::Apply(change) => apply(&mut self.vector, change),
-            Act::Invite(receivers) => {
+            PlannedEffect::Stay(_) => {}
+            PlannedEffect::Mark(note) => take_note(&mut self.vector, note),
+            PlannedEffect::Apply(change) => apply(&mut self.vector, change),
+            PlannedEffect::Invite(receivers) => {
                 let group = GroupNo::numbered(self.id, answer);
                 regroup(&mut self.vector, self.id, group);
-                self.vector.standing.phase = Phase::Election;
+                self.vector.group_state.phase = Phase::Election;
                 invite_each(&mut messages, self.id, receivers, group);
             }
-            Act::Recover => {
+            PlannedEffect::Recover => {
                 let group = GroupNo::numbered(self.id, answer);
                 recover(&mut self.vector, self.id, group);
             }
-            Act::Place(to, work) => {
+            PlannedEffect::Place(to, work) => {
                 place(&mut self.vector, &mut messages, self.id, to, answer, work);
             }
         }

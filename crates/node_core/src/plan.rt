@@ -4,10 +4,10 @@ ghost use Rattle.group_task.specs.Others.{AreOthers};
 ghost use Rattle.node_core.specs.Words.{to_each};
 ghost use Rattle.node_core.specs.Planned.{gain_of, hand_gain, done_wanted, lent_by, plan_wants, wanted_by};
 
+use crate::group_state::GroupState;
 use crate::in_hand::InHand;
-use crate::notes::Note;
-use crate::seat::Seat;
-use crate::standing::Standing;
+use crate::node_view::NodeView;
+use crate::state_update::StateUpdate;
 use crate::wanted::{Wanted, WantedRef};
 use group_task::{Members, NodeId};
 use job_model::Work;
@@ -25,8 +25,8 @@ pub enum HandChange {
 
 /// What a step changes.
 #[derive(Drop)]
-pub struct Change {
-    pub standing: Standing,
+pub struct StateChange {
+    pub group_state: GroupState,
     pub hand: HandChange,
     /// The job that is done on the disk.
     pub done: Option<u64>,
@@ -34,13 +34,13 @@ pub struct Change {
 
 /// What a plan does. What takes much room stands apart, since a plan is moved often.
 #[derive(Drop)]
-pub enum Act {
+pub enum PlannedEffect {
     /// Leaves the node as it is. Where there is an id, the job is done.
     Stay(Option<u64>),
     /// Makes the change that is noted.
-    Mark(Note),
+    Mark(StateUpdate),
     /// Makes this change.
-    Apply(Box<Change>),
+    Apply(Box<StateChange>),
     /// Makes a new group, and invites these nodes into it.
     Invite(Members),
     /// Makes a new group of this node alone.
@@ -55,7 +55,7 @@ pub enum Act {
 #[derive(Drop)]
 // Promise: A plan's messages come out by its commit alone: the fields of a `Plan` can't be named outside of the crate.
 pub struct Plan {
-    pub(crate) act: Act,
+    pub(crate) act: PlannedEffect,
     pub(crate) messages: Vec<Message>,
 }
 
@@ -67,11 +67,11 @@ impl Plan {
         ensures { wanted_by result ≡ plan_wants self.now }
     {
         match &self.act {
-            Act::Stay(done) => done_wanted(*done),
-            Act::Mark(_) => Wanted::None,
-            Act::Apply(change) => done_wanted(change.done),
-            Act::Invite(_) | Act::Recover => Wanted::Raise,
-            Act::Place(_, work) => Wanted::Put(**work),
+            PlannedEffect::Stay(done) => done_wanted(*done),
+            PlannedEffect::Mark(_) => Wanted::None,
+            PlannedEffect::Apply(change) => done_wanted(change.done),
+            PlannedEffect::Invite(_) | PlannedEffect::Recover => Wanted::Raise,
+            PlannedEffect::Place(_, work) => Wanted::Put(**work),
         }
     }
 
@@ -82,11 +82,11 @@ impl Plan {
         ensures { lent_by result ≡ plan_wants self.now }
     {
         match &self.act {
-            Act::Stay(done) => done_lent(*done),
-            Act::Mark(_) => done_lent(None),
-            Act::Apply(change) => done_lent(change.done),
-            Act::Invite(_) | Act::Recover => WantedRef::Raise,
-            Act::Place(_, work) => WantedRef::Put(work),
+            PlannedEffect::Stay(done) => done_lent(*done),
+            PlannedEffect::Mark(_) => done_lent(None),
+            PlannedEffect::Apply(change) => done_lent(change.done),
+            PlannedEffect::Invite(_) | PlannedEffect::Recover => WantedRef::Raise,
+            PlannedEffect::Place(_, work) => WantedRef::Put(work),
         }
     }
 
@@ -95,9 +95,12 @@ impl Plan {
         ensures { result ≡ gain_of self.now.act }
     {
         match &self.act {
-            Act::Apply(change) => change.hand.gain(),
-            Act::Place(_, _) => 1,
-            Act::Stay(_) | Act::Mark(_) | Act::Invite(_) | Act::Recover => 0,
+            PlannedEffect::Apply(change) => change.hand.gain(),
+            PlannedEffect::Place(_, _) => 1,
+            PlannedEffect::Stay(_)
+            | PlannedEffect::Mark(_)
+            | PlannedEffect::Invite(_)
+            | PlannedEffect::Recover => 0,
         }
     }
 }
@@ -154,26 +157,26 @@ pub fn write_to_each(messages: &mut Vec<Message>, id: NodeId, receivers: Members
 /// A message to each of these other nodes.
 pub fn letters(
     alloc: Global,
-    seat: &Seat<'_>,
+    node_view: &NodeView<'_>,
     receivers: Members,
     body: &Body,
 ) -> Result<Vec<Message>, AllocError>
-    requires { AreOthers seat.now.nodes seat.now.id receivers }
-    ensures value { IfOk result (λ messages. messages.items ≡ to_each seat.now.id receivers body.now) }
-    ensures few { IfOk result (λ messages. length messages.items < seat.now.nodes) }
+    requires { AreOthers node_view.now.nodes node_view.now.id receivers }
+    ensures value { IfOk result (λ messages. messages.items ≡ to_each node_view.now.id receivers body.now) }
+    ensures few { IfOk result (λ messages. length messages.items < node_view.now.nodes) }
 {
     let mut messages = Vec::with_capacity(alloc, receivers.len())?;
-    write_to_each(&mut messages, seat.id, receivers, body);
+    write_to_each(&mut messages, node_view.id, receivers, body);
     Ok(messages)
 }
 
 /// Nothing changes, and nothing is sent.
 pub fn nothing(room: Vec<Message>) -> Plan
     requires { room.items ≡ [] }
-    ensures { (result.act ≡ Act.Stay None) × (result.messages.items ≡ []) }
+    ensures { (result.act ≡ PlannedEffect.Stay None) × (result.messages.items ≡ []) }
 {
     Plan {
-        act: Act::Stay(None),
+        act: PlannedEffect::Stay(None),
         messages: room,
     }
 }
@@ -181,16 +184,16 @@ pub fn nothing(room: Vec<Message>) -> Plan
 /// A new standing, the change of the work in hand, and the job that is done.
 pub fn changed(
     alloc: Global,
-    standing: Standing,
+    group_state: GroupState,
     hand: HandChange,
     done: Option<u64>,
-) -> Result<Box<Change>, AllocError>
-    ensures { IfOk result (λ change. change.value ≡ record { standing = standing; hand = hand; done = done }) }
+) -> Result<Box<StateChange>, AllocError>
+    ensures { IfOk result (λ change. change.value ≡ record { group_state = group_state; hand = hand; done = done }) }
 {
     Ok(Box::new(
         alloc,
-        Change {
-            standing,
+        StateChange {
+            group_state,
             hand,
             done,
         },
@@ -198,23 +201,23 @@ pub fn changed(
 }
 
 /// The change that is noted, and nothing is sent.
-pub fn marked(room: Vec<Message>, note: Note) -> Plan
+pub fn marked(room: Vec<Message>, note: StateUpdate) -> Plan
     requires { room.items ≡ [] }
-    ensures { (result.act ≡ Act.Mark note) × (result.messages.items ≡ []) }
+    ensures { (result.act ≡ PlannedEffect.Mark note) × (result.messages.items ≡ []) }
 {
     Plan {
-        act: Act::Mark(note),
+        act: PlannedEffect::Mark(note),
         messages: room,
     }
 }
 
 /// A change, and nothing is sent.
-pub fn quietly(room: Vec<Message>, change: Box<Change>) -> Plan
+pub fn quietly(room: Vec<Message>, change: Box<StateChange>) -> Plan
     requires { room.items ≡ [] }
-    ensures { (result.act ≡ Act.Apply change) × (result.messages.items ≡ []) }
+    ensures { (result.act ≡ PlannedEffect.Apply change) × (result.messages.items ≡ []) }
 {
     Plan {
-        act: Act::Apply(change),
+        act: PlannedEffect::Apply(change),
         messages: room,
     }
 }
@@ -230,7 +233,7 @@ pub fn with_room(mut room: Vec<Message>) -> Result<Vec<Message>, AllocError>
 }
 
 /// One message is sent, in the room that is there.
-pub fn reply(act: Act, mut messages: Vec<Message>, message: Message) -> Plan
+pub fn reply(act: PlannedEffect, mut messages: Vec<Message>, message: Message) -> Plan
     requires empty { messages.items ≡ [] }
     requires room { 1 ≤ vec_capacity messages }
     ensures { (result.act ≡ act) × (result.messages.items ≡ message ∷ []) }

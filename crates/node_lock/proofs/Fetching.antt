@@ -1,11 +1,12 @@
 -- What a poll takes.
-use Rattle.std.proofs.Common.{◌≡◌, ℕ, ◌<◌, ◌==◌, cond, Option, Some, None, IfSome, IfNone, OnOk, Result, Ok, Err, is_err, List, [], ◌∷◌, ◌++◌, length, slice_index, slice_index_or, slice_set, Bool, true, false, refl, ap, sym, ◌∙◌, subst, inl, inr, arith}
+use Rattle.std.proofs.Common.{◌≡◌, ℕ, ◌<◌, ◌==◌, cond, Option, Some, None, IfSome, IfNone, OnOk, Result, Ok, Err, is_err, List, [], ◌∷◌, ◌++◌, length, slice_get, slice_index, slice_index_or, slice_set, get_or, Bool, true, false, refl, ap, sym, ◌∙◌, subst, inl, inr, arith}
 use Rattle.std.proofs.lemmas.List.{append-nil, get_or_read, get_or-set_other, length-set}
+use Rattle.std.proofs.lemmas.Option.{slice_get-get_or}
 use Rattle.std.proofs.lemmas.Grind.{get_or-set_at}
 use Rattle.std.proofs.lemmas.Bool.{cases_eq}
 use Rattle.std.proofs.lemmas.Bool.Decides.{nat_tests}
 use Rattle.wire_msg.specs.Envelope.{Envelope}
-use Rattle.histories.specs.What.{brought, event_of}
+use Rattle.histories.specs.HistoryEvent.{brought, event_of}
 use Rattle.link_ring.specs.Sides.{Side, TookNext, with_room}
 use Rattle.node_lock.specs.Asking.{asked_by}
 use Rattle.node_lock.specs.Doing.{Gives}
@@ -14,6 +15,12 @@ use Rattle.node_lock.specs.History.{Turn, polled, from_link, listed}
 use Rattle.node_lock.specs.HeldView.{HeldView, Kept, IsTakeLink, IsOther, OfPolled, Finds}
 use Rattle.node_lock.proofs.Keeping.{polled-snoc, from_nothing}
 use Rattle.node_lock.proofs.Comings.{brought_polled}
+
+-- the node that is read from a plan at a place
+pub index_of : (plan list : List ℕ) (i from : ℕ) → i < length plan → from ≡ get_or list i from → list ≡ plan → (slice_get plan i ≡ Some from) × (from ≡ slice_index plan i)
+index_of plan list i from more is same =
+    let read : from ≡ get_or plan i from = is ∙ ap (λ (l : List ℕ). get_or l i from) same in
+    (slice_get-get_or plan i from more ∙ ap (λ (j : ℕ). Some j) (sym read), get_or_read plan i from more read 0)
 
 -- ---- a take at a place
 

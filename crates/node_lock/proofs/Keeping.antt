@@ -6,7 +6,7 @@ use Rattle.sector_disk.specs.Memory.{Memory, state_of}
 use Rattle.link_ring.specs.Sides.{Side}
 use Rattle.durable_node.specs.Node.{Node, Stands}
 use Rattle.histories.specs.NodeState.{NodeState, opening}
-use Rattle.histories.specs.What.{Entry as NodeEntry, brought, event_of}
+use Rattle.histories.specs.HistoryEvent.{Entry as NodeEntry, brought, event_of}
 use Rattle.histories.specs.After.{after, sent_at}
 use Rattle.histories.specs.History.{replay, sent_in, FollowsSlots, SlotsGoOn}
 use Rattle.histories.specs.Possible.{IsPossible, IsOfSlots}

@@ -5,37 +5,37 @@ use Rattle.std.proofs.lemmas.Option.{slice_get-map, slice_get_read, same_Some}
 use Rattle.std.proofs.lemmas.List.Elements.{All-head, All-tail, All-push, All-weaker}
 use Rattle.wire_msg.specs.Envelope.{Envelope}
 use Rattle.node_core.specs.declared.event.Event.{Event}
-use Rattle.histories.specs.declared.fate.Fate.{Fate}
-use Rattle.histories.specs.declared.fate.Fate.TheVariants as fate
-use Rattle.histories.specs.declared.what.What.{What}
-use Rattle.histories.specs.declared.what.What.TheVariants as what
-use Rattle.histories.specs.Fates.{what_of}
+use Rattle.histories.specs.declared.event_outcome.EventOutcome.{EventOutcome}
+use Rattle.histories.specs.declared.event_outcome.EventOutcome.TheVariants as event_outcome
+use Rattle.histories.specs.declared.history_event.HistoryEvent.{HistoryEvent}
+use Rattle.histories.specs.declared.history_event.HistoryEvent.TheVariants as what
+use Rattle.histories.specs.EventOutcomes.{what_of}
 use Rattle.node_lock.specs.declared.worker.Worker.{Worker}
 use Rattle.node_lock.specs.declared.line.Quiet.{Quiet}
 use Rattle.node_lock.specs.declared.line.Quiet.TheVariants as quiet
-use Rattle.node_lock.specs.declared.line.KeptWhat.{KeptWhat}
-use Rattle.node_lock.specs.declared.line.KeptWhat.TheVariants as kept
+use Rattle.node_lock.specs.declared.line.PackedHistoryEvent.{PackedHistoryEvent}
+use Rattle.node_lock.specs.declared.line.PackedHistoryEvent.TheVariants as kept
 use Rattle.node_lock.specs.declared.line.Line.{Line}
 use Rattle.node_lock.specs.History.{Turn}
 use Rattle.node_lock.specs.Kept.{IsQuietAt, IsHandledAt, what_quiet, what_came, what_in, turn_in, WhatStands, LineStands}
 use Rattle.trace_check.specs.Kept.{part}
 use Rattle.trace_check.proofs.PublicLaws.{get_same, get_again, part_same, part_again, part_length}
 
-abbrev pub line_by : Worker → ℕ → KeptWhat → ℕ → ℕ → Line
+abbrev pub line_by : Worker → ℕ → PackedHistoryEvent → ℕ → ℕ → Line
 line_by worker index t start end = record { worker = worker; index = index; what = t; start = start; end = end }
 
-abbrev pub turn_by : Worker → ℕ → What → List Envelope → Turn
+abbrev pub turn_by : Worker → ℕ → HistoryEvent → List Envelope → Turn
 turn_by worker index w sent = record { worker = worker; index = index; entry = record { what = w; sent = sent } }
 
 -- ---- more is kept, and a line says what it said
 
-what_same : (es more : List Event) (t : KeptWhat) → WhatStands (length es) t → what_in (es ++ more) t ≡ what_in es t
-what_same es more (kept.Came place fate) h = ap (λ (o : Option Event). what_came o fate) (get_same es more place h)
+what_same : (es more : List Event) (t : PackedHistoryEvent) → WhatStands (length es) t → what_in (es ++ more) t ≡ what_in es t
+what_same es more (kept.StepReport place event_outcome) h = ap (λ (o : Option Event). what_came o event_outcome) (get_same es more place h)
 what_same es more (kept.Quiet q) h = refl
 
 line_same : (ms sent : List Envelope) (es more : List Event) (l : Line) → LineStands (length ms) (length es) l → turn_in (ms ++ sent) (es ++ more) l ≡ turn_in ms es l
 line_same ms sent es more l h =
-    ap (λ (w : What). turn_by l.worker l.index w (part l.start l.end (ms ++ sent))) (what_same es more l.what h.what)
+    ap (λ (w : HistoryEvent). turn_by l.worker l.index w (part l.start l.end (ms ++ sent))) (what_same es more l.what h.what)
     ∙ ap (λ (xs : List Envelope). turn_by l.worker l.index (what_in es l.what) xs) (part_same ms sent l.start (l.end - l.start) (let front = h.sent.0 in let back = h.sent.1 in omega (arith, front, back)))
 
 lines_same : (ms sent : List Envelope) (es more : List Event) (ls : List Line) → All (LineStands (length ms) (length es)) ls → map (turn_in (ms ++ sent) (es ++ more)) ls ≡ map (turn_in ms es) ls
@@ -47,41 +47,48 @@ lines_same ms sent es more (l ∷ ls) h =
 -- ---- a turn with an event
 
 -- its line, behind so many messages and events
-abbrev pub line_for : Worker → ℕ → Fate → List Envelope → ℕ → ℕ → Line
-line_for worker index fate sent messages events = line_by worker index (kept.Came events fate) messages (messages + length sent)
+abbrev pub line_for : Worker → ℕ → EventOutcome → List Envelope → ℕ → ℕ → Line
+line_for worker index event_outcome sent messages events = line_by worker index (kept.StepReport events event_outcome) messages (messages + length sent)
 
-line_again : (ms : List Envelope) (es : List Event) (worker : Worker) (index : ℕ) (e : Event) (fate : Fate) (sent : List Envelope)
-    → turn_in (ms ++ sent) (es ++ e ∷ []) (line_for worker index fate sent (length ms) (length es)) ≡ turn_by worker index (what_of e fate) sent
-line_again ms es worker index e fate sent =
-    ap (λ (o : Option Event). turn_by worker index (what_came o fate) (part (length ms) (length ms + length sent) (ms ++ sent))) (get_again es e)
-    ∙ ap (λ (xs : List Envelope). turn_by worker index (what_of e fate) xs)
+pub pushed : (ls new : List Line) (ms sent all : List Envelope) (es : List Event) (worker : Worker) (index : ℕ) (event_outcome : EventOutcome) (place start end : ℕ)
+    → new ≡ ls ++ line_by worker index (kept.StepReport place event_outcome) start end ∷ [] → place ≡ length es → start ≡ length ms → end ≡ length all → all ≡ ms ++ sent
+    → new ≡ ls ++ line_for worker index event_outcome sent (length ms) (length es) ∷ []
+pushed ls new ms sent all es worker index event_outcome place start end is place_so start_so end_so all_so =
+    let many : end ≡ length ms + length sent = end_so ∙ (ap (λ (xs : List Envelope). length xs) all_so ∙ length-append ms sent) in
+    is ∙ (λ i. ls ++ line_by worker index (kept.StepReport (place_so i) event_outcome) (start_so i) (many i) ∷ [])
+
+line_again : (ms : List Envelope) (es : List Event) (worker : Worker) (index : ℕ) (e : Event) (event_outcome : EventOutcome) (sent : List Envelope)
+    → turn_in (ms ++ sent) (es ++ e ∷ []) (line_for worker index event_outcome sent (length ms) (length es)) ≡ turn_by worker index (what_of e event_outcome) sent
+line_again ms es worker index e event_outcome sent =
+    ap (λ (o : Option Event). turn_by worker index (what_came o event_outcome) (part (length ms) (length ms + length sent) (ms ++ sent))) (get_again es e)
+    ∙ ap (λ (xs : List Envelope). turn_by worker index (what_of e event_outcome) xs)
     (ap (λ (k : ℕ). take k (drop (length ms) (ms ++ sent))) (let many : length ms + length sent - length ms ≡ length sent = omega arith in many) ∙ part_again ms sent)
 
 -- the line that was kept last says its turn, and the lines before say what they said
-pub turns_more : (ls : List Line) (ms : List Envelope) (es : List Event) (worker : Worker) (index : ℕ) (e : Event) (fate : Fate) (sent : List Envelope) → All (LineStands (length ms) (length es)) ls
-    → map (turn_in (ms ++ sent) (es ++ e ∷ [])) (ls ++ line_for worker index fate sent (length ms) (length es) ∷ []) ≡ map (turn_in ms es) ls ++ turn_by worker index (what_of e fate) sent ∷ []
-turns_more ls ms es worker index e fate sent h =
+pub turns_more : (ls : List Line) (ms : List Envelope) (es : List Event) (worker : Worker) (index : ℕ) (e : Event) (event_outcome : EventOutcome) (sent : List Envelope) → All (LineStands (length ms) (length es)) ls
+    → map (turn_in (ms ++ sent) (es ++ e ∷ [])) (ls ++ line_for worker index event_outcome sent (length ms) (length es) ∷ []) ≡ map (turn_in ms es) ls ++ turn_by worker index (what_of e event_outcome) sent ∷ []
+turns_more ls ms es worker index e event_outcome sent h =
     let f = turn_in (ms ++ sent) (es ++ e ∷ []) in
-    let l = line_for worker index fate sent (length ms) (length es) in
+    let l = line_for worker index event_outcome sent (length ms) (length es) in
     map-append f ls (l ∷ [])
     ∙ (ap (λ (ts : List Turn). ts ++ f l ∷ []) (lines_same ms sent es (e ∷ []) ls h)
-    ∙ ap (λ (t : Turn). map (turn_in ms es) ls ++ t ∷ []) (line_again ms es worker index e fate sent))
+    ∙ ap (λ (t : Turn). map (turn_in ms es) ls ++ t ∷ []) (line_again ms es worker index e event_outcome sent))
 
-what_longer : (n m : ℕ) → n ≤ m → (t : KeptWhat) → WhatStands n t → WhatStands m t
-what_longer n m le (kept.Came place fate) h = omega (arith, h, le)
+what_longer : (n m : ℕ) → n ≤ m → (t : PackedHistoryEvent) → WhatStands n t → WhatStands m t
+what_longer n m le (kept.StepReport place event_outcome) h = omega (arith, h, le)
 what_longer n m le (kept.Quiet q) h = tt
 
 longer : (n n' m m' : ℕ) → n ≤ n' → m ≤ m' → (l : Line) → LineStands n m l → LineStands n' m' l
 longer n n' m m' le more l h = record { sent = (h.sent.0, let back = h.sent.1 in omega (arith, back, le)); what = what_longer m m' more l.what h.what }
 
-pub all_stand_more : (ls : List Line) (ms : List Envelope) (es : List Event) (worker : Worker) (index : ℕ) (e : Event) (fate : Fate) (sent : List Envelope) → All (LineStands (length ms) (length es)) ls
-    → All (LineStands (length (ms ++ sent)) (length (es ++ e ∷ []))) (ls ++ line_for worker index fate sent (length ms) (length es) ∷ [])
-all_stand_more ls ms es worker index e fate sent h =
+pub all_stand_more : (ls : List Line) (ms : List Envelope) (es : List Event) (worker : Worker) (index : ℕ) (e : Event) (event_outcome : EventOutcome) (sent : List Envelope) → All (LineStands (length ms) (length es)) ls
+    → All (LineStands (length (ms ++ sent)) (length (es ++ e ∷ []))) (ls ++ line_for worker index event_outcome sent (length ms) (length es) ∷ [])
+all_stand_more ls ms es worker index e event_outcome sent h =
     let messages = length-append ms sent in
     let events = length-append es (e ∷ []) in
     let n = length (ms ++ sent) in
     let m = length (es ++ e ∷ []) in
-    All-push (LineStands n m) ls (line_for worker index fate sent (length ms) (length es))
+    All-push (LineStands n m) ls (line_for worker index event_outcome sent (length ms) (length es))
     (All-weaker (LineStands (length ms) (length es)) (LineStands n m) (longer (length ms) n (length es) m (omega (arith, messages)) (omega (arith, events))) ls h)
     (record { sent = (omega arith, omega (arith, messages)); what = omega (arith, events) })
 
@@ -101,27 +108,27 @@ pub quiet_at : (ls : List Line) (ms : List Envelope) (es : List Event) (place : 
 quiet_at ls ms es place l q at is_kept same = record {
   turn = turn_in ms es l;
   at = slice_get-map (turn_in ms es) ls place ∙ ap (λ (o : Option Line). option_map (turn_in ms es) o) at;
-  what = ap (λ (t : KeptWhat). what_in es t) is_kept;
+  what = ap (λ (t : PackedHistoryEvent). what_in es t) is_kept;
   sent = ap (λ (k : ℕ). take k (drop l.start ms)) (let none : l.end - l.start ≡ 0 = omega (arith, same) in none);
 }
 
 -- ---- a turn that handed over an event, or sent some, is not quiet
 
-abbrev is_quiet : What → Bool
-is_quiet (what.Rests rest) = true
+abbrev is_quiet : HistoryEvent → Bool
+is_quiet (what.NoOp rest) = true
 is_quiet what.Crashed = true
 is_quiet w = false
 
-came_of : (e : Event) (fate : Fate) → is_quiet (what_of e fate) ≡ false
-came_of e fate.Done = refl
-came_of e (fate.Refused why) = refl
-came_of e fate.Faulted = refl
-came_of e (fate.Recovered kept) = refl
-came_of e fate.MountFailed = refl
-came_of e (fate.RaiseFailed kept) = refl
-came_of e (fate.RaiseRefused kept) = refl
+came_of : (e : Event) (event_outcome : EventOutcome) → is_quiet (what_of e event_outcome) ≡ false
+came_of e event_outcome.Done = refl
+came_of e (event_outcome.Refused why) = refl
+came_of e event_outcome.Faulted = refl
+came_of e (event_outcome.Recovered kept) = refl
+came_of e event_outcome.MountFailed = refl
+came_of e (event_outcome.RaiseFailed kept) = refl
+came_of e (event_outcome.RaiseRefused kept) = refl
 
-came_in : (es : List Event) (place : ℕ) (f : Fate) → place < length es → is_quiet (what_in es (kept.Came place f)) ≡ false
+came_in : (es : List Event) (place : ℕ) (f : EventOutcome) → place < length es → is_quiet (what_in es (kept.StepReport place f)) ≡ false
 came_in [] place f within = absurd (omega (arith, within))
 came_in (e ∷ es) zero f within = came_of e f
 came_in (e ∷ es) (suc place) f within = came_in es place f (omega (arith, within))
@@ -143,10 +150,10 @@ turn_at : (ls : List Line) (ms : List Envelope) (es : List Event) (place : ℕ) 
 turn_at ls ms es place l q at h =
     same_Some h.turn (turn_in ms es l) (sym h.at ∙ (slice_get-map (turn_in ms es) ls place ∙ ap (λ (o : Option Line). option_map (turn_in ms es) o) at))
 
-pub event_at : (ls : List Line) (ms : List Envelope) (es : List Event) (place : ℕ) (l : Line) (q : Quiet) (k : ℕ) (f : Fate) → All (LineStands (length ms) (length es)) ls → slice_get ls place ≡ Some l → l.what ≡ kept.Came k f → IsQuietAt place q (map (turn_in ms es) ls) → ⊥
+pub event_at : (ls : List Line) (ms : List Envelope) (es : List Event) (place : ℕ) (l : Line) (q : Quiet) (k : ℕ) (f : EventOutcome) → All (LineStands (length ms) (length es)) ls → slice_get ls place ≡ Some l → l.what ≡ kept.StepReport k f → IsQuietAt place q (map (turn_in ms es) ls) → ⊥
 event_at ls ms es place l q k f all at is h =
     let stands : k < length es = subst (WhatStands (length es)) is (stands_at (LineStands (length ms) (length es)) ls place l all at).what in
-    let what : what_in es (kept.Came k f) ≡ what_quiet q = ap (λ (t : KeptWhat). what_in es t) (sym is) ∙ (ap (λ (t : Turn). t.entry.what) (sym (turn_at ls ms es place l q at h)) ∙ h.what) in
+    let what : what_in es (kept.StepReport k f) ≡ what_quiet q = ap (λ (t : PackedHistoryEvent). what_in es t) (sym is) ∙ (ap (λ (t : Turn). t.entry.what) (sym (turn_at ls ms es place l q at h)) ∙ h.what) in
     let bad : false ≡ true = sym (came_in es k f stands) ∙ (ap is_quiet what ∙ quiet_of q) in
     absurd cc
 
@@ -161,11 +168,11 @@ sent_at ls ms es place l q all at some h =
 
 -- ---- a turn in which an event was handled
 
-pub handled_at : (ls : List Line) (ms : List Envelope) (es : List Event) (place : ℕ) (l : Line) (k : ℕ) (e : Event) → slice_get ls place ≡ Some l → l.what ≡ kept.Came k fate.Done → slice_get es k ≡ Some e
+pub handled_at : (ls : List Line) (ms : List Envelope) (es : List Event) (place : ℕ) (l : Line) (k : ℕ) (e : Event) → slice_get ls place ≡ Some l → l.what ≡ kept.StepReport k event_outcome.Done → slice_get es k ≡ Some e
     → IsHandledAt place e (part l.start l.end ms) (map (turn_in ms es) ls)
 handled_at ls ms es place l k e at is event = record {
   turn = turn_in ms es l;
   at = slice_get-map (turn_in ms es) ls place ∙ ap (λ (o : Option Line). option_map (turn_in ms es) o) at;
-  what = ap (λ (t : KeptWhat). what_in es t) is ∙ ap (λ (o : Option Event). what_came o fate.Done) event;
+  what = ap (λ (t : PackedHistoryEvent). what_in es t) is ∙ ap (λ (o : Option Event). what_came o event_outcome.Done) event;
   sent = refl;
 }

@@ -17,24 +17,23 @@ use Rattle.node_core.specs.declared.event.Event.{Event}
 use Rattle.node_core.specs.declared.event.Event.TheVariants as on
 use Rattle.node_core.specs.declared.timer.Timer.{Timer}
 use Rattle.node_core.specs.declared.timer.Timer.TheVariants as timer
-use Rattle.node_core.specs.State.{State, is_down, is_election, is_reorganization, is_normal}
+use Rattle.node_core.specs.State.{State, is_down, in_phase}
 use Rattle.node_core.specs.Effect.{Effect, quietly}
-use Rattle.node_core.specs.Words.{letter, to_each, is_empty, leads, members_of, owner, holds, own_group, task_of}
+use Rattle.node_core.specs.Words.{letter, to_each, is_empty, leads_in, members_of, owner, holds, own_group, task_of}
 use Rattle.node_core.specs.declared.phase.Phase.{Phase}
 use Rattle.node_core.specs.declared.phase.Phase.TheVariants as phase
 use Rattle.node_core.specs.Priorities.{by_priority}
-use Rattle.node_core.specs.Timers.{timed, merges, awaits_ready, follows, is_own, orders}
+use Rattle.node_core.specs.Timers.{timed, merges, follows, orders}
 use Rattle.node_core.proofs.PublicLaws.{few_by_priority}
 use Rattle.node_core.specs.Messages.{delivered, was_probed, takes_invitation, passed_on, is_told}
-use Rattle.node_core.specs.Operator.{submit, finish}
 use Rattle.node_core.specs.Effects.{effect_of}
 use Rattle.sector_disk.specs.Memory.{Memory}
-use Rattle.histories.specs.declared.fate.Fate.{Fate}
-use Rattle.histories.specs.declared.fate.Fate.TheVariants as fate
+use Rattle.histories.specs.declared.event_outcome.EventOutcome.{EventOutcome}
+use Rattle.histories.specs.declared.event_outcome.EventOutcome.TheVariants as event_outcome
 use Rattle.histories.specs.NodeState.{NodeState, wants_at}
 use Rattle.job_model.specs.Answer.{answer_to}
 use Rattle.histories.specs.After.{sent_at}
-use Rattle.histories.specs.Fates.{what_of}
+use Rattle.histories.specs.EventOutcomes.{what_of}
 use Rattle.durable_node.specs.Node.{Node}
 use Rattle.node_lock.specs.Asking.{Hand}
 use Rattle.node_lock.specs.Doing.{Did, StandsForSome}
@@ -205,17 +204,17 @@ module _ (nodes self j : ℕ) (s : State) (up : IsSet s.up) (found : IsSet s.fou
 
   body_once : (from : ℕ) (body : Body) (answer : ℕ) → SendsOnce j (delivered self from body answer s)
   unfolding delivered
-  body_once from says.AreYouCoordinator answer = by (is_down s.phase) _ _ (quiet s) (sends_one s from (says.Coordinator (leads self s)))
+  body_once from says.AreYouCoordinator answer = by (is_down s.phase) _ _ (quiet s) (sends_one s from (says.Coordinator (leads_in phase.Normal self s)))
   body_once from (says.Coordinator agreed) answer = when (agreed && merges self s) _ (quiet _)
   body_once from (says.AreYouThere group) answer = by (is_down s.phase) _ _ (quiet s) (sends_one s from (says.Here group (same_group group s.group && s.coordinator == self && has s.up from)))
   body_once from (says.Here group agreed) answer = when (was_probed from group s) _ (by agreed _ _ (quiet _) (quiet _))
   body_once from (says.Invitation group) answer = when (takes_invitation self group s) _ (record { few = passes group })
-  body_once from (says.Accept group) answer = when (is_election s.phase && s.coordinator == self && same_group group s.group) _ (quiet _)
-  body_once from (says.Ready task) answer = by (is_told self from task s && is_reorganization s.phase) _ _ (sends_one _ from (says.ReadyAck s.group))
-      (when (is_told self from task s && is_normal s.phase) _ (sends_one s from (says.ReadyAck s.group)))
-  body_once from (says.ReadyAck group) answer = when (awaits_ready self s && same_group group s.group) _ (quiet _)
+  body_once from (says.Accept group) answer = when (in_phase phase.Election s.phase && s.coordinator == self && same_group group s.group) _ (quiet _)
+  body_once from (says.Ready task) answer = by (is_told self from task s && in_phase phase.Reorganization s.phase) _ _ (sends_one _ from (says.ReadyAck s.group))
+      (when (is_told self from task s && in_phase phase.Normal s.phase) _ (sends_one s from (says.ReadyAck s.group)))
+  body_once from (says.ReadyAck group) answer = when (leads_in phase.Reorganization self s && same_group group s.group) _ (quiet _)
   body_once from (says.Work group id work) answer =
-      when (is_normal s.phase && same_group group s.group && has (members_of s.task) from && owner s work.queue == self && not (holds s.hand from id)) _ (quiet _)
+      when (in_phase phase.Normal s.phase && same_group group s.group && has (members_of s.task) from && owner s work.queue == self && not (holds s.hand from id)) _ (quiet _)
   body_once from (says.Done id) answer = quiet s
 
   to_others : length (addressed_to j (to_each self (without_id (ids_below nodes) self) says.AreYouCoordinator)) ≤ 1
@@ -227,20 +226,19 @@ module _ (nodes self j : ℕ) (s : State) (up : IsSet s.up) (found : IsSet s.fou
 
   timer_once : (pending : List Job) (t : Timer) (answer : ℕ) → IsOther t → SendsOnce j (timed nodes self pending t answer s)
   unfolding timed
-  timer_once pending timer.Check answer o = when (leads self s) _ (record { few = to_others })
+  timer_once pending timer.Check answer o = when (leads_in phase.Normal self s) _ (record { few = to_others })
   timer_once pending timer.Merge answer o = when (merges self s) _ (by (is_empty s.found) _ _ (quiet _)
       (record { few = to_set j self NODES (says.Invitation (own_group self answer)) (either_of s.up s.found) (rises_either 0 NODES s.up s.found up found) }))
-  timer_once pending timer.Accept answer o = when (is_election s.phase && s.coordinator == self) _ (record { few = to_set j self NODES (says.Ready (task_of s.group (with_id s.up self))) s.up up })
-  timer_once pending timer.Ready answer o = when (awaits_ready self s) _ (quiet _)
+  timer_once pending timer.Accept answer o = when (in_phase phase.Election s.phase && s.coordinator == self) _ (record { few = to_set j self NODES (says.Ready (task_of s.group (with_id s.up self))) s.up up })
+  timer_once pending timer.Ready answer o = when (leads_in phase.Reorganization self s) _ (quiet _)
   timer_once pending timer.Coord answer o = when (follows self s) _ (by s.probing _ _ (quiet _) (sends_one _ s.coordinator (says.AreYouThere s.group)))
   timer_once pending timer.Dispatch answer o = absurd o
 
-  finish_once : (origin id : ℕ) (b : Bool) → length (addressed_to j (if b then [] else letter self origin (says.Done id) ∷ [])) ≤ 1
+  finish_once : (origin id : ℕ) (b : Bool) → length (addressed_to j (to_each self (if b then [] else origin ∷ []) (says.Done id))) ≤ 1
   finish_once origin id true = none
   finish_once origin id false = one_letter j self origin (says.Done id)
 
   event_once : (pending : List Job) (event : Event) (answer : ℕ) → IsSingle event → SendsOnce j (effect_of nodes self pending event answer s)
-  unfolding submit finish
   event_once pending (on.Timer t) answer o = timer_once pending t answer o
   event_once pending (on.Deliver m) answer o = body_once m.sender m.body answer
   event_once pending (on.Submit work) answer o = by (owner s work.queue == self) _ _ (quiet _) (sends_one s (owner s work.queue) (says.Work s.group answer work))
@@ -249,14 +247,14 @@ module _ (nodes self j : ℕ) (s : State) (up : IsSet s.up) (found : IsSet s.fou
 
 -- ---- what a node sends at an event
 
-fate_once : (nodes self j : ℕ) (s : NodeState) (event : Event) (fate : Fate) → IsSet s.state.up → IsSet s.state.found → IsSingle event → length (addressed_to j (sent_at self nodes s (what_of event fate))) ≤ 1
-fate_once nodes self j s event fate.Done up found single = (event_once nodes self j s.state up found s.durable.pending event (answer_to s.durable (wants_at self nodes s event)) single).few
-fate_once nodes self j s event (fate.Refused why) up found single = none
-fate_once nodes self j s event fate.Faulted up found single = none
-fate_once nodes self j s event (fate.Recovered kept) up found single = none
-fate_once nodes self j s event fate.MountFailed up found single = none
-fate_once nodes self j s event (fate.RaiseFailed kept) up found single = none
-fate_once nodes self j s event (fate.RaiseRefused kept) up found single = none
+fate_once : (nodes self j : ℕ) (s : NodeState) (event : Event) (event_outcome : EventOutcome) → IsSet s.state.up → IsSet s.state.found → IsSingle event → length (addressed_to j (sent_at self nodes s (what_of event event_outcome))) ≤ 1
+fate_once nodes self j s event event_outcome.Done up found single = (event_once nodes self j s.state up found s.durable.pending event (answer_to s.durable (wants_at self nodes s event)) single).few
+fate_once nodes self j s event (event_outcome.Refused why) up found single = none
+fate_once nodes self j s event event_outcome.Faulted up found single = none
+fate_once nodes self j s event (event_outcome.Recovered kept) up found single = none
+fate_once nodes self j s event event_outcome.MountFailed up found single = none
+fate_once nodes self j s event (event_outcome.RaiseFailed kept) up found single = none
+fate_once nodes self j s event (event_outcome.RaiseRefused kept) up found single = none
 
 fewer : (j : ℕ) (ms : List Envelope) → length (addressed_to j ms) ≤ length ms
 fewer j [] = omega arith
@@ -270,14 +268,14 @@ fewer j (m ∷ ms) = by_test (m.receiver == j) (fewer j ms)
 
 few_orders : (self : ℕ) (s : State) (jobs : List Job) → length (orders self s jobs) ≤ length jobs
 few_orders self s [] = omega arith
-few_orders self s (job ∷ jobs) = by_test (not (is_own self s job)) (few_orders self s jobs)
+few_orders self s (job ∷ jobs) = by_test (not (owner s job.work.queue == self)) (few_orders self s jobs)
   where
     by_test : (b : Bool) → length (orders self s jobs) ≤ length jobs
-        → length (map (λ (x : Job). letter self (owner s x.work.queue) (says.Work s.group x.id x.work)) (if b then job ∷ filter (λ x. not (is_own self s x)) jobs else filter (λ x. not (is_own self s x)) jobs)) ≤ suc (length jobs)
+        → length (map (λ (x : Job). letter self (owner s x.work.queue) (says.Work s.group x.id x.work)) (if b then job ∷ filter (λ x. not (owner s x.work.queue == self)) jobs else filter (λ x. not (owner s x.work.queue == self)) jobs)) ≤ suc (length jobs)
     by_test true h = omega (arith, h)
     by_test false h = omega (arith, h)
 
-up_where_normal : (p : Phase) → is_normal p ≡ true → is_down p ≡ false
+up_where_normal : (p : Phase) → in_phase phase.Normal p ≡ true → is_down p ≡ false
 up_where_normal phase.Down is = absurd cc
 up_where_normal phase.Election is = refl
 up_where_normal phase.Reorganization is = refl
@@ -286,20 +284,20 @@ up_where_normal phase.Normal is = refl
 -- no more messages than there are pending jobs
 dispatch_few : (nodes self n answer : ℕ) (pending : List Job) (s : State) → (is_down s.phase ≡ false → length pending ≤ n) → length (timed nodes self pending timer.Dispatch answer s).sent ≤ n
 unfolding timed
-dispatch_few nodes self n answer pending s few = by_test _ (let a = few_orders self s (by_priority pending) in let b = few_by_priority pending in omega (arith, a, b)) (is_normal s.phase) refl
+dispatch_few nodes self n answer pending s few = by_test _ (let a = few_orders self s (by_priority pending) in let b = few_by_priority pending in omega (arith, a, b)) (in_phase phase.Normal s.phase) refl
   where
-    by_test : (x : Effect) → length x.sent ≤ length pending → (b : Bool) → is_normal s.phase ≡ b → length (if b then x else quietly s).sent ≤ n
+    by_test : (x : Effect) → length x.sent ≤ length pending → (b : Bool) → in_phase phase.Normal s.phase ≡ b → length (if b then x else quietly s).sent ≤ n
     by_test x h true is = let c = few (up_where_normal s.phase is) in omega (arith, h, c)
     by_test x h false is = omega arith
 
-dispatch_fate : (nodes self n : ℕ) (s : NodeState) (fate : Fate) → (is_down s.state.phase ≡ false → length s.durable.pending ≤ n) → length (sent_at self nodes s (what_of (on.Timer timer.Dispatch) fate)) ≤ n
-dispatch_fate nodes self n s fate.Done few = dispatch_few nodes self n (answer_to s.durable (wants_at self nodes s (on.Timer timer.Dispatch))) s.durable.pending s.state few
-dispatch_fate nodes self n s (fate.Refused why) few = omega arith
-dispatch_fate nodes self n s fate.Faulted few = omega arith
-dispatch_fate nodes self n s (fate.Recovered kept) few = omega arith
-dispatch_fate nodes self n s fate.MountFailed few = omega arith
-dispatch_fate nodes self n s (fate.RaiseFailed kept) few = omega arith
-dispatch_fate nodes self n s (fate.RaiseRefused kept) few = omega arith
+dispatch_fate : (nodes self n : ℕ) (s : NodeState) (event_outcome : EventOutcome) → (is_down s.state.phase ≡ false → length s.durable.pending ≤ n) → length (sent_at self nodes s (what_of (on.Timer timer.Dispatch) event_outcome)) ≤ n
+dispatch_fate nodes self n s event_outcome.Done few = dispatch_few nodes self n (answer_to s.durable (wants_at self nodes s (on.Timer timer.Dispatch))) s.durable.pending s.state few
+dispatch_fate nodes self n s (event_outcome.Refused why) few = omega arith
+dispatch_fate nodes self n s event_outcome.Faulted few = omega arith
+dispatch_fate nodes self n s (event_outcome.Recovered kept) few = omega arith
+dispatch_fate nodes self n s event_outcome.MountFailed few = omega arith
+dispatch_fate nodes self n s (event_outcome.RaiseFailed kept) few = omega arith
+dispatch_fate nodes self n s (event_outcome.RaiseRefused kept) few = omega arith
 
 at_most : (n pending : ℕ) (event : Event) → (event ≡ on.Timer timer.Dispatch → n ≤ pending) → (IsSingle event → n ≤ 1) → n ≤ most_from event pending
 at_most n pending (on.Timer timer.Check) all one = one tt
@@ -313,9 +311,9 @@ at_most n pending (on.Submit work) all one = one tt
 at_most n pending (on.Finish origin id) all one = one tt
 at_most n pending on.Recover all one = one tt
 
-pub sends_few : (old new : Node Memory) (event : Event) (fate : Fate) (sent : List Envelope) → StandsForSome old → Did old event (what_of event fate) sent new → length sent ≤ most_by old.nodes old.kept → IsSet old.state.up × IsSet old.state.found
+pub sends_few : (old new : Node Memory) (event : Event) (event_outcome : EventOutcome) (sent : List Envelope) → StandsForSome old → Did old event (what_of event event_outcome) sent new → length sent ≤ most_by old.nodes old.kept → IsSet old.state.up × IsSet old.state.found
     → (j : ℕ) → length (addressed_to j sent) ≤ most_to event old.kept
-sends_few old new event fate sent stands did few sets j = by_kept old.kept refl few
+sends_few old new event event_outcome sent stands did few sets j = by_kept old.kept refl few
   where
     s : NodeState
     s = stands.0
@@ -323,12 +321,12 @@ sends_few old new event fate sent stands did few sets j = by_kept old.kept refl 
     is : old.state ≡ s.state
     is = stands.1.state
 
-    came : sent ≡ sent_at old.id old.nodes s (what_of event fate)
-    came = (turn_comes old new (Hand event) (what_of event fate) sent did s stands.1).is_sent
+    came : sent ≡ sent_at old.id old.nodes s (what_of event event_outcome)
+    came = (turn_comes old new (Hand event) (what_of event event_outcome) sent did s stands.1).is_sent
 
     one : IsSingle event → length (addressed_to j sent) ≤ 1
     one single = subst (λ (ms : List Envelope). length (addressed_to j ms) ≤ 1) (sym came)
-        (fate_once old.nodes old.id j s event fate (subst (λ (v : State). IsSet v.up) is sets.0) (subst (λ (v : State). IsSet v.found) is sets.1) single)
+        (fate_once old.nodes old.id j s event event_outcome (subst (λ (v : State). IsSet v.up) is sets.0) (subst (λ (v : State). IsSet v.found) is sets.1) single)
 
     by_kept : (kept : Option Durable) → old.kept ≡ kept → length sent ≤ most_by old.nodes kept → length (addressed_to j sent) ≤ most_to event kept
     by_kept None none few = let shorter = fewer j sent in omega (arith, shorter, few)
@@ -339,7 +337,7 @@ sends_few old new event fate sent stands did few sets j = by_kept old.kept refl 
 
         all : event ≡ on.Timer timer.Dispatch → length (addressed_to j sent) ≤ length d.pending
         all dispatch =
-            let few : length (sent_at old.id old.nodes s (what_of event fate)) ≤ length d.pending = subst (λ (e : Event). length (sent_at old.id old.nodes s (what_of e fate)) ≤ length d.pending) (sym dispatch) (dispatch_fate old.nodes old.id (length d.pending) s fate same) in
+            let few : length (sent_at old.id old.nodes s (what_of event event_outcome)) ≤ length d.pending = subst (λ (e : Event). length (sent_at old.id old.nodes s (what_of e event_outcome)) ≤ length d.pending) (sym dispatch) (dispatch_fate old.nodes old.id (length d.pending) s event_outcome same) in
             let shorter = fewer j sent in
             let long = ap length came in
             omega (arith, shorter, few, long)

@@ -3,7 +3,7 @@ use Rattle.std.proofs.Common.{◌≡◌, ℕ, ◌<◌, List, [], Option, Some, N
 use Rattle.wire_msg.specs.Envelope.{Envelope}
 use Rattle.node_lock.specs.Sending.{Brings, SameSides, SentOn}
 use Rattle.link_ring.specs.Sides.{Side}
-use Rattle.histories.specs.What.{Entry, brought, event_of}
+use Rattle.histories.specs.HistoryEvent.{Entry, brought, event_of}
 use Rattle.node_lock.specs.declared.worker.Worker.{Worker}
 use Rattle.node_lock.specs.declared.held.TheConstants.{MOST_ENTRIES}
 use Rattle.node_lock.specs.Asking.{Asked, IsAsked}

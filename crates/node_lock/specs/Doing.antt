@@ -7,14 +7,14 @@ use Rattle.node_core.specs.declared.event.Event.{Event}
 use Rattle.node_core.specs.declared.event.Event.TheVariants.{Recover}
 use Rattle.node_core.specs.State.{is_down}
 use Rattle.node_core.specs.Start.{down}
-use Rattle.histories.specs.declared.what.What.{What}
-use Rattle.histories.specs.declared.what.What.TheVariants as what
-use Rattle.histories.specs.declared.what.Rest.TheVariants.{Nothing}
+use Rattle.histories.specs.declared.history_event.HistoryEvent.{HistoryEvent}
+use Rattle.histories.specs.declared.history_event.HistoryEvent.TheVariants as what
+use Rattle.histories.specs.declared.history_event.NoOpKind.TheVariants.{Nothing}
 use Rattle.histories.specs.NodeState.{NodeState}
-use Rattle.histories.specs.What.{IsOf}
+use Rattle.histories.specs.HistoryEvent.{IsOf}
 use Rattle.histories.specs.After.{after}
-use Rattle.histories.specs.Fates.{what_of}
-use Rattle.durable_node.specs.declared.came.Came.{Came}
+use Rattle.histories.specs.EventOutcomes.{what_of}
+use Rattle.durable_node.specs.declared.step_report.StepReport.{StepReport}
 use Rattle.durable_node.specs.Arming.{armed_disk}
 use Rattle.durable_node.specs.Node.{Node, Stands}
 use Rattle.durable_node.specs.Faults.{answered}
@@ -23,7 +23,7 @@ use Rattle.durable_node.specs.Reading.{ReadsDisk}
 use Rattle.durable_node.specs.Refusing.{Answers}
 use Rattle.durable_node.specs.Remounting.{IsMountedBy, Remounted}
 use Rattle.durable_node.specs.Stepping.{AreaGoesOn, CountsOf, Steps, most_by}
-use Rattle.node_lock.specs.Asking.{Asked, Hand, Rest, Arm, Crash}
+use Rattle.node_lock.specs.Asking.{Asked, Hand, NoOpKind, Arm, Crash}
 
 -- there is a state that the node and its disk stand for
 abbrev pub StandsForSome : Node Memory → Type 0
@@ -35,8 +35,8 @@ HasSectors n node = (disk : Memory) → node.disk ≡ Some disk → (state_of di
 
 -- the node took a step at the event, of which all holds that is said of `DurableNode::step`; its disk then forgot the moments before; and just what the
 -- step answered is written down
-pub record Did (old : Node Memory) (event : Event) (w : What) (sent : List Envelope) (new : Node Memory) : Type 0 where
-  pub came : Came
+pub record Did (old : Node Memory) (event : Event) (w : HistoryEvent) (sent : List Envelope) (new : Node Memory) : Type 0 where
+  pub came : StepReport
   -- as the step left it
   pub left : Node Memory
   pub steps : Steps state_of old left event came
@@ -44,11 +44,11 @@ pub record Did (old : Node Memory) (event : Event) (w : What) (sent : List Envel
   pub counts : CountsOf state_of old.disk left.disk (answered (Ok came))
   pub area : AreaGoesOn state_of old left event (answered (Ok came))
   pub mounting : is_down old.state.phase ≡ true → event ≡ Recover → Remounted old left (answered (Ok came)) left.mounted
-  pub kept : is_down old.state.phase ≡ true → event ≡ Recover → IsMountedBy old.doubt came.fate left.mounted
+  pub kept : is_down old.state.phase ≡ true → event ≡ Recover → IsMountedBy old.doubt came.event_outcome left.mounted
   pub reads : is_down old.state.phase ≡ true → event ≡ Recover → ReadsDisk state_of old.disk left.disk (answered (Ok came)) left.mounted
   pub few : length came.sent.items ≤ most_by old.nodes old.kept
   pub forgot : new ≡ record left { disk = forgotten_disk left.disk }
-  pub written : w ≡ what_of event came.fate
+  pub written : w ≡ what_of event came.event_outcome
   pub is_sent : sent ≡ came.sent.items
 
 -- the node's disk was armed
@@ -64,15 +64,15 @@ pub record WasCrashed (fill : List ℕ) (old new : Node Memory) : Type 0 where
   pub stands : (s : NodeState) → Stands state_of old s → Stands state_of new (after old.id old.nodes s what.Crashed)
 
 -- the node did what was asked, this is what came of it, and these messages were sent
-abbrev pub TurnDid : Node Memory → Asked → What → List Envelope → Node Memory → Type 0
+abbrev pub TurnDid : Node Memory → Asked → HistoryEvent → List Envelope → Node Memory → Type 0
 TurnDid old (Hand event) w sent new = Did old event w sent new
-TurnDid old Rest w sent new = (new ≡ old) × (w ≡ what.Rests Nothing) × (sent ≡ [])
-TurnDid old (Arm calls) w sent new = WasArmed calls old new × (w ≡ what.Rests Nothing) × (sent ≡ [])
+TurnDid old NoOpKind w sent new = (new ≡ old) × (w ≡ what.NoOp Nothing) × (sent ≡ [])
+TurnDid old (Arm calls) w sent new = WasArmed calls old new × (w ≡ what.NoOp Nothing) × (sent ≡ [])
 TurnDid old (Crash fill) w sent new = WasCrashed fill old new × (w ≡ what.Crashed) × (sent ≡ [])
 
 -- what may be written down of what was asked
-abbrev pub Gives : Asked → What → Type 0
+abbrev pub Gives : Asked → HistoryEvent → Type 0
 Gives (Hand event) w = IsOf event w
-Gives Rest w = w ≡ what.Rests Nothing
-Gives (Arm calls) w = w ≡ what.Rests Nothing
+Gives NoOpKind w = w ≡ what.NoOp Nothing
+Gives (Arm calls) w = w ≡ what.NoOp Nothing
 Gives (Crash fill) w = w ≡ what.Crashed

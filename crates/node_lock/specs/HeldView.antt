@@ -6,7 +6,7 @@ use Rattle.link_ring.specs.Sides.{Side}
 use Rattle.durable_node.specs.Node.{Node}
 use Rattle.histories.specs.History.{sent_in, FollowsSlots}
 use Rattle.histories.specs.NodeState.{opening}
-use Rattle.histories.specs.What.{brought, event_of}
+use Rattle.histories.specs.HistoryEvent.{brought, event_of}
 use Rattle.node_lock.specs.declared.held.TheConstants.{MOST_ENTRIES}
 use Rattle.node_lock.specs.declared.lock.TurnFault.{TurnFault}
 use Rattle.node_lock.specs.declared.lock.TurnFault.TheVariants.{GateShut, HistoryFull, NoMemory}

@@ -4,7 +4,7 @@ use Rattle.wire_msg.specs.Envelope.{Envelope}
 use Rattle.sector_disk.specs.Memory.{Memory, state_of}
 use Rattle.durable_node.specs.Node.{Node, Stands}
 use Rattle.histories.specs.NodeState.{opening}
-use Rattle.histories.specs.What.{Entry as NodeEntry, brought, event_of}
+use Rattle.histories.specs.HistoryEvent.{Entry as NodeEntry, brought, event_of}
 use Rattle.histories.specs.History.{Follows, replay}
 use Rattle.node_lock.specs.declared.worker.Turns.{Turns}
 use Rattle.node_lock.specs.declared.worker.Worker.{Worker}

@@ -2,16 +2,16 @@
 use Rattle.std.specs.Prelude.{ℕ, ◌≡◌, ◌<◌, ◌≤◌, ⊤, List, [], Option, Some, None, slice_get}
 use Rattle.wire_msg.specs.Envelope.{Envelope}
 use Rattle.node_core.specs.declared.event.Event.{Event}
-use Rattle.histories.specs.declared.fate.Fate.{Fate}
-use Rattle.histories.specs.declared.what.What.{What}
-use Rattle.histories.specs.declared.what.What.TheVariants as what
-use Rattle.histories.specs.declared.what.Rest.TheVariants.{Nothing}
-use Rattle.histories.specs.Fates.{what_of}
+use Rattle.histories.specs.declared.event_outcome.EventOutcome.{EventOutcome}
+use Rattle.histories.specs.declared.history_event.HistoryEvent.{HistoryEvent}
+use Rattle.histories.specs.declared.history_event.HistoryEvent.TheVariants as what
+use Rattle.histories.specs.declared.history_event.NoOpKind.TheVariants.{Nothing}
+use Rattle.histories.specs.EventOutcomes.{what_of}
 use Rattle.trace_check.specs.Kept.{part}
 use Rattle.node_lock.specs.declared.line.Quiet.{Quiet}
 use Rattle.node_lock.specs.declared.line.Quiet.TheVariants as quiet
-use Rattle.node_lock.specs.declared.line.KeptWhat.{KeptWhat}
-use Rattle.node_lock.specs.declared.line.KeptWhat.TheVariants as kept
+use Rattle.node_lock.specs.declared.line.PackedHistoryEvent.{PackedHistoryEvent}
+use Rattle.node_lock.specs.declared.line.PackedHistoryEvent.TheVariants as kept
 use Rattle.node_lock.specs.declared.line.Line.{Line}
 use Rattle.node_lock.specs.History.{Turn}
 
@@ -23,18 +23,18 @@ pub record Log : Type 0 where
   pub events : ℕ
 
 -- what came of a turn that handed no event to its node
-abbrev pub what_quiet : Quiet → What
-what_quiet quiet.Rested = what.Rests Nothing
+abbrev pub what_quiet : Quiet → HistoryEvent
+what_quiet quiet.Rested = what.NoOp Nothing
 what_quiet quiet.Crashed = what.Crashed
 
 -- what came of an event, where there is one
-abbrev pub what_came : Option Event → Fate → What
-what_came None fate = what.Rests Nothing
-what_came (Some event) fate = what_of event fate
+abbrev pub what_came : Option Event → EventOutcome → HistoryEvent
+what_came None event_outcome = what.NoOp Nothing
+what_came (Some event) event_outcome = what_of event event_outcome
 
 -- what came of a turn, by the list of events
-abbrev pub what_in : List Event → KeptWhat → What
-what_in events (kept.Came place fate) = what_came (slice_get events place) fate
+abbrev pub what_in : List Event → PackedHistoryEvent → HistoryEvent
+what_in events (kept.StepReport place event_outcome) = what_came (slice_get events place) event_outcome
 what_in events (kept.Quiet q) = what_quiet q
 
 -- the turn that a line says, by the list of messages and that of events
@@ -56,8 +56,8 @@ pub record IsHandledAt (place : ℕ) (event : Event) (messages : List Envelope) 
   pub sent : turn.entry.sent ≡ messages
 
 -- the event of a line is among so many
-abbrev pub WhatStands : ℕ → KeptWhat → Type 0
-WhatStands events (kept.Came place fate) = place < events
+abbrev pub WhatStands : ℕ → PackedHistoryEvent → Type 0
+WhatStands events (kept.StepReport place event_outcome) = place < events
 WhatStands events (kept.Quiet q) = ⊤
 
 -- the messages of a line are among so many, and so is its event

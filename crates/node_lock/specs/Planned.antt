@@ -1,7 +1,7 @@
 -- What contracts see of the plans of a node's workers, and of the turns that were taken.
 use Rattle.std.specs.Prelude.{ℕ, ◌+◌, List, length}
 use Rattle.node_core.specs.declared.timer.Timer.{Timer}
-use Rattle.node_lock.specs.declared.order.Order.{Order}
+use Rattle.node_lock.specs.declared.order.OperatorOrder.{OperatorOrder}
 use Rattle.node_lock.specs.declared.worker.Turns.{Turns}
 use Rattle.node_lock.specs.declared.worker.Worker.{Worker}
 use Rattle.node_lock.specs.declared.worker.Worker.TheVariants.{Intake, Clock, Operator}
@@ -10,7 +10,7 @@ use Rattle.node_lock.specs.declared.worker.Worker.TheVariants.{Intake, Clock, Op
 pub record Planned : Type 0 where
   pub intake : List ℕ
   pub clock : List Timer
-  pub operator : List Order
+  pub operator : List OperatorOrder
 
 -- the length of a worker's plan
 abbrev pub plan_len : Planned → Worker → ℕ

@@ -2,7 +2,7 @@
 use Rattle.std.specs.Prelude.{◌≡◌, ℕ, List, [], ◌∷◌, ◌++◌}
 use Rattle.sector_disk.specs.Memory.{Memory}
 use Rattle.link_ring.specs.Sides.{Side}
-use Rattle.histories.specs.What.{Entry}
+use Rattle.histories.specs.HistoryEvent.{Entry}
 use Rattle.durable_node.specs.Node.{Node}
 use Rattle.node_lock.specs.declared.worker.Worker.{Worker}
 use Rattle.node_lock.specs.Asking.{Asked}

@@ -7,14 +7,14 @@ use message_list::MessageList;
 use node_core::Event;
 use std::alloc::{AllocError, Global};
 use std::marker::Model;
-use trace_check::{KeptEvent, event_said, keep_event, read_event};
+use trace_check::{PackedEvent, event_said, keep_event, read_event};
 
 /// Events in the order in which they were added.
 ///
 /// Each takes 24 bytes, a delivery 16 more for most messages, and a new job the bytes of its payload.
 #[derive(Drop)]
 pub struct EventList {
-    kept: Vec<KeptEvent>,
+    kept: Vec<PackedEvent>,
     messages: MessageList,
     payloads: Vec<u8>,
     // for so many more events there is room, whatever they are

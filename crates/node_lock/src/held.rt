@@ -77,7 +77,7 @@ impl Model for Held {
 
 /// What is left of a node when its workers have ended.
 #[derive(Drop)]
-pub struct Parts {
+pub struct HeldParts {
     pub run: Run,
     pub plans: Plans,
     pub history: History,
@@ -263,7 +263,7 @@ impl Held {
     }
 
     /// What is left of the node.
-    pub fn into_parts(self) -> Parts
+    pub fn into_parts(self) -> HeldParts
         ensures kept { Kept self }
         ensures parts { (result.run ≡ self.run) × (result.plans ≡ self.plans) × (result.history.turns ≡ self.history) × (result.puts.items ≡ self.puts) × (result.takes.items ≡ self.takes) × (result.waiting ≡ self.waiting) }
     {
@@ -277,7 +277,7 @@ impl Held {
             history,
             waiting,
         } = self;
-        Parts {
+        HeldParts {
             run,
             plans,
             history,

@@ -1,7 +1,7 @@
 //! The history of a node: what came of the turns of its workers.
 
 ghost use Rattle.std.specs.Prelude.{◌≡◌, ◌≤◌, ◌<◌, List, [], ◌∷◌, ◌++◌, length, slice_get, None, Some, IfSome, IsNone, OnOk};
-ghost use Rattle.histories.specs.Fates.{what_of};
+ghost use Rattle.histories.specs.EventOutcomes.{what_of};
 ghost use Rattle.node_core.specs.declared.event.Event.{Event};
 ghost use Rattle.wire_msg.specs.Envelope.{Envelope};
 ghost use Rattle.node_lock.specs.Kept.{IsHandledAt, IsQuietAt, WhatStands, what_in, what_quiet};
@@ -9,9 +9,9 @@ ghost use Rattle.node_lock.specs.Seen.{turn_seen};
 ghost use Rattle.node_lock.specs.declared.line.Quiet.{Quiet};
 
 use crate::event_list::EventList;
-use crate::line::{KeptWhat, Line, Quiet};
+use crate::line::{Line, PackedHistoryEvent, Quiet};
 use crate::worker::Worker;
-use histories::{Fate, Rest, What};
+use histories::{EventOutcome, HistoryEvent, NoOpKind};
 use message_list::MessageList;
 use node_core::Event;
 use std::alloc::{AllocError, Global};
@@ -87,13 +87,13 @@ impl History {
         worker: Worker,
         index: u64,
         event: &Event,
-        fate: Fate,
+        event_outcome: EventOutcome,
         sent: &[Message],
     )
         requires room { 0 < self.old.room }
         requires sends { length sent.now ≤ self.old.sends }
         requires events { 0 < self.old.events }
-        ensures { self.new.turns ≡ self.old.turns ++ (record { worker = worker; index = index; entry = record { what = what_of event.now fate; sent = sent.now } }) ∷ [] }
+        ensures { self.new.turns ≡ self.old.turns ++ (record { worker = worker; index = index; entry = record { what = what_of event.now event_outcome; sent = sent.now } }) ∷ [] }
     {
         let place = self.events.len();
         self.events.push(event);
@@ -102,7 +102,7 @@ impl History {
         self.lines.push_reserved(Line {
             worker,
             index,
-            what: KeptWhat::Came(place, fate),
+            what: PackedHistoryEvent::StepReport(place, event_outcome),
             start,
             end: self.sent.len(),
         });
@@ -116,7 +116,7 @@ impl History {
         self.lines.push_reserved(Line {
             worker,
             index,
-            what: KeptWhat::Quiet(quiet),
+            what: PackedHistoryEvent::Quiet(quiet),
             start: 0,
             end: 0,
         });
@@ -133,7 +133,7 @@ impl History {
     {
         let line = self.lines.get(place)?;
         match line.what {
-            KeptWhat::Quiet(quiet) if line.start == line.end => Some(quiet),
+            PackedHistoryEvent::Quiet(quiet) if line.start == line.end => Some(quiet),
             _ => None,
         }
     }
@@ -148,10 +148,10 @@ impl History {
         ensures none { IsNone result → (event : Event) → (sent : List Envelope) → IsHandledAt place event sent self.now.turns → ⊥ }
     {
         let line = self.lines.get(place)?;
-        let KeptWhat::Came(at, fate) = line.what else {
+        let PackedHistoryEvent::StepReport(at, event_outcome) = line.what else {
             return None;
         };
-        let Fate::Done = fate else {
+        let EventOutcome::Done = event_outcome else {
             return None;
         };
         self.events.read(at, event);
@@ -174,17 +174,17 @@ impl History {
 }
 
 /// What came of a turn, by its event.
-fn what_in(events: &EventList, what: KeptWhat) -> What
+fn what_in(events: &EventList, what: PackedHistoryEvent) -> HistoryEvent
     requires { WhatStands (length events.now.events) what }
     ensures { result ≡ what_in events.now.events what }
 {
     match what {
-        KeptWhat::Came(place, fate) => match events.get(place) {
-            Some(event) => fate.what(&event),
+        PackedHistoryEvent::StepReport(place, event_outcome) => match events.get(place) {
+            Some(event) => event_outcome.what(&event),
             None => unreachable!(),
         },
-        KeptWhat::Quiet(Quiet::Rested) => What::Rests(Rest::Nothing),
-        KeptWhat::Quiet(Quiet::Crashed) => What::Crashed,
+        PackedHistoryEvent::Quiet(Quiet::Rested) => HistoryEvent::NoOp(NoOpKind::Nothing),
+        PackedHistoryEvent::Quiet(Quiet::Crashed) => HistoryEvent::Crashed,
     }
 }
 
@@ -195,7 +195,7 @@ pub struct Entry<'a> {
     /// Its number in the worker's plan, counted from 0.
     pub index: u64,
     /// What came of it: the entry of the node's history.
-    pub what: What,
+    pub what: HistoryEvent,
     /// The messages that the node sent, those that a full link lost among them.
     pub sent: Sent<'a>,
 }

@@ -3,6 +3,13 @@
 //! Three workers take turns at a node: one polls the links, one fires timers, one is the operator. Each turn adds one entry to
 //! the history, and the history is always that of the node: replayed from the opening it gives what the node and its disk stand
 //! for.
+//!
+//! ```
+//! let held = Held::new(alloc, run, puts, takes, plans)?;
+//! let lock = NodeLock::new(held);
+//! while lock.turn(rt, Worker::Clock, &gate)? {}                    // each turn in its thread, until the plan is used up
+//! let parts = lock.into_held().into_parts();                       // the history, and the ends of the links
+//! ```
 #![tactic(auto)]
 
 mod event_list;
@@ -19,12 +26,12 @@ mod run;
 mod turn;
 mod worker;
 
-pub use held::{Held, HeldFault, MOST_ENTRIES, Parts};
+pub use held::{Held, HeldFault, HeldParts, MOST_ENTRIES};
 pub use history::{Entry, History};
 pub use laws::limits;
 pub use line::Quiet;
 pub use lock::{Gate, NodeLock, TurnFault};
-pub use order::{Fill, Order};
+pub use order::{CrashFill, OperatorOrder};
 pub use plans::Plans;
 pub use run::Run;
 pub use trace_check::Sent;

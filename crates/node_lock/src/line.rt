@@ -1,11 +1,11 @@
 //! A turn as its history keeps it.
 
 use crate::worker::Worker;
-use histories::Fate;
+use histories::EventOutcome;
 use std::mem::size_of;
 
 /// What came of a turn that handed no event to its node.
-#[derive(Clone, Copy)]
+#[derive(Clone, Copy, Debug, PartialEq, Eq)]
 pub enum Quiet {
     /// A poll took nothing, or the disk was armed.
     Rested,
@@ -15,9 +15,9 @@ pub enum Quiet {
 
 /// What came of a turn, as it is kept.
 #[derive(Clone, Copy)]
-pub enum KeptWhat {
+pub enum PackedHistoryEvent {
     /// What came of the event that stands at this place of the list of events.
-    Came(usize, Fate),
+    StepReport(usize, EventOutcome),
     Quiet(Quiet),
 }
 
@@ -26,7 +26,7 @@ pub enum KeptWhat {
 pub struct Line {
     pub worker: Worker,
     pub index: u64,
-    pub what: KeptWhat,
+    pub what: PackedHistoryEvent,
     pub start: usize,
     pub end: usize,
 }

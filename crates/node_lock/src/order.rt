@@ -9,11 +9,11 @@ use std::marker::Model;
 
 /// What a crash leaves in the sectors that weren't synced, in their order.
 #[derive(Drop)]
-pub struct Fill {
+pub struct CrashFill {
     bytes: Vec<u8>,
 }
 
-impl Model for Fill {
+impl Model for CrashFill {
     ghost use Rattle.std.specs.Prelude.{ℕ, List};
 
     ghost Value = { List ℕ };
@@ -21,11 +21,11 @@ impl Model for Fill {
     ghost view = { λ a. a.bytes.items };
 }
 
-impl Fill {
-    pub fn new(bytes: Vec<u8>) -> Fill
+impl CrashFill {
+    pub fn new(bytes: Vec<u8>) -> CrashFill
         ensures { result ≡ bytes.items }
     {
-        Fill { bytes }
+        CrashFill { bytes }
     }
 
     pub fn as_slice(&self) -> &[u8]
@@ -35,53 +35,54 @@ impl Fill {
     }
 
     /// The same bytes once more.
-    pub fn try_clone(&self, alloc: Global) -> Result<Fill, AllocError>
+    pub fn try_clone(&self, alloc: Global) -> Result<CrashFill, AllocError>
         ensures { IfOk result (λ fill. fill ≡ self.now) }
     {
         let bytes = Vec::from_slice(alloc, &self.bytes)?;
-        Ok(Fill { bytes })
+        Ok(CrashFill { bytes })
     }
 }
 
 /// What the operator does.
 #[derive(Drop)]
-pub enum Order {
+pub enum OperatorOrder {
     Submit(NewJob),
     /// The origin of a job in hand, and its id there.
     Finish(NodeId, u64),
     /// So many more calls of the disk pass.
     Arm(u64),
     /// The node crashes, and leaves these bytes in the sectors that weren't synced.
-    Crash(Fill),
+    Crash(CrashFill),
     Recover,
 }
 
-impl Order {
+impl OperatorOrder {
     /// The same order once more.
-    pub fn try_clone(&self, alloc: Global) -> Result<Order, AllocError>
+    pub fn try_clone(&self, alloc: Global) -> Result<OperatorOrder, AllocError>
         ensures { IfOk result (λ order. order ≡ self.now) }
     {
         match self {
-            Order::Submit(job) => Ok(Order::Submit(job.try_clone(alloc)?)),
-            Order::Finish(origin, id) => Ok(Order::Finish(*origin, *id)),
-            Order::Arm(calls) => Ok(Order::Arm(*calls)),
-            Order::Crash(fill) => Ok(Order::Crash(fill.try_clone(alloc)?)),
-            Order::Recover => Ok(Order::Recover),
+            OperatorOrder::Submit(job) => Ok(OperatorOrder::Submit(job.try_clone(alloc)?)),
+            OperatorOrder::Finish(origin, id) => Ok(OperatorOrder::Finish(*origin, *id)),
+            OperatorOrder::Arm(calls) => Ok(OperatorOrder::Arm(*calls)),
+            OperatorOrder::Crash(fill) => Ok(OperatorOrder::Crash(fill.try_clone(alloc)?)),
+            OperatorOrder::Recover => Ok(OperatorOrder::Recover),
         }
     }
 
     /// Whether both orders ask the same.
-    pub fn is_same(&self, other: &Order) -> bool
+    pub fn is_same(&self, other: &OperatorOrder) -> bool
         ensures { IsTrue result ↔ (self.now ≡ other.now) }
     {
         match (self, other) {
-            (Order::Submit(job), Order::Submit(theirs)) => job.is_same(theirs),
-            (Order::Finish(origin, id), Order::Finish(their_origin, their_id)) => {
+            (OperatorOrder::Submit(job), OperatorOrder::Submit(theirs)) => job.is_same(theirs),
+            (OperatorOrder::Finish(origin, id), OperatorOrder::Finish(their_origin, their_id)) => {
                 origin == their_origin && id == their_id
             }
-            (Order::Arm(calls), Order::Arm(theirs)) => calls == theirs,
-            (Order::Crash(fill), Order::Crash(theirs)) => fill.as_slice() == theirs.as_slice(),
-            (Order::Recover, Order::Recover) => true,
+            (OperatorOrder::Arm(calls), OperatorOrder::Arm(theirs)) => calls == theirs,
+            (OperatorOrder::Crash(fill), OperatorOrder::Crash(theirs)) => fill.as_slice()
+                == theirs.as_slice(),
+            (OperatorOrder::Recover, OperatorOrder::Recover) => true,
             _ => false,
         }
     }

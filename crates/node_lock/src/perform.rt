@@ -2,14 +2,14 @@
 ghost use Rattle.std.specs.Prelude.{◌≡◌, ◌≤◌, ℕ, IfOk, IfErr, length, None};
 ghost use Rattle.group_task.specs.Ids.{IsSet};
 ghost use Rattle.durable_node.specs.Stepping.{most_by};
-ghost use Rattle.histories.specs.Fates.{what_of};
+ghost use Rattle.histories.specs.EventOutcomes.{what_of};
 ghost use Rattle.node_lock.specs.declared.held.HeldFault.TheVariants.{NoMemory};
 ghost use Rattle.node_lock.specs.Doing.{Did, StandsForSome};
 ghost use Rattle.node_lock.specs.Sending.{addressed_to, most_from, most_to};
 
 use crate::held::HeldFault;
-use durable_node::{Came, DurableNode};
-use histories::Fate;
+use durable_node::{DurableNode, StepReport};
+use histories::EventOutcome;
 use node_core::{Event, Timer};
 use sector_disk::MemDisk;
 use wire_msg::Message;
@@ -20,7 +20,7 @@ use wire_msg::Message;
 pub(crate) fn perform(
     node: &mut DurableNode<MemDisk>,
     event: &Event,
-) -> Result<(Fate, Vec<Message>), HeldFault>
+) -> Result<(EventOutcome, Vec<Message>), HeldFault>
     requires stands { StandsForSome node.old }
     ensures id { node.new.id ≡ node.old.id }
     ensures nodes { node.new.nodes ≡ node.old.nodes }
@@ -37,8 +37,12 @@ pub(crate) fn perform(
     match node.step(event) {
         Ok(came) => {
             node.forget();
-            let Came { fate, sent, .. } = came;
-            Ok((fate, sent))
+            let StepReport {
+                event_outcome,
+                sent,
+                ..
+            } = came;
+            Ok((event_outcome, sent))
         }
         Err(_) => Err(HeldFault::NoMemory),
     }
@@ -48,9 +52,9 @@ pub(crate) fn perform(
 fn note_sets(node: &DurableNode<MemDisk>)
     ensures { IsSet node.now.state.up × IsSet node.now.state.found }
 {
-    let standing = &node.vector().standing;
-    let _ = standing.up.len();
-    let _ = standing.found.len();
+    let group_state = &node.vector().group_state;
+    let _ = group_state.up.len();
+    let _ = group_state.found.len();
 }
 
 /// How many messages to one node an event may send: a dispatch one for each pending job, and any other event one. A node that is Down

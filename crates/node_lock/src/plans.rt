@@ -1,8 +1,8 @@
 //! The plans of a node's workers.
 
-ghost use Rattle.std.specs.Prelude.{◌≡◌, ◌↔◌, IfOk, IsTrue};
+ghost use Rattle.std.specs.Prelude.{◌≡◌, ◌↔◌, [], ◌∷◌, ◌++◌, IfOk, IsTrue, OnOk};
 
-use crate::order::Order;
+use crate::order::OperatorOrder;
 use group_task::NodeId;
 use node_core::Timer;
 use std::alloc::{AllocError, Global};
@@ -13,7 +13,7 @@ use std::marker::Model;
 pub struct Plans {
     intake: Vec<NodeId>,
     clock: Vec<Timer>,
-    operator: Vec<Order>,
+    operator: Vec<OperatorOrder>,
 }
 
 impl Model for Plans {
@@ -25,7 +25,7 @@ impl Model for Plans {
 }
 
 impl Plans {
-    pub fn new(intake: Vec<NodeId>, clock: Vec<Timer>, operator: Vec<Order>) -> Plans
+    pub fn new(intake: Vec<NodeId>, clock: Vec<Timer>, operator: Vec<OperatorOrder>) -> Plans
         ensures { result ≡ record { intake = intake.items; clock = clock.items; operator = operator.items } }
     {
         Plans {
@@ -33,6 +33,34 @@ impl Plans {
             clock,
             operator,
         }
+    }
+
+    /// Plans of no turns. They take no memory.
+    pub fn none(alloc: Global) -> Plans
+        ensures { result ≡ record { intake = []; clock = []; operator = [] } }
+    {
+        Plans::new(Vec::new(alloc), Vec::new(alloc), Vec::new(alloc))
+    }
+
+    /// Adds a poll of the link from this node.
+    pub fn add_poll(&mut self, from: NodeId) -> Result<(), AllocError>
+        ensures { OnOk result (self.new ≡ record self.old { intake = self.old.intake ++ from ∷ [] }) }
+    {
+        Ok(self.intake.push(from)?)
+    }
+
+    /// Adds a timer that fires.
+    pub fn add_timer(&mut self, timer: Timer) -> Result<(), AllocError>
+        ensures { OnOk result (self.new ≡ record self.old { clock = self.old.clock ++ timer ∷ [] }) }
+    {
+        Ok(self.clock.push(timer)?)
+    }
+
+    /// Adds what the operator does next.
+    pub fn add_order(&mut self, order: OperatorOrder) -> Result<(), AllocError>
+        ensures { OnOk result (self.new ≡ record self.old { operator = self.old.operator ++ order ∷ [] }) }
+    {
+        Ok(self.operator.push(order)?)
     }
 
     /// The nodes whose links are polled.
@@ -50,15 +78,16 @@ impl Plans {
     }
 
     /// What the operator does.
-    pub fn operator(&self) -> &[Order]
+    pub fn operator(&self) -> &[OperatorOrder]
         ensures { result.now ≡ self.now.operator }
     {
         &self.operator
     }
+
     /// The same plans once more.
     pub fn try_clone(&self, alloc: Global) -> Result<Plans, AllocError>
         // Promise: Plans that are cloned are the same, and two plans are compared by what they say.
-        // Also: Plans::is_same, Order::try_clone, Order::is_same, Fill::try_clone.
+        // Also: Plans::is_same, OperatorOrder::try_clone, OperatorOrder::is_same, CrashFill::try_clone.
         // Refuses: intake_plan_not_copied, copy_arms_at_once, fill_copied_empty, timers_not_compared, origin_not_compared.
         ensures { IfOk result (λ plans. plans ≡ self.now) }
     {
@@ -100,7 +129,7 @@ fn same_timers(some: &[Timer], others: &[Timer]) -> bool
 }
 
 /// Whether both lists have the same orders.
-fn same_orders(some: &[Order], others: &[Order]) -> bool
+fn same_orders(some: &[OperatorOrder], others: &[OperatorOrder]) -> bool
     ensures { IsTrue result ↔ (some.now ≡ others.now) }
 {
     if some.len() != others.len() {

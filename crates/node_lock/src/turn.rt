@@ -1,6 +1,6 @@
 // One turn at a node.
 ghost use Rattle.std.specs.Prelude.{◌≡◌, ◌≤◌, ◌<◌, [], ◌∷◌, ◌++◌, OnOk, IfErr, IfNone, IfSome, vec_len, slice_index_or, None};
-ghost use Rattle.histories.specs.What.{Entry};
+ghost use Rattle.histories.specs.HistoryEvent.{Entry};
 ghost use Rattle.durable_node.specs.Stepping.{most_by};
 ghost use Rattle.node_lock.specs.declared.held.HeldFault.TheVariants.{NoMemory};
 ghost use Rattle.node_lock.specs.declared.worker.Worker.TheVariants.{Intake, Operator};
@@ -17,7 +17,7 @@ use crate::held::HeldFault;
 use crate::history::History;
 use crate::line::Quiet;
 use crate::links::{reserve_puts, send_all};
-use crate::order::Order;
+use crate::order::OperatorOrder;
 use crate::perform::{most_to, perform};
 use crate::worker::Worker;
 use durable_node::DurableNode;
@@ -44,9 +44,9 @@ pub(crate) fn hand(
     if make_room(node, puts, history, event).is_err() {
         return Err(HeldFault::NoMemory);
     }
-    let (fate, sent) = perform(node, event)?;
+    let (event_outcome, sent) = perform(node, event)?;
     send_all(puts, &sent);
-    history.push(worker, index, event, fate, &sent);
+    history.push(worker, index, event, event_outcome, &sent);
     Ok(())
 }
 
@@ -85,7 +85,7 @@ pub(crate) fn operate(
     puts: &mut Vec<PutEnd>,
     history: &mut History,
     index: u64,
-    order: &Order,
+    order: &OperatorOrder,
 ) -> Result<(), HeldFault>
     requires stands { StandsForSome node.old }
     requires ends { AreEnds node.old.id puts.old.items }
@@ -93,15 +93,15 @@ pub(crate) fn operate(
     ensures memory { IfErr result (λ fault. (fault ≡ NoMemory) × TookNone (site node.old puts.old.items history.old.turns) (site node.new puts.new.items history.new.turns)) }
 {
     let event = match order {
-        Order::Submit(job) => Event::Submit(job.work()),
-        Order::Finish(origin, id) => Event::Finish(*origin, *id),
-        Order::Recover => Event::Recover,
-        Order::Arm(calls) => {
+        OperatorOrder::Submit(job) => Event::Submit(job.work()),
+        OperatorOrder::Finish(origin, id) => Event::Finish(*origin, *id),
+        OperatorOrder::Recover => Event::Recover,
+        OperatorOrder::Arm(calls) => {
             rest(history, Worker::Operator, index)?;
             node.arm(*calls);
             return Ok(());
         }
-        Order::Crash(fill) => {
+        OperatorOrder::Crash(fill) => {
             if history.reserve_quiet().is_err() {
                 return Err(HeldFault::NoMemory);
             }

@@ -7,9 +7,9 @@ use Rattle.node_store.specs.Store.{slots_for}
 use Rattle.durable_node.specs.Node.{Node, Stands}
 use Rattle.histories.specs.NodeState.{NodeState}
 use Rattle.node_session.proofs.Happens.{caused}
-use Rattle.node_session.specs.declared.ended.Ended.{Ended}
+use Rattle.node_session.specs.declared.call_outcome.CallOutcome.{CallOutcome}
 use Rattle.node_session.specs.Turns.{Turn, after_turn, end_of, IsFired, IsTimely, IsGoing, MayComeOf}
-use Rattle.pace.specs.Waiting.{Waits}
+use Rattle.pace.specs.Retransmission.{Waits}
 use Rattle.node_session.specs.Chains.{AreGoing, AreTimely, IsOne, after_turns, last_end, waits_turn, waits_turns}
 use Rattle.node_session.specs.Text.{fired_by, fired_line, fired_news, turn_text, turns_text, no_news}
 use Rattle.node_session.specs.Serving.{Progress, IsNodeOf, Turned, Turns, Calls}
@@ -20,7 +20,7 @@ after_more : (self nodes : ℕ) (s : NodeState) (ts : List Turn) (t : Turn) → 
 after_more self nodes s [] t = refl
 after_more self nodes s (u ∷ ts) t = after_more self nodes (after_turn self nodes s u) ts t
 
-end_more : (self nodes : ℕ) (before : Ended) (s : NodeState) (ts : List Turn) (t : Turn) → last_end self nodes before s (ts ++ t ∷ []) ≡ end_of self nodes (after_turns self nodes s ts) t
+end_more : (self nodes : ℕ) (before : CallOutcome) (s : NodeState) (ts : List Turn) (t : Turn) → last_end self nodes before s (ts ++ t ∷ []) ≡ end_of self nodes (after_turns self nodes s ts) t
 end_more self nodes before s [] t = refl
 end_more self nodes before s (u ∷ ts) t = end_more self nodes (end_of self nodes s u) (after_turn self nodes s u) ts t
 
@@ -72,7 +72,7 @@ at_node P old mid id nodes p = subst (λ (n : ℕ). P old.id n) nodes (subst (λ
 
 -- ---- calls
 
-pub one_call : {Disk : Type 0} (disks : Disk → DiskState) (old new : Progress Disk) (May : ℕ → ℕ → ℕ → NodeState → Turn → Type 0) (before ended : Ended) → Turns disks old new May ended
+pub one_call : {Disk : Type 0} (disks : Disk → DiskState) (old new : Progress Disk) (May : ℕ → ℕ → ℕ → NodeState → Turn → Type 0) (before ended : CallOutcome) → Turns disks old new May ended
     → Calls disks old new no_news (λ i n slots s turns. IsOne (May i n slots s) turns) before ended
 one_call disks old new May before ended a = record {
   node = a.node;
@@ -89,7 +89,7 @@ one_call disks old new May before ended a = record {
       });
 }
 
-pub no_call : {Disk : Type 0} (disks : Disk → DiskState) (p : Progress Disk) (before : Ended) → Calls disks p p fired_news AreTimely before before
+pub no_call : {Disk : Type 0} (disks : Disk → DiskState) (p : Progress Disk) (before : CallOutcome) → Calls disks p p fired_news AreTimely before before
 no_call disks p before = record {
   node = node_refl disks p.node;
   same = refl;
@@ -100,7 +100,7 @@ both_texts : (a b c x y : List ℕ) → b ≡ a ++ x → c ≡ b ++ y → c ≡ 
 both_texts a b c x y first second = second ∙ (ap (λ (t : List ℕ). t ++ y) first ∙ append_assoc a x y)
 
 -- one more, behind the line that names its event
-pub call_more : {Disk : Type 0} (disks : Disk → DiskState) (old mid new : Progress Disk) (event : Event) (said : List ℕ) (before between ended : Ended) → IsFired event → said ≡ mid.text ++ fired_line event
+pub call_more : {Disk : Type 0} (disks : Disk → DiskState) (old mid new : Progress Disk) (event : Event) (said : List ℕ) (before between ended : CallOutcome) → IsFired event → said ≡ mid.text ++ fired_line event
     → Calls disks old mid fired_news AreTimely before between → Turns disks (record mid { text = said }) new (λ i n. MayComeOf i n event) ended
     → Calls disks old new fired_news AreTimely before ended
 call_more {Disk} disks old mid new event said before between ended fired fires a b = record {
@@ -127,7 +127,7 @@ call_more {Disk} disks old mid new event said before between ended fired fires a
 }
 
 -- as the code does it: what is due is looked at, which changes nothing, it is named, and made
-pub due_more : {Disk : Type 0} (disks : Disk → DiskState) (old mid due here new : Progress Disk) (event : Event) (before between ended : Ended) → IsFired event → due ≡ mid
+pub due_more : {Disk : Type 0} (disks : Disk → DiskState) (old mid due here new : Progress Disk) (event : Event) (before between ended : CallOutcome) → IsFired event → due ≡ mid
     → here ≡ record due { text = due.text ++ fired_line event }
     → Calls disks old mid fired_news AreTimely before between → Turns disks here new (λ i n. MayComeOf i n event) ended
     → Calls disks old new fired_news AreTimely before ended

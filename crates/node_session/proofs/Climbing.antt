@@ -12,8 +12,8 @@ use Rattle.node_core.specs.State.{State, is_down}
 use Rattle.node_core.specs.Start.{down}
 use Rattle.node_core.specs.declared.event.Event.{Event}
 use Rattle.histories.specs.NodeState.{NodeState, settled, wants_at}
-use Rattle.histories.specs.declared.what.What.{What}
-use Rattle.histories.specs.declared.what.What.TheVariants.{Did, Refused, Faulted, Rests, Crashed, Recovered, MountFailed, RaiseFailed, RaiseRefused}
+use Rattle.histories.specs.declared.history_event.HistoryEvent.{HistoryEvent}
+use Rattle.histories.specs.declared.history_event.HistoryEvent.TheVariants.{Did, Refused, Faulted, NoOp, Crashed, Recovered, MountFailed, RaiseFailed, RaiseRefused}
 use Rattle.histories.specs.After.{after}
 use Rattle.histories.specs.Possible.{IsPossible, Takes}
 use Rattle.histories.proofs.PublicLaws.{at_down, stays_up}
@@ -67,11 +67,11 @@ did_moves self nodes s event false is fallen takes =
     let up = stays_up nodes self s.durable.pending event (answer_to s.durable (wants_at self nodes s event)) s.state is in
     (record { counter = wanted_grows s.durable (wants_at self nodes s event); up = λ _. inl is }, λ fallen. (let bad : false ≡ true = sym up ∙ fallen in absurd cc))
 
-step_moves : (self nodes : ℕ) (s : NodeState) (what : What) → Fallen self s → IsPossible self nodes s what → Moves s (after self nodes s what) × Fallen self (after self nodes s what)
+step_moves : (self nodes : ℕ) (s : NodeState) (what : HistoryEvent) → Fallen self s → IsPossible self nodes s what → Moves s (after self nodes s what) × Fallen self (after self nodes s what)
 step_moves self nodes s (Did event) fallen may = did_moves self nodes s event (is_down s.state.phase) refl fallen may
 step_moves self nodes s (Refused event fault) fallen may = (stays s, fallen)
 step_moves self nodes s (Faulted event) fallen may = falls self s (after self nodes s (Faulted event)) (omega arith) refl
-step_moves self nodes s (Rests rest) fallen may = (stays s, fallen)
+step_moves self nodes s (NoOp rest) fallen may = (stays s, fallen)
 step_moves self nodes s Crashed fallen may = falls self s (after self nodes s Crashed) (omega arith) refl
 step_moves self nodes s (Recovered kept) fallen may =
     (record { counter = omega (arith, settled_grows kept s); up = λ _. inr (omega (arith, settled_grows kept s)) }, λ fallen. (let bad : false ≡ true = fallen in absurd cc))

@@ -29,14 +29,14 @@ use Rattle.node_core.specs.TimerWords.{word_of}
 use Rattle.durable_node.specs.declared.fault.NodeFault.{NodeFault}
 use Rattle.durable_node.specs.declared.fault.NodeFault.TheVariants as node
 use Rattle.histories.specs.NodeState.{NodeState}
-use Rattle.pace.specs.Waiting.{sent_again}
+use Rattle.pace.specs.Retransmission.{sent_again}
 use Rattle.node_session.specs.declared.asked.Asked.{Asked}
 use Rattle.node_session.specs.declared.asked.Asked.TheVariants as ask
 use Rattle.node_session.specs.declared.asked.Unsealed.{Unsealed}
 use Rattle.node_session.specs.declared.asked.Unsealed.TheVariants as unsealed
 use Rattle.node_session.specs.declared.seen.Told.{Told}
-use Rattle.node_session.specs.declared.ended.Ended.{Ended}
-use Rattle.node_session.specs.declared.ended.Ended.TheVariants as end
+use Rattle.node_session.specs.declared.call_outcome.CallOutcome.{CallOutcome}
+use Rattle.node_session.specs.declared.call_outcome.CallOutcome.TheVariants as end
 use Rattle.node_session.specs.Changes.{changes, drop_line, drop_news, drops, drops_by, gone_at, gone_by, gone_line, gone_news, group_by, group_line, group_news, held_by, held_text, is_finish, pair_in, same_told, take_line, take_news, takes, told_of}
 use Rattle.node_words.specs.Words.{core_name, event_word, group_part, group_text, id_text, ids_text, more_ids_text, phase_text, truth_text}
 use Rattle.node_session.specs.Turns.{Turn, after_turn, cause, end_of, sent_in}
@@ -200,7 +200,7 @@ gone_event (Some (on.Finish origin job)) id = gone_made id
 gone_event (Some (on.Deliver m)) id = body_made m.body id
 gone_event event id = nothing
 
-gone_so : (event : Option Event) (ended : Ended) → IsMade (gone_news event ended) []
+gone_so : (event : Option Event) (ended : CallOutcome) → IsMade (gone_news event ended) []
 gone_so event (end.Done (Some id)) = gone_event event id
 gone_so event ended = nothing
 
@@ -271,7 +271,7 @@ denial_made n node.TooSmall = refused_row n (codes "TooSmall") refl
 ok_made : (n : ℕ) (rest : List ℕ) → one_line rest → IsMade (ok_line n rest) []
 ok_made n rest one = said (codes "ok ") (decimal n ++ rest) (both_lines (decimal n) rest (number_line n) one) refl
 
-closing_made : (n : ℕ) (ended : Ended) → IsMade (closing n ended) []
+closing_made : (n : ℕ) (ended : CallOutcome) → IsMade (closing n ended) []
 closing_made n (end.Done answer) = ok_made n [] refl
 closing_made n (end.Denied fault) = denial_made n fault
 
@@ -279,7 +279,7 @@ id_line : (o : Option ℕ) → one_line (id_text o)
 id_line None = refl
 id_line (Some id) = number_line id
 
-event_made : (n : ℕ) (event : Event) (ended : Ended) → IsMade (event_closing n event ended) []
+event_made : (n : ℕ) (event : Event) (ended : CallOutcome) → IsMade (event_closing n event ended) []
 event_made n event (end.Done answer) = ok_made n (answer_text event answer) (by_event event)
   where
     by_event : (e : Event) → one_line (answer_text e answer)
@@ -293,7 +293,7 @@ keeps_made false d =
     said (codes "keeps ") (decimal d.counter ++ codes " " ++ decimal d.next ++ codes " " ++ decimal (length d.pending))
     (spaced (decimal d.counter ++ codes " " ++ decimal d.next) (decimal (length d.pending)) (spaced (decimal d.counter) (decimal d.next) (number_line d.counter) (number_line d.next)) (number_line (length d.pending))) refl
 
-keeps_so : (event : Event) (ended : Ended) (s : NodeState) → IsMade (keeps_news event ended s) []
+keeps_so : (event : Event) (ended : CallOutcome) (s : NodeState) → IsMade (keeps_news event ended s) []
 keeps_so on.Recover (end.Done answer) s = keeps_made (is_down s.state.phase) s.durable
 keeps_so event ended s = nothing
 

@@ -12,17 +12,17 @@ use Rattle.node_core.specs.declared.wanted.Wanted.TheVariants as wanted
 use Rattle.node_store.specs.Store.{slots_for}
 use Rattle.durable_node.specs.declared.fault.NodeFault.{NodeFault}
 use Rattle.durable_node.specs.declared.fault.NodeFault.TheVariants as node
-use Rattle.durable_node.specs.declared.came.Came.{Came}
+use Rattle.durable_node.specs.declared.step_report.StepReport.{StepReport}
 use Rattle.durable_node.specs.Node.{Node, Stands, IsLeft}
 use Rattle.histories.specs.NodeState.{NodeState}
-use Rattle.histories.specs.declared.what.What.{What}
-use Rattle.histories.specs.declared.what.What.TheVariants.{Rests, Crashed, Recovered, RaiseFailed, RaiseRefused}
-use Rattle.histories.specs.declared.what.Rest.{Rest}
-use Rattle.histories.specs.declared.what.Rest.TheVariants.{Nothing, Compacted, CompactDown, CompactWorn}
-use Rattle.histories.specs.What.{event_of}
-use Rattle.histories.specs.Fates.{what_of}
-use Rattle.histories.specs.declared.fate.Fate.{Fate}
-use Rattle.histories.specs.declared.fate.Fate.TheVariants as fate
+use Rattle.histories.specs.declared.history_event.HistoryEvent.{HistoryEvent}
+use Rattle.histories.specs.declared.history_event.HistoryEvent.TheVariants.{NoOp, Crashed, Recovered, RaiseFailed, RaiseRefused}
+use Rattle.histories.specs.declared.history_event.NoOpKind.{NoOpKind}
+use Rattle.histories.specs.declared.history_event.NoOpKind.TheVariants.{Nothing, Compacted, CompactDown, CompactAreaExhausted}
+use Rattle.histories.specs.HistoryEvent.{event_of}
+use Rattle.histories.specs.EventOutcomes.{what_of}
+use Rattle.histories.specs.declared.event_outcome.EventOutcome.{EventOutcome}
+use Rattle.histories.specs.declared.event_outcome.EventOutcome.TheVariants as event_outcome
 use Rattle.histories.specs.After.{after, sent_at}
 use Rattle.histories.specs.Possible.{IsOfSlots}
 use Rattle.durable_node.specs.Compacting.{Compacts, CompactionAnswers, RestAnswers}
@@ -30,16 +30,16 @@ use Rattle.durable_node.specs.Stepping.{CountsOf, Does, IsMounting, Steps, Stuck
 use Rattle.durable_node.specs.Faults.{fault_of, answered, answered_as}
 use Rattle.node_core.specs.declared.fault.CoreFault.TheVariants.{NoMemory}
 use Rattle.durable_node.specs.Remounting.{Remounted}
-use Rattle.node_session.specs.declared.ended.Ended.{Ended}
-use Rattle.node_session.specs.declared.ended.Ended.TheVariants as end
+use Rattle.node_session.specs.declared.call_outcome.CallOutcome.{CallOutcome}
+use Rattle.node_session.specs.declared.call_outcome.CallOutcome.TheVariants as end
 use Rattle.node_session.specs.Turns.{Turn, Goes, Unmounted, Begins, MayComeOf, MayCompact, IsGoing, IsOfCompaction, after_turn, cause, compaction_end, end_at, end_of, ended_by, sent_by, sent_in}
-use Rattle.pace.specs.Waiting.{Waits, waits_behind}
-use Rattle.node_session.specs.Changes.{Sight, changes, gone_news, is_finish, sight_of}
+use Rattle.pace.specs.Retransmission.{Waits, waits_behind}
+use Rattle.node_session.specs.Changes.{NodeSnapshot, changes, gone_news, is_finish, sight_of}
 use Rattle.node_session.specs.Text.{call_text, send_lines}
 use Rattle.node_session.specs.Serving.{Progress, IsNodeOf, Turns}
 
 -- what came of an event over a disk, and how it is written
-record Happens {Disk : Type 0} (disks : Disk → DiskState) (slots : ℕ) (old new : Node Disk) (honest : Bool) (s : NodeState) (event : Event) (result : Result Came NodeFault) : Type 0 where
+record Happens {Disk : Type 0} (disks : Disk → DiskState) (slots : ℕ) (old new : Node Disk) (honest : Bool) (s : NodeState) (event : Event) (result : Result StepReport NodeFault) : Type 0 where
   pub turn : Turn
   pub may : MayComeOf old.id old.nodes event slots s turn
   pub going : IsTrue honest → IsGoing turn
@@ -49,11 +49,11 @@ record Happens {Disk : Type 0} (disks : Disk → DiskState) (slots : ℕ) (old n
 
 -- ---- the history goes on
 
-ends : (slots self nodes : ℕ) (s : NodeState) (event : Event) (came : Came) (given : Option Durable) (fate : Fate) → Does slots self nodes s event came given (what_of event fate)
-    → (ended_by (answered_as came (fault_of fate)) ≡ end_at self nodes s (what_of event fate)) × (sent_by (answered_as came (fault_of fate)) ≡ sent_at self nodes s (what_of event fate))
-ends slots self nodes s event came given fate.Done does = (ap end.Done does.answer, does.sent)
-ends slots self nodes s event came given (fate.Recovered kept) does = (ap end.Done does.answer, does.sent)
-ends slots self nodes s event came given fate does = (refl, refl)
+ends : (slots self nodes : ℕ) (s : NodeState) (event : Event) (came : StepReport) (given : Option Durable) (event_outcome : EventOutcome) → Does slots self nodes s event came given (what_of event event_outcome)
+    → (ended_by (answered_as came (fault_of event_outcome)) ≡ end_at self nodes s (what_of event event_outcome)) × (sent_by (answered_as came (fault_of event_outcome)) ≡ sent_at self nodes s (what_of event event_outcome))
+ends slots self nodes s event came given event_outcome.Done does = (ap end.Done does.answer, does.sent)
+ends slots self nodes s event came given (event_outcome.Recovered kept) does = (ap end.Done does.answer, does.sent)
+ends slots self nodes s event came given event_outcome does = (refl, refl)
 
 -- a disk of a history is one that can be mounted
 not_stuck : {Disk : Type 0} (disks : Disk → DiskState) (old new : Node Disk) (event : Event) (fault : NodeFault) (was : Disk) (s : NodeState) → Stuck disks old new event fault → fault ≢ node.Core NoMemory
@@ -66,15 +66,15 @@ not_stuck disks old new event node.NotFormatted was s stuck memory is stands hon
 not_stuck disks old new event (node.Damaged sector) was s stuck memory is stands honest = stuck.strange was s is stands (honest stuck.mounting)
 not_stuck disks old new event node.TooSmall was s stuck memory is stands honest = stuck.strange was s is stands (honest stuck.mounting)
 
-goes_on : {Disk : Type 0} (disks : Disk → DiskState) (old new : Node Disk) (event : Event) (reply : Result Came NodeFault) (was : Disk) (s : NodeState)
+goes_on : {Disk : Type 0} (disks : Disk → DiskState) (old new : Node Disk) (event : Event) (reply : Result StepReport NodeFault) (was : Disk) (s : NodeState)
     → IfOk reply (Steps disks old new event) → IfErr reply (Stuck disks old new event) → reply ≢ Err (node.Core NoMemory)
     → old.disk ≡ Some was → Stands disks old s → (IsMounting old.state event → IsTrue (disks was).honest) → Happens disks (slots_for (disks was).sectors) old new (disks was).honest s event (answered reply)
 goes_on disks old new event (Ok came) was s steps stuck memory is stands honest =
     let step = steps was s is stands honest in
     let does = step.0 in
-    let ends_so = ends (slots_for (disks was).sectors) old.id old.nodes s event came new.mounted came.fate does in
+    let ends_so = ends (slots_for (disks was).sectors) old.id old.nodes s event came new.mounted came.event_outcome does in
     record {
-      turn = Goes (what_of event came.fate);
+      turn = Goes (what_of event came.event_outcome);
       may = (does.of, does.possible, does.of_slots);
       going = λ _. tt;
       stands = step.1;
@@ -94,7 +94,7 @@ left_anyhow old new s t sectors dishonest left = record {
   sound = λ honest. absurd cc;
 }
 
-begins : {Disk : Type 0} (disks : Disk → DiskState) (slots : ℕ) (old new : Node Disk) (result : Result Came NodeFault) (given : Option Durable) (s : NodeState) → Remounted old new result given
+begins : {Disk : Type 0} (disks : Disk → DiskState) (slots : ℕ) (old new : Node Disk) (result : Result StepReport NodeFault) (given : Option Durable) (s : NodeState) → Remounted old new result given
     → (is_down old.state.phase ≡ true → old.state ≡ down_state old.id) → is_down old.state.phase ≡ true → Stands disks old s → ((t : NodeState) (d : Disk) → new.disk ≡ Some d → IsLeft (disks d) t)
     → Happens disks slots old new false s on.Recover result
 begins disks slots old new (Ok came) None s mounted fallen down stands left = absurd mounted
@@ -151,7 +151,7 @@ recovers : (event : Event) → is_recover event ≡ true → event ≡ on.Recove
 recovers on.Recover is = refl
 recovers event is = absurd cc
 
-happens : {Disk : Type 0} (disks : Disk → DiskState) (old new : Node Disk) (event : Event) (reply : Result Came NodeFault) (was : Disk) (s : NodeState)
+happens : {Disk : Type 0} (disks : Disk → DiskState) (old new : Node Disk) (event : Event) (reply : Result StepReport NodeFault) (was : Disk) (s : NodeState)
     → IfOk reply (Steps disks old new event) → IfErr reply (Stuck disks old new event) → reply ≢ Err (node.Core NoMemory)
     → (is_down old.state.phase ≡ true → event ≡ on.Recover → Remounted old new (answered reply) new.mounted) → (is_down old.state.phase ≡ true → old.state ≡ down_state old.id) → old.disk ≡ Some was → Stands disks old s
     → ((d : Disk) → new.disk ≡ Some d → ((disks d).sectors ≡ (disks was).sectors) × ((disks d).honest ≡ (disks was).honest))
@@ -202,7 +202,7 @@ three_texts a b c d x y z first second third =
     third ∙ (ap (λ (t : List ℕ). t ++ z) second ∙ (append_assoc b y z ∙ (ap (λ (t : List ℕ). t ++ (y ++ z)) first ∙ append_assoc a x (y ++ z))))
 
 -- as the code does it
-pub event_turns : {Disk : Type 0} (disks : Disk → DiskState) (old : Progress Disk) (node' : Node Disk) (event : Event) (reply : Result Came NodeFault) (waits : Waits) (sent changed text : List ℕ)
+pub event_turns : {Disk : Type 0} (disks : Disk → DiskState) (old : Progress Disk) (node' : Node Disk) (event : Event) (reply : Result StepReport NodeFault) (waits : Waits) (sent changed text : List ℕ)
     → node'.id ≡ old.node.id → node'.nodes ≡ old.node.nodes → IfOk reply (Steps disks old.node node' event) → IfErr reply (Stuck disks old.node node' event) → reply ≢ Err (node.Core NoMemory)
     → (is_down old.node.state.phase ≡ true → event ≡ on.Recover → Remounted old.node node' (answered reply) node'.mounted) → (is_down old.node.state.phase ≡ true → old.node.state ≡ down_state old.node.id)
     → CountsOf disks old.node.disk node'.disk (answered reply)
@@ -228,7 +228,7 @@ event_turns {Disk} disks old node' event reply waits sent changed text id nodes 
             ∙ (ap (λ (v : State). old.text ++ call_text (cause h.turn) (sent_by (answered reply)) v node'.state (ended_by (answered reply))) stands.state
             ∙ (ap (λ (v : State). old.text ++ call_text (cause h.turn) (sent_by (answered reply)) s.state v (ended_by (answered reply))) h.stands.state
             ∙ (ap (λ (ms : List Envelope). old.text ++ call_text (cause h.turn) ms s.state t.state (ended_by (answered reply))) h.sent
-            ∙ ap (λ (e : Ended). old.text ++ call_text (cause h.turn) (sent_in self count s h.turn) s.state t.state e) h.ended))));
+            ∙ ap (λ (e : CallOutcome). old.text ++ call_text (cause h.turn) (sent_in self count s h.turn) s.state t.state e) h.ended))));
         waits = waited ∙ (ap (λ (o : Option Event). waits_behind o (sent_by (answered reply)) node'.state old.waits) (caused self count (slots_for (disks was).sectors) s event h.turn h.may)
             ∙ (ap (λ (v : State). waits_behind (cause h.turn) (sent_by (answered reply)) v old.waits) h.stands.state
             ∙ ap (λ (ms : List Envelope). waits_behind (cause h.turn) ms t.state old.waits) h.sent));
@@ -236,45 +236,46 @@ event_turns {Disk} disks old node' event reply waits sent changed text id nodes 
 }
 
 -- by what the code keeps of the state before
-pub turn_so : {Disk : Type 0} (disks : Disk → DiskState) (old here : Progress Disk) (node' : Node Disk) (event : Event) (reply : Result Came NodeFault) (ended : Ended) (finished : Bool) (seen : Sight) (before after behind : State)
-    (waits : Waits) (sent changed text : List ℕ) → here ≡ old → node'.id ≡ here.node.id → node'.nodes ≡ here.node.nodes → IfOk reply (Steps disks here.node node' event) → IfErr reply (Stuck disks here.node node' event) → reply ≢ Err (node.Core NoMemory)
+pub turn_so : {Disk : Type 0} (disks : Disk → DiskState) (old here : Progress Disk) (node' : Node Disk) (event : Event) (reply : Result StepReport NodeFault) (ended : CallOutcome) (finished : Bool) (seen : NodeSnapshot) (before after behind : State)
+    (given : List Envelope) (waits : Waits) (sent changed text : List ℕ) → here ≡ old → node'.id ≡ here.node.id → node'.nodes ≡ here.node.nodes → IfOk reply (Steps disks here.node node' event) → IfErr reply (Stuck disks here.node node' event) → reply ≢ Err (node.Core NoMemory)
     → (is_down here.node.state.phase ≡ true → event ≡ on.Recover → Remounted here.node node' (answered reply) node'.mounted) → (is_down here.node.state.phase ≡ true → here.node.state ≡ down_state here.node.id)
     → CountsOf disks here.node.disk node'.disk (answered reply)
     → seen ≡ sight_of before → before ≡ here.node.state → after ≡ node'.state → finished ≡ is_finish (Some event) → ended ≡ ended_by (answered reply)
-    → behind ≡ node'.state → waits ≡ waits_behind (Some event) (sent_by (answered reply)) behind here.waits
-    → sent ≡ here.text ++ send_lines (sent_by (answered reply)) → ((s : State) → seen ≡ sight_of s → changed ≡ sent ++ changes finished s after) → text ≡ changed ++ gone_news (Some event) ended
+    → given ≡ sent_by (answered reply) → behind ≡ node'.state → waits ≡ waits_behind (Some event) given behind here.waits
+    → sent ≡ here.text ++ send_lines given → ((s : State) → seen ≡ sight_of s → changed ≡ sent ++ changes finished s after) → text ≡ changed ++ gone_news (Some event) ended
     → Turns disks old (record here { node = node'; text = text; waits = waits }) (λ i n. MayComeOf i n event) ended
-turn_so {Disk} disks old here node' event reply ended finished seen before after behind waits sent changed text is id nodes steps stuck memory mounting fallen counts sees was now finish ends_so then waited first second third =
+turn_so {Disk} disks old here node' event reply ended finished seen before after behind given waits sent changed text is id nodes steps stuck memory mounting fallen counts sees was now finish ends_so given_so then waited first second third =
     subst (λ (p : Progress Disk). Turns disks p (record here { node = node'; text = text; waits = waits }) (λ i n. MayComeOf i n event) ended) is
-    (subst (λ (e : Ended). Turns disks here (record here { node = node'; text = text; waits = waits }) (λ i n. MayComeOf i n event) e) (sym ends_so)
+    (subst (λ (e : CallOutcome). Turns disks here (record here { node = node'; text = text; waits = waits }) (λ i n. MayComeOf i n event) e) (sym ends_so)
     (event_turns disks here node' event reply waits sent changed text id nodes steps stuck memory mounting fallen counts
-    (waited ∙ ap (λ (v : State). waits_behind (Some event) (sent_by (answered reply)) v here.waits) then) first
+    (waited ∙ (ap (λ (ms : List Envelope). waits_behind (Some event) ms behind here.waits) given_so ∙ ap (λ (v : State). waits_behind (Some event) (sent_by (answered reply)) v here.waits) then))
+    (first ∙ ap (λ (ms : List Envelope). here.text ++ send_lines ms) given_so)
     (second before sees ∙ (ap (λ (b : Bool). sent ++ changes b before after) finish ∙ (ap (λ (v : State). sent ++ changes (is_finish (Some event)) v after) was
     ∙ ap (λ (v : State). sent ++ changes (is_finish (Some event)) here.node.state v) now)))
-    (third ∙ ap (λ (e : Ended). changed ++ gone_news (Some event) e) ends_so)))
+    (third ∙ ap (λ (e : CallOutcome). changed ++ gone_news (Some event) e) ends_so)))
 
 -- ---- a compaction
 
-record OfCompaction {A : Type 0} (self nodes slots : ℕ) (s : NodeState) (what : What) (result : Result A NodeFault) : Type 0 where
+record OfCompaction {A : Type 0} (self nodes slots : ℕ) (s : NodeState) (what : HistoryEvent) (result : Result A NodeFault) : Type 0 where
   pub of : IsOfCompaction what
   pub of_slots : IsOfSlots slots self nodes s what
   pub ended : compaction_end result ≡ end_at self nodes s what
   pub silent : sent_at self nodes s what ≡ []
   pub causeless : event_of what ≡ None
 
-rest_of_compaction : {A : Type 0} (self nodes slots : ℕ) (s : NodeState) (rest : Rest) (result : Result A NodeFault) → RestAnswers rest result → OfCompaction self nodes slots s (Rests rest) result
+rest_of_compaction : {A : Type 0} (self nodes slots : ℕ) (s : NodeState) (rest : NoOpKind) (result : Result A NodeFault) → RestAnswers rest result → OfCompaction self nodes slots s (NoOp rest) result
 rest_of_compaction self nodes slots s Nothing result said = absurd said
 rest_of_compaction self nodes slots s Compacted (Ok done) said = record { of = tt; of_slots = tt; ended = refl; silent = refl; causeless = refl }
 rest_of_compaction self nodes slots s Compacted (Err fault) said = absurd cc
 rest_of_compaction self nodes slots s CompactDown result said = record { of = tt; of_slots = tt; ended = ap compaction_end said; silent = refl; causeless = refl }
-rest_of_compaction self nodes slots s CompactWorn result said = record { of = tt; of_slots = tt; ended = ap compaction_end said; silent = refl; causeless = refl }
+rest_of_compaction self nodes slots s CompactAreaExhausted result said = record { of = tt; of_slots = tt; ended = ap compaction_end said; silent = refl; causeless = refl }
 
-of_compaction : {A : Type 0} (self nodes slots : ℕ) (s : NodeState) (what : What) (result : Result A NodeFault) → CompactionAnswers what result → OfCompaction self nodes slots s what result
-of_compaction self nodes slots s (Rests rest) result said = rest_of_compaction self nodes slots s rest result said
+of_compaction : {A : Type 0} (self nodes slots : ℕ) (s : NodeState) (what : HistoryEvent) (result : Result A NodeFault) → CompactionAnswers what result → OfCompaction self nodes slots s what result
+of_compaction self nodes slots s (NoOp rest) result said = rest_of_compaction self nodes slots s rest result said
 of_compaction self nodes slots s Crashed result said = record { of = tt; of_slots = tt; ended = ap compaction_end said; silent = refl; causeless = refl }
 of_compaction self nodes slots s what result said = absurd said
 
-silent_text : (x y : State) (ended : Ended) → changes false x y ≡ call_text None [] x y ended
+silent_text : (x y : State) (ended : CallOutcome) → changes false x y ≡ call_text None [] x y ended
 silent_text x y (end.Done None) = sym (append-nil (changes false x y))
 silent_text x y (end.Done (Some id)) = sym (append-nil (changes false x y))
 silent_text x y (end.Denied fault) = sym (append-nil (changes false x y))
@@ -303,14 +304,14 @@ compaction_turns {Disk} disks old node' result waits text id nodes compacts coun
             ∙ (ap (λ (v : State). old.text ++ call_text None [] s.state v (compaction_end result)) step.3.state
             ∙ (ap (λ (ms : List Envelope). old.text ++ call_text None ms s.state t.state (compaction_end result)) (sym of.silent)
             ∙ (ap (λ (e : Option Event). old.text ++ call_text e (sent_at self count s what) s.state t.state (compaction_end result)) (sym of.causeless)
-            ∙ ap (λ (e : Ended). old.text ++ call_text (event_of what) (sent_at self count s what) s.state t.state e) of.ended)))));
+            ∙ ap (λ (e : CallOutcome). old.text ++ call_text (event_of what) (sent_at self count s what) s.state t.state e) of.ended)))));
         waits = waited ∙ (ap (λ (v : State). waits_behind None [] v old.waits) step.3.state
             ∙ (ap (λ (ms : List Envelope). waits_behind None ms t.state old.waits) (sym of.silent)
             ∙ ap (λ (e : Option Event). waits_behind e (sent_at self count s what) t.state old.waits) (sym of.causeless)));
       });
 }
 
-pub compaction_so : {Disk A : Type 0} (disks : Disk → DiskState) (old here : Progress Disk) (node' : Node Disk) (result : Result A NodeFault) (ended : Ended) (seen : Sight) (before after behind : State) (waits : Waits) (text : List ℕ)
+pub compaction_so : {Disk A : Type 0} (disks : Disk → DiskState) (old here : Progress Disk) (node' : Node Disk) (result : Result A NodeFault) (ended : CallOutcome) (seen : NodeSnapshot) (before after behind : State) (waits : Waits) (text : List ℕ)
     → here ≡ old → node'.id ≡ here.node.id → node'.nodes ≡ here.node.nodes → Compacts disks here.node node' result → CountsOf disks here.node.disk node'.disk result
     → seen ≡ sight_of before → before ≡ here.node.state → after ≡ node'.state → ended ≡ compaction_end result
     → behind ≡ node'.state → waits ≡ waits_behind None [] behind here.waits
@@ -318,6 +319,6 @@ pub compaction_so : {Disk A : Type 0} (disks : Disk → DiskState) (old here : P
     → Turns disks old (record here { node = node'; text = text; waits = waits }) MayCompact ended
 compaction_so {Disk} disks old here node' result ended seen before after behind waits text is id nodes compacts counts sees was now ends_so then waited said =
     subst (λ (p : Progress Disk). Turns disks p (record here { node = node'; text = text; waits = waits }) MayCompact ended) is
-    (subst (λ (e : Ended). Turns disks here (record here { node = node'; text = text; waits = waits }) MayCompact e) (sym ends_so)
+    (subst (λ (e : CallOutcome). Turns disks here (record here { node = node'; text = text; waits = waits }) MayCompact e) (sym ends_so)
     (compaction_turns disks here node' result waits text id nodes compacts counts (waited ∙ ap (λ (v : State). waits_behind None [] v here.waits) then)
     (said before sees ∙ (ap (λ (v : State). here.text ++ changes false v after) was ∙ ap (λ (v : State). here.text ++ changes false here.node.state v) now))))

@@ -1,8 +1,8 @@
 -- The chains of histories that calls make.
 use Rattle.std.proofs.Common.{◌≡◌, ℕ, List, [], ◌∷◌, Bool, true, false, refl, sym, ◌∙◌, subst, Option}
 use Rattle.job_model.specs.Durable.{Durable}
-use Rattle.histories.specs.declared.what.What.{What}
-use Rattle.histories.specs.What.{Entry}
+use Rattle.histories.specs.declared.history_event.HistoryEvent.{HistoryEvent}
+use Rattle.histories.specs.HistoryEvent.{Entry}
 use Rattle.histories.specs.After.{after}
 use Rattle.histories.specs.NodeState.{NodeState}
 use Rattle.histories.specs.Possible.{IsPossible, IsOfSlots}
@@ -89,21 +89,21 @@ one self nodes slots a (l ∷ ls) (came ∷ all) of going =
 
 -- ---- a history begins
 
-timely_begun : (self nodes slots : ℕ) (s : NodeState) (mounted : Durable) (what : What) → AreTimely self nodes slots s (Begins mounted what ∷ []) → IsPossible self nodes (begun self mounted) what
+timely_begun : (self nodes slots : ℕ) (s : NodeState) (mounted : Durable) (what : HistoryEvent) → AreTimely self nodes slots s (Begins mounted what ∷ []) → IsPossible self nodes (begun self mounted) what
 timely_begun self nodes slots s mounted what may = may.0.may.3
 
-begun_possible : (self nodes slots : ℕ) (s : NodeState) (a : Asked) (mounted : Durable) (what : What) → MayCome self nodes slots s a (Begins mounted what ∷ []) → IsPossible self nodes (begun self mounted) what
+begun_possible : (self nodes slots : ℕ) (s : NodeState) (a : Asked) (mounted : Durable) (what : HistoryEvent) → MayCome self nodes slots s a (Begins mounted what ∷ []) → IsPossible self nodes (begun self mounted) what
 begun_possible self nodes slots s (ask.Event event) mounted what may = may.3
 begun_possible self nodes slots s (ask.Tick now) mounted what may = timely_begun self nodes slots s mounted what may
 begun_possible self nodes slots s (ask.Lost id) mounted what may = timely_begun self nodes slots s mounted what may
 begun_possible self nodes slots s asked mounted what may = absurd may
 
-line_begun : (self nodes slots : ℕ) (b : Bool) (a : At) (l : List ℕ) (mounted : Durable) (what : What) (due : Option ℕ) → Comes self nodes slots b a.state (asked_under a.seal l) (one_turn (Begins mounted what) due)
+line_begun : (self nodes slots : ℕ) (b : Bool) (a : At) (l : List ℕ) (mounted : Durable) (what : HistoryEvent) (due : Option ℕ) → Comes self nodes slots b a.state (asked_under a.seal l) (one_turn (Begins mounted what) due)
     → IsPossible self nodes (begun self mounted) what × ((after_by self nodes b a l (one_turn (Begins mounted what) due)).state ≡ after_begun self nodes a.state mounted what)
 line_begun self nodes slots true a l mounted what due comes = absurd comes
 line_begun self nodes slots false a l mounted what due comes = (begun_possible self nodes slots a.state (asked_under a.seal l) mounted what comes.0, refl)
 
-pub begun_one : (self nodes slots : ℕ) (a : At) (l : List ℕ) (ls : List (List ℕ)) (mounted : Durable) (what : What) (due : Option ℕ) (all : List Outcome) → AreOf self nodes slots a (l ∷ ls) (one_turn (Begins mounted what) due ∷ all)
+pub begun_one : (self nodes slots : ℕ) (a : At) (l : List ℕ) (ls : List (List ℕ)) (mounted : Durable) (what : HistoryEvent) (due : Option ℕ) (all : List Outcome) → AreOf self nodes slots a (l ∷ ls) (one_turn (Begins mounted what) due ∷ all)
     → AllGoing all → after_begun self nodes a.state mounted what ≡ after self nodes (begun self mounted) what
     → Follows self nodes (begun self mounted) (entries_in self nodes (begun self mounted) (one_turn (Goes what) due ∷ all))
     × (replay self nodes (begun self mounted) (entries_in self nodes (begun self mounted) (one_turn (Goes what) due ∷ all)) ≡ (after_lines self nodes a (l ∷ ls) (one_turn (Begins mounted what) due ∷ all)).state)

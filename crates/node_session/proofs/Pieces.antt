@@ -68,3 +68,12 @@ fed_more disks old here piece rest was is one = subst (λ p. Fed disks p piece (
   cut = ap lines_of (sym is) ∙ one;
   serves = serves_rest disks here here [] here.rest rest (serves_none disks here);
 })
+
+-- a piece behind what was kept, which is taken together with it
+pub fed_behind : {Disk : Type 0} (disks : Disk → DiskState) (old before new : Progress Disk) (dest whole piece : List ℕ) → before ≡ old → dest ≡ [] → whole ≡ before.rest ++ piece
+    → Fed disks (record before { rest = dest }) whole new → Fed disks old piece new
+fed_behind disks old before new dest whole piece was none all fed = subst (λ p. Fed disks p piece new) was (record {
+  lines = fed.lines;
+  cut = ap lines_of (sym all) ∙ (ap (λ (r : List ℕ). lines_of (r ++ whole)) (sym none) ∙ fed.cut);
+  serves = serves_rest disks before new fed.lines dest new.rest fed.serves;
+})

@@ -8,13 +8,13 @@ use Rattle.durable_node.specs.Node.{Stands}
 use Rattle.histories.specs.NodeState.{NodeState}
 use Rattle.node_session.specs.declared.asked.Asked.{Asked}
 use Rattle.node_session.specs.declared.asked.Asked.TheVariants as ask
-use Rattle.node_session.specs.declared.ended.Ended.{Ended}
-use Rattle.node_session.specs.declared.ended.Ended.TheVariants as end
+use Rattle.node_session.specs.declared.call_outcome.CallOutcome.{CallOutcome}
+use Rattle.node_session.specs.declared.call_outcome.CallOutcome.TheVariants as end
 use Rattle.node_session.specs.Seals.{Seals, asked_under, life_of, sealed_behind, taken_under, written}
 use Rattle.node_core.specs.declared.event.Event.{Event}
 use Rattle.node_core.specs.State.{State, is_down}
 use Rattle.node_session.specs.Turns.{Turn, MayComeOf, MayCompact}
-use Rattle.pace.specs.Waiting.{Waits, sent_again, waits_on}
+use Rattle.pace.specs.Retransmission.{Waits, sent_again, waits_on}
 use Rattle.node_session.specs.Chains.{Outcome, AreTimely, IsAtOnce, MayCome, IsTold, IsToldBy, after_turns, is_failed, line_end, next, waits_begun, waits_turns}
 use Rattle.node_session.specs.Lines.{At, AreOf, Comes, after_by, after_asked, after_lines, answer_by, answers, plain_answer, written_answer}
 use Rattle.node_session.specs.Text.{answer, answer_at_once, closing, event_closing, fired_news, keeps_news, next_line, send_lines, turns_text, no_news}
@@ -145,7 +145,7 @@ sealed_line {Disk} disks old read mid new line asked start runs asks reads start
 abbrev IsClosed : {Disk : Type 0} (disks : Disk → DiskState) (mid : Progress Disk) (close : NodeState → List ℕ) (text : List ℕ) → Type 0
 IsClosed {Disk} disks mid close text = (t : NodeState) → Stands disks mid.node t → text ≡ mid.text ++ close t
 
-abbrev Answers : (heading : Turn → List ℕ) (number : ℕ) (w : Waits) (a : Asked) (again : List ℕ) (ended : Ended) (due : Option ℕ) (close : NodeState → List ℕ) → Type 0
+abbrev Answers : (heading : Turn → List ℕ) (number : ℕ) (w : Waits) (a : Asked) (again : List ℕ) (ended : CallOutcome) (due : Option ℕ) (close : NodeState → List ℕ) → Type 0
 Answers heading number w a again ended due close =
     (self nodes : ℕ) (s : NodeState) (turns : List Turn) → ended ≡ line_end self nodes s turns
     → answer self nodes number s w a (record { turns = turns; due = due }) ≡ again ++ (turns_text heading self nodes s turns ++ close (after_turns self nodes s turns))
@@ -160,7 +160,7 @@ pub tells : {Disk : Type 0} (disks : Disk → DiskState) (mid seen : Progress Di
 tells disks mid seen now due is told = λ t stands. subst (λ (s : State). IsToldBy (is_down s.phase) due) (sym (ap (λ p. p.node.state) is) ∙ stands.state) told
 
 -- a line of which calls came, behind what was sent again
-called_line : {Disk : Type 0} (disks : Disk → DiskState) (old here mid : Progress Disk) (heading : Turn → List ℕ) (a : Asked) (number : ℕ) (again : List ℕ) (ended : Ended) (due : Option ℕ) (close : NodeState → List ℕ) (begun text : List ℕ)
+called_line : {Disk : Type 0} (disks : Disk → DiskState) (old here mid : Progress Disk) (heading : Turn → List ℕ) (a : Asked) (number : ℕ) (again : List ℕ) (ended : CallOutcome) (due : Option ℕ) (close : NodeState → List ℕ) (begun text : List ℕ)
     → next old.count a ≡ old.count + 1 → number ≡ old.count + 1
     → begun ≡ old.text ++ again → here ≡ record old { count = number; text = begun; waits = waits_begun a old.waits }
     → Calls disks here mid heading (λ i n slots s turns. MayCome i n slots s a turns) (end.Done None) ended
@@ -192,7 +192,7 @@ called_line {Disk} disks old here mid heading a number again ended due close beg
     }
 
 -- as the code does it: the call, the mark of a device that failed, and the closing line
-called_so : {Disk : Type 0} (disks : Disk → DiskState) (old here mid stop : Progress Disk) (heading : Turn → List ℕ) (a : Asked) (number : ℕ) (again : List ℕ) (ended : Ended) (due : Option ℕ) (close : NodeState → List ℕ) (begun text : List ℕ)
+called_so : {Disk : Type 0} (disks : Disk → DiskState) (old here mid stop : Progress Disk) (heading : Turn → List ℕ) (a : Asked) (number : ℕ) (again : List ℕ) (ended : CallOutcome) (due : Option ℕ) (close : NodeState → List ℕ) (begun text : List ℕ)
     → next old.count a ≡ old.count + 1 → number ≡ old.count + 1
     → begun ≡ old.text ++ again → here ≡ record old { count = number; text = begun; waits = waits_begun a old.waits }
     → Calls disks here mid heading (λ i n slots s turns. MayCome i n slots s a turns) (end.Done None) ended
@@ -203,7 +203,7 @@ called_so {Disk} disks old here mid stop heading a number again ended due close 
     (called_line disks old here mid heading a number again ended due close begun text one counts begins is calls
     (subst (λ (p : Progress Disk). IsClosed disks p close text) marked said) (subst (λ (p : Progress Disk). Tells disks p a due) marked told) closes)
 
-pub event_line : {Disk : Type 0} (disks : Disk → DiskState) (old here mid stop : Progress Disk) (event : Event) (number : ℕ) (ended : Ended) (kept text : List ℕ)
+pub event_line : {Disk : Type 0} (disks : Disk → DiskState) (old here mid stop : Progress Disk) (event : Event) (number : ℕ) (ended : CallOutcome) (kept text : List ℕ)
     → number ≡ old.count + 1 → here ≡ record old { count = number } → Turns disks here mid (λ i n. MayComeOf i n event) ended
     → stop ≡ record mid { stopped = is_failed ended } → ((t : NodeState) → Stands disks stop.node t → kept ≡ stop.text ++ keeps_news event ended t)
     → text ≡ kept ++ event_closing number event ended → Replies disks old (record stop { text = text }) (ask.Event event)
@@ -211,17 +211,17 @@ event_line disks old here mid stop event number ended kept text counts is turns 
     called_so disks old here mid stop no_news (ask.Event event) number [] ended None (λ t. keeps_news event ended t ++ event_closing number event ended) old.text text refl counts (sym (append-nil old.text)) is
     (one_call disks here mid (λ i n. MayComeOf i n event) (end.Done None) ended turns) marked
     (λ t stands. both_texts stop.text kept text (keeps_news event ended t) (event_closing number event ended) (keeps t stands) said) (λ t stands. refl)
-    (λ self nodes s turns so. ap (λ (e : Ended). turns_text no_news self nodes s turns ++ (keeps_news event e (after_turns self nodes s turns) ++ event_closing number event e)) (sym so))
+    (λ self nodes s turns so. ap (λ (e : CallOutcome). turns_text no_news self nodes s turns ++ (keeps_news event e (after_turns self nodes s turns) ++ event_closing number event e)) (sym so))
 
-pub compact_line : {Disk : Type 0} (disks : Disk → DiskState) (old here mid stop : Progress Disk) (number : ℕ) (ended : Ended) (text : List ℕ)
+pub compact_line : {Disk : Type 0} (disks : Disk → DiskState) (old here mid stop : Progress Disk) (number : ℕ) (ended : CallOutcome) (text : List ℕ)
     → number ≡ old.count + 1 → here ≡ record old { count = number } → Turns disks here mid MayCompact ended
     → stop ≡ record mid { stopped = is_failed ended } → text ≡ stop.text ++ closing number ended → Replies disks old (record stop { text = text }) ask.Compact
 compact_line disks old here mid stop number ended text counts is turns marked said =
     called_so disks old here mid stop no_news ask.Compact number [] ended None (λ t. closing number ended) old.text text refl counts (sym (append-nil old.text)) is
     (one_call disks here mid MayCompact (end.Done None) ended turns) marked (λ t stands. said) (λ t stands. refl)
-    (λ self nodes s turns so. ap (λ (e : Ended). turns_text no_news self nodes s turns ++ closing number e) (sym so))
+    (λ self nodes s turns so. ap (λ (e : CallOutcome). turns_text no_news self nodes s turns ++ closing number e) (sym so))
 
-pub tick_line : {Disk : Type 0} (disks : Disk → DiskState) (old first here mid stop : Progress Disk) (now number : ℕ) (ended : Ended) (due : Option ℕ) (told text : List ℕ)
+pub tick_line : {Disk : Type 0} (disks : Disk → DiskState) (old first here mid stop : Progress Disk) (now number : ℕ) (ended : CallOutcome) (due : Option ℕ) (told text : List ℕ)
     → number ≡ old.count + 1 → first ≡ record old { count = number }
     → here ≡ record first { text = first.text ++ send_lines (sent_again now first.waits); waits = waits_on now first.waits }
     → Calls disks here mid fired_news AreTimely (end.Done None) ended
@@ -230,14 +230,14 @@ pub tick_line : {Disk : Type 0} (disks : Disk → DiskState) (old first here mid
 tick_line {Disk} disks old first here mid stop now number ended due told text counts is sends calls marked tells names said =
     called_so disks old here mid stop fired_news (ask.Tick now) number (send_lines (sent_again now old.waits)) ended due (λ t. next_line due ++ closing number ended) (old.text ++ send_lines (sent_again now old.waits)) text refl counts refl
     (sends ∙ ap (λ (p : Progress Disk). record p { text = p.text ++ send_lines (sent_again now p.waits); waits = waits_on now p.waits }) is) calls marked (λ t stands. both_texts stop.text told text (next_line due) (closing number ended) names said) tells
-    (λ self nodes s turns so. ap (λ (e : Ended). send_lines (sent_again now old.waits) ++ (turns_text fired_news self nodes s turns ++ (next_line due ++ closing number e))) (sym so))
+    (λ self nodes s turns so. ap (λ (e : CallOutcome). send_lines (sent_again now old.waits) ++ (turns_text fired_news self nodes s turns ++ (next_line due ++ closing number e))) (sym so))
 
-pub loss_line : {Disk : Type 0} (disks : Disk → DiskState) (old here mid stop : Progress Disk) (node number : ℕ) (ended : Ended) (text : List ℕ)
+pub loss_line : {Disk : Type 0} (disks : Disk → DiskState) (old here mid stop : Progress Disk) (node number : ℕ) (ended : CallOutcome) (text : List ℕ)
     → number ≡ old.count + 1 → here ≡ record old { count = number } → Calls disks here mid fired_news AreTimely (end.Done None) ended
     → stop ≡ record mid { stopped = is_failed ended } → text ≡ stop.text ++ closing number ended → Replies disks old (record stop { text = text }) (ask.Lost node)
 loss_line disks old here mid stop node number ended text counts is calls marked said =
     called_so disks old here mid stop fired_news (ask.Lost node) number [] ended None (λ t. closing number ended) old.text text refl counts (sym (append-nil old.text)) is calls marked (λ t stands. said) (λ t stands. refl)
-    (λ self nodes s turns so. ap (λ (e : Ended). turns_text fired_news self nodes s turns ++ closing number e) (sym so))
+    (λ self nodes s turns so. ap (λ (e : CallOutcome). turns_text fired_news self nodes s turns ++ closing number e) (sym so))
 
 -- a line that asks nothing of the node but what it knows
 pub quiet_line : {Disk : Type 0} (disks : Disk → DiskState) (old new : Progress Disk) (a : Asked) → old.stopped ≡ false

@@ -19,8 +19,8 @@ use Rattle.sealed_msg.specs.Stamps.{is_above}
 use Rattle.node_session.specs.declared.asked.Asked.{Asked}
 use Rattle.node_session.specs.declared.asked.Asked.TheVariants as ask
 use Rattle.node_session.specs.Asked.{asked_of, asked_words, completed, delivery, loss, lost, submitted, ticked, ticking, timed, timing}
-use Rattle.histories.specs.What.{event_of}
-use Rattle.histories.specs.declared.what.What.TheVariants.{Rests, Crashed}
+use Rattle.histories.specs.HistoryEvent.{event_of}
+use Rattle.histories.specs.declared.history_event.HistoryEvent.TheVariants.{NoOp, Crashed}
 use Rattle.node_session.specs.Turns.{Turn, Goes, Unmounted, Begins, IsFired, MayCompact, after_turn}
 use Rattle.node_words.specs.Words.{event_word}
 use Rattle.node_session.specs.Chains.{Outcome, AreTimely, IsNone, IsOne, MayCome, after_turns}
@@ -137,7 +137,7 @@ timely_delivers self nodes slots m (turn ∷ turns) s may (inr later) = timely_d
 
 compacts_no : (self nodes slots : ℕ) (s : NodeState) (m : Envelope) (turns : List Turn) → IsOne (MayCompact self nodes slots s) turns → Delivers m turns → ⊥
 compacts_no self nodes slots s m [] may delivers = delivers
-compacts_no self nodes slots s m (Goes (Rests rest) ∷ []) may (inl is) = absurd (let bad : event_of (Rests rest) ≡ Some (on.Deliver m) = is in cc)
+compacts_no self nodes slots s m (Goes (NoOp rest) ∷ []) may (inl is) = absurd (let bad : event_of (NoOp rest) ≡ Some (on.Deliver m) = is in cc)
 compacts_no self nodes slots s m (Goes Crashed ∷ []) may (inl is) = absurd (let bad : event_of Crashed ≡ Some (on.Deliver m) = is in cc)
 compacts_no self nodes slots s m (Goes what ∷ []) may (inl is) = may.0
 compacts_no self nodes slots s m (Unmounted fault ∷ []) may delivers = may

@@ -1,16 +1,16 @@
 -- What comes of each line, and the chains of histories that this makes.
 use Rattle.std.specs.Prelude.{ℕ, ◌≡◌, ◌+◌, List, [], ◌∷◌, Bool, true, false, Option, None, is_some}
-use Rattle.pace.specs.Waiting.{Waits, waits_behind, waits_on}
+use Rattle.pace.specs.Retransmission.{Waits, waits_behind, waits_on}
 use Rattle.histories.specs.NodeState.{NodeState}
-use Rattle.histories.specs.What.{Entry}
+use Rattle.histories.specs.HistoryEvent.{Entry}
 use Rattle.histories.specs.After.{sent_at}
 use Rattle.node_core.specs.State.{is_down}
 use Rattle.durable_node.specs.declared.fault.NodeFault.{NodeFault}
 use Rattle.durable_node.specs.declared.fault.NodeFault.TheVariants as node
 use Rattle.node_session.specs.declared.asked.Asked.{Asked}
 use Rattle.node_session.specs.declared.asked.Asked.TheVariants as ask
-use Rattle.node_session.specs.declared.ended.Ended.{Ended}
-use Rattle.node_session.specs.declared.ended.Ended.TheVariants as end
+use Rattle.node_session.specs.declared.call_outcome.CallOutcome.{CallOutcome}
+use Rattle.node_session.specs.declared.call_outcome.CallOutcome.TheVariants as end
 use Rattle.node_session.specs.Turns.{Turn, Goes, Unmounted, Begins, after_turn, cause, end_of, sent_in, MayComeOf, MayCompact, IsTimely, IsGoing}
 
 -- what came of a line: the calls of the node, and what a tick tells, when something is due next
@@ -29,12 +29,12 @@ after_turns self nodes s [] = s
 after_turns self nodes s (turn ∷ turns) = after_turns self nodes (after_turn self nodes s turn) turns
 
 -- how the last of them ended, behind a call that ended so
-abbrev pub last_end : ℕ → ℕ → Ended → NodeState → List Turn → Ended
+abbrev pub last_end : ℕ → ℕ → CallOutcome → NodeState → List Turn → CallOutcome
 last_end self nodes ended s [] = ended
 last_end self nodes ended s (turn ∷ turns) = last_end self nodes (end_of self nodes s turn) (after_turn self nodes s turn) turns
 
 -- how a line ends: well, where nothing was asked of the node
-abbrev pub line_end : ℕ → ℕ → NodeState → List Turn → Ended
+abbrev pub line_end : ℕ → ℕ → NodeState → List Turn → CallOutcome
 line_end self nodes s turns = last_end self nodes (end.Done None) s turns
 
 -- the messages that are waited for behind a call
@@ -96,7 +96,7 @@ abbrev pub is_device : NodeFault → Bool
 is_device node.Device = true
 is_device fault = false
 
-abbrev pub is_failed : Ended → Bool
+abbrev pub is_failed : CallOutcome → Bool
 is_failed (end.Done answer) = false
 is_failed (end.Denied fault) = is_device fault
 

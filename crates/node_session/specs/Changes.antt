@@ -14,8 +14,8 @@ use Rattle.node_core.specs.declared.phase.Phase.TheVariants as phase
 use Rattle.node_core.specs.State.{State, is_down}
 use Rattle.node_core.specs.Words.{holds, members_of}
 use Rattle.node_session.specs.declared.seen.Told.{Told}
-use Rattle.node_session.specs.declared.ended.Ended.{Ended}
-use Rattle.node_session.specs.declared.ended.Ended.TheVariants as end
+use Rattle.node_session.specs.declared.call_outcome.CallOutcome.{CallOutcome}
+use Rattle.node_session.specs.declared.call_outcome.CallOutcome.TheVariants as end
 use Rattle.node_words.specs.Words.{group_text, ids_text, phase_text}
 
 -- ---- the group
@@ -104,7 +104,7 @@ gone_at (Some (on.Finish origin job)) id = gone_line id
 gone_at (Some (on.Deliver m)) id = gone_by m.body id
 gone_at event id = []
 
-abbrev pub gone_news : Option Event → Ended → List ℕ
+abbrev pub gone_news : Option Event → CallOutcome → List ℕ
 gone_news event (end.Done (Some id)) = gone_at event id
 gone_news event ended = []
 
@@ -118,9 +118,9 @@ changes finished old new =
 -- ---- for the code
 
 -- what is kept of a state while a call is made
-pub record Sight : Type 0 where
+pub record NodeSnapshot : Type 0 where
   pub told : Told
   pub held : List (ℕ × ℕ)
 
-abbrev pub sight_of : State → Sight
+abbrev pub sight_of : State → NodeSnapshot
 sight_of s = record { told = told_of s; held = map held_by s.hand }

@@ -5,9 +5,9 @@ use Rattle.job_model.specs.Durable.{Durable}
 use Rattle.node_core.specs.Start.{down}
 use Rattle.node_store.specs.Store.{slots_for}
 use Rattle.durable_node.specs.Node.{Node, Stands}
-use Rattle.pace.specs.Waiting.{Waits, none_waited}
+use Rattle.pace.specs.Retransmission.{Waits, none_waited}
 use Rattle.histories.specs.NodeState.{NodeState}
-use Rattle.histories.specs.declared.what.What.{What}
+use Rattle.histories.specs.declared.history_event.HistoryEvent.{HistoryEvent}
 use Rattle.histories.specs.After.{after}
 use Rattle.histories.specs.History.{Follows, FollowsSlots, replay}
 use Rattle.line_words.specs.Lines.{lines_of}
@@ -17,7 +17,7 @@ use Rattle.node_session.specs.Lines.{At, AreOf, after_lines, answers}
 use Rattle.node_session.specs.Seals.{Seals}
 use Rattle.node_session.specs.Text.{answer, turn_text, turns_text}
 use Rattle.node_session.specs.declared.asked.Asked.{Asked}
-use Rattle.node_session.specs.declared.ended.Ended.{Ended}
+use Rattle.node_session.specs.declared.call_outcome.CallOutcome.{CallOutcome}
 
 pub record Progress (Disk : Type 0) : Type 0 where
   pub node : Node Disk
@@ -78,7 +78,7 @@ pub record Fed {Disk : Type 0} (disks : Disk → DiskState) (old : Progress Disk
 -- ---- one call of the node
 
 -- This came of it.
-pub record Turned {Disk : Type 0} (disks : Disk → DiskState) (old new : Progress Disk) (self nodes : ℕ) (May : ℕ → ℕ → ℕ → NodeState → Turn → Type 0) (ended : Ended) (was : Disk) (s : NodeState) : Type 0 where
+pub record Turned {Disk : Type 0} (disks : Disk → DiskState) (old new : Progress Disk) (self nodes : ℕ) (May : ℕ → ℕ → ℕ → NodeState → Turn → Type 0) (ended : CallOutcome) (was : Disk) (s : NodeState) : Type 0 where
   pub turn : Turn
   pub may : May self nodes (slots_for (disks was).sectors) s turn
   pub honest : IsTrue (disks was).honest → IsGoing turn
@@ -88,7 +88,7 @@ pub record Turned {Disk : Type 0} (disks : Disk → DiskState) (old new : Progre
   pub waits : new.waits ≡ waits_turn self nodes s turn old.waits
 
 -- whatever state the node stood for; it changes the node, the text and what is waited for alone
-pub record Turns {Disk : Type 0} (disks : Disk → DiskState) (old new : Progress Disk) (May : ℕ → ℕ → ℕ → NodeState → Turn → Type 0) (ended : Ended) : Type 0 where
+pub record Turns {Disk : Type 0} (disks : Disk → DiskState) (old new : Progress Disk) (May : ℕ → ℕ → ℕ → NodeState → Turn → Type 0) (ended : CallOutcome) : Type 0 where
   pub node : IsNodeOf disks old.node new.node
   pub same : new ≡ record old { node = new.node; text = new.text; waits = new.waits }
   pub turned : (was : Disk) (s : NodeState) → old.node.disk ≡ Some was → Stands disks old.node s → Turned disks old new old.node.id old.node.nodes May ended was s
@@ -96,7 +96,7 @@ pub record Turns {Disk : Type 0} (disks : Disk → DiskState) (old new : Progres
 -- ---- several calls, of one line
 
 -- These came of them.
-pub record Called {Disk : Type 0} (disks : Disk → DiskState) (old new : Progress Disk) (self nodes : ℕ) (heading : Turn → List ℕ) (May : ℕ → ℕ → ℕ → NodeState → List Turn → Type 0) (before ended : Ended) (was : Disk) (s : NodeState) : Type 0 where
+pub record Called {Disk : Type 0} (disks : Disk → DiskState) (old new : Progress Disk) (self nodes : ℕ) (heading : Turn → List ℕ) (May : ℕ → ℕ → ℕ → NodeState → List Turn → Type 0) (before ended : CallOutcome) (was : Disk) (s : NodeState) : Type 0 where
   pub turns : List Turn
   pub may : May self nodes (slots_for (disks was).sectors) s turns
   pub honest : IsTrue (disks was).honest → AreGoing turns
@@ -106,7 +106,7 @@ pub record Called {Disk : Type 0} (disks : Disk → DiskState) (old new : Progre
   pub waits : new.waits ≡ waits_turns self nodes s turns old.waits
 
 -- whatever state the node stood for; this is written before each
-pub record Calls {Disk : Type 0} (disks : Disk → DiskState) (old new : Progress Disk) (heading : Turn → List ℕ) (May : ℕ → ℕ → ℕ → NodeState → List Turn → Type 0) (before ended : Ended) : Type 0 where
+pub record Calls {Disk : Type 0} (disks : Disk → DiskState) (old new : Progress Disk) (heading : Turn → List ℕ) (May : ℕ → ℕ → ℕ → NodeState → List Turn → Type 0) (before ended : CallOutcome) : Type 0 where
   pub node : IsNodeOf disks old.node new.node
   pub same : new ≡ record old { node = new.node; text = new.text; waits = new.waits }
   pub called : (was : Disk) (s : NodeState) → old.node.disk ≡ Some was → Stands disks old.node s → Called disks old new old.node.id old.node.nodes heading May before ended was s
@@ -156,7 +156,7 @@ OneHistory =
 -- mounting, and then the others. The one mounting that begins none is that of a counter that can't be raised
 abbrev pub BegunHistory : Type 0
 BegunHistory =
-    (self nodes slots : ℕ) (a : At) (line : List ℕ) (lines : List (List ℕ)) (mounted : Durable) (what : What) (due : Option ℕ) (all : List Outcome) →
+    (self nodes slots : ℕ) (a : At) (line : List ℕ) (lines : List (List ℕ)) (mounted : Durable) (what : HistoryEvent) (due : Option ℕ) (all : List Outcome) →
     AreOf self nodes slots a (line ∷ lines) (one_turn (Begins mounted what) due ∷ all) → AllGoing all → after_begun self nodes a.state mounted what ≡ after self nodes (begun self mounted) what →
     Follows self nodes (begun self mounted) (entries_in self nodes (begun self mounted) (one_turn (Goes what) due ∷ all)) ×
     (replay self nodes (begun self mounted) (entries_in self nodes (begun self mounted) (one_turn (Goes what) due ∷ all)) ≡ (after_lines self nodes a (line ∷ lines) (one_turn (Begins mounted what) due ∷ all)).state)

@@ -14,14 +14,14 @@ use Rattle.node_core.specs.State.{State, is_down}
 use Rattle.node_core.specs.Words.{members_of}
 use Rattle.durable_node.specs.declared.fault.NodeFault.{NodeFault}
 use Rattle.durable_node.specs.declared.fault.NodeFault.TheVariants as node
-use Rattle.pace.specs.Waiting.{Waits, sent_again}
+use Rattle.pace.specs.Retransmission.{Waits, sent_again}
 use Rattle.histories.specs.NodeState.{NodeState}
 use Rattle.node_session.specs.declared.asked.Asked.{Asked}
 use Rattle.node_session.specs.declared.asked.Asked.TheVariants as ask
 use Rattle.node_session.specs.declared.asked.Unsealed.{Unsealed}
 use Rattle.node_session.specs.declared.asked.Unsealed.TheVariants.{Forged, Stale}
-use Rattle.node_session.specs.declared.ended.Ended.{Ended}
-use Rattle.node_session.specs.declared.ended.Ended.TheVariants as end
+use Rattle.node_session.specs.declared.call_outcome.CallOutcome.{CallOutcome}
+use Rattle.node_session.specs.declared.call_outcome.CallOutcome.TheVariants as end
 use Rattle.node_words.specs.Words.{core_name, event_word, group_part, id_text, ids_text, phase_text, truth_text}
 use Rattle.node_session.specs.Turns.{Turn, after_turn, cause, end_of, sent_in}
 use Rattle.node_session.specs.Chains.{Outcome, after_turns, line_end}
@@ -53,7 +53,7 @@ send_lines [] = []
 send_lines (m ∷ ms) = send_line m ++ send_lines ms
 
 -- what is written of a call: the messages, what changed, and the job that left the table
-abbrev pub call_text : Option Event → List Envelope → State → State → Ended → List ℕ
+abbrev pub call_text : Option Event → List Envelope → State → State → CallOutcome → List ℕ
 call_text event sent old new ended = send_lines sent ++ (changes (is_finish event) old new ++ gone_news event ended)
 
 abbrev pub turn_text : ℕ → ℕ → NodeState → Turn → List ℕ
@@ -90,7 +90,7 @@ keeps_by true d = []
 keeps_by false d = keeps_line d
 
 -- behind a recovery that was done, what the node keeps then
-abbrev pub keeps_news : Event → Ended → NodeState → List ℕ
+abbrev pub keeps_news : Event → CallOutcome → NodeState → List ℕ
 keeps_news on.Recover (end.Done answer) s = keeps_by (is_down s.state.phase) s.durable
 keeps_news event ended s = []
 
@@ -127,11 +127,11 @@ abbrev pub answer_text : Event → Option ℕ → List ℕ
 answer_text (on.Submit work) answer = id_text answer
 answer_text event answer = []
 
-abbrev pub closing : ℕ → Ended → List ℕ
+abbrev pub closing : ℕ → CallOutcome → List ℕ
 closing n (end.Done answer) = ok_line n []
 closing n (end.Denied fault) = denial_line n fault
 
-abbrev pub event_closing : ℕ → Event → Ended → List ℕ
+abbrev pub event_closing : ℕ → Event → CallOutcome → List ℕ
 event_closing n event (end.Done answer) = ok_line n (answer_text event answer)
 event_closing n event (end.Denied fault) = denial_line n fault
 

@@ -8,36 +8,36 @@ use Rattle.node_core.specs.Start.{down}
 use Rattle.node_core.specs.State.{is_down}
 use Rattle.node_core.specs.declared.fault.CoreFault.TheVariants as core
 use Rattle.histories.specs.NodeState.{NodeState}
-use Rattle.histories.specs.declared.what.What.{What}
-use Rattle.histories.specs.declared.what.What.TheVariants.{Did, Refused, Faulted, Rests, Crashed, Recovered, MountFailed, RaiseFailed, RaiseRefused}
-use Rattle.histories.specs.declared.what.Rest.{Rest}
-use Rattle.histories.specs.declared.what.Rest.TheVariants.{Nothing, Compacted, CompactDown, CompactWorn}
-use Rattle.histories.specs.What.{event_of, IsOf}
+use Rattle.histories.specs.declared.history_event.HistoryEvent.{HistoryEvent}
+use Rattle.histories.specs.declared.history_event.HistoryEvent.TheVariants.{Did, Refused, Faulted, NoOp, Crashed, Recovered, MountFailed, RaiseFailed, RaiseRefused}
+use Rattle.histories.specs.declared.history_event.NoOpKind.{NoOpKind}
+use Rattle.histories.specs.declared.history_event.NoOpKind.TheVariants.{Nothing, Compacted, CompactDown, CompactAreaExhausted}
+use Rattle.histories.specs.HistoryEvent.{event_of, IsOf}
 use Rattle.histories.specs.After.{after, sent_at}
 use Rattle.histories.specs.Possible.{IsPossible, IsOfSlots}
 use Rattle.durable_node.specs.declared.fault.NodeFault.{NodeFault}
 use Rattle.durable_node.specs.declared.fault.NodeFault.TheVariants as node
-use Rattle.durable_node.specs.declared.came.Came.{Came}
+use Rattle.durable_node.specs.declared.step_report.StepReport.{StepReport}
 use Rattle.durable_node.specs.Faults.{shown}
 use Rattle.durable_node.specs.Remounting.{IsUnmounted}
 use Rattle.durable_node.specs.Stepping.{answer_at}
-use Rattle.node_session.specs.declared.ended.Ended.{Ended}
-use Rattle.node_session.specs.declared.ended.Ended.TheVariants as end
+use Rattle.node_session.specs.declared.call_outcome.CallOutcome.{CallOutcome}
+use Rattle.node_session.specs.declared.call_outcome.CallOutcome.TheVariants as end
 
 pub data Turn : Type 0 where
   -- the node's history went on by this
-  Goes : (what : What) → Turn
+  Goes : (what : HistoryEvent) → Turn
   -- the disk couldn't be mounted, and all is as it was
   Unmounted : (fault : NodeFault) → Turn
   -- the disk was mounted which gave this: a history begins with it, and its first entry is this one
-  Begins : (mounted : Durable) (what : What) → Turn
+  Begins : (mounted : Durable) (what : HistoryEvent) → Turn
 
 -- where a history begins: a node that is down, over a disk that keeps this
 abbrev pub begun : ℕ → Durable → NodeState
 begun self mounted = record { state = down self; durable = mounted; doubt = None }
 
 -- a counter that can't be raised leaves all as it was
-abbrev pub after_begun : ℕ → ℕ → NodeState → Durable → What → NodeState
+abbrev pub after_begun : ℕ → ℕ → NodeState → Durable → HistoryEvent → NodeState
 after_begun self nodes s mounted (Recovered kept) = after self nodes (begun self mounted) (Recovered kept)
 after_begun self nodes s mounted (RaiseFailed kept) = after self nodes (begun self mounted) (RaiseFailed kept)
 after_begun self nodes s mounted what = s
@@ -62,24 +62,24 @@ cause (Begins mounted what) = Some on.Recover
 
 -- ---- how it ends
 
-abbrev pub rest_end : Rest → Ended
+abbrev pub rest_end : NoOpKind → CallOutcome
 rest_end Nothing = end.Done None
 rest_end Compacted = end.Done None
 rest_end CompactDown = end.Denied (node.Core core.Down)
-rest_end CompactWorn = end.Denied node.Exhausted
+rest_end CompactAreaExhausted = end.Denied node.Exhausted
 
-abbrev pub end_at : ℕ → ℕ → NodeState → What → Ended
+abbrev pub end_at : ℕ → ℕ → NodeState → HistoryEvent → CallOutcome
 end_at self nodes s (Did event) = end.Done (answer_at self nodes s (Did event))
 end_at self nodes s (Refused event fault) = end.Denied (shown fault)
 end_at self nodes s (Faulted event) = end.Denied node.Device
-end_at self nodes s (Rests rest) = rest_end rest
+end_at self nodes s (NoOp rest) = rest_end rest
 end_at self nodes s Crashed = end.Denied node.Device
 end_at self nodes s (Recovered kept) = end.Done (answer_at self nodes s (Recovered kept))
 end_at self nodes s MountFailed = end.Denied node.Device
 end_at self nodes s (RaiseFailed kept) = end.Denied node.Device
 end_at self nodes s (RaiseRefused kept) = end.Denied node.Exhausted
 
-abbrev pub end_of : ℕ → ℕ → NodeState → Turn → Ended
+abbrev pub end_of : ℕ → ℕ → NodeState → Turn → CallOutcome
 end_of self nodes s (Goes what) = end_at self nodes s what
 end_of self nodes s (Unmounted fault) = end.Denied fault
 end_of self nodes s (Begins mounted what) = end_at self nodes (begun self mounted) what
@@ -87,7 +87,7 @@ end_of self nodes s (Begins mounted what) = end_at self nodes (begun self mounte
 -- ---- what may come
 
 -- a history may begin with it
-abbrev pub MayBegin : What → Type 0
+abbrev pub MayBegin : HistoryEvent → Type 0
 MayBegin (Recovered kept) = Unit {0}
 MayBegin (RaiseFailed kept) = Unit {0}
 MayBegin (RaiseRefused kept) = Unit {0}
@@ -101,13 +101,13 @@ MayComeOf self nodes event slots s (Begins mounted what) =
     (event ≡ on.Recover) × (is_down s.state.phase ≡ true) × MayBegin what × IsPossible self nodes (begun self mounted) what
 
 -- a compaction was done or refused
-abbrev pub IsCompaction : Rest → Type 0
+abbrev pub IsCompaction : NoOpKind → Type 0
 IsCompaction Nothing = ⊥
 IsCompaction rest = Unit {0}
 
 -- it came of a compaction; the device failed where the node crashed
-abbrev pub IsOfCompaction : What → Type 0
-IsOfCompaction (Rests rest) = IsCompaction rest
+abbrev pub IsOfCompaction : HistoryEvent → Type 0
+IsOfCompaction (NoOp rest) = IsCompaction rest
 IsOfCompaction Crashed = Unit {0}
 IsOfCompaction what = ⊥
 
@@ -136,14 +136,14 @@ IsGoing (Begins mounted what) = ⊥
 
 -- ---- for the code
 
-abbrev pub ended_by : Result Came NodeFault → Ended
+abbrev pub ended_by : Result StepReport NodeFault → CallOutcome
 ended_by (Ok came) = end.Done came.answer
 ended_by (Err fault) = end.Denied fault
 
-abbrev pub sent_by : Result Came NodeFault → List Envelope
+abbrev pub sent_by : Result StepReport NodeFault → List Envelope
 sent_by (Ok came) = came.sent.items
 sent_by (Err fault) = []
 
-abbrev pub compaction_end : {A : Type 0} → Result A NodeFault → Ended
+abbrev pub compaction_end : {A : Type 0} → Result A NodeFault → CallOutcome
 compaction_end (Ok done) = end.Done None
 compaction_end (Err fault) = end.Denied fault

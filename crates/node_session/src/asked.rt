@@ -10,6 +10,7 @@ use line_words::{bytes, cut_word, number};
 use node_core::{Event, Timer};
 use schedule::fields;
 use std::alloc::{AllocError, Global};
+use thiserror::Error;
 use wire_msg::decode;
 
 /// What a line asks for.
@@ -36,11 +37,13 @@ pub enum Asked {
 }
 
 /// Why a message isn't taken under a key.
-#[derive(Clone, Copy, Debug, PartialEq, Eq)]
+#[derive(Clone, Copy, Debug, PartialEq, Eq, Error)]
 pub enum Unsealed {
     /// No member of the cluster sealed it.
+    #[error("no member of the cluster sealed the message")]
     Forged,
     /// As late or later a message of its sender was taken.
+    #[error("as late or later a message of its sender was taken")]
     Stale,
 }
 

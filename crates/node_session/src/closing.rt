@@ -3,11 +3,11 @@ ghost use Rattle.std.specs.Prelude.{◌≡◌, ◌++◌, [], OnOk};
 ghost use Rattle.node_session.specs.Text.{answer_text, bad_line, closing, denial_line, denial_word, event_closing, fault_name, ok_line, refused_line, unsealed_name};
 
 use crate::asked::Unsealed;
-use crate::ended::Ended;
-use console_text::{push_number, push_text};
+use crate::call_outcome::CallOutcome;
+use console_text::{push_named_number, push_number, push_text};
 use durable_node::NodeFault;
 use node_core::Event;
-use node_words::{push_core_fault, push_id, push_named_number};
+use node_words::{push_core_fault, push_id};
 use std::alloc::AllocError;
 
 /// Adds how request `number` ended, which asked this event.
@@ -15,28 +15,32 @@ pub(crate) fn push_event_closing(
     text: &mut Vec<u8>,
     number: u64,
     event: &Event,
-    ended: &Ended,
+    ended: &CallOutcome,
 ) -> Result<(), AllocError>
     ensures { OnOk result (text.new.items ≡ text.old.items ++ event_closing number event.now ended.now) }
 {
     match ended {
-        Ended::Done(answer) => {
+        CallOutcome::Done(answer) => {
             push_text(text, "ok ")?;
             push_number(text, number)?;
             push_answer(text, event, *answer)?;
             push_text(text, "\n")
         }
-        Ended::Denied(fault) => push_denial(text, number, fault),
+        CallOutcome::Denied(fault) => push_denial(text, number, fault),
     }
 }
 
 /// Adds how request `number` ended, which asked something else of the node.
-pub(crate) fn push_closing(text: &mut Vec<u8>, number: u64, ended: &Ended) -> Result<(), AllocError>
+pub(crate) fn push_closing(
+    text: &mut Vec<u8>,
+    number: u64,
+    ended: &CallOutcome,
+) -> Result<(), AllocError>
     ensures { OnOk result (text.new.items ≡ text.old.items ++ closing number ended.now) }
 {
     match ended {
-        Ended::Done(_) => push_ok(text, number),
-        Ended::Denied(fault) => push_denial(text, number, fault),
+        CallOutcome::Done(_) => push_ok(text, number),
+        CallOutcome::Denied(fault) => push_denial(text, number, fault),
     }
 }
 

@@ -3,25 +3,30 @@ ghost use Rattle.std.specs.Prelude.{◌≡◌, ◌<◌, ◌≤◌, ◌^◌, ◌+
 ghost use Rattle.node_core.specs.declared.event.Event.{Event};
 ghost use Rattle.pace.specs.declared.deadline.Deadline.{Deadline};
 ghost use Rattle.pace.specs.Policy.{passed, IsDue, MayFire, Runs};
-ghost use Rattle.pace.specs.Waiting.{has_come, sent_again};
+ghost use Rattle.pace.specs.Retransmission.{has_come, sent_again};
 ghost use Rattle.node_session.specs.Text.{next_line};
 
 use console_text::{push_number, push_text};
-use pace::{Pace, Sight, Waiting};
+use pace::{NodeSnapshot, Retransmission, TimerPolicy};
 use std::alloc::AllocError;
 
 /// When a timer fires or a message is sent again next, at a node that stays as it is seen, where it is so late now and the clock doesn't fall back. Before
 /// that time nothing is; at it a timer fires, or what is waited for is looked through.
-pub(crate) fn next_due(pace: &Pace, waiting: &Waiting, sight: &Sight, now: u64) -> u64
+pub(crate) fn next_due(
+    pace: &TimerPolicy,
+    waiting: &Retransmission,
+    snapshot: &NodeSnapshot,
+    now: u64,
+) -> u64
     // Promise: A tick tells when something is due next, unless the node is Down then, and nothing else does; before that time no
     // timer fires and nothing is sent again, where nothing comes, whatever time is told.
     // Refuses: later_of_the_two_told, nothing_told, pace::due_too_late, pace::due_too_early.
-    ensures quiet { (later : ℕ) → later < result → (event : Event) → MayFire (passed later pace.now) sight.now event → ⊥ }
+    ensures quiet { (later : ℕ) → later < result → (event : Event) → MayFire (passed later pace.now) snapshot.now event → ⊥ }
     ensures silent { (later : ℕ) → now ≤ later → later < result → sent_again later waiting.now ≡ [] }
-    ensures fires { (d : Deadline) → Runs pace.now sight.now d → is_some pace.now.told ≡ true → result < 2 ^ 64 - 1
-        → IsDue (passed result pace.now) sight.now ⊎ (has_come result waiting.now ≡ true) }
+    ensures fires { (d : Deadline) → Runs pace.now snapshot.now d → is_some pace.now.told ≡ true → result < 2 ^ 64 - 1
+        → IsDue (passed result pace.now) snapshot.now ⊎ (has_come result waiting.now ≡ true) }
 {
-    let timer = pace.due_at(sight).unwrap_or(u64::MAX);
+    let timer = pace.due_at(snapshot).unwrap_or(u64::MAX);
     let again = waiting.due_at(now).unwrap_or(u64::MAX);
     timer.min(again)
 }

@@ -1,11 +1,19 @@
 //! A node that is asked by lines of text and answers by lines. A session is a value: it is fed with bytes, however they are cut, and its
 //! text is what is to be written.
+//!
+//! ```
+//! let mut session = Session::new(alloc, id, nodes, disk, TimerSettings::measured(50), seed);
+//! session.feed(b"recover\nsubmit 3 68")?;                          // answers the first line, and keeps the rest
+//! session.feed(b"69\n")?;
+//! output.write_all(session.text())?;                               // what changed, and a closing line for each: ok 1, ok 2 id 0
+//! session.clear();
+//! ```
 #![tactic(auto)]
 
 mod asked;
+mod call_outcome;
 mod closing;
 mod due;
-mod ended;
 mod fired;
 mod laws;
 mod seals;
@@ -16,7 +24,7 @@ mod showing;
 mod unread;
 
 pub use asked::{Asked, Unsealed, read_line};
-pub use ended::Ended;
+pub use call_outcome::CallOutcome;
 pub use laws::{
     any_clearing, any_cutting, begins_anywhere, begun_history, no_stamp_twice, one_history,
     opened_alone, sends_sealed, taken_rises,

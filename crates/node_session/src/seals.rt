@@ -11,7 +11,7 @@ use console_text::{push_hex, push_text};
 use group_task::NODES;
 use line_words::{bytes, cut_line, cut_word, push_bytes};
 use node_core::Event;
-use sealed_msg::{Key, Opened, Stamp};
+use sealed_msg::{Key, OpenedMessage, Stamp};
 use std::alloc::{AllocError, Global};
 use std::marker::Model;
 use wire_msg::{Message, decode};
@@ -83,7 +83,7 @@ impl Seal {
     }
 
     /// The message and its stamp, where one of the keys sealed them to these bytes.
-    fn opened<'a>(&self, bytes: &'a [u8]) -> Option<Opened<'a>>
+    fn opened<'a>(&self, bytes: &'a [u8]) -> Option<OpenedMessage<'a>>
         ensures opened { IfSome result (λ it. opened_under self.now bytes.now ≡ Some (it.message.now, it.stamp)) }
         ensures none { IsNone result → opened_under self.now bytes.now ≡ None }
     {

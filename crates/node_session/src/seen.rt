@@ -3,7 +3,7 @@ ghost use Rattle.std.specs.Prelude.{◌≡◌, ◌++◌, IfOk, OnOk, Some, is_so
 ghost use Rattle.node_core.specs.State.{State, state_of};
 ghost use Rattle.node_session.specs.Changes.{changes, drop_news, drops, gone_by, gone_line, gone_news, group_line, group_news, held_by, is_finish, pair_in, same_told, take_news, takes, told_of};
 
-use crate::ended::Ended;
+use crate::call_outcome::CallOutcome;
 use crate::showing::push_held;
 use console_text::{push_number, push_text};
 use group_task::{GroupNo, Members, NodeId};
@@ -27,9 +27,9 @@ impl Told {
         ensures { result ≡ told_of (state_of vector.now) }
     {
         Told {
-            phase: vector.standing.phase,
-            coordinator: vector.standing.coordinator,
-            group: vector.standing.group,
+            phase: vector.group_state.phase,
+            coordinator: vector.group_state.coordinator,
+            group: vector.group_state.group,
             members: vector.members(),
         }
     }
@@ -54,9 +54,9 @@ pub(crate) struct Seen {
 }
 
 impl Model for Seen {
-    ghost use Rattle.node_session.specs.Changes.{Sight};
+    ghost use Rattle.node_session.specs.Changes.{NodeSnapshot};
 
-    ghost Value = { Sight };
+    ghost Value = { NodeSnapshot };
 
     ghost view = { λ a. record { told = a.told; held = a.held.items } };
 }
@@ -210,12 +210,20 @@ pub(crate) fn is_finish(event: &Event) -> bool
 }
 
 /// Adds the own job that left the table in this event.
-pub(crate) fn push_gone(text: &mut Vec<u8>, event: &Event, ended: &Ended) -> Result<(), AllocError>
+pub(crate) fn push_gone(
+    text: &mut Vec<u8>,
+    event: &Event,
+    ended: &CallOutcome,
+) -> Result<(), AllocError>
     ensures { OnOk result (text.new.items ≡ text.old.items ++ gone_news (Some event.now) ended.now) }
 {
     match (event, ended) {
-        (Event::Finish(_, _), Ended::Done(Some(id))) => push_gone_line(text, *id),
-        (Event::Deliver(message), Ended::Done(Some(id))) => push_gone_by(text, message.body(), *id),
+        (Event::Finish(_, _), CallOutcome::Done(Some(id))) => push_gone_line(text, *id),
+        (Event::Deliver(message), CallOutcome::Done(Some(id))) => push_gone_by(
+            text,
+            message.body(),
+            *id,
+        ),
         _ => Ok(()),
     }
 }

@@ -1,8 +1,8 @@
 // The messages of a call, as lines.
 ghost use Rattle.std.specs.Prelude.{◌≡◌, ◌++◌, OnOk};
-ghost use Rattle.node_session.specs.Text.{send_line, send_lines};
+ghost use Rattle.node_session.specs.Text.{send_lines};
 
-use console_text::{push_hex, push_number, push_text};
+use console_text::{push_hex, push_named_number, push_text};
 use std::alloc::AllocError;
 use wire_msg::{Message, encode_into};
 
@@ -15,24 +15,13 @@ pub(crate) fn push_messages(
     ensures { OnOk result (text.new.items ≡ text.old.items ++ send_lines messages.now) }
 {
     for message in messages {
-        push_message(text, bytes, message)?;
+        if encode_into(bytes, message).is_err() {
+            return Err(AllocError);
+        }
+        push_named_number(text, "send ", u64::from(message.receiver().number()))?;
+        push_text(text, " ")?;
+        push_hex(text, bytes)?;
+        push_text(text, "\n")?;
     }
     Ok(())
-}
-
-fn push_message(
-    text: &mut Vec<u8>,
-    bytes: &mut Vec<u8>,
-    message: &Message,
-) -> Result<(), AllocError>
-    ensures { OnOk result (text.new.items ≡ text.old.items ++ send_line message.now) }
-{
-    if encode_into(bytes, message).is_err() {
-        return Err(AllocError);
-    }
-    push_text(text, "send ")?;
-    push_number(text, u64::from(message.receiver().number()))?;
-    push_text(text, " ")?;
-    push_hex(text, bytes)?;
-    push_text(text, "\n")
 }

@@ -7,7 +7,7 @@ ghost use Rattle.node_store.specs.Store.{slots_for};
 ghost use Rattle.node_core.specs.declared.fault.CoreFault.TheVariants.{NoMemory};
 ghost use Rattle.line_words.specs.Lines.{lines_of};
 ghost use Rattle.node_session.specs.declared.asked.Asked.TheVariants as ask;
-ghost use Rattle.node_session.specs.declared.ended.Ended.TheVariants as end;
+ghost use Rattle.node_session.specs.declared.call_outcome.CallOutcome.TheVariants as end;
 ghost use Rattle.node_session.specs.Seals.{asked_under, life_of, sealed_behind, taken_under, written};
 ghost use Rattle.node_session.specs.Chains.{AreTimely, IsAtOnce, IsToldBy, is_failed};
 ghost use Rattle.node_session.specs.Serving.{opened, Calls, Fed, Replies, Serves, Turns};
@@ -15,29 +15,29 @@ ghost use Rattle.durable_node.specs.Faults.{answered};
 ghost use Rattle.durable_node.specs.Node.{Stands};
 ghost use Rattle.histories.specs.NodeState.{NodeState};
 ghost use Rattle.node_core.specs.State.{is_down, state_of};
-ghost use Rattle.pace.specs.Waiting.{sent_again, waits_behind, waits_on};
+ghost use Rattle.pace.specs.Retransmission.{sent_again, waits_on};
 ghost use Rattle.node_session.specs.Text.{fired_line, fired_news, send_lines};
 ghost use Rattle.node_session.specs.Turns.{compaction_end, ended_by, sent_by, IsFired, IsTimely, MayComeOf, MayCompact};
 
 use crate::asked::{Asked, read_line};
+use crate::call_outcome::CallOutcome;
 use crate::closing::{push_closing, push_event_closing};
 use crate::due::{next_due, push_next};
-use crate::ended::Ended;
 use crate::fired::push_fired;
 use crate::seals::Seal;
 use crate::seen::{Seen, is_finish, push_gone};
 use crate::sending::push_messages;
 use crate::showing::{push_at_once, push_keeps_news};
 use crate::unread::Unread;
-use durable_node::{Came, DurableNode, NodeFault};
+use durable_node::{DurableNode, NodeFault, StepReport};
 use group_task::{GroupNo, NodeId};
 use line_words::cut_line;
 use node_core::{CoreFault, Event, Phase, Timer, Vector};
-use pace::{Pace, Setting, Sight, Waiting};
+use pace::{NodeSnapshot, Retransmission, TimerPolicy, TimerSettings};
 use sector_disk::SectorDisk;
 use std::alloc::{AllocError, Global};
 use std::marker::Model;
-use wire_msg::Body;
+use wire_msg::{Body, Message};
 
 /// At most so many timers fire in one tick; what is due beyond that fires in the next.
 const MOST_FIRED: u32 = 16;
@@ -48,11 +48,11 @@ pub struct Session<D: SectorDisk> {
     alloc: Global,
     id: NodeId,
     node: DurableNode<D>,
-    pace: Pace,
+    pace: TimerPolicy,
     // the group in which a timer was last looked for, and the one in which time was last spent
     group: Option<GroupNo>,
     spent_in: Option<GroupNo>,
-    waiting: Waiting,
+    waiting: Retransmission,
     stopped: bool,
     count: u64,
     text: Vec<u8>,
@@ -77,7 +77,7 @@ impl<D: SectorDisk> Session<D> {
         id: NodeId,
         nodes: u8,
         disk: D,
-        setting: Setting,
+        setting: TimerSettings,
         seed: u64,
     ) -> Session<D>
         requires within { id < nodes }
@@ -89,10 +89,10 @@ impl<D: SectorDisk> Session<D> {
             alloc,
             id,
             node: DurableNode::down(alloc, id, nodes, disk),
-            pace: Pace::new(setting, id, seed),
+            pace: TimerPolicy::new(setting, id, seed),
             group: None,
             spent_in: None,
-            waiting: Waiting::new(alloc, setting.unit),
+            waiting: Retransmission::new(alloc, setting.unit),
             stopped: false,
             count: 0,
             text: Vec::new(alloc),
@@ -138,14 +138,14 @@ impl<D: SectorDisk> Session<D> {
         ensures { self.new ≡ self.old }
     {
         self.pace.spend(ms);
-        let standing = &self.node.vector().standing;
-        if matches!(standing.phase, Phase::Down) || self.spent_in == Some(standing.group) {
+        let group_state = &self.node.vector().group_state;
+        if matches!(group_state.phase, Phase::Down) || self.spent_in == Some(group_state.group) {
             return;
         }
-        if standing.group.creator().is(self.id) {
+        if group_state.group.creator().is(self.id) {
             self.pace.raised(ms);
         }
-        self.spent_in = Some(standing.group);
+        self.spent_in = Some(group_state.group);
     }
 
     /// Whether the device failed. The answer that says it is the last one.
@@ -184,12 +184,23 @@ impl<D: SectorDisk + Drop> Session<D> {
         // Refuses: rest_is_dropped.
         ensures { OnOk result (Fed D.state self.old piece.now self.new) }
     {
+        if self.unread.is_empty() {
+            return self.answer_whole(piece);
+        }
         let Some(_) = cut_line(piece) else {
             return self.unread.push(piece);
         };
         let mut whole = self.unread.take(self.alloc);
         whole.extend_from_slice(piece)?;
-        let left = self.answer_lines(&whole)?;
+        self.answer_whole(&whole)
+    }
+
+    /// Answers the whole lines of a text behind which nothing is kept, and keeps what stands behind the last.
+    fn answer_whole(&mut self, whole: &[u8]) -> Result<(), AllocError>
+        requires { self.old.rest ≡ [] }
+        ensures { OnOk result (Fed D.state self.old whole.now self.new) }
+    {
+        let left = self.answer_lines(whole)?;
         self.unread.push(left)?;
         Ok(())
     }
@@ -255,9 +266,8 @@ impl<D: SectorDisk + Drop> Session<D> {
         ensures { (s : NodeState) → Stands D.state self.now.node s → result ≡ life_of s }
     {
         match self.node.durable() {
-            Some((count, _table)) if !matches!(self.node.vector().standing.phase, Phase::Down) => {
-                Some(count)
-            }
+            Some((count, _table)) if !matches!(self.node.vector().group_state.phase, Phase::Down) =>
+                { Some(count) }
             _ => None,
         }
     }
@@ -353,10 +363,10 @@ impl<D: SectorDisk + Drop> Session<D> {
     }
 
     /// Once the device failed, no line is answered any more.
-    fn stop_where_failed(&mut self, ended: &Ended)
+    fn stop_where_failed(&mut self, ended: &CallOutcome)
         ensures { self.new ≡ record self.old { stopped = is_failed ended.now } }
     {
-        self.stopped = matches!(ended, Ended::Denied(NodeFault::Device));
+        self.stopped = matches!(ended, CallOutcome::Denied(NodeFault::Device));
     }
 
     /// The policy of timers learns how late it is.
@@ -376,18 +386,18 @@ impl<D: SectorDisk + Drop> Session<D> {
     }
 
     /// Makes the events that are due at the time that was told.
-    fn fire_due(&mut self) -> Result<Ended, AllocError>
+    fn fire_due(&mut self) -> Result<CallOutcome, AllocError>
         ensures rest { self.new.rest ≡ self.old.rest }
         ensures calls { IfOk result (λ ended. Calls D.state self.old self.new fired_news AreTimely (end.Done None) ended) }
     {
-        let mut ended = Ended::Done(None);
+        let mut ended = CallOutcome::Done(None);
         for _fired in 0..MOST_FIRED {
             let Some(event) = self.due() else {
                 return Ok(ended);
             };
             self.add_fired(&event)?;
             ended = self.turn(&event)?;
-            if matches!(ended, Ended::Denied(_)) {
+            if matches!(ended, CallOutcome::Denied(_)) {
                 return Ok(ended);
             }
         }
@@ -399,29 +409,29 @@ impl<D: SectorDisk + Drop> Session<D> {
         ensures same { self.new ≡ self.old }
         ensures fired { IfSome result IsFired }
     {
-        let sight = self.sight();
-        self.look_at(sight.group);
-        let due = self.pace.tick(&sight);
-        if due.is_some() || !self.waiting.is_answered(&sight) {
+        let snapshot = self.snapshot();
+        self.look_at(snapshot.group);
+        let due = self.pace.tick(&snapshot);
+        if due.is_some() || !self.waiting.is_answered(&snapshot) {
             return due;
         }
         self.pace.answered();
-        self.pace.tick(&sight)
+        self.pace.tick(&snapshot)
     }
 
     /// When something is due next, where nothing comes. A node that is Down waits for nothing.
     fn next_due(&self, now: u64) -> Option<u64>
         ensures { IsToldBy (is_down self.now.node.state.phase) result }
     {
-        let sight = self.sight();
-        match sight.phase {
+        let snapshot = self.snapshot();
+        match snapshot.phase {
             Phase::Down => None,
-            _ => Some(next_due(&self.pace, &self.waiting, &sight, now)),
+            _ => Some(next_due(&self.pace, &self.waiting, &snapshot, now)),
         }
     }
 
     /// What the policy of timers sees of the node.
-    fn sight(&self) -> Sight
+    fn snapshot(&self) -> NodeSnapshot
         ensures { result.phase ≡ self.now.node.state.phase }
     {
         let vector = self.node.vector();
@@ -429,7 +439,7 @@ impl<D: SectorDisk + Drop> Session<D> {
             Some((_count, table)) => table.pending(),
             None => &[],
         };
-        Sight::of(self.id, vector, merge_wait(self.id, vector), pending)
+        NodeSnapshot::of(self.id, vector, merge_wait(self.id, vector), pending)
     }
 
     /// A new group's members have no work in hand: in it the jobs that the node keeps are due at once.
@@ -451,7 +461,7 @@ impl<D: SectorDisk + Drop> Session<D> {
     }
 
     /// A node that the transport gave up isn't waited for: its coordinator leaves the group, and a member asks or leaves.
-    fn give_up(&mut self, node: NodeId) -> Result<Ended, AllocError>
+    fn give_up(&mut self, node: NodeId) -> Result<CallOutcome, AllocError>
         ensures rest { self.new.rest ≡ self.old.rest }
         ensures calls { IfOk result (λ ended. Calls D.state self.old self.new fired_news AreTimely (end.Done None) ended) }
     {
@@ -460,7 +470,7 @@ impl<D: SectorDisk + Drop> Session<D> {
                 self.add_fired(&event)?;
                 self.turn(&event)
             }
-            None => Ok(Ended::Done(None)),
+            None => Ok(CallOutcome::Done(None)),
         }
     }
 
@@ -480,7 +490,7 @@ impl<D: SectorDisk + Drop> Session<D> {
 // One call of the node.
 impl<D: SectorDisk + Drop> Session<D> {
     /// Makes an event, and writes what came of it. All that the session asks of a node's step stands here.
-    fn turn(&mut self, event: &Event) -> Result<Ended, AllocError>
+    fn turn(&mut self, event: &Event) -> Result<CallOutcome, AllocError>
         ensures rest { self.new.rest ≡ self.old.rest }
         ensures turn { IfOk result (λ ended. Turns D.state self.old self.new (λ id nodes. MayComeOf id nodes event.now) ended) }
     {
@@ -490,8 +500,9 @@ impl<D: SectorDisk + Drop> Session<D> {
         if ran_out(&reply) {
             return Err(AllocError);
         }
-        keep_waited(&mut self.waiting, event, &reply, self.node.vector())?;
-        push_sent(&mut self.text, &mut self.bytes, &reply)?;
+        let sent = sent_of(&reply);
+        self.waiting.keep(event, sent, self.node.vector())?;
+        push_messages(&mut self.text, &mut self.bytes, sent)?;
         let ended = ended_by(&reply);
         seen.push_changes(&mut self.text, is_finish(event), self.node.vector())?;
         push_gone(&mut self.text, event, &ended)?;
@@ -499,7 +510,7 @@ impl<D: SectorDisk + Drop> Session<D> {
     }
 
     /// Compacts the journal, and writes what came of it.
-    fn compact(&mut self) -> Result<Ended, AllocError>
+    fn compact(&mut self) -> Result<CallOutcome, AllocError>
         ensures rest { self.new.rest ≡ self.old.rest }
         ensures turn { IfOk result (λ ended. Turns D.state self.old self.new MayCompact ended) }
     {
@@ -511,60 +522,41 @@ impl<D: SectorDisk + Drop> Session<D> {
     }
 }
 
-/// Keeps those of the messages that a step hands out that are waited for in the state that it led to.
-fn keep_waited(
-    waiting: &mut Waiting,
-    event: &Event,
-    reply: &Result<Came, NodeFault>,
-    vector: &Vector,
-) -> Result<(), AllocError>
-    ensures { OnOk result (waiting.new ≡ waits_behind (Some event.now) (sent_by (answered reply.now)) (state_of vector.now) waiting.old) }
+/// The messages that a step hands out.
+fn sent_of(reply: &Result<StepReport, NodeFault>) -> &[Message]
+    ensures { result.now ≡ sent_by (answered reply.now) }
 {
     match reply {
-        Ok(came) if came.fault().is_none() => waiting.keep(event, &came.sent, vector),
-        _ => waiting.keep(event, &[], vector),
-    }
-}
-
-/// Adds the messages that a step hands out. `bytes` is room for a spelling.
-fn push_sent(
-    text: &mut Vec<u8>,
-    bytes: &mut Vec<u8>,
-    reply: &Result<Came, NodeFault>,
-) -> Result<(), AllocError>
-    ensures { OnOk result (text.new.items ≡ text.old.items ++ send_lines (sent_by (answered reply.now))) }
-{
-    match reply {
-        Ok(came) if came.fault().is_none() => push_messages(text, bytes, &came.sent),
-        _ => Ok(()),
+        Ok(came) if came.fault().is_none() => &came.sent,
+        _ => &[],
     }
 }
 
 /// How a step ended.
-fn ended_by(reply: &Result<Came, NodeFault>) -> Ended
+fn ended_by(reply: &Result<StepReport, NodeFault>) -> CallOutcome
     ensures { result ≡ ended_by (answered reply.now) }
 {
     match reply {
         Ok(came) => match came.fault() {
-            None => Ended::Done(came.answer),
-            Some(fault) => Ended::Denied(fault),
+            None => CallOutcome::Done(came.answer),
+            Some(fault) => CallOutcome::Denied(fault),
         },
-        Err(fault) => Ended::Denied(*fault),
+        Err(fault) => CallOutcome::Denied(*fault),
     }
 }
 
 /// How a compaction ended.
-fn compaction_end(done: &Result<(), NodeFault>) -> Ended
+fn compaction_end(done: &Result<(), NodeFault>) -> CallOutcome
     ensures { result ≡ compaction_end done.now }
 {
     match done {
-        Ok(()) => Ended::Done(None),
-        Err(fault) => Ended::Denied(*fault),
+        Ok(()) => CallOutcome::Done(None),
+        Err(fault) => CallOutcome::Denied(*fault),
     }
 }
 
 /// Whether there was no memory for a call.
-fn ran_out(reply: &Result<Came, NodeFault>) -> bool
+fn ran_out(reply: &Result<StepReport, NodeFault>) -> bool
     ensures { IsTrue result ↔ (reply.now ≡ Err (NodeFault.Core NoMemory)) }
 {
     matches!(reply, Err(NodeFault::Core(CoreFault::NoMemory)))
@@ -573,7 +565,7 @@ fn ran_out(reply: &Result<Came, NodeFault>) -> bool
 /// By how much the greatest coordinator that was found is above the node; none where none was found.
 fn merge_wait(id: NodeId, vector: &Vector) -> Option<u64> {
     let mut greatest = None;
-    for found in vector.standing.found.iter() {
+    for found in vector.group_state.found.iter() {
         greatest = Some(u64::from(found.number().saturating_sub(id.number())));
     }
     greatest
@@ -583,14 +575,14 @@ fn merge_wait(id: NodeId, vector: &Vector) -> Option<u64> {
 fn loss_of(id: NodeId, vector: &Vector, lost: NodeId) -> Option<Event>
     ensures { IfSome result IsFired }
 {
-    let standing = &vector.standing;
-    if lost.is(id) || matches!(standing.phase, Phase::Down | Phase::Election) {
+    let group_state = &vector.group_state;
+    if lost.is(id) || matches!(group_state.phase, Phase::Down | Phase::Election) {
         return None;
     }
-    if standing.coordinator.is(lost) {
+    if group_state.coordinator.is(lost) {
         return Some(Event::Timer(Timer::Coord));
     }
-    if standing.coordinator.is(id) && vector.members().contains(lost) {
+    if group_state.coordinator.is(id) && vector.members().contains(lost) {
         return Some(Event::Recover);
     }
     None

@@ -9,9 +9,9 @@ ghost use Rattle.node_session.specs.Changes.{held_text};
 ghost use Rattle.node_session.specs.Text.{answer_at_once, asks_part, hand_line, jobs_lines, jobs_part, keeps_by, keeps_line, keeps_news, pending_line, sets_part, state_line, up_line};
 
 use crate::asked::Asked;
+use crate::call_outcome::CallOutcome;
 use crate::closing::{push_bad, push_ok, push_refused};
-use crate::ended::Ended;
-use console_text::{push_number, push_text};
+use console_text::{push_named_number, push_number, push_text};
 use durable_node::DurableNode;
 use job_model::{Job, JobTable};
 use node_core::{Event, InHand, Phase, Vector};
@@ -43,7 +43,7 @@ fn push_state<D: SectorDisk>(text: &mut Vec<u8>, node: &DurableNode<D>) -> Resul
 {
     let vector = node.vector();
     match node.durable() {
-        Some((count, table)) if !matches!(vector.standing.phase, Phase::Down) => {
+        Some((count, table)) if !matches!(vector.group_state.phase, Phase::Down) => {
             push_up(text, vector, count, table)
         }
         _ => push_text(text, "state Down\n"),
@@ -56,7 +56,7 @@ fn push_all_jobs<D: SectorDisk>(text: &mut Vec<u8>, node: &DurableNode<D>) -> Re
 {
     let vector = node.vector();
     match node.durable() {
-        Some((_count, table)) if !matches!(vector.standing.phase, Phase::Down) => {
+        Some((_count, table)) if !matches!(vector.group_state.phase, Phase::Down) => {
             push_pending(text, table.pending())?;
             push_hand(text, vector.hand.jobs())
         }
@@ -68,13 +68,13 @@ fn push_all_jobs<D: SectorDisk>(text: &mut Vec<u8>, node: &DurableNode<D>) -> Re
 pub(crate) fn push_keeps_news<D: SectorDisk>(
     text: &mut Vec<u8>,
     event: &Event,
-    ended: &Ended,
+    ended: &CallOutcome,
     node: &DurableNode<D>,
 ) -> Result<(), AllocError>
     ensures { (s : NodeState) → Stands D.state node.now s → OnOk result (text.new.items ≡ text.old.items ++ keeps_news event.now ended.now s) }
 {
     match (event, ended) {
-        (Event::Recover, Ended::Done(_)) => push_keeps(text, node),
+        (Event::Recover, CallOutcome::Done(_)) => push_keeps(text, node),
         _ => Ok(()),
     }
 }
@@ -84,7 +84,7 @@ fn push_keeps<D: SectorDisk>(text: &mut Vec<u8>, node: &DurableNode<D>) -> Resul
 {
     let vector = node.vector();
     match node.durable() {
-        Some((count, table)) if !matches!(vector.standing.phase, Phase::Down) => {
+        Some((count, table)) if !matches!(vector.group_state.phase, Phase::Down) => {
             push_durable(text, count, table)
         }
         _ => Ok(()),
@@ -94,12 +94,9 @@ fn push_keeps<D: SectorDisk>(text: &mut Vec<u8>, node: &DurableNode<D>) -> Resul
 fn push_durable(text: &mut Vec<u8>, count: u64, table: &JobTable) -> Result<(), AllocError>
     ensures { OnOk result (text.new.items ≡ text.old.items ++ keeps_line (durable_of count table.now)) }
 {
-    push_text(text, "keeps ")?;
-    push_number(text, count)?;
-    push_text(text, " ")?;
-    push_number(text, table.next())?;
-    push_text(text, " ")?;
-    push_number(text, table.pending().len() as u64)?;
+    push_named_number(text, "keeps ", count)?;
+    push_named_number(text, " ", table.next())?;
+    push_named_number(text, " ", table.pending().len() as u64)?;
     push_text(text, "\n")
 }
 
@@ -153,32 +150,12 @@ fn push_up(
     ensures { OnOk result (text.new.items ≡ text.old.items ++ up_line (state_of vector.now) (durable_of count table.now)) }
 {
     push_text(text, "state ")?;
-    push_text(text, phase_word(vector.standing.phase))?;
+    push_text(text, phase_word(vector.group_state.phase))?;
     push_group_part(text, vector)?;
     push_sets(text, vector)?;
     push_asks(text, vector)?;
     push_jobs(text, vector, count, table)?;
     push_text(text, "\n")
-}
-
-fn push_sets(text: &mut Vec<u8>, vector: &Vector) -> Result<(), AllocError>
-    ensures { OnOk result (text.new.items ≡ text.old.items ++ sets_part (state_of vector.now)) }
-{
-    push_text(text, " members ")?;
-    push_ids(text, vector.members())?;
-    push_text(text, " found ")?;
-    push_ids(text, vector.standing.found)?;
-    push_text(text, " unready ")?;
-    push_ids(text, vector.standing.unready)
-}
-
-fn push_asks(text: &mut Vec<u8>, vector: &Vector) -> Result<(), AllocError>
-    ensures { OnOk result (text.new.items ≡ text.old.items ++ asks_part (state_of vector.now)) }
-{
-    push_text(text, " checking ")?;
-    push_truth(text, vector.standing.checking)?;
-    push_text(text, " probing ")?;
-    push_truth(text, vector.standing.probing)
 }
 
 fn push_jobs(
@@ -189,10 +166,27 @@ fn push_jobs(
 ) -> Result<(), AllocError>
     ensures { OnOk result (text.new.items ≡ text.old.items ++ jobs_part (state_of vector.now) (durable_of count table.now)) }
 {
-    push_text(text, " count ")?;
-    push_number(text, count)?;
-    push_text(text, " pending ")?;
-    push_number(text, table.pending().len() as u64)?;
-    push_text(text, " hand ")?;
-    push_number(text, vector.hand.jobs().len() as u64)
+    push_named_number(text, " count ", count)?;
+    push_named_number(text, " pending ", table.pending().len() as u64)?;
+    push_named_number(text, " hand ", vector.hand.jobs().len() as u64)
+}
+
+fn push_sets(text: &mut Vec<u8>, vector: &Vector) -> Result<(), AllocError>
+    ensures { OnOk result (text.new.items ≡ text.old.items ++ sets_part (state_of vector.now)) }
+{
+    push_text(text, " members ")?;
+    push_ids(text, vector.members())?;
+    push_text(text, " found ")?;
+    push_ids(text, vector.group_state.found)?;
+    push_text(text, " unready ")?;
+    push_ids(text, vector.group_state.unready)
+}
+
+fn push_asks(text: &mut Vec<u8>, vector: &Vector) -> Result<(), AllocError>
+    ensures { OnOk result (text.new.items ≡ text.old.items ++ asks_part (state_of vector.now)) }
+{
+    push_text(text, " checking ")?;
+    push_truth(text, vector.group_state.checking)?;
+    push_text(text, " probing ")?;
+    push_truth(text, vector.group_state.probing)
 }

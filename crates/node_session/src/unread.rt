@@ -1,5 +1,5 @@
 // What was read of a line that isn't whole.
-ghost use Rattle.std.specs.Prelude.{◌≡◌, ◌++◌, ◌∷◌, [], OnOk};
+ghost use Rattle.std.specs.Prelude.{◌≡◌, ◌↔◌, ◌++◌, ◌∷◌, [], IsTrue, OnOk};
 ghost use Rattle.line_words.specs.Lines.{lines_of};
 
 use std::alloc::{AllocError, Global};
@@ -30,6 +30,12 @@ impl Unread {
         Unread {
             bytes: Vec::new(alloc),
         }
+    }
+
+    pub(crate) fn is_empty(&self) -> bool
+        ensures { IsTrue result ↔ (self.now ≡ []) }
+    {
+        self.bytes.is_empty()
     }
 
     /// Adds bytes in which no line feed stands.

@@ -1,10 +1,11 @@
 // A store begun with a counter and jobs.
-ghost use Rattle.std.specs.Prelude.{◌≡◌, ◌⊎◌, ◌<◌, ◌≤◌, ◌+◌, ◌↔◌, length, IsTrue, IsOk, IsErrOf};
-ghost use Rattle.sector_disk.specs.Disk.{Counts, AllSynced};
-ghost use Rattle.sector_disk.specs.Run.{Run, Each};
+ghost use Rattle.std.specs.Prelude.{◌<◌, ◌≤◌, ◌+◌, length, IsTrue, IsOk};
+ghost use Rattle.sector_disk.specs.Disk.{AllSynced};
+ghost use Rattle.sector_disk.specs.Run.{Each};
 ghost use Rattle.job_model.specs.Table.{durable_of};
 ghost use Rattle.job_journal.specs.Journal.{IsSound};
-ghost use Rattle.node_store.specs.Store.{slots_for, InStore, AllStandFor};
+ghost use Rattle.node_store.specs.Calls.{Makes};
+ghost use Rattle.node_store.specs.Store.{slots_for, AllStandFor};
 ghost use Rattle.node_store.specs.Beginning.{HasNoCounter, NothingOr};
 
 use crate::fault::StoreFault;
@@ -16,13 +17,7 @@ use sector_disk::SectorDisk;
 /// counter. Refused in the order `TooSmall` (fewer than 24 sectors, no device call), `Device`.
 pub fn begin<D: SectorDisk>(disk: &mut D, count: u64, table: &JobTable) -> Result<(), StoreFault>
     requires room { length table.now.pending + 2 ≤ slots_for (D.state disk.old).sectors }
-    ensures too_small { IsErrOf result StoreFault.TooSmall ↔ ((D.state disk.old).sectors < 24) }
-    ensures untouched { IsErrOf result StoreFault.TooSmall → disk.new ≡ disk.old }
-    ensures no_other { IsOk result ⊎ IsErrOf result StoreFault.TooSmall ⊎ IsErrOf result StoreFault.Device }
-    ensures counts { Counts (D.state disk.old) (D.state disk.new)
-        (IsErrOf result StoreFault.Device) (IsErrOf result StoreFault.Device → ⊥) }
-    ensures run { IsTrue (D.state disk.old).honest
-        → Run (InStore (slots_for (D.state disk.old).sectors)) (D.state disk.old) (D.state disk.new) }
+    ensures makes { Makes D.state disk.old disk.new result }
 
     // Each image since the start stands for nothing, or for this counter, this next id and just these jobs.
     // Promise: A store that is begun on a disk without a counter: each image since the start stands for nothing, or for this

@@ -24,7 +24,7 @@ use Rattle.node_threads.specs.Nodes.{NodeEnds, run_at}
 use Rattle.node_threads.specs.Ended.{HasEnded, AreEnded}
 use Rattle.node_threads.specs.Whole.{IsInterleaving}
 use Rattle.node_threads.proofs.Places.{among_at, place_of, at_or_before, get_before, get_last}
-use Rattle.node_threads.specs.declared.size.Size.{Size}
+use Rattle.node_threads.specs.declared.size.RunSize.{RunSize}
 use Rattle.node_threads.specs.Reasons.{planned, FirstFit}
 
 -- ---- plans
@@ -133,7 +133,7 @@ is_more h w k full left = (by_worker w left, omega (arith, left))
     by_worker Operator lt = omega (arith, as_many h.plans h.history h.turns k.turns, full, lt, within.0, within.1)
 
 -- where each node has ended, all plans fit
-pub all_fit : (size : Size) (plans : List Planned) (histories : List Log) (ends : List NodeEnds) → AreEnded size plans histories ends → FirstFit (length plans) plans
+pub all_fit : (size : RunSize) (plans : List Planned) (histories : List Log) (ends : List NodeEnds) → AreEnded size plans histories ends → FirstFit (length plans) plans
 all_fit size plans histories ends e m p below at =
     let h = place_of histories m (omega (arith, below, e.history_count)) in
     let o = place_of ends m (omega (arith, below, e.ends_count)) in
@@ -147,7 +147,7 @@ one_more_fits n plans p at few all m q below at' = elim (at_or_before m n below)
 ]
 
 -- each node below the bound has ended
-pub record AreEndedBelow (bound : ℕ) (size : Size) (plans : List Planned) (histories : List Log) (ends : List NodeEnds) : Type 0 where
+pub record AreEndedBelow (bound : ℕ) (size : RunSize) (plans : List Planned) (histories : List Log) (ends : List NodeEnds) : Type 0 where
   pub history_count : length histories ≡ bound
   pub ends_count : length ends ≡ bound
   pub each : (n : ℕ) (p : Planned) (h : Log) (e : NodeEnds) → slice_get plans n ≡ Some p → slice_get histories n ≡ Some h → slice_get ends n ≡ Some e → HasEnded (run_at size n) p h.turns e
@@ -156,7 +156,7 @@ pub record AreEndedBelow (bound : ℕ) (size : Size) (plans : List Planned) (his
 last_of : {A : Type 0} (xs : List A) (x y : A) (k : ℕ) → k ≡ length xs → slice_get (xs ++ x ∷ []) k ≡ Some y → y ≡ x
 last_of xs x y k here at = same_Some y x (sym at ∙ get_last xs k x here)
 
-pub ended_more : (bound : ℕ) (size : Size) (plans : List Planned) (histories : List Log) (ends : List NodeEnds) (plan : Planned) (log : Log) (mine : NodeEnds) (hs : List Log) (es : List NodeEnds) → hs ≡ histories ++ log ∷ [] → es ≡ ends ++ mine ∷ [] → slice_get plans bound ≡ Some plan → HasEnded (run_at size bound) plan log.turns mine
+pub ended_more : (bound : ℕ) (size : RunSize) (plans : List Planned) (histories : List Log) (ends : List NodeEnds) (plan : Planned) (log : Log) (mine : NodeEnds) (hs : List Log) (es : List NodeEnds) → hs ≡ histories ++ log ∷ [] → es ≡ ends ++ mine ∷ [] → slice_get plans bound ≡ Some plan → HasEnded (run_at size bound) plan log.turns mine
     → AreEndedBelow bound size plans histories ends → AreEndedBelow (bound + 1) size plans hs es
 ended_more bound size plans histories ends plan log mine hs es logs_are ends_are plan_at has all =
     let many = all.history_count in

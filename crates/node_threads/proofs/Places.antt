@@ -5,7 +5,7 @@ use Rattle.histories.specs.Lists.{IsAmong}
 use Rattle.node_lock.specs.declared.run.Run.{Run}
 use Rattle.node_lock.proofs.PublicLaws.{get_same, get_again}
 use Rattle.node_lock.specs.Planned.{Planned}
-use Rattle.node_threads.specs.declared.size.Size.{Size}
+use Rattle.node_threads.specs.declared.size.RunSize.{RunSize}
 use Rattle.node_threads.specs.Nodes.{PollOthers, run_at}
 
 -- the item at a place of the list
@@ -40,7 +40,7 @@ pub get_last : {A : Type 0} (xs : List A) (k : ℕ) (x : A) → k ≡ length xs 
 get_last xs k x is = rw is (get_again xs x)
 
 -- what a node's intake polls, by the plan that stands at its place
-pub polls_of : (size : Size) (plans : List Planned) (run : Run) (at node : ℕ) (own p : Planned) → PollOthers plans → length plans ≡ size.nodes → node < length plans → own ≡ get_or plans node own → p ≡ own → run ≡ run_at size at → at ≡ node
+pub polls_of : (size : RunSize) (plans : List Planned) (run : Run) (at node : ℕ) (own p : Planned) → PollOthers plans → length plans ≡ size.nodes → node < length plans → own ≡ get_or plans node own → p ≡ own → run ≡ run_at size at → at ≡ node
     → (i d : ℕ) → i < length p.intake → (run.node ≢ slice_index_or p.intake i d) × (slice_index_or p.intake i d < run.nodes)
 polls_of size plans run at node own p polls len within is same runs places = λ i d lt.
     let got : slice_get plans node ≡ Some p = slice_get-get_or plans node own within ∙ ap (λ (q : Planned). Some q) (sym is ∙ sym same) in

@@ -9,7 +9,7 @@ use mathlib.Core.List.{IsPrefix}
 use Rattle.wire_msg.specs.Envelope.{Envelope}
 use Rattle.link_ring.specs.declared.gathering.LinkEnd.{LinkEnd}
 use Rattle.histories.specs.Lists.{IsAmong, Each}
-use Rattle.histories.specs.What.{brought, event_of, Entry}
+use Rattle.histories.specs.HistoryEvent.{brought, event_of, Entry}
 use Rattle.histories.specs.NodeState.{opening}
 use Rattle.histories.specs.History.{sent_in, brought_in, Follows, FollowsSlots}
 use Rattle.histories.proofs.PublicLaws.{among_left, among_right, among_either, each_at, each_of, sent_of_one, senders, each_bundle_rises, one_book, one_coordinator, one_task, one_worker, owner_finishes}
@@ -31,7 +31,7 @@ use Rattle.node_threads.specs.Nodes.{NodeEnds, run_at}
 use Rattle.node_threads.specs.Links.{IsLinkOf, AreGathered}
 use Rattle.node_threads.specs.Whole.{IsCarried, sent_by, IsWhole, IsOneBook, histories_in}
 use Rattle.node_threads.proofs.Facts.{Facts, facts}
-use Rattle.node_threads.specs.declared.size.Size.{Size}
+use Rattle.node_threads.specs.declared.size.RunSize.{RunSize}
 use Rattle.node_threads.specs.Ended.{AreEnded}
 use Rattle.node_threads.proofs.Places.{place_of, at_map}
 
@@ -185,21 +185,21 @@ carried a b p q from to link j of =
     record { from = l.sender; to = l.receiver; put = l.put; taken = l.taken; by_polls = l.by_polls; brought = l.by_polls ∙ polled_is_brought q no_turns to whole.turns a.node whole.follows of }
 
 -- a run that has ended, with its links
-record Ended (size : Size) (plans : List Planned) (histories : List Log) (links : List LinkEnd) : Type 0 where
+record Ended (size : RunSize) (plans : List Planned) (histories : List Log) (links : List LinkEnd) : Type 0 where
   nodes : length plans ≡ size.nodes
   ends : List NodeEnds
   ended : AreEnded size plans histories ends
   gathered : AreGathered ends links
 
 -- one node of it
-record NodeOf (size : Size) (plans : List Planned) (ends : List NodeEnds) (n : ℕ) (h : Log) : Type 0 where
+record NodeOf (size : RunSize) (plans : List Planned) (ends : List NodeEnds) (n : ℕ) (h : Log) : Type 0 where
   plan : Planned
   mine : NodeEnds
   plan_at : slice_get plans n ≡ Some plan
   ends_at : slice_get ends n ≡ Some mine
   facts : Facts (run_at size n) plan h.turns mine
 
-node_of : (size : Size) (plans : List Planned) (histories : List Log) (links : List LinkEnd) (r : Ended size plans histories links) (n : ℕ) (h : Log) → slice_get histories n ≡ Some h → NodeOf size plans r.ends n h
+node_of : (size : RunSize) (plans : List Planned) (histories : List Log) (links : List LinkEnd) (r : Ended size plans histories links) (n : ℕ) (h : Log) → slice_get histories n ≡ Some h → NodeOf size plans r.ends n h
 node_of size plans histories links r n h at =
     let within = slice_get_within histories n h at in
     let p = place_of plans n (omega (arith, within, r.ended.history_count)) in
@@ -214,14 +214,14 @@ other_place i j ne = elim (cases_lt i j) [
 ]
 
 -- a link joins two nodes
-joined : (size : Size) (plans : List Planned) (histories : List Log) (links : List LinkEnd) (r : Ended size plans histories links) (i k j : ℕ) (from to : Log) (a : NodeOf size plans r.ends i from) (b : NodeOf size plans r.ends j to) → IsOther i k j
+joined : (size : RunSize) (plans : List Planned) (histories : List Log) (links : List LinkEnd) (r : Ended size plans histories links) (i k j : ℕ) (from to : Log) (a : NodeOf size plans r.ends i from) (b : NodeOf size plans r.ends j to) → IsOther i k j
     → (link : LinkEnd) × (slice_get links (i * (length plans - 1) + k) ≡ Some link) × Joined (run_at size i) (run_at size j) a.plan b.plan from.turns to.turns link
 joined size plans histories links r i k j from to a b other =
     let l = r.gathered.each i k j a.mine b.mine a.ends_at b.ends_at other in
     (l.0, ap (λ (n : ℕ). slice_get links (i * (n - 1) + k)) (sym r.ended.ends_count) ∙ l.1, record { ends_from = a.mine; ends_to = b.mine; facts_from = a.facts; facts_to = b.facts; is_link = l.2 })
 
 -- what a poll of the link from node k took
-polled_from : (size : Size) (plans : List Planned) (histories : List Log) (links : List LinkEnd) (r : Ended size plans histories links) (n : ℕ) (h : Log) (b : NodeOf size plans r.ends n h) (at k : ℕ) (m : Envelope) → slice_get b.plan.intake at ≡ Some k → IsAmong m (polled b.plan.intake k h.turns)
+polled_from : (size : RunSize) (plans : List Planned) (histories : List Log) (links : List LinkEnd) (r : Ended size plans histories links) (n : ℕ) (h : Log) (b : NodeOf size plans r.ends n h) (at k : ℕ) (m : Envelope) → slice_get b.plan.intake at ≡ Some k → IsAmong m (polled b.plan.intake k h.turns)
     → (from : Log) × (slice_get histories k ≡ Some from) × Crossed k n from.turns m
 polled_from size plans histories links r n h b at k m named is =
     let other = b.facts.polls at k named in
@@ -232,7 +232,7 @@ polled_from size plans histories links r n h b at k m named is =
     (from.0, from.1, crosses (run_at size k) (run_at size n) a.plan b.plan from.0.turns h.turns l.0 l.2 m is)
 
 -- what a history was brought
-came_from : (size : Size) (plans : List Planned) (histories : List Log) (links : List LinkEnd) (r : Ended size plans histories links) (n : ℕ) (h : Log) → slice_get histories n ≡ Some h → (m : Envelope) → IsAmong m (brought_in (entries_of h.turns))
+came_from : (size : RunSize) (plans : List Planned) (histories : List Log) (links : List LinkEnd) (r : Ended size plans histories links) (n : ℕ) (h : Log) → slice_get histories n ≡ Some h → (m : Envelope) → IsAmong m (brought_in (entries_of h.turns))
     → IsAmong m (sent_by_all (histories_in histories)) × (m.receiver ≡ n)
 came_from size plans histories links r n h at m is =
     let b = node_of size plans histories links r n h at in
@@ -242,7 +242,7 @@ came_from size plans histories links r n h at m is =
       c.2.to,
     )
 
-is_bundle : (size : Size) (plans : List Planned) (histories : List Log) (links : List LinkEnd) → Ended size plans histories links → Bundle (histories_in histories)
+is_bundle : (size : RunSize) (plans : List Planned) (histories : List Log) (links : List LinkEnd) → Ended size plans histories links → Bundle (histories_in histories)
 is_bundle size plans histories links r = record {
   follows = λ n h at.
       let l = at_map (λ (l : Log). entries_of l.turns) histories n h at in
@@ -265,7 +265,7 @@ in_one_book histories bundle =
     record { bundle = bundle; rises = rises; book = book.0; agrees = book.1; coordinator = one_coordinator histories bundle rises; task = one_task histories bundle rises }
 
 -- the whole run, by what the locks gave back and the links that were gathered
-pub whole_run : (size : Size) (plans : List Planned) (histories : List Log) (ends : List NodeEnds) (links : List LinkEnd) → length plans ≡ size.nodes → AreEnded size plans histories ends → AreGathered ends links → IsWhole size plans histories links
+pub whole_run : (size : RunSize) (plans : List Planned) (histories : List Log) (ends : List NodeEnds) (links : List LinkEnd) → length plans ≡ size.nodes → AreEnded size plans histories ends → AreGathered ends links → IsWhole size plans histories links
 whole_run size plans histories ends links nodes ended gathered =
     let r : Ended size plans histories links = record { nodes = nodes; ends = ends; ended = ended; gathered = gathered } in
     let bundle = is_bundle size plans histories links r in

@@ -6,7 +6,7 @@ use Rattle.node_lock.specs.HeldView.{HeldView, Kept}
 use Rattle.node_lock.specs.History.{Turn}
 use Rattle.node_lock.specs.Kept.{Log}
 use Rattle.node_lock.specs.Planned.{Planned, plan_len, turns_of}
-use Rattle.node_threads.specs.declared.size.Size.{Size}
+use Rattle.node_threads.specs.declared.size.RunSize.{RunSize}
 use Rattle.node_threads.specs.Nodes.{NodeEnds, run_at}
 
 -- all that was true under the lock of this node, and no plan has a turn left
@@ -21,7 +21,7 @@ pub record HasEnded (run : Run) (plan : Planned) (history : List Turn) (ends : N
   pub used_up : (w : Worker) → plan_len view.plans w ≤ turns_of view.turns w
 
 -- each node of the run has ended
-pub record AreEnded (size : Size) (plans : List Planned) (histories : List Log) (ends : List NodeEnds) : Type 0 where
+pub record AreEnded (size : RunSize) (plans : List Planned) (histories : List Log) (ends : List NodeEnds) : Type 0 where
   pub history_count : length histories ≡ length plans
   pub ends_count : length ends ≡ length plans
   pub each : (n : ℕ) (p : Planned) (h : Log) (e : NodeEnds) → slice_get plans n ≡ Some p → slice_get histories n ≡ Some h → slice_get ends n ≡ Some e → HasEnded (run_at size n) p h.turns e

@@ -3,10 +3,10 @@ use Rattle.std.specs.Prelude.{◌≡◌, ◌≢◌, ℕ, ◌<◌, ◌++◌, List
 use Rattle.link_ring.specs.Sides.{Side}
 use Rattle.node_lock.specs.declared.run.Run.{Run}
 use Rattle.node_lock.specs.Planned.{Planned}
-use Rattle.node_threads.specs.declared.size.Size.{Size}
+use Rattle.node_threads.specs.declared.size.RunSize.{RunSize}
 
 -- a node of a run of this size
-abbrev pub run_at : Size → ℕ → Run
+abbrev pub run_at : RunSize → ℕ → Run
 run_at size n = record { node = n; nodes = size.nodes; slots = size.slots; capacity = size.capacity }
 
 -- all of these are other nodes than this one, in a cluster of so many

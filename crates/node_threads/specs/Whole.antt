@@ -7,13 +7,13 @@ use Rattle.wire_msg.specs.Envelope.{Envelope}
 use Rattle.node_core.specs.State.{State}
 use Rattle.node_core.specs.declared.phase.Phase.TheVariants.{Normal}
 use Rattle.link_ring.specs.declared.gathering.LinkEnd.{LinkEnd}
-use Rattle.histories.specs.What.{Entry}
+use Rattle.histories.specs.HistoryEvent.{Entry}
 use Rattle.histories.specs.History.{sent_in, brought_in, FollowsSlots}
 use Rattle.histories.specs.Lists.{IsAmong}
 use Rattle.histories.specs.NodeState.{opening}
 use Rattle.histories.specs.Marks.{commands_of, marks_of}
 use Rattle.histories.specs.Owners.{FinishedBy}
-use Rattle.histories.specs.declared.tried.Tried.{Tried}
+use Rattle.histories.specs.declared.attempt.Attempt.{Attempt}
 use Rattle.job_model.specs.declared.node_command.NodeCommand.TheVariants.{Done}
 use Rattle.node_core.specs.declared.in_hand.InHand.{InHand}
 use Rattle.histories.specs.Bundle.{Bundle}
@@ -27,7 +27,7 @@ use Rattle.node_lock.specs.History.{Turn, FollowsPlans, entries_of, polled}
 use Rattle.node_lock.specs.Kept.{Log}
 use Rattle.node_lock.specs.Planned.{Planned, plan_len, turns_of}
 use Rattle.node_lock.specs.Sending.{PutsSome, addressed_to}
-use Rattle.node_threads.specs.declared.size.Size.{Size}
+use Rattle.node_threads.specs.declared.size.RunSize.{RunSize}
 
 -- each worker's turns are its whole plan, in its order
 pub record IsInterleaving (plan : Planned) (history : List Turn) : Type 0 where
@@ -66,13 +66,13 @@ pub record IsOneBook (histories : List (List Entry)) : Type 0 where
 -- each job that a node takes out of its journal was finished by a node that had it in hand and owned its queue; and those that have jobs of one queue in
 -- hand, in Normal and in one group, are one node
 pub record AreWorked (histories : List (List Entry)) : Type 0 where
-  pub finished : (n : ℕ) (h : List Entry) → slice_get histories n ≡ Some h → (t : Tried) (id : ℕ) → IsAmong t (commands_of (marks_of n (length histories) h)) → t.command ≡ Done id → FinishedBy histories n id
+  pub finished : (n : ℕ) (h : List Entry) → slice_get histories n ≡ Some h → (t : Attempt) (id : ℕ) → IsAmong t (commands_of (marks_of n (length histories) h)) → t.command ≡ Done id → FinishedBy histories n id
   pub worker : (n m : ℕ) (v w : State) → IsMoment histories n v → IsMoment histories m w → v.phase ≡ Normal → w.phase ≡ Normal → v.group ≡ w.group
       → (a b : InHand) → IsAmong a v.hand → IsAmong b w.hand → a.work.queue ≡ b.work.queue → n ≡ m
 
 -- a history for each node, and a link for each ordered pair of different nodes, by sender and then receiver: the k-th link of
 -- node i goes to the k-th other node
-pub record IsWhole (size : Size) (plans : List Planned) (histories : List Log) (links : List LinkEnd) : Type 0 where
+pub record IsWhole (size : RunSize) (plans : List Planned) (histories : List Log) (links : List LinkEnd) : Type 0 where
   pub history_count : length histories ≡ length plans
   pub interleaved : (n : ℕ) (p : Planned) (h : Log) → slice_get plans n ≡ Some p → slice_get histories n ≡ Some h → IsInterleaving p h.turns
   -- no entry is one that a journal of so many slots doesn't allow

@@ -11,7 +11,7 @@ ghost use Rattle.node_threads.specs.Reasons.{planned, FirstFit, IsReason};
 
 use crate::ends::Left;
 use crate::fault::ThreadsFault;
-use crate::size::Size;
+use crate::size::RunSize;
 use crate::workers::Stopped;
 use group_task::NodeId;
 use link_ring::Unpaired;
@@ -22,7 +22,7 @@ use std::vec::IntoIter;
 /// What all locks give back: the history of each node, and the ends of its links.
 pub(crate) fn take_all(
     alloc: Global,
-    size: Size,
+    size: RunSize,
     locks: Vec<NodeLock>,
     plans: &[Plans],
 ) -> Result<(Vec<History>, Vec<Left>), ThreadsFault>
@@ -71,7 +71,7 @@ fn is_ended(held: &Held) -> bool
 /// Why a run wasn't gathered in which this worker was the first that stopped early. What the worker said is compared with what the
 /// locks give back: where these say otherwise the answer is `Unpaired`.
 pub(crate) fn reason_of<G: Gate + Send>(
-    size: Size,
+    size: RunSize,
     locks: Vec<NodeLock>,
     plans: &[Plans],
     stopped: Stopped<G>,
@@ -102,7 +102,7 @@ pub(crate) fn reason_of<G: Gate + Send>(
 }
 
 /// Whether the workers of each of the first nodes have taken all their turns.
-fn have_ended(size: Size, nodes: usize, locks: &mut IntoIter<NodeLock>, plans: &[Plans]) -> bool
+fn have_ended(size: RunSize, nodes: usize, locks: &mut IntoIter<NodeLock>, plans: &[Plans]) -> bool
     requires nodes { (length plans.now ≡ size.nodes) × (size.nodes ≤ NODES) }
     requires within { nodes ≤ length plans.now }
     ensures { IsTrue result → FirstFit nodes plans.now }

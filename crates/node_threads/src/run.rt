@@ -11,7 +11,7 @@ ghost use Rattle.node_threads.specs.Whole.{IsWhole};
 use crate::ended::{reason_of, take_all};
 use crate::fault::ThreadsFault;
 use crate::gathering::gather_links;
-use crate::size::Size;
+use crate::size::RunSize;
 use crate::wiring::{lock_nodes, wire};
 use crate::workers::run_workers;
 use link_ring::LinkEnd;
@@ -36,7 +36,7 @@ pub struct Gathered {
 pub fn run_threads<R: Threads + Wait + Sync, G: Gate + Send>(
     rt: &R,
     alloc: Global,
-    size: Size,
+    size: RunSize,
     plans: &[Plans],
     gate: &G,
 ) -> Result<Gathered, ThreadsFault>

@@ -8,13 +8,13 @@ use node_lock::Run;
 
 /// How many nodes there are, how many slots an area of each disk has, and how many messages find room on each link.
 #[derive(Clone, Copy, PartialEq, Eq, Debug)]
-pub struct Size {
+pub struct RunSize {
     pub nodes: u8,
     pub slots: u64,
     pub capacity: usize,
 }
 
-impl Size {
+impl RunSize {
     /// A node of a run of this size.
     pub(crate) fn run(&self, node: NodeId) -> Run
         ensures { result ≡ run_at self.now node }

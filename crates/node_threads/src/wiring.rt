@@ -6,7 +6,7 @@ ghost use Rattle.node_threads.specs.Nodes.{PollOthers};
 ghost use Rattle.node_threads.specs.Wired.{AddedEnds, AreUnlinked, AreWired, AreWiredBelow};
 
 use crate::ends::Ends;
-use crate::size::Size;
+use crate::size::RunSize;
 use group_task::NodeId;
 use link_ring::{PutEnd, TakeEnd, link};
 use node_lock::{Held, NodeLock, Plans};
@@ -82,7 +82,7 @@ fn add_ends(
 /// A lock round each node, which has just opened, with its ends and its plans.
 pub(crate) fn lock_nodes(
     alloc: Global,
-    size: Size,
+    size: RunSize,
     mut ends: Vec<Ends>,
     plans: &[Plans],
 ) -> Result<Vec<NodeLock>, AllocError>

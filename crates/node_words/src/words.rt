@@ -1,9 +1,9 @@
-ghost use Rattle.std.specs.Prelude.{◌≡◌, ◌++◌, OnOk, decimal};
+ghost use Rattle.std.specs.Prelude.{◌≡◌, ◌++◌, OnOk};
 ghost use Rattle.console_text.specs.Words.{work_text};
 ghost use Rattle.node_core.specs.State.{state_of};
 ghost use Rattle.node_words.specs.Words.{core_name, event_word, group_part, group_text, id_text, ids_text, phase_text, truth_text};
 
-use console_text::{push_number, push_text, push_work};
+use console_text::{push_named_number, push_number, push_text, push_work};
 use group_task::{GroupNo, Members};
 use job_model::Work;
 use node_core::{CoreFault, Event, Phase, Vector};
@@ -57,10 +57,10 @@ pub fn phase_word(phase: Phase) -> &'static str
 pub fn push_group_part(text: &mut Vec<u8>, vector: &Vector) -> Result<(), AllocError>
     ensures { OnOk result (text.new.items ≡ text.old.items ++ group_part (state_of vector.now)) }
 {
-    push_text(text, " coord ")?;
-    push_number(text, u64::from(vector.standing.coordinator.number()))?;
+    let coordinator = vector.group_state.coordinator;
+    push_named_number(text, " coord ", u64::from(coordinator.number()))?;
     push_text(text, " group ")?;
-    push_group(text, vector.standing.group)
+    push_group(text, vector.group_state.group)
 }
 
 /// The word of an event, as requests and traces have it.
@@ -92,23 +92,14 @@ pub fn push_core_fault(text: &mut Vec<u8>, fault: CoreFault) -> Result<(), Alloc
     }
 }
 
-/// Adds a name, and behind it a number.
-pub fn push_named_number(text: &mut Vec<u8>, name: &str, number: u64) -> Result<(), AllocError>
-    ensures { OnOk result (text.new.items ≡ text.old.items ++ (name.now ++ decimal number)) }
-{
-    push_text(text, name)?;
-    push_number(text, number)
-}
-
 /// Adds the id of a submitted job, if there is one.
 pub fn push_id(text: &mut Vec<u8>, id: Option<u64>) -> Result<(), AllocError>
     ensures { OnOk result (text.new.items ≡ text.old.items ++ id_text id) }
 {
-    let Some(id) = id else {
-        return Ok(());
-    };
-    push_text(text, " id ")?;
-    push_number(text, id)
+    match id {
+        Some(id) => push_named_number(text, " id ", id),
+        None => Ok(()),
+    }
 }
 
 /// Adds a job's queue, its payload and its priority.

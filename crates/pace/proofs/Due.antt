@@ -4,7 +4,7 @@ use Rattle.std.specs.Prelude.{if◌then◌else◌, IfSome}
 use Rattle.std.proofs.lemmas.Bool.{cases_lt}
 use Rattle.node_core.specs.declared.phase.Phase.TheVariants.{Normal}
 use Rattle.pace.specs.declared.deadline.Deadline.{Deadline}
-use Rattle.pace.specs.declared.sight.Sight.{Sight}
+use Rattle.pace.specs.declared.snapshot.NodeSnapshot.{NodeSnapshot}
 use Rattle.pace.specs.Timers.{lasts, later}
 use Rattle.pace.specs.Policy.{Policy, IsDue, Runs, later_deadline, may_dispatch, passed, since, work_left}
 
@@ -19,10 +19,10 @@ the_same d e is = cc
 timer_due : (long was more : ℕ) → long ≤ 2 ^ 64 - 1 → long - was ≤ more → long ≤ min (was + more) (2 ^ 64 - 1)
 timer_due long was more fits come = omega (arith, fits, come)
 
-lasts_fits : (p : Policy) (s : Sight) (d : Deadline) → lasts p.setting p.raise s.merge_wait d ≤ 2 ^ 64 - 1
+lasts_fits : (p : Policy) (s : NodeSnapshot) (d : Deadline) → lasts p.setting p.raise s.merge_wait d ≤ 2 ^ 64 - 1
 lasts_fits p s d = omega arith
 
-timer_so : (p : Policy) (s : Sight) (d : Deadline) (next : ℕ) → Runs p s d → lasts p.setting p.raise s.merge_wait d - d.waited ≤ waited p next → IsDue (passed next p) s
+timer_so : (p : Policy) (s : NodeSnapshot) (d : Deadline) (next : ℕ) → Runs p s d → lasts p.setting p.raise s.merge_wait d - d.waited ≤ waited p next → IsDue (passed next p) s
 timer_so p s d next runs come =
     let more = waited p next in
     inl (
@@ -41,12 +41,12 @@ work_by true pause was more long fits most come = by_order (cases_lt more long) 
   by_order (inr over) = inl over
 work_by false pause was more long fits most come = inl (omega (arith, most, come))
 
-by_work : (p : Policy) (s : Sight) (d : Deadline) (next : ℕ) → Runs p s d → s.phase ≡ Normal
+by_work : (p : Policy) (s : NodeSnapshot) (d : Deadline) (next : ℕ) → Runs p s d → s.phase ≡ Normal
     → (lasts p.setting p.raise s.merge_wait d - d.waited ≤ waited p next) ⊎ (work_left (passed next p) s ≡ 0) → IsDue (passed next p) s
 by_work p s d next runs normal (inl come) = timer_so p s d next runs come
 by_work p s d next runs normal (inr none) = inr (normal, none)
 
-work_so : (p : Policy) (s : Sight) (d : Deadline) (next : ℕ) → p.pause < 2 ^ 64 → Runs p s d → s.phase ≡ Normal
+work_so : (p : Policy) (s : NodeSnapshot) (d : Deadline) (next : ℕ) → p.pause < 2 ^ 64 → Runs p s d → s.phase ≡ Normal
     → min (lasts p.setting p.raise s.merge_wait d - d.waited) (work_left p s) ≤ waited p next → IsDue (passed next p) s
 work_so p s d next fits runs normal come =
     by_work p s d next runs normal
@@ -54,14 +54,14 @@ work_so p s d next fits runs normal come =
     (let most = lasts_fits p s d in omega (arith, most)) come)
 
 -- the deadline that runs is the one that is set
-its_own : (p : Policy) (s : Sight) (d e : Deadline) → p.deadline ≡ Some d → Runs p s e → Runs p s d
+its_own : (p : Policy) (s : NodeSnapshot) (d e : Deadline) → p.deadline ≡ Some d → Runs p s e → Runs p s d
 its_own p s d e is runs = subst (λ (x : Deadline). Runs p s x) (the_same e d (sym runs.is_set ∙ is)) runs
 
-pub timer_fires : (p : Policy) (s : Sight) (d e : Deadline) (next timer left : ℕ) → p.deadline ≡ Some d → timer ≡ lasts p.setting p.raise s.merge_wait d - d.waited → left ≡ timer
+pub timer_fires : (p : Policy) (s : NodeSnapshot) (d e : Deadline) (next timer left : ℕ) → p.deadline ≡ Some d → timer ≡ lasts p.setting p.raise s.merge_wait d - d.waited → left ≡ timer
     → left ≤ waited p next → Runs p s e → IsDue (passed next p) s
 timer_fires p s d e next timer left is long same come runs = timer_so p s d next (its_own p s d e is runs) (subst (λ (n : ℕ). n ≤ waited p next) (same ∙ long) come)
 
-pub work_fires : (p : Policy) (s : Sight) (d e : Deadline) (next timer work left : ℕ) → p.pause < 2 ^ 64 → s.phase ≡ Normal → p.deadline ≡ Some d
+pub work_fires : (p : Policy) (s : NodeSnapshot) (d e : Deadline) (next timer work left : ℕ) → p.pause < 2 ^ 64 → s.phase ≡ Normal → p.deadline ≡ Some d
     → timer ≡ lasts p.setting p.raise s.merge_wait d - d.waited → work ≡ work_left p s → left ≡ min timer work → left ≤ waited p next → Runs p s e → IsDue (passed next p) s
 work_fires p s d e next timer work left fits normal is long rests same come runs =
     work_so p s d next fits (its_own p s d e is runs) normal

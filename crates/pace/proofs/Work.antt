@@ -1,16 +1,16 @@
 -- How long work rests, and that what is set now isn't over.
 use Rattle.std.proofs.Common.{◌≡◌, ◌≤◌, ◌+◌, ◌-◌, ◌^◌, ℕ, Bool, true, false, subst, sym, arith, min}
 use Rattle.std.specs.Prelude.{if◌then◌else◌}
-use Rattle.pace.specs.declared.setting.Setting.{Setting}
+use Rattle.pace.specs.declared.timer_settings.TimerSettings.{TimerSettings}
 use Rattle.pace.specs.Timers.{first_pause, longer_pause, times}
 
-first_some : (s : Setting) (pending : ℕ) → 1 ≤ first_pause s pending
+first_some : (s : TimerSettings) (pending : ℕ) → 1 ≤ first_pause s pending
 first_some s pending = omega arith
 
-longer_some : (s : Setting) (pause : ℕ) → 1 ≤ longer_pause s pause
+longer_some : (s : TimerSettings) (pause : ℕ) → 1 ≤ longer_pause s pause
 longer_some s pause = omega arith
 
-pause_by : (b : Bool) (s : Setting) (pending pause : ℕ) → 1 ≤ (if b then first_pause s pending else longer_pause s pause)
+pause_by : (b : Bool) (s : TimerSettings) (pending pause : ℕ) → 1 ≤ (if b then first_pause s pending else longer_pause s pause)
 pause_by true s pending pause = first_some s pending
 pause_by false s pending pause = longer_some s pause
 
@@ -19,7 +19,7 @@ left_by true pause rested none now some = omega (arith, none, now, some)
 left_by false pause rested none now some = absurd cc
 
 -- work that begins to rest isn't due
-pub rests_first : (b c : Bool) (s : Setting) (pending was pause rested : ℕ) → (if b then pause - rested else 2 ^ 64 - 1) ≡ 0 → rested ≡ 0
+pub rests_first : (b c : Bool) (s : TimerSettings) (pending was pause rested : ℕ) → (if b then pause - rested else 2 ^ 64 - 1) ≡ 0 → rested ≡ 0
     → pause ≡ (if c then first_pause s pending else longer_pause s was) → ⊥
 rests_first b c s pending was pause rested none now is = left_by b pause rested none now (subst (λ (n : ℕ). 1 ≤ n) (sym is) (pause_by c s pending was))
 

@@ -5,18 +5,18 @@ use Rattle.node_core.specs.declared.event.Event.TheVariants as on
 use Rattle.node_core.specs.declared.timer.Timer.TheVariants as timer
 use Rattle.pace.specs.declared.wait.Wait.{Wait}
 use Rattle.pace.specs.declared.deadline.Deadline.{Deadline}
-use Rattle.pace.specs.declared.sight.Sight.{Sight}
+use Rattle.pace.specs.declared.snapshot.NodeSnapshot.{NodeSnapshot}
 use Rattle.pace.specs.Timers.{IsSet, first_pause, jitter_of, later, least_of, measured, most_pause, put_off, raise_of}
 use Rattle.pace.specs.Policy.{Policy, HasCome, IsWorkDue, Dispatches, IsWithin, passed}
 
 -- a deadline that is set now has not come, whatever is seen
 abbrev pub TimerFiresOnce : Type 0
-TimerFiresOnce = (p : Policy) (s : Sight) (settled : Bool) (raise : ℕ) (wait : Wait) (group : Group) (d : Deadline) →
+TimerFiresOnce = (p : Policy) (s : NodeSnapshot) (settled : Bool) (raise : ℕ) (wait : Wait) (group : Group) (d : Deadline) →
     IsSet p.setting settled raise wait group d → HasCome p s d → ⊥
 
 -- work that was dispatched now is not due, whatever is seen
 abbrev pub WorkFiresOnce : Type 0
-WorkFiresOnce = (old new : Policy) (s seen : Sight) → Dispatches (Some (on.Timer timer.Dispatch)) s old new → IsWorkDue new seen → ⊥
+WorkFiresOnce = (old new : Policy) (s seen : NodeSnapshot) → Dispatches (Some (on.Timer timer.Dispatch)) s old new → IsWorkDue new seen → ⊥
 
 -- the same time told once more changes nothing
 abbrev pub TimeStands : Type 0

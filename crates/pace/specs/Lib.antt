@@ -1,5 +1,5 @@
 pub mod Timers
-pub mod Sights
+pub mod Snapshots
 pub mod Policy
 pub mod Laws
-pub mod Waiting
+pub mod Retransmission

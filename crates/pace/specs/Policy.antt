@@ -6,11 +6,11 @@ use Rattle.node_core.specs.declared.event.Event.{Event}
 use Rattle.node_core.specs.declared.event.Event.TheVariants as on
 use Rattle.node_core.specs.declared.phase.Phase.TheVariants.{Normal}
 use Rattle.node_core.specs.declared.timer.Timer.TheVariants as timer
-use Rattle.pace.specs.declared.setting.Setting.{Setting}
+use Rattle.pace.specs.declared.timer_settings.TimerSettings.{TimerSettings}
 use Rattle.pace.specs.declared.wait.Wait.{Wait}
 use Rattle.pace.specs.declared.wait.Wait.TheVariants.{Merge}
 use Rattle.pace.specs.declared.deadline.Deadline.{Deadline}
-use Rattle.pace.specs.declared.sight.Sight.{Sight}
+use Rattle.pace.specs.declared.snapshot.NodeSnapshot.{NodeSnapshot}
 use Rattle.pace.specs.Timers.{answered, at_once, wait_of, timer_of, first_pause, is_led_by, lasts, later, longer_pause, put_off}
 
 -- the policy of a node: the time that was told last, how much of what comes isn't waited for, the deadline that is set, whether its group is settled
@@ -18,7 +18,7 @@ use Rattle.pace.specs.Timers.{answered, at_once, wait_of, timer_of, first_pause,
 -- dispatched (at once where that is 0), and how long the node's last raise took
 pub record Policy : Type 0 where
   pub id : ℕ
-  pub setting : Setting
+  pub setting : TimerSettings
   pub told : Option ℕ
   pub skip : ℕ
   pub deadline : Option Deadline
@@ -30,7 +30,7 @@ pub record Policy : Type 0 where
   pub pause : ℕ
   pub raise : ℕ
 
-abbrev pub fresh : Setting → ℕ → Policy
+abbrev pub fresh : TimerSettings → ℕ → Policy
 fresh setting id = record {
   id = id;
   setting = setting;
@@ -111,18 +111,18 @@ abbrev pub has_silent : Policy → List ℕ → Bool
 has_silent p members = list_any (is_silent p) members
 
 -- what is fired when a wait is over: its timer, but a coordinator that found no other gives its group up at the end of a check, where a member is silent
-abbrev pub event_at : Policy → Sight → Wait → Event
+abbrev pub event_at : Policy → NodeSnapshot → Wait → Event
 event_at p s Merge = if not (is_some s.merge_wait) && has_silent p s.members then on.Recover else on.Timer (timer_of Merge)
 event_at p s wait = on.Timer (timer_of wait)
 
 -- this deadline is set, and is the one of what is waited for where this is seen
-pub record Runs (p : Policy) (s : Sight) (d : Deadline) : Type 0 where
+pub record Runs (p : Policy) (s : NodeSnapshot) (d : Deadline) : Type 0 where
   pub is_set : p.deadline ≡ Some d
   pub wait : wait_of s ≡ Some d.wait
   pub group : d.group ≡ s.group
 
 -- the deadline of what is waited for has come
-pub record HasCome (p : Policy) (s : Sight) (d : Deadline) : Type 0 where
+pub record HasCome (p : Policy) (s : NodeSnapshot) (d : Deadline) : Type 0 where
   pub runs : Runs p s d
   pub come : lasts p.setting p.raise s.merge_wait d ≤ d.waited
 
@@ -134,27 +134,27 @@ rests (Some oldest) (Some seen) = oldest == seen
 
 -- what a look at the work of a Normal node leaves where none of it is dispatched: where it doesn't rest, it has to from now on; a node that keeps no job
 -- has none to dispatch in a new group
-abbrev pub looked_at : Sight → Policy → Policy
+abbrev pub looked_at : NodeSnapshot → Policy → Policy
 looked_at s p = if rests s.oldest p.oldest then p else record p { oldest = s.oldest; rested = 0; pause = first_pause p.setting s.pending }
 
 -- the node keeps jobs that rest, or it is in a new group
-abbrev pub may_dispatch : Policy → Sight → Bool
+abbrev pub may_dispatch : Policy → NodeSnapshot → Bool
 may_dispatch p s = is_some s.oldest && (p.pause == 0 || rests s.oldest p.oldest)
 
 -- how long it is until they rested for long enough
-abbrev pub work_left : Policy → Sight → ℕ
+abbrev pub work_left : Policy → NodeSnapshot → ℕ
 work_left p s = if may_dispatch p s then p.pause - p.rested else 2 ^ 64 - 1
 
 -- the node is Normal, and its jobs rested for long enough
-abbrev pub IsWorkDue : Policy → Sight → Type 0
+abbrev pub IsWorkDue : Policy → NodeSnapshot → Type 0
 IsWorkDue p s = (s.phase ≡ Normal) × (work_left p s ≡ 0)
 
 -- what may be fired: what a wait that is over asks for, or the dispatch of work that is due
-abbrev pub MayFire : Policy → Sight → Event → Type 0
+abbrev pub MayFire : Policy → NodeSnapshot → Event → Type 0
 MayFire p s event = ((d : Deadline) × HasCome p s d × (event ≡ event_at p s d.wait)) ⊎ ((event ≡ on.Timer timer.Dispatch) × IsWorkDue p s)
 
 -- something is fired, if it is asked for now
-abbrev pub IsDue : Policy → Sight → Type 0
+abbrev pub IsDue : Policy → NodeSnapshot → Type 0
 IsDue p s = ((d : Deadline) × HasCome p s d) ⊎ IsWorkDue p s
 
 -- each check is counted, and settles the group; nothing else does
@@ -171,11 +171,11 @@ pub record SameWork (p q : Policy) : Type 0 where
   pub pause : p.pause ≡ q.pause
 
 -- behind a dispatch work rests anew, longer than before
-abbrev pub dispatched : Sight → Policy → Policy
+abbrev pub dispatched : NodeSnapshot → Policy → Policy
 dispatched s p = record p { oldest = s.oldest; rested = 0; pause = if p.pause == 0 then first_pause p.setting s.pending else longer_pause p.setting p.pause }
 
 -- what a dispatch does to work, and a look of a Normal node at which nothing is due; nothing else changes it
-pub record Dispatches (fired : Option Event) (s : Sight) (old new : Policy) : Type 0 where
+pub record Dispatches (fired : Option Event) (s : NodeSnapshot) (old new : Policy) : Type 0 where
   pub dispatch : fired ≡ Some (on.Timer timer.Dispatch) → SameWork new (dispatched s old)
   pub look : fired ≡ None → s.phase ≡ Normal → SameWork new (looked_at s old)
   pub away : fired ≡ None → s.phase ≢ Normal → SameWork new old

@@ -5,11 +5,11 @@ use Rattle.node_core.specs.declared.phase.Phase.{Phase}
 use Rattle.node_core.specs.declared.phase.Phase.TheVariants.{Down, Election, Reorganization, Normal}
 use Rattle.node_core.specs.declared.timer.Timer.{Timer}
 use Rattle.node_core.specs.declared.timer.Timer.TheVariants as timer
-use Rattle.pace.specs.declared.setting.Setting.{Setting}
+use Rattle.pace.specs.declared.timer_settings.TimerSettings.{TimerSettings}
 use Rattle.pace.specs.declared.wait.Wait.{Wait}
 use Rattle.pace.specs.declared.wait.Wait.TheVariants.{Check, Merge, Accept, Ready, Task, Coordinator, Answer}
 use Rattle.pace.specs.declared.deadline.Deadline.{Deadline}
-use Rattle.pace.specs.declared.sight.Sight.{Sight}
+use Rattle.pace.specs.declared.snapshot.NodeSnapshot.{NodeSnapshot}
 
 -- what is waited for in a phase, at a coordinator or not, that checks or not, that probes or not
 abbrev pub wait_in : Phase → Bool → Bool → Bool → Option Wait
@@ -18,7 +18,7 @@ wait_in Election coordinator checking probing = Some Accept
 wait_in Reorganization coordinator checking probing = Some (if coordinator then Ready else (if probing then Answer else Task))
 wait_in Normal coordinator checking probing = Some (if coordinator then (if checking then Merge else Check) else (if probing then Answer else Coordinator))
 
-abbrev pub wait_of : Sight → Option Wait
+abbrev pub wait_of : NodeSnapshot → Option Wait
 wait_of s = wait_in s.phase s.is_coordinator s.checking s.probing
 
 -- the timer that fires when a wait is over
@@ -30,7 +30,7 @@ timer_of Ready = timer.Ready
 timer_of wait = timer.Coord
 
 -- in a settled group, in which a check was made or heard of, or before
-abbrev pub units_of : Setting → Bool → Wait → ℕ
+abbrev pub units_of : TimerSettings → Bool → Wait → ℕ
 units_of s settled Check = if settled then s.check else s.first_check
 units_of s settled Merge = s.merge
 units_of s settled Accept = s.accept
@@ -39,17 +39,17 @@ units_of s settled Task = s.task
 units_of s settled Coordinator = if settled then s.coordinator else s.first_coordinator
 units_of s settled Answer = s.answer
 
-abbrev pub jitter_units : Setting → Bool → Wait → ℕ
+abbrev pub jitter_units : TimerSettings → Bool → Wait → ℕ
 jitter_units s settled Check = if settled then s.check_jitter else s.first_check_jitter
 jitter_units s settled Merge = s.merge_jitter
 jitter_units s settled Coordinator = if settled then s.coordinator_jitter else s.first_coordinator_jitter
 jitter_units s settled wait = 0
 
 -- a node waits for a millisecond at least
-abbrev pub least_of : Setting → Bool → Wait → ℕ
+abbrev pub least_of : TimerSettings → Bool → Wait → ℕ
 least_of s settled wait = max (units_of s settled wait * s.unit) 1
 
-abbrev pub jitter_of : Setting → Bool → Wait → ℕ
+abbrev pub jitter_of : TimerSettings → Bool → Wait → ℕ
 jitter_of s settled wait = jitter_units s settled wait * s.unit
 
 -- the steps that a merge is put off by
@@ -61,7 +61,7 @@ abbrev pub times : Bool → ℕ → ℕ
 times twice n = if twice then 2 * n else n
 
 -- how long a wait lasts, where the node's last raise took so long: a turn has room for the raise of who merges first
-abbrev pub lasts : Setting → ℕ → Option ℕ → Deadline → ℕ
+abbrev pub lasts : TimerSettings → ℕ → Option ℕ → Deadline → ℕ
 lasts s raise merge_wait d = min (times d.put_off (d.length + steps d.wait merge_wait * (s.turn * s.unit + raise))) (2 ^ 64 - 1)
 
 -- so many milliseconds later
@@ -100,7 +100,7 @@ patience Answer raise = raise
 patience wait raise = 0
 
 -- the deadline of this wait in a group, none of which is over
-pub record IsSet (s : Setting) (settled : Bool) (raise : ℕ) (wait : Wait) (group : Group) (d : Deadline) : Type 0 where
+pub record IsSet (s : TimerSettings) (settled : Bool) (raise : ℕ) (wait : Wait) (group : Group) (d : Deadline) : Type 0 where
   pub its_wait : d.wait ≡ wait
   pub its_group : d.group ≡ group
   pub from_now : d.waited ≡ 0
@@ -109,23 +109,23 @@ pub record IsSet (s : Setting) (settled : Bool) (raise : ℕ) (wait : Wait) (gro
   pub most : d.length ≤ least_of s settled wait + jitter_of s settled wait + patience wait raise
 
 -- a raise is reckoned with up to so many round trips
-abbrev pub raise_of : Setting → ℕ → ℕ
+abbrev pub raise_of : TimerSettings → ℕ → ℕ
 raise_of s ms = min ms (s.raise_most * s.unit)
 
 -- how long work rests at most before it is dispatched
-abbrev pub most_pause : Setting → ℕ
+abbrev pub most_pause : TimerSettings → ℕ
 most_pause s = max (s.dispatch_most * s.unit) 1
 
 -- at first so long: a twentieth of a round trip longer for each job
-abbrev pub first_pause : Setting → ℕ → ℕ
+abbrev pub first_pause : TimerSettings → ℕ → ℕ
 first_pause s pending = min (max (s.dispatch * s.unit + pending * s.unit / 20) 1) (most_pause s)
 
 -- and after each dispatch a quarter longer than before it
-abbrev pub longer_pause : Setting → ℕ → ℕ
+abbrev pub longer_pause : TimerSettings → ℕ → ℕ
 longer_pause s pause = min (max (pause + pause / 4) 1) (most_pause s)
 
 -- what was measured, for a round trip of so many milliseconds
-abbrev pub measured : ℕ → Setting
+abbrev pub measured : ℕ → TimerSettings
 measured unit = record {
   unit = unit;
   first_check = 10;

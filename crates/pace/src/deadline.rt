@@ -1,7 +1,7 @@
 ghost use Rattle.std.specs.Prelude.{◌≡◌, ◌↔◌, ◌≤◌, ◌<◌, ◌-◌, ◌+◌, ◌*◌, ◌^◌, min, IsTrue};
 ghost use Rattle.pace.specs.Timers.{answered, at_once, is_led_by, lasts, later, put_off, times};
 
-use crate::setting::Setting;
+use crate::timer_settings::TimerSettings;
 use crate::wait::Wait;
 use group_task::{GroupNo, NodeId};
 
@@ -74,14 +74,14 @@ impl Deadline {
     }
 
     /// Whether it has come.
-    pub fn has_come(&self, setting: &Setting, raise: u32, merge_wait: Option<u64>) -> bool
+    pub fn has_come(&self, setting: &TimerSettings, raise: u32, merge_wait: Option<u64>) -> bool
         ensures { IsTrue result ↔ (lasts setting.now raise merge_wait self.now ≤ self.now.waited) }
     {
         self.left(setting, raise, merge_wait) == 0
     }
 
     /// How much of it is left, in milliseconds.
-    pub fn left(&self, setting: &Setting, raise: u32, merge_wait: Option<u64>) -> u64
+    pub fn left(&self, setting: &TimerSettings, raise: u32, merge_wait: Option<u64>) -> u64
         ensures { result ≡ lasts setting.now raise merge_wait self.now - self.now.waited }
     {
         let lasts = self.lasts(setting, raise, merge_wait);
@@ -91,7 +91,7 @@ impl Deadline {
 
     /// How long it lasts, in milliseconds. A merge waits longer by a turn for each step of the node's wait, and a turn has room for the
     /// raise of who merges first: `raise` milliseconds.
-    pub fn lasts(&self, setting: &Setting, raise: u32, merge_wait: Option<u64>) -> u64
+    pub fn lasts(&self, setting: &TimerSettings, raise: u32, merge_wait: Option<u64>) -> u64
         ensures { result ≡ lasts setting.now raise merge_wait self.now }
     {
         let turns = match self.wait {

@@ -2,20 +2,28 @@
 //!
 //! The protocol bears any firing, so nothing that is promised of nodes rests on a policy. How soon nodes become one group
 //! does, and how seldom they give one up without need. Nothing here reads a clock: the caller does, and makes the events.
+//!
+//! ```
+//! let mut policy = TimerPolicy::new(TimerSettings::measured(50), id, seed);
+//! policy.pass(now);                                                // milliseconds of any clock that doesn't fall back
+//! if let Some(event) = policy.tick(&NodeSnapshot::of(id, &vector, merge_wait, pending)) {
+//!     node.step(&event)?;
+//! }
+//! ```
 #![tactic(auto)]
 
 mod deadline;
 mod laws;
-mod pace;
-mod setting;
-mod sight;
+mod retransmission;
+mod snapshot;
+mod timer_policy;
+mod timer_settings;
 mod wait;
-mod waiting;
 
 pub use deadline::Deadline;
 pub use laws::{falls_back, fires_once, put_off_once, scales};
-pub use pace::Pace;
-pub use setting::Setting;
-pub use sight::Sight;
+pub use retransmission::Retransmission;
+pub use snapshot::NodeSnapshot;
+pub use timer_policy::TimerPolicy;
+pub use timer_settings::TimerSettings;
 pub use wait::Wait;
-pub use waiting::Waiting;

@@ -1,8 +1,8 @@
 ghost use Rattle.std.specs.Prelude.{◌≡◌};
 ghost use Rattle.pace.specs.Timers.{wait_of, timer_of, units_of, jitter_of, least_of, patience};
 
-use crate::setting::Setting;
-use crate::sight::Sight;
+use crate::snapshot::NodeSnapshot;
+use crate::timer_settings::TimerSettings;
 use node_core::{Phase, Timer};
 
 /// What a node waits for, one thing at a time. A timer fires when it has waited long enough.
@@ -26,18 +26,18 @@ pub enum Wait {
 
 impl Wait {
     /// What a node waits for where this is seen of it. Nothing where it is Down: who restarts a node recovers it.
-    pub fn of(sight: &Sight) -> Option<Wait>
+    pub fn of(snapshot: &NodeSnapshot) -> Option<Wait>
         // Promise: What a node waits for is a function of what is seen of it: its phase, whether it is the coordinator, checks,
         // waits for an answer.
-        ensures { result ≡ wait_of sight.now }
+        ensures { result ≡ wait_of snapshot.now }
     {
-        match sight.phase {
+        match snapshot.phase {
             Phase::Down => None,
             Phase::Election => Some(Wait::Accept),
-            Phase::Reorganization if sight.is_coordinator => Some(Wait::Ready),
-            Phase::Normal if sight.is_coordinator && sight.checking => Some(Wait::Merge),
-            Phase::Normal if sight.is_coordinator => Some(Wait::Check),
-            Phase::Reorganization | Phase::Normal if sight.probing => Some(Wait::Answer),
+            Phase::Reorganization if snapshot.is_coordinator => Some(Wait::Ready),
+            Phase::Normal if snapshot.is_coordinator && snapshot.checking => Some(Wait::Merge),
+            Phase::Normal if snapshot.is_coordinator => Some(Wait::Check),
+            Phase::Reorganization | Phase::Normal if snapshot.probing => Some(Wait::Answer),
             Phase::Reorganization => Some(Wait::Task),
             Phase::Normal => Some(Wait::Coordinator),
         }
@@ -57,7 +57,7 @@ impl Wait {
     }
 
     /// How long it lasts at least, in milliseconds: in a settled group, where a check was made or heard of, or before.
-    pub fn least(self, setting: &Setting, settled: bool) -> u32
+    pub fn least(self, setting: &TimerSettings, settled: bool) -> u32
         ensures { result ≡ least_of setting.now settled self }
     {
         let units = self.units(setting, settled);
@@ -65,7 +65,7 @@ impl Wait {
     }
 
     /// How much longer it may last, in milliseconds.
-    pub fn jitter(self, setting: &Setting, settled: bool) -> u32
+    pub fn jitter(self, setting: &TimerSettings, settled: bool) -> u32
         ensures { result ≡ jitter_of setting.now settled self }
     {
         let units = match self {
@@ -89,7 +89,7 @@ impl Wait {
         }
     }
 
-    fn units(self, setting: &Setting, settled: bool) -> u16
+    fn units(self, setting: &TimerSettings, settled: bool) -> u16
         ensures { result ≡ units_of setting.now settled self }
     {
         match self {

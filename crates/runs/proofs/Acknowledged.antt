@@ -1,45 +1,51 @@
 -- What was acknowledged is in what every later mounting gives.
 use Rattle.job_model.specs.declared.work.Work.{Work}
-use Rattle.std.proofs.Common.{◌≡◌, ◌≢◌, ℕ, zero, suc, ◌+◌, ◌<◌, ◌≤◌, Bool, true, false, List, [], ◌∷◌, take, slice_get, refl, sym, ◌∙◌, ap, inl, inr, arith, Option, Some, None}
+use Rattle.std.proofs.Common.{◌≡◌, ◌≢◌, ℕ, zero, suc, ◌+◌, ◌<◌, ◌≤◌, Bool, true, false, List, [], ◌∷◌, take, slice_get, refl, sym, ◌∙◌, ap, subst, inl, inr, arith, Option, Some, None}
 use Rattle.std.specs.Prelude.{if◌then◌else◌, ◌==◌, not}
 use Rattle.std.proofs.lemmas.Bool.Decides.{nat_tests}
 use Rattle.std.proofs.lemmas.Option.{slice_get_within}
 use Rattle.job_model.specs.declared.job.Job.{Job}
+use Rattle.std.specs.Prelude.{map, fold}
+use Rattle.std.specs.List.{items_where_true}
 use Rattle.job_model.specs.declared.node_command.NodeCommand.{NodeCommand as Command}
 use Rattle.job_model.specs.declared.node_command.NodeCommand.TheVariants.{Raise, Put, Done}
 use Rattle.job_model.specs.Durable.{Durable, formatted}
-use Rattle.job_model.specs.Fold.{after_command, after_commands, without_job}
+use Rattle.job_model.specs.Fold.{after_command, without_job}
 use Rattle.histories.specs.Lists.{IsAmong}
-use Rattle.histories.specs.Kept.{Mounting, Kept, counted, stands_after}
-use Rattle.histories.specs.declared.tried.Tried.{Tried}
+use Rattle.histories.specs.Kept.{Mounting, Kept, stands_after}
+use Rattle.histories.specs.declared.attempt.Attempt.{Attempt}
 use Rattle.histories.proofs.PublicLaws.{among_left, among_right}
-use Rattle.runs.specs.Reporting.{MountedAt, own_mountings}
+use Rattle.runs.specs.Reporting.{own_mountings}
 use Rattle.runs.proofs.Own.{among_mine, of_mine}
 use Rattle.runs.proofs.Runs.{at_place}
 use Rattle.runs.specs.Uses.{RaisesAreKept, JobsAreKept, DoubtsApart}
 
+-- the commands that count, by a flag for each
+abbrev pub counted : List Bool → List Attempt → List Command
+counted counts ts = map (λ (t : Attempt). t.command) (items_where_true counts ts)
+
 -- what stands after the first n commands, where d stood before them
-abbrev fold : Durable → List Bool → List Tried → ℕ → Durable
-fold d cs ts n = after_commands d (counted cs (take n ts))
+abbrev pub left : Durable → List Bool → List Attempt → ℕ → Durable
+left d cs ts n = fold after_command d (counted cs (take n ts))
 
 counted_none : (cs : List Bool) → counted cs [] ≡ []
 counted_none [] = refl
 counted_none (true ∷ cs) = refl
 counted_none (false ∷ cs) = refl
 
-counter_grows : (d : Durable) (cs : List Command) → d.counter ≤ (after_commands d cs).counter
+counter_grows : (d : Durable) (cs : List Command) → d.counter ≤ (fold after_command d cs).counter
 counter_grows d [] = omega arith
 counter_grows d (Raise ∷ cs) = omega (arith, counter_grows (after_command d Raise) cs)
 counter_grows d (Put work ∷ cs) = counter_grows (after_command d (Put work)) cs
 counter_grows d (Done id ∷ cs) = counter_grows (after_command d (Done id)) cs
 
-raise_kept : (d : Durable) (cs : List Bool) (ts : List Tried) (k n count : ℕ) (a : Option ℕ) → slice_get cs k ≡ Some true → slice_get ts k ≡ Some (record { command = Raise; acked = a })
-    → k < n → count ≡ (fold d cs ts k).counter + 1 → count ≤ (fold d cs ts n).counter
+raise_kept : (d : Durable) (cs : List Bool) (ts : List Attempt) (k n count : ℕ) (a : Option ℕ) → slice_get cs k ≡ Some true → slice_get ts k ≡ Some (record { command = Raise; acked = a })
+    → k < n → count ≡ (left d cs ts k).counter + 1 → count ≤ (left d cs ts n).counter
 raise_kept d [] ts k n count a counts at lt is = absurd cc
 raise_kept d (c ∷ cs) [] k n count a counts at lt is = absurd cc
 raise_kept d (c ∷ cs) (t ∷ ts) k zero count a counts at lt is = absurd (let bad : k < 0 = lt in omega (arith, bad))
 raise_kept d (true ∷ cs) (t ∷ ts) zero (suc n) count a counts at lt is =
-    let it : t.command ≡ Raise = ap (λ (x : Tried). x.command) (let e : t ≡ record { command = Raise; acked = a } = cc at in e) in
+    let it : t.command ≡ Raise = ap (λ (x : Attempt). x.command) (let e : t ≡ record { command = Raise; acked = a } = cc at in e) in
     rw it (omega (arith, is, counter_grows (after_command d Raise) (counted cs (take n ts))))
 raise_kept d (false ∷ cs) (t ∷ ts) zero (suc n) count a counts at lt is = absurd cc
 raise_kept d (true ∷ cs) (t ∷ ts) (suc k) (suc n) count a counts at lt is = raise_kept (after_command d t.command) cs ts k n count a counts at (omega (arith, lt)) is
@@ -63,10 +69,10 @@ stays_after job d (Put work) free i = among_left job d.pending _ i
 stays_after job d (Done id) free i = stays_left job d.pending id (λ e. free (ap Done (sym e))) i
 
 -- none of these commands takes the job out
-abbrev NoDone : ℕ → List Tried → ℕ → Type 0
-NoDone id ts n = (j : ℕ) (t : Tried) → j < n → slice_get ts j ≡ Some t → t.command ≡ Done id → ⊥
+abbrev NoDone : ℕ → List Attempt → ℕ → Type 0
+NoDone id ts n = (j : ℕ) (t : Attempt) → j < n → slice_get ts j ≡ Some t → t.command ≡ Done id → ⊥
 
-job_stays : (job : Job) (d : Durable) (cs : List Bool) (ts : List Tried) (n : ℕ) → NoDone job.id ts n → IsAmong job d.pending → IsAmong job (fold d cs ts n).pending
+job_stays : (job : Job) (d : Durable) (cs : List Bool) (ts : List Attempt) (n : ℕ) → NoDone job.id ts n → IsAmong job d.pending → IsAmong job (left d cs ts n).pending
 job_stays job d cs ts zero free i = rw (counted_none cs) i
 job_stays job d cs [] (suc n) free i = rw (counted_none cs) i
 job_stays job d [] (t ∷ ts) (suc n) free i = i
@@ -74,15 +80,15 @@ job_stays job d (true ∷ cs) (t ∷ ts) (suc n) free i =
     job_stays job (after_command d t.command) cs ts n (λ j u lt at. free (suc j) u (omega (arith, lt)) at) (stays_after job d t.command (free 0 t (omega arith) refl) i)
 job_stays job d (false ∷ cs) (t ∷ ts) (suc n) free i = job_stays job d cs ts n (λ j u lt at. free (suc j) u (omega (arith, lt)) at) i
 
-job_kept : (id : ℕ) (work : Work) (d : Durable) (cs : List Bool) (ts : List Tried) (k n : ℕ) (a : Option ℕ) → slice_get cs k ≡ Some true
-    → slice_get ts k ≡ Some (record { command = Put work; acked = a }) → k < n → id ≡ (fold d cs ts k).next
-    → ((j : ℕ) (t : Tried) → k < j → j < n → slice_get ts j ≡ Some t → t.command ≡ Done id → ⊥)
-    → IsAmong (record { id = id; work = work }) (fold d cs ts n).pending
+job_kept : (id : ℕ) (work : Work) (d : Durable) (cs : List Bool) (ts : List Attempt) (k n : ℕ) (a : Option ℕ) → slice_get cs k ≡ Some true
+    → slice_get ts k ≡ Some (record { command = Put work; acked = a }) → k < n → id ≡ (left d cs ts k).next
+    → ((j : ℕ) (t : Attempt) → k < j → j < n → slice_get ts j ≡ Some t → t.command ≡ Done id → ⊥)
+    → IsAmong (record { id = id; work = work }) (left d cs ts n).pending
 job_kept id work d [] ts k n a counts at lt is free = absurd cc
 job_kept id work d (c ∷ cs) [] k n a counts at lt is free = absurd cc
 job_kept id work d (c ∷ cs) (t ∷ ts) k zero a counts at lt is free = absurd (let bad : k < 0 = lt in omega (arith, bad))
 job_kept id work d (true ∷ cs) (t ∷ ts) zero (suc n) a counts at lt is free =
-    let it : t.command ≡ Put work = ap (λ (x : Tried). x.command) (let e : t ≡ record { command = Put work; acked = a } = cc at in e) in
+    let it : t.command ≡ Put work = ap (λ (x : Attempt). x.command) (let e : t ≡ record { command = Put work; acked = a } = cc at in e) in
     let job : Job = record { id = id; work = work } in
     let here : IsAmong job (after_command d (Put work)).pending = rw is (among_right _ d.pending _ (inl refl)) in
     rw it (job_stays job (after_command d (Put work)) cs ts n (λ j u lt' at'. free (suc j) u (omega arith) (omega (arith, lt')) at') here)
@@ -93,7 +99,7 @@ job_kept id work d (false ∷ cs) (t ∷ ts) (suc k) (suc n) a counts at lt is f
     job_kept id work d cs ts k n a counts at (omega (arith, lt)) is (λ j u more less at'. free (suc j) u (omega (arith, more)) (omega (arith, less)) at')
 
 -- a command that was acknowledged counts
-pub acknowledged_counts : (commands : List Tried) (mountings : List Mounting) (kept : Kept commands mountings) (k a : ℕ) (t : Tried) → slice_get commands k ≡ Some t → t.acked ≡ Some a
+pub acknowledged_counts : (commands : List Attempt) (mountings : List Mounting) (kept : Kept commands mountings) (k a : ℕ) (t : Attempt) → slice_get commands k ≡ Some t → t.acked ≡ Some a
     → slice_get kept.counts k ≡ Some true
 acknowledged_counts commands mountings kept k a t at acked =
     let flag : (b : Bool) × (slice_get kept.counts k ≡ Some b) = at_place kept.counts k (rw kept.as_many (slice_get_within commands k t at)) in
@@ -112,30 +118,31 @@ among_of [] k x h = absurd cc
 among_of (y ∷ xs) zero x h = inl (let e : y ≡ x = cc h in sym e)
 among_of (y ∷ xs) (suc k) x h = inr (among_of xs k x h)
 
-mounted_state : (commands : List Tried) (mountings : List Mounting) (kept : Kept commands mountings) (w : Mounting) → IsAmong w mountings → w.state ≡ stands_after kept.counts commands w.before
+mounted_state : (commands : List Attempt) (mountings : List Mounting) (kept : Kept commands mountings) (w : Mounting) → IsAmong w mountings → w.state ≡ stands_after kept.counts commands w.before
 mounted_state commands mountings kept w i = (let it = among_at w mountings i in (kept.mounted it.0 w it.1).1)
 
 -- the mountings of a node
-mine : (w : MountedAt) (ws : List MountedAt) → IsAmong w ws → IsAmong w.mounting (own_mountings w.node ws)
-mine w ws i = among_mine (λ (x : MountedAt). x.node) (λ (x : MountedAt). x.mounting) w.node w ws refl i
+pub mine : (n : ℕ) (w : Mounting) (ws : List (ℕ × Mounting)) → IsAmong (n, w) ws → IsAmong w (own_mountings n ws)
+mine n w ws i = among_mine (λ (x : ℕ × Mounting). x.0) (λ (x : ℕ × Mounting). x.1) n (n, w) ws refl i
 
 pub raises_are_kept : RaisesAreKept
-raises_are_kept nodes slots acts r h w i lt k count at later =
-    let kept = h.kept w.node lt in
-    rw (mounted_state _ _ kept w.mounting (mine w r.mounted i))
-    (raise_kept formatted kept.counts _ k w.mounting.before count (Some count) (acknowledged_counts _ _ kept k count _ at refl) at later (kept.answered k _ count at refl))
+raises_are_kept nodes slots acts r h n w i lt k count at later =
+    let kept = h.kept n lt in
+    rw (mounted_state _ _ kept w (mine n w r.mounted i))
+    (raise_kept formatted kept.counts _ k w.before count (Some count) (acknowledged_counts _ _ kept k count _ at refl) at later (kept.answered k _ count at refl))
 
 pub jobs_are_kept : JobsAreKept
-jobs_are_kept nodes slots acts r h w i lt k id work at later free =
-    let kept = h.kept w.node lt in
-    rw (mounted_state _ _ kept w.mounting (mine w r.mounted i))
-    (job_kept id work formatted kept.counts _ k w.mounting.before (Some id) (acknowledged_counts _ _ kept k id _ at refl) at later (kept.answered k _ id at refl) free)
+jobs_are_kept nodes slots acts r h n w i lt k id work at later free =
+    let kept = h.kept n lt in
+    rw (mounted_state _ _ kept w (mine n w r.mounted i))
+    (job_kept id work formatted kept.counts _ k w.before (Some id) (acknowledged_counts _ _ kept k id _ at refl) at later (kept.answered k _ id at refl) free)
 
 pub doubts_apart : DoubtsApart
 doubts_apart nodes slots acts r h n lt j k t u before at none later =
     elim ((h.kept n lt).last_of_life j t at none) [
       | inl end ↦ absurd (omega (arith, end, before, slice_get_within _ k u later))
-      | inr it ↦ (let w = of_mine (λ (x : MountedAt). x.node) (λ (x : MountedAt). x.mounting) n it.1 r.mounted (among_of _ it.0 it.1 it.2) in
-          let place : w.0.mounting.before ≡ j + 1 = ap (λ (x : Mounting). x.before) w.3 ∙ it.3 in
-          (w.0, w.1, w.2, omega (arith, place), omega (arith, place, before)))
+      | inr it ↦ (let w = of_mine (λ (x : ℕ × Mounting). x.0) (λ (x : ℕ × Mounting). x.1) n it.1 r.mounted (among_of _ it.0 it.1 it.2) in
+          let place : w.0.1.before ≡ j + 1 = ap (λ (x : Mounting). x.before) w.3 ∙ it.3 in
+          let there : IsAmong (n, w.0.1) r.mounted = subst (λ (k : ℕ). IsAmong (k, w.0.1) r.mounted) w.2 w.1 in
+          (w.0.1, there, omega (arith, place), omega (arith, place, before)))
     ]

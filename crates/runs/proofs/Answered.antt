@@ -10,15 +10,15 @@ use Rattle.node_core.specs.declared.event.Event.TheVariants as on
 use Rattle.node_core.specs.State.{State}
 use Rattle.node_core.specs.Wants.{wants_of}
 use Rattle.histories.specs.NodeState.{NodeState, wants_at, settled}
-use Rattle.histories.specs.declared.tried.Tried.{Tried}
-use Rattle.histories.specs.declared.what.What.{What}
-use Rattle.histories.specs.declared.what.What.TheVariants.{Did, Refused, Faulted, Rests, Crashed, Recovered, MountFailed, RaiseFailed, RaiseRefused}
-use Rattle.histories.specs.declared.what.Rest.TheVariants.{Nothing, Compacted, CompactDown, CompactWorn}
-use Rattle.histories.specs.What.{IsOf}
+use Rattle.histories.specs.declared.attempt.Attempt.{Attempt}
+use Rattle.histories.specs.declared.history_event.HistoryEvent.{HistoryEvent}
+use Rattle.histories.specs.declared.history_event.HistoryEvent.TheVariants.{Did, Refused, Faulted, NoOp, Crashed, Recovered, MountFailed, RaiseFailed, RaiseRefused}
+use Rattle.histories.specs.declared.history_event.NoOpKind.TheVariants.{Nothing, Compacted, CompactDown, CompactAreaExhausted}
+use Rattle.histories.specs.HistoryEvent.{IsOf}
 use Rattle.schedule.specs.declared.act.Act.{Act}
 use Rattle.schedule.specs.declared.act.Act.TheVariants as act
 use Rattle.runs.specs.declared.outcome.Outcome.TheVariants as outcome
-use Rattle.runs.specs.declared.tried.TriedAt.{TriedAt}
+use Rattle.runs.specs.declared.attempt_at.AttemptAt.{AttemptAt}
 use Rattle.runs.specs.World.{World, node_in}
 use Rattle.runs.specs.Step.{Step, Takes, Changes, Denies}
 use Rattle.runs.specs.Acts.{IsStepOf, act_outcome, what_outcome}
@@ -28,12 +28,12 @@ use Rattle.runs.proofs.Finishing.{taken_there}
 use Rattle.runs.proofs.Fronts.{front_of}
 
 -- an act that asks for a command is an event that wants it
-record Asks (what : What) (c : Command) : Type 0 where
+record Asks (what : HistoryEvent) (c : Command) : Type 0 where
   event : Event
   of : IsOf event what
   wants : (self : ℕ) (pending : List Job) (s : State) → wants_of self pending event s ≡ Some c
 
-asks_event : (nodes : ℕ) (w : World) (b : Act) (m number : ℕ) (what : What) (c : Command) → IsStepOf nodes w b (Takes m number what) → asks b ≡ Some c → Asks what c
+asks_event : (nodes : ℕ) (w : World) (b : Act) (m number : ℕ) (what : HistoryEvent) (c : Command) → IsStepOf nodes w b (Takes m number what) → asks b ≡ Some c → Asks what c
 asks_event nodes w (act.Submit n work) m number what c h is = record {
   event = on.Submit work;
   of = (taken_there (nat_lt n nodes) n 0 (IsOf (on.Submit work)) m number what h).1;
@@ -55,14 +55,14 @@ asks_event nodes w (act.Crash n fill) m number what c h is = absurd cc
 asks_event nodes w (act.Compact n) m number what c h is = absurd cc
 
 -- one command was tried, and taken with this answer
-record TakesOne (n a : ℕ) (what : What) (ts : List TriedAt) : Type 0 where
-  one : Tried
+record TakesOne (n a : ℕ) (what : HistoryEvent) (ts : List AttemptAt) : Type 0 where
+  one : Attempt
   is : ts ≡ record { node = n; tried = one } ∷ []
   acked : one.acked ≡ Some a
   asked : (c : Command) → Asks what c → one.command ≡ c
 
-abbrev at_node : ℕ → List Tried → List TriedAt
-at_node n ts = map (λ (t : Tried). record { node = n; tried = t }) ts
+abbrev at_node : ℕ → List Attempt → List AttemptAt
+at_node n ts = map (λ (t : Attempt). record { node = n; tried = t }) ts
 
 wanted_one : (n nodes a : ℕ) (s : NodeState) (event : Event) (wants : Option Command) → wants_at n nodes s event ≡ wants → option_map (answer_of s.durable) wants ≡ Some a
     → TakesOne n a (Did event) (at_node n (map (λ (c : Command). record { command = c; acked = Some (answer_of s.durable c) }) (option_to_list wants)))
@@ -86,14 +86,14 @@ raised_one n a kept s answer = record {
       let both : Some Raise ≡ Some c = ap (λ (e : Event). wants_of n s.durable.pending e s.state) same ∙ asks.wants n s.durable.pending s.state in cc both);
 }
 
-what_answered : (n nodes first a p q : ℕ) (s : NodeState) (what : What) (b : Act) → what_outcome n nodes first s what b ≡ outcome.Done (Some a) p q → TakesOne n a what (at_node n (tries n nodes s what))
+what_answered : (n nodes first a p q : ℕ) (s : NodeState) (what : HistoryEvent) (b : Act) → what_outcome n nodes first s what b ≡ outcome.Done (Some a) p q → TakesOne n a what (at_node n (tries n nodes s what))
 what_answered n nodes first a p q s (Did event) b is = wanted_one n nodes a s event (wants_at n nodes s event) refl (cc is)
 what_answered n nodes first a p q s (Refused event fault) b is = absurd cc
 what_answered n nodes first a p q s (Faulted event) b is = absurd cc
-what_answered n nodes first a p q s (Rests Nothing) b is = absurd cc
-what_answered n nodes first a p q s (Rests Compacted) b is = absurd cc
-what_answered n nodes first a p q s (Rests CompactDown) b is = absurd cc
-what_answered n nodes first a p q s (Rests CompactWorn) b is = absurd cc
+what_answered n nodes first a p q s (NoOp Nothing) b is = absurd cc
+what_answered n nodes first a p q s (NoOp Compacted) b is = absurd cc
+what_answered n nodes first a p q s (NoOp CompactDown) b is = absurd cc
+what_answered n nodes first a p q s (NoOp CompactAreaExhausted) b is = absurd cc
 what_answered n nodes first a p q s Crashed (act.Compact m) is = absurd cc
 what_answered n nodes first a p q s Crashed _ is = absurd cc
 what_answered n nodes first a p q s (Recovered kept) b is = raised_one n a kept s (cc is)
@@ -103,7 +103,7 @@ what_answered n nodes first a p q s (RaiseRefused kept) b is = absurd cc
 
 -- so in a step of an act
 record StepTakes (nodes a : ℕ) (w : World) (b : Act) (step : Step) : Type 0 where
-  one : Tried
+  one : Attempt
   is : commands_at nodes w step ≡ record { node = node_of step; tried = one } ∷ []
   acked : one.acked ≡ Some a
   asked : (c : Command) → asks b ≡ Some c → one.command ≡ c
@@ -119,5 +119,5 @@ pub answered_is_acknowledged : AnsweredIsAcknowledged
 answered_is_acknowledged nodes slots acts r h k m a first many at is =
     let f = front_of nodes slots acts r h k m at in
     let it = step_answered nodes a first many f.before f.act f.step f.of_act (ap (λ (x : Moment). x.outcome) (sym f.is) ∙ is) in
-    let grows = ap (λ (x : Report). x.commands) f.grows ∙ ap (λ (ts : List TriedAt). (report_of nodes (take k acts) (take k h.steps)).commands ++ ts) it.is in
+    let grows = ap (λ (x : Report). x.commands) f.grows ∙ ap (λ (ts : List AttemptAt). (report_of nodes (take k acts) h.steps).commands ++ ts) it.is in
     rw f.is (it.one, grows, it.acked, it.asked)

@@ -6,31 +6,31 @@ use Rattle.std.proofs.lemmas.Bool.Decides.{nat_tests}
 use Rattle.std.proofs.lemmas.List.{length-append, length-map, length-replicate, get_or-replicate}
 use Rattle.std.proofs.lemmas.List.Sums.{length-filter, count_by-le-length}
 use Rattle.std.proofs.lemmas.Option.{slice_get_within, get_or_from_slice_get}
-use Rattle.histories.specs.declared.tried.Tried.{Tried}
+use Rattle.histories.specs.declared.attempt.Attempt.{Attempt}
 use Rattle.histories.proofs.PublicLaws.{eq_nat}
 use Rattle.runs.specs.Reporting.{own_commands, first_report}
-use Rattle.runs.specs.declared.tried.TriedAt.{TriedAt}
+use Rattle.runs.specs.declared.attempt_at.AttemptAt.{AttemptAt}
 use Rattle.runs.proofs.Reports.{own_append, raised_once}
 use Rattle.runs.proofs.Runs.{get_set_same, get_set_other}
 
-pub own_few : (n : ℕ) (xs : List TriedAt) → length (own_commands n xs) ≤ length xs
+pub own_few : (n : ℕ) (xs : List AttemptAt) → length (own_commands n xs) ≤ length xs
 own_few n xs =
-    let of : TriedAt → Bool = λ (t : TriedAt). t.node == n in
-    omega (arith, length-map (filter of xs) (λ (t : TriedAt). t.tried), length-filter of xs, count_by-le-length of xs)
+    let of : AttemptAt → Bool = λ (t : AttemptAt). t.node == n in
+    omega (arith, length-map (filter of xs) (λ (t : AttemptAt). t.tried), length-filter of xs, count_by-le-length of xs)
 
 -- the count of one more command of node n
-own_more : (n k : ℕ) (xs : List TriedAt) (t : TriedAt) → t.node ≡ n → length (own_commands k (xs ++ t ∷ [])) ≡ length (own_commands k xs) + (if n == k then 1 else 0)
-own_more n k xs t is = ap (λ (ts : List Tried). length ts) (own_append k xs (t ∷ [])) ∙ length-append (own_commands k xs) (own_commands k (t ∷ [])) ∙ ap (λ (j : ℕ). length (own_commands k xs) + j) (by_node (n == k) refl)
+own_more : (n k : ℕ) (xs : List AttemptAt) (t : AttemptAt) → t.node ≡ n → length (own_commands k (xs ++ t ∷ [])) ≡ length (own_commands k xs) + (if n == k then 1 else 0)
+own_more n k xs t is = ap (λ (ts : List Attempt). length ts) (own_append k xs (t ∷ [])) ∙ length-append (own_commands k xs) (own_commands k (t ∷ [])) ∙ ap (λ (j : ℕ). length (own_commands k xs) + j) (by_node (n == k) refl)
   where
     by_node : (b : Bool) → (n == k) ≡ b → length (own_commands k (t ∷ [])) ≡ (if b then 1 else 0)
     by_node true at = rw (is, at) refl
     by_node false at = rw (is, at) refl
 
 -- these count each node's commands
-abbrev pub Counts : List TriedAt → List ℕ → Type 0
+abbrev pub Counts : List AttemptAt → List ℕ → Type 0
 Counts commands counts = (k m : ℕ) → slice_get counts k ≡ Some m → m ≡ length (own_commands k commands)
 
-pub counts_more : (n before : ℕ) (commands : List TriedAt) (counts : List ℕ) (t : TriedAt) → Counts commands counts → slice_get counts n ≡ Some before → t.node ≡ n → Counts (commands ++ t ∷ []) (slice_set counts n (before + 1))
+pub counts_more : (n before : ℕ) (commands : List AttemptAt) (counts : List ℕ) (t : AttemptAt) → Counts commands counts → slice_get counts n ≡ Some before → t.node ≡ n → Counts (commands ++ t ∷ []) (slice_set counts n (before + 1))
 counts_more n before commands counts t counted at is k m at_k = by_place (n == k) refl
   where
     by_place : (b : Bool) → (n == k) ≡ b → m ≡ length (own_commands k (commands ++ t ∷ []))
@@ -52,4 +52,4 @@ pub counts_opened : (nodes : ℕ) → Counts (first_report nodes).commands (repl
 counts_opened nodes n k at =
     let within : n < nodes = omega (arith, slice_get_within (replicate nodes 1) n k at, length-replicate {A = ℕ} nodes 1) in
     let one : 1 ≡ k = sym (get_or-replicate {A = ℕ} nodes n 1 0 within) ∙ get_or_from_slice_get (replicate nodes 1) n k 0 at in
-    sym one ∙ sym (ap (λ (ts : List Tried). length ts) (raised_once nodes n within))
+    sym one ∙ sym (ap (λ (ts : List Attempt). length ts) (raised_once nodes n within))

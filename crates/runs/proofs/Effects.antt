@@ -14,12 +14,12 @@ use Rattle.node_core.specs.Effect.{Effect}
 use Rattle.node_core.specs.declared.event.Event.{Event}
 use Rattle.node_core.specs.declared.event.Event.TheVariants as on
 use Rattle.histories.specs.NodeState.{NodeState, opening, wants_at, effect_at}
-use Rattle.histories.specs.declared.what.What.{What}
-use Rattle.histories.specs.declared.what.What.TheVariants.{Did, Refused, Faulted, Rests, Crashed, Recovered, MountFailed, RaiseFailed, RaiseRefused}
-use Rattle.histories.specs.declared.what.Rest.TheVariants.{Nothing, Compacted, CompactDown, CompactWorn}
+use Rattle.histories.specs.declared.history_event.HistoryEvent.{HistoryEvent}
+use Rattle.histories.specs.declared.history_event.HistoryEvent.TheVariants.{Did, Refused, Faulted, NoOp, Crashed, Recovered, MountFailed, RaiseFailed, RaiseRefused}
+use Rattle.histories.specs.declared.history_event.NoOpKind.TheVariants.{Nothing, Compacted, CompactDown, CompactAreaExhausted}
 use Rattle.node_core.specs.declared.fault.CoreFault.TheVariants.{Down}
 use Rattle.node_core.specs.declared.fault.Refusal.TheVariants.{Core}
-use Rattle.histories.specs.What.{IsOf}
+use Rattle.histories.specs.HistoryEvent.{IsOf}
 use Rattle.histories.specs.After.{after, sent_at}
 use Rattle.histories.specs.Possible.{IsPossible}
 use Rattle.histories.proofs.PublicLaws.{eq_nat}
@@ -30,20 +30,20 @@ use Rattle.sim_net.specs.Network.{Network, delivery}
 use Rattle.runs.specs.declared.outcome.Outcome.TheVariants as outcome
 use Rattle.runs.specs.declared.outcome.Refusal.{Refusal}
 use Rattle.runs.specs.declared.outcome.Refusal.TheVariants.{Node as OfNode}
-use Rattle.runs.specs.declared.tried.TriedAt.{TriedAt}
+use Rattle.runs.specs.declared.attempt_at.AttemptAt.{AttemptAt}
 use Rattle.runs.specs.World.{World, node_in, start}
 use Rattle.runs.specs.Step.{Step, Takes, Changes, Denies, step_sent, world_after}
 use Rattle.runs.specs.Run.{world_at}
-use Rattle.runs.specs.Acts.{At, Brings, IsCompaction, IsStepOf, IsLawful, IsRunOf, act_outcome, what_outcome}
+use Rattle.runs.specs.Acts.{At, IsCompaction, IsStepOf, IsLawful, IsRunOf, act_outcome, what_outcome}
+use Rattle.runs.proofs.Bringing.{Brings}
 use Rattle.runs.specs.Reporting.{Moment, Report, moment_of, tries, commands_at, group_of, grown, first_report, report_from}
-use Rattle.runs.specs.Headline.{report_within}
-use Rattle.runs.specs.Uses.{last_of, last_state, all_sent, event_in, RefusedChangesNothing, DoneHasItsEffect, DownRefusesCompaction, NoneIsSpent}
+use Rattle.runs.specs.Uses.{report_within, last_of, last_state, all_sent, event_in, RefusedChangesNothing, DoneHasItsEffect, DownRefusesCompaction, NoneIsSpent}
 use Rattle.runs.proofs.ExactRuns.{run_in}
 use Rattle.runs.proofs.Acknowledged.{among_of}
 use Rattle.runs.proofs.Finishing.{taken_there}
 use Rattle.runs.proofs.Fronts.{front_of}
 use Rattle.runs.proofs.Lawful.{no_change, no_delivery, sent_there}
-use Rattle.runs.proofs.Moments.{acts_front}
+use Rattle.runs.proofs.Moments.{acts_front, front_report}
 use Rattle.runs.proofs.Reported.{state_there}
 use Rattle.runs.proofs.Runs.{comes_sent, node_there, starts_opened, state_elsewhere, state_here}
 
@@ -107,21 +107,24 @@ run_last slots nodes n (a ∷ acts) (step ∷ steps) w r run h = run_last slots 
 -- after the first acts
 within_last : (slots nodes n k : ℕ) (acts : List Act) (steps : List Step) → IsRunOf nodes slots (start nodes) acts steps → n < nodes
     → IsLast (world_at nodes (start nodes) (take k steps)) (report_within nodes k acts steps) n
-within_last slots nodes n k acts steps run within = run_last slots nodes n (take k acts) (take k steps) (start nodes) (first_report nodes) (acts_front k nodes slots acts steps (start nodes) run)
-    (record { now = opening n; at = starts_opened nodes n within; shown = state_there (start nodes).states n (opening n) (starts_opened nodes n within) })
+within_last slots nodes n k acts steps run within =
+    let first : IsLast (start nodes) (first_report nodes) n =
+    record { now = opening n; at = starts_opened nodes n within; shown = state_there (start nodes).states n (opening n) (starts_opened nodes n within) } in
+    subst (λ (r : Report). IsLast (world_at nodes (start nodes) (take k steps)) r n) (sym (front_report nodes k acts steps))
+    (run_last slots nodes n (take k acts) (take k steps) (start nodes) (first_report nodes) (acts_front k nodes slots acts steps (start nodes) run) first)
 
 -- ---- what is refused
 
-record IsQuiet (self nodes : ℕ) (s : NodeState) (what : What) : Type 0 where
+record IsQuiet (self nodes : ℕ) (s : NodeState) (what : HistoryEvent) : Type 0 where
   stays : after self nodes s what ≡ s
   silent : sent_at self nodes s what ≡ []
   untried : tries self nodes s what ≡ []
 
-refused_what : (n nodes first : ℕ) (s : NodeState) (what : What) (a : Act) (why : Refusal) → what_outcome n nodes first s what a ≡ outcome.Refused why → IsQuiet n nodes s what
+refused_what : (n nodes first : ℕ) (s : NodeState) (what : HistoryEvent) (a : Act) (why : Refusal) → what_outcome n nodes first s what a ≡ outcome.Refused why → IsQuiet n nodes s what
 refused_what n nodes first s (Did event) a why is = absurd cc
 refused_what n nodes first s (Refused event fault) a why is = record { stays = refl; silent = refl; untried = refl }
 refused_what n nodes first s (Faulted event) a why is = absurd cc
-refused_what n nodes first s (Rests rest) a why is = record { stays = refl; silent = refl; untried = refl }
+refused_what n nodes first s (NoOp rest) a why is = record { stays = refl; silent = refl; untried = refl }
 refused_what n nodes first s Crashed (act.Compact m) why is = absurd cc
 refused_what n nodes first s Crashed _ why is = absurd cc
 refused_what n nodes first s (Recovered kept) a why is = absurd cc
@@ -170,9 +173,9 @@ refused_changes_nothing nodes slots acts r h k m why at is =
     let idle = refused_step nodes f.before f.act f.step why (ap (λ (x : Moment). x.outcome) (sym f.is) ∙ is) in
     let commands : commands_at nodes f.before f.step ≡ [] = idle.untried in (
       ap (λ (x : Moment). x.sent) f.is ∙ idle.silent,
-      ap (λ (x : Report). x.commands) f.grows ∙ (ap (λ (ts : List TriedAt). before.commands ++ ts) commands ∙ append-nil before.commands),
+      ap (λ (x : Report). x.commands) f.grows ∙ (ap (λ (ts : List AttemptAt). before.commands ++ ts) commands ∙ append-nil before.commands),
       ap (λ (x : Report). x.groups) f.grows
-          ∙ (ap (λ (ts : List TriedAt). before.groups ++ flat_map (λ (t : TriedAt). group_of t.node t.tried.command t.tried.acked) ts) commands ∙ append-nil before.groups),
+          ∙ (ap (λ (ts : List AttemptAt). before.groups ++ flat_map (λ (t : AttemptAt). group_of t.node t.tried.command t.tried.acked) ts) commands ∙ append-nil before.groups),
       λ n within. ap (λ (x : Report). last_state x n) f.grows
           ∙ idle.last before n (subst (λ (w : World). IsLast w before n) (sym f.is_world) (within_last slots nodes n k acts h.steps (run_in nodes slots acts r h) within)),
     )
@@ -197,23 +200,23 @@ run_all_sent slots nodes (a ∷ acts) (step ∷ steps) w r run h =
     run_all_sent slots nodes acts steps (world_after nodes w step) (grown nodes w a step r) run.2 (step_all_sent slots nodes w r a step run.0 h)
 
 -- this event came to this node
-abbrev Came : ℕ → What → ℕ → Event → Type 0
-Came m what n event = (m ≡ n) × IsOf event what
+abbrev StepReport : ℕ → HistoryEvent → ℕ → Event → Type 0
+StepReport m what n event = (m ≡ n) × IsOf event what
 
-pair_came : (m j n : ℕ) (what : What) (x event : Event) → (m ≡ j) × IsOf x what → ◌≡◌ {A = Option (ℕ × Event)} (Some (j, x)) (Some (n, event)) → Came m what n event
+pair_came : (m j n : ℕ) (what : HistoryEvent) (x event : Event) → (m ≡ j) × IsOf x what → ◌≡◌ {A = Option (ℕ × Event)} (Some (j, x)) (Some (n, event)) → StepReport m what n event
 pair_came m j n what x event there is =
     let both : ◌≡◌ {A = ℕ × Event} (j, x) (n, event) = cc is in
     (there.0 ∙ ap (λ (p : ℕ × Event). p.0) both, subst (λ (e : Event). IsOf e what) (ap (λ (p : ℕ × Event). p.1) both) there.1)
 
-delivery_came : (nodes : ℕ) (net : Network) (k m number n : ℕ) (what : What) (event : Event) (d : Result Envelope NetFault) → delivery net k ≡ d → Brings nodes net k d (Takes m number what)
-    → option_map {U = ℕ × Event} (λ (x : Envelope). (x.receiver, on.Deliver x)) (slice_get net.sent k) ≡ Some (n, event) → Came m what n event
+delivery_came : (nodes : ℕ) (net : Network) (k m number n : ℕ) (what : HistoryEvent) (event : Event) (d : Result Envelope NetFault) → delivery net k ≡ d → Brings nodes net k d (Takes m number what)
+    → option_map {U = ℕ × Event} (λ (x : Envelope). (x.receiver, on.Deliver x)) (slice_get net.sent k) ≡ Some (n, event) → StepReport m what n event
 delivery_came nodes net k m number n what event (Ok x) is h named =
     pair_came m x.receiver n what (on.Deliver x) event (taken_there (nat_lt x.receiver nodes) x.receiver k (IsOf (on.Deliver x)) m number what h)
     (ap (option_map {U = ℕ × Event} (λ (y : Envelope). (y.receiver, on.Deliver y))) (sym (comes_sent net k x is)) ∙ named)
 delivery_came nodes net k m number n what event (Err why) is h named = absurd cc
 
-event_came : (nodes : ℕ) (w : World) (r : Report) (a : Act) (m number n : ℕ) (what : What) (event : Event) → all_sent r ≡ w.net.sent → IsStepOf nodes w a (Takes m number what)
-    → event_in r a ≡ Some (n, event) → Came m what n event
+event_came : (nodes : ℕ) (w : World) (r : Report) (a : Act) (m number n : ℕ) (what : HistoryEvent) (event : Event) → all_sent r ≡ w.net.sent → IsStepOf nodes w a (Takes m number what)
+    → event_in r a ≡ Some (n, event) → StepReport m what n event
 event_came nodes w r (act.Timer j timer) m number n what event all h is = pair_came m j n what (on.Timer timer) event (taken_there (nat_lt j nodes) j 0 (IsOf (on.Timer timer)) m number what h) is
 event_came nodes w r (act.Deliver k) m number n what event all h is =
     delivery_came nodes w.net k m number n what event (delivery w.net k) refl h (ap (λ (ms : List Envelope). option_map {U = ℕ × Event} (λ (x : Envelope). (x.receiver, on.Deliver x)) (slice_get ms k)) (sym all) ∙ is)
@@ -243,11 +246,11 @@ no_event nodes w r (act.Crash j fill) net n event h is = absurd cc
 no_event nodes w r (act.Compact j) net n event h is = absurd cc
 
 -- it was handled
-record IsHandled (n nodes : ℕ) (s : NodeState) (what : What) (event : Event) (answer : Option ℕ) : Type 0 where
+record IsHandled (n nodes : ℕ) (s : NodeState) (what : HistoryEvent) (event : Event) (answer : Option ℕ) : Type 0 where
   did : what ≡ Did event
   answers : answer ≡ option_map (answer_of s.durable) (wants_at n nodes s event)
 
-done_what : (n nodes first p q : ℕ) (s : NodeState) (what : What) (a : Act) (event : Event) (answer : Option ℕ) → IsPossible n nodes s what → is_down s.state.phase ≡ false → IsOf event what
+done_what : (n nodes first p q : ℕ) (s : NodeState) (what : HistoryEvent) (a : Act) (event : Event) (answer : Option ℕ) → IsPossible n nodes s what → is_down s.state.phase ≡ false → IsOf event what
     → what_outcome n nodes first s what a ≡ outcome.Done answer p q → IsHandled n nodes s what event answer
 done_what n nodes first p q s (Did e) a event answer may up of is =
     let same : e ≡ event = cc of in
@@ -255,7 +258,7 @@ done_what n nodes first p q s (Did e) a event answer may up of is =
     record { did = ap Did same; answers = sym answers ∙ ap (λ (x : Event). option_map (answer_of s.durable) (wants_at n nodes s x)) same }
 done_what n nodes first p q s (Refused e fault) a event answer may up of is = absurd cc
 done_what n nodes first p q s (Faulted e) a event answer may up of is = absurd cc
-done_what n nodes first p q s (Rests rest) a event answer may up of is = absurd cc
+done_what n nodes first p q s (NoOp rest) a event answer may up of is = absurd cc
 done_what n nodes first p q s Crashed a event answer may up of is = absurd cc
 done_what n nodes first p q s (Recovered kept) a event answer may up of is = (let both : true ≡ false = sym may.0 ∙ up in absurd cc)
 done_what n nodes first p q s MountFailed a event answer may up of is = absurd cc
@@ -290,8 +293,8 @@ done_step slots nodes n p q w r a (Takes m number what) event answer s of may al
     let at_n : effect_at m nodes s event ≡ effect_of nodes n s.durable.pending event (unwrap_or answer 0) s.state =
     effect_given nodes m s event answer handled.answers ∙ ap (λ (j : ℕ). effect_of nodes j s.durable.pending event (unwrap_or answer 0) s.state) came.0 in (
       came.0,
-      ap (λ (x : NodeState). x.state) now ∙ (ap (λ (x : What). (after m nodes s x).state) handled.did ∙ ap (λ (e : Effect). e.state) at_n),
-      ap (λ (x : NodeState). sent_at m nodes x what) was ∙ (ap (λ (x : What). sent_at m nodes s x) handled.did ∙ ap (λ (e : Effect). e.sent) at_n),
+      ap (λ (x : NodeState). x.state) now ∙ (ap (λ (x : HistoryEvent). (after m nodes s x).state) handled.did ∙ ap (λ (e : Effect). e.state) at_n),
+      ap (λ (x : NodeState). sent_at m nodes x what) was ∙ (ap (λ (x : HistoryEvent). sent_at m nodes s x) handled.did ∙ ap (λ (e : Effect). e.sent) at_n),
     )
 done_step slots nodes n p q w r a (Changes net) event answer s of may all named at up is = absurd (no_event nodes w r a net n event of named)
 done_step slots nodes n p q w r a (Denies m why) event answer s of may all named at up is = absurd cc
@@ -300,7 +303,8 @@ pub done_has_its_effect : DoneHasItsEffect
 done_has_its_effect nodes slots acts r h k m answer first many n event s within at is named shown up =
     let f = front_of nodes slots acts r h k m at in
     let before : Report = report_within nodes k acts h.steps in
-    let all : all_sent before ≡ f.before.net.sent = run_all_sent slots nodes (take k acts) (take k h.steps) (start nodes) (first_report nodes) (acts_front k nodes slots acts h.steps (start nodes) (run_in nodes slots acts r h)) refl
+    let all : all_sent before ≡ f.before.net.sent = ap all_sent (front_report nodes k acts h.steps)
+    ∙ run_all_sent slots nodes (take k acts) (take k h.steps) (start nodes) (first_report nodes) (acts_front k nodes slots acts h.steps (start nodes) (run_in nodes slots acts r h)) refl
     ∙ ap (λ (w : World). w.net.sent) (sym f.is_world) in
     let last = within_last slots nodes n k acts h.steps (run_in nodes slots acts r h) within in
     let here : slice_get f.before.states n ≡ Some last.now = ap (λ (w : World). slice_get w.states n) f.is_world ∙ last.at in
@@ -320,12 +324,12 @@ done_has_its_effect nodes slots acts r h k m answer first many n event s within 
 
 -- ---- a compaction at a node that is down
 
-compaction_down : (n nodes first m : ℕ) (s : NodeState) (what : What) → IsCompaction s what → IsPossible n nodes s what → is_down s.state.phase ≡ true
+compaction_down : (n nodes first m : ℕ) (s : NodeState) (what : HistoryEvent) → IsCompaction s what → IsPossible n nodes s what → is_down s.state.phase ≡ true
     → what_outcome n nodes first s what (act.Compact m) ≡ outcome.Refused (OfNode (Core Down))
-compaction_down n nodes first m s (Rests Nothing) is may down = absurd is
-compaction_down n nodes first m s (Rests Compacted) is may down = absurd (let both : true ≡ false = sym down ∙ may in cc)
-compaction_down n nodes first m s (Rests CompactDown) is may down = refl
-compaction_down n nodes first m s (Rests CompactWorn) is may down = absurd (let both : true ≡ false = sym down ∙ may in cc)
+compaction_down n nodes first m s (NoOp Nothing) is may down = absurd is
+compaction_down n nodes first m s (NoOp Compacted) is may down = absurd (let both : true ≡ false = sym down ∙ may in cc)
+compaction_down n nodes first m s (NoOp CompactDown) is may down = refl
+compaction_down n nodes first m s (NoOp CompactAreaExhausted) is may down = absurd (let both : true ≡ false = sym down ∙ may in cc)
 compaction_down n nodes first m s Crashed is may down = absurd (let both : true ≡ false = sym down ∙ is in cc)
 compaction_down n nodes first m s _ is may down = absurd is
 

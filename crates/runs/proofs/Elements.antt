@@ -1,10 +1,9 @@
 -- Elements of lists: by their places, as the headline says it, and one after another, as proofs by recursion want it.
 use Rattle.std.proofs.Common.{◌≡◌, ◌≢◌, ℕ, zero, suc, ◌<◌, List, [], ◌∷◌, length, sym, inl, inr, arith, Option, Some, None, IfSome}
-use Rattle.std.specs.Prelude.{Contains, All, AllPairs, slice_index_or}
+use Rattle.std.specs.Prelude.{Contains, AllPairs, slice_index_or}
 use Rattle.std.proofs.lemmas.List.Kept.{AllPairs-cons}
 use Rattle.group_task.specs.Group.{Group}
 use Rattle.histories.specs.Lists.{IsAmong}
-use Rattle.histories.specs.Rising.{Rises}
 use Rattle.runs.specs.Given.{IsOnceEach}
 
 pub contains : {A : Type 0} (x : A) (xs : List A) → IsAmong x xs → Contains xs x
@@ -31,21 +30,6 @@ none_pairs R i j d lt within = absurd (let bad : j < 0 = within in omega (arith,
 
 rest_pairs : {A : Type 0} (R : A → A → Type 0) (x : A) (xs : List A) → AllPairs R (x ∷ xs) → AllPairs R xs
 rest_pairs R x xs h i j d lt within = h (suc i) (suc j) d (omega (arith, lt)) (omega (arith, within))
-
--- ---- numbers that rise
-
-above : (last : ℕ) (ks : List ℕ) → Rises last ks → All (λ (k : ℕ). last < k) ks
-above last [] rises i d within = absurd (let bad : i < 0 = within in omega (arith, bad))
-above last (k ∷ ks) rises zero d within = rises.0
-above last (k ∷ ks) rises (suc i) d within = (let higher = above k ks rises.1 i d (omega (arith, within)) in omega (arith, rises.0, higher))
-
-pub rising_pairs : (last : ℕ) (ks : List ℕ) → Rises last ks → AllPairs (λ (j k : ℕ). j < k) (last ∷ ks)
-rising_pairs last [] rises = AllPairs-cons (λ (j k : ℕ). j < k) last [] (above last [] rises) (none_pairs (λ (j k : ℕ). j < k))
-rising_pairs last (k ∷ ks) rises = AllPairs-cons (λ (j k : ℕ). j < k) last (k ∷ ks) (above last (k ∷ ks) rises) (rising_pairs k ks rises.1)
-
-pub pairs_rise : (last : ℕ) (ks : List ℕ) → AllPairs (λ (j k : ℕ). j < k) (last ∷ ks) → Rises last ks
-pairs_rise last [] h = tt
-pairs_rise last (k ∷ ks) h = (h 0 1 0 (omega arith) (omega arith), pairs_rise k ks (rest_pairs (λ (j k : ℕ). j < k) last (k ∷ ks) h))
 
 -- ---- groups that stand once
 

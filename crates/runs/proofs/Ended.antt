@@ -10,13 +10,13 @@ use Rattle.node_core.specs.declared.event.Event.{Event}
 use Rattle.node_core.specs.declared.event.Event.TheVariants as on
 use Rattle.histories.specs.Lists.{IsAmong}
 use Rattle.histories.specs.NodeState.{NodeState, wants_at, settled}
-use Rattle.histories.specs.declared.what.What.{What}
-use Rattle.histories.specs.declared.what.What.TheVariants.{Did, Refused, Faulted, Rests, Crashed, Recovered, MountFailed, RaiseFailed, RaiseRefused}
-use Rattle.histories.specs.What.{event_of, brought, AreAddressed}
+use Rattle.histories.specs.declared.history_event.HistoryEvent.{HistoryEvent}
+use Rattle.histories.specs.declared.history_event.HistoryEvent.TheVariants.{Did, Refused, Faulted, NoOp, Crashed, Recovered, MountFailed, RaiseFailed, RaiseRefused}
+use Rattle.histories.specs.HistoryEvent.{event_of, brought, AreAddressed}
 use Rattle.histories.specs.After.{sent_at}
 use Rattle.histories.specs.Owners.{acted}
 use Rattle.histories.specs.Possible.{Takes as TakesEvent, IsPossible}
-use Rattle.histories.specs.declared.tried.Tried.{Tried}
+use Rattle.histories.specs.declared.attempt.Attempt.{Attempt}
 use Rattle.histories.proofs.PublicLaws.{HasWork, OwnedAt, among_either, causes, done_said, has_work, held_finish, owned_after}
 use Rattle.schedule.specs.declared.act.Act.{Act}
 use Rattle.schedule.specs.declared.act.Act.TheVariants as act
@@ -26,7 +26,7 @@ use Rattle.runs.specs.Run.{IsAllowed, world_at}
 use Rattle.runs.specs.Acts.{IsStepOf, IsLawful, IsRunOf}
 use Rattle.runs.specs.declared.outcome.Outcome.TheVariants as outcome
 use Rattle.runs.specs.declared.outcome.Refusal.{Refusal}
-use Rattle.runs.specs.declared.tried.TriedAt.{TriedAt}
+use Rattle.runs.specs.declared.attempt_at.AttemptAt.{AttemptAt}
 use Rattle.runs.specs.Reporting.{Moment, Report, moment_of, tries, commands_at, grown, report_from}
 use Rattle.runs.proofs.Finishing.{SaysFinished, finish_act, acted_outcome}
 use Rattle.runs.proofs.Keeping.{AllStates, states_keep}
@@ -45,12 +45,12 @@ pub record Finishes (nodes : ℕ) (w : World) (acts : List Act) (steps : List St
   pub work : HasWork worker was.state origin id
 
 -- an entry that says so is an event that was taken
-says_taken : (self nodes : ℕ) (s : NodeState) (what : What) (origin id : ℕ) → IsPossible self nodes s what → SaysFinished what origin id → TakesEvent self nodes s (on.Finish origin id)
+says_taken : (self nodes : ℕ) (s : NodeState) (what : HistoryEvent) (origin id : ℕ) → IsPossible self nodes s what → SaysFinished what origin id → TakesEvent self nodes s (on.Finish origin id)
 says_taken self nodes s (Did event) origin id may i = elim i [ inl e ↦ subst (λ (x : Event). TakesEvent self nodes s x) (sym e) may | inr none ↦ absurd none ]
 says_taken self nodes s (Faulted event) origin id may i = elim i [ inl e ↦ subst (λ (x : Event). TakesEvent self nodes s x) (sym e) may.0 | inr none ↦ absurd none ]
 says_taken self nodes s _ origin id may i = absurd i
 
-finishes_now : (slots nodes : ℕ) (w : World) (a : Act) (m number : ℕ) (what : What) (acts : List Act) (steps : List Step) (origin id : ℕ) → IsStepOf nodes w a (Takes m number what)
+finishes_now : (slots nodes : ℕ) (w : World) (a : Act) (m number : ℕ) (what : HistoryEvent) (acts : List Act) (steps : List Step) (origin id : ℕ) → IsStepOf nodes w a (Takes m number what)
     → IsLawful slots nodes w (Takes m number what) → AllStates OwnedAt w → SaysFinished what origin id → Finishes nodes w (a ∷ acts) (Takes m number what ∷ steps) m origin id 0
 finishes_now slots nodes w a m number what acts steps origin id of may owned says =
     let s : NodeState = may.0 in
@@ -86,7 +86,7 @@ Underway F ms = (m : Envelope) (id : ℕ) → IsAmong m ms → m.body ≡ DoneMe
 abbrev Now : ℕ → World → List Act → List Step → ℕ → ℕ → Type 0
 Now nodes w acts steps origin id = (worker : ℕ) × Finishes nodes w acts steps worker origin id 0
 
-did_say : (self nodes : ℕ) (s : NodeState) (what : What) (m : Envelope) (id : ℕ) → IsPossible self nodes s what → IsAmong m (sent_at self nodes s what) → m.body ≡ DoneMessage id → SaysFinished what m.receiver id
+did_say : (self nodes : ℕ) (s : NodeState) (what : HistoryEvent) (m : Envelope) (id : ℕ) → IsPossible self nodes s what → IsAmong m (sent_at self nodes s what) → m.body ≡ DoneMessage id → SaysFinished what m.receiver id
 did_say self nodes s (Did event) m id may i body = (let said : Some event ≡ Some (on.Finish m.receiver id) = done_said self nodes s (Did event) m id may i body in
     let same : event ≡ on.Finish m.receiver id = cc said in inl (sym same))
 did_say self nodes s _ m id may i body = absurd i
@@ -111,23 +111,23 @@ step_owned slots nodes w (Denies named why) may owned = owned
 -- ---- a command that ends a job
 
 -- it was tried by this node in this entry
-record Tries (n : ℕ) (s : NodeState) (what : What) (t : Tried) (id : ℕ) : Type 0 where
+record Tries (n : ℕ) (s : NodeState) (what : HistoryEvent) (t : Attempt) (id : ℕ) : Type 0 where
   event : Event
   acts : acted what ≡ event ∷ []
   of : event_of what ≡ Some event
   wants : (nodes : ℕ) → wants_at n nodes s event ≡ Some (Done id)
 
-command_wanted : (f : Command → Tried) (wants : Option Command) (t : Tried) (id : ℕ) → ((c : Command) → (f c).command ≡ c) → IsAmong t (map f (option_to_list wants)) → t.command ≡ Done id → wants ≡ Some (Done id)
+command_wanted : (f : Command → Attempt) (wants : Option Command) (t : Attempt) (id : ℕ) → ((c : Command) → (f c).command ≡ c) → IsAmong t (map f (option_to_list wants)) → t.command ≡ Done id → wants ≡ Some (Done id)
 command_wanted f None t id same i is = absurd i
-command_wanted f (Some c) t id same i is = elim i [ inl e ↦ ap Some (sym (same c) ∙ (ap (λ (x : Tried). x.command) (sym e) ∙ is)) | inr none ↦ absurd none ]
+command_wanted f (Some c) t id same i is = elim i [ inl e ↦ ap Some (sym (same c) ∙ (ap (λ (x : Attempt). x.command) (sym e) ∙ is)) | inr none ↦ absurd none ]
 
-raise_only : (u t : Tried) (id : ℕ) → u.command ≡ Raise → IsAmong t (u ∷ []) → t.command ≡ Done id → ⊥
+raise_only : (u t : Attempt) (id : ℕ) → u.command ≡ Raise → IsAmong t (u ∷ []) → t.command ≡ Done id → ⊥
 raise_only u t id raise i is = elim i [
-  | inl e ↦ (let both : Raise ≡ Done id = sym raise ∙ (ap (λ (x : Tried). x.command) (sym e) ∙ is) in absurd cc)
+  | inl e ↦ (let both : Raise ≡ Done id = sym raise ∙ (ap (λ (x : Attempt). x.command) (sym e) ∙ is) in absurd cc)
   | inr none ↦ absurd none
 ]
 
-who_tries : (n nodes : ℕ) (s : NodeState) (what : What) (t : Tried) (id : ℕ) → IsAmong t (tries n nodes s what) → t.command ≡ Done id → Tries n s what t id
+who_tries : (n nodes : ℕ) (s : NodeState) (what : HistoryEvent) (t : Attempt) (id : ℕ) → IsAmong t (tries n nodes s what) → t.command ≡ Done id → Tries n s what t id
 who_tries n nodes s (Did event) t id i is = record {
   event = event;
   acts = refl;
@@ -141,7 +141,7 @@ who_tries n nodes s (Faulted event) t id i is = record {
   wants = λ _. command_wanted (λ (c : Command). record { command = c; acked = None }) (wants_at n nodes s event) t id (λ c. refl) i is;
 }
 who_tries n nodes s (Refused event fault) t id i is = absurd i
-who_tries n nodes s (Rests rest) t id i is = absurd i
+who_tries n nodes s (NoOp rest) t id i is = absurd i
 who_tries n nodes s Crashed t id i is = absurd i
 who_tries n nodes s (Recovered kept) t id i is = absurd (raise_only (record { command = Raise; acked = Some ((settled kept s).counter + 1) }) t id refl i is)
 who_tries n nodes s MountFailed t id i is = absurd i
@@ -149,19 +149,19 @@ who_tries n nodes s (RaiseFailed kept) t id i is = absurd (raise_only (record { 
 who_tries n nodes s (RaiseRefused kept) t id i is = absurd i
 
 -- one of the commands of one node
-record OfNode (n : ℕ) (ts : List Tried) (t : TriedAt) : Type 0 where
+record OfNode (n : ℕ) (ts : List Attempt) (t : AttemptAt) : Type 0 where
   node : t.node ≡ n
   among : IsAmong t.tried ts
 
-of_node : (n : ℕ) (ts : List Tried) (t : TriedAt) → IsAmong t (map (λ (x : Tried). record { node = n; tried = x }) ts) → OfNode n ts t
+of_node : (n : ℕ) (ts : List Attempt) (t : AttemptAt) → IsAmong t (map (λ (x : Attempt). record { node = n; tried = x }) ts) → OfNode n ts t
 of_node n [] t i = absurd i
 of_node n (x ∷ ts) t i = elim i [
-  | inl e ↦ record { node = ap (λ (y : TriedAt). y.node) e; among = inl (ap (λ (y : TriedAt). y.tried) e) }
+  | inl e ↦ record { node = ap (λ (y : AttemptAt). y.node) e; among = inl (ap (λ (y : AttemptAt). y.tried) e) }
   | inr j ↦ (let it = of_node n ts t j in record { node = it.node; among = inr it.among })
 ]
 
 -- the first step tries it
-step_ended : (F : ℕ → ℕ → Type 0) (slots nodes : ℕ) (w : World) (a : Act) (step : Step) (acts : List Act) (steps : List Step) (t : TriedAt) (id : ℕ) → IsStepOf nodes w a step → IsLawful slots nodes w step
+step_ended : (F : ℕ → ℕ → Type 0) (slots nodes : ℕ) (w : World) (a : Act) (step : Step) (acts : List Act) (steps : List Step) (t : AttemptAt) (id : ℕ) → IsStepOf nodes w a step → IsLawful slots nodes w step
     → AllStates OwnedAt w → Underway F w.net.sent → IsAmong t (commands_at nodes w step) → t.tried.command ≡ Done id → Ended F nodes w (a ∷ acts) (step ∷ steps) t.node id
 step_ended F slots nodes w a (Takes n number what) acts steps t id of may owned h i is =
     let mine = of_node n (tries n nodes (node_in w.states n) what) t i in
@@ -184,7 +184,7 @@ step_ended F slots nodes w a (Changes net) acts steps t id of may owned h i is =
 step_ended F slots nodes w a (Denies named why) acts steps t id of may owned h i is = absurd i
 
 pub done_ended : (F : ℕ → ℕ → Type 0) (slots nodes : ℕ) (acts : List Act) (steps : List Step) (w : World) (r : Report) → IsRunOf nodes slots w acts steps → AllStates OwnedAt w → Underway F w.net.sent
-    → (t : TriedAt) (id : ℕ) → IsAmong t (report_from nodes w r acts steps).commands → t.tried.command ≡ Done id → IsAmong t r.commands ⊎ Ended F nodes w acts steps t.node id
+    → (t : AttemptAt) (id : ℕ) → IsAmong t (report_from nodes w r acts steps).commands → t.tried.command ≡ Done id → IsAmong t r.commands ⊎ Ended F nodes w acts steps t.node id
 done_ended F slots nodes [] [] w r run owned h t id i is = inl i
 done_ended F slots nodes [] (step ∷ steps) w r run owned h t id i is = absurd run
 done_ended F slots nodes (a ∷ acts) [] w r run owned h t id i is = absurd run

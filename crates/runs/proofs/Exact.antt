@@ -3,7 +3,7 @@ use Rattle.std.proofs.Common.{◌≡◌, ◌≢◌, ◌++◌, ℕ, Bool, true, f
 use Rattle.std.specs.Prelude.{if◌then◌else◌, ◌==◌, ◌<◌, nat_lt, Result, Ok, Err}
 use Rattle.std.proofs.lemmas.Bool.Decides.{nat_tests}
 use Rattle.node_core.specs.declared.event.Event.TheVariants as on
-use Rattle.node_core.specs.declared.fault.Refusal.TheVariants.{Core, Full, Exhausted, Worn}
+use Rattle.node_core.specs.declared.fault.Refusal.TheVariants.{Core, Full, Exhausted, AreaExhausted}
 use Rattle.histories.specs.NodeState.{NodeState}
 use Rattle.wire_msg.specs.Envelope.{Envelope}
 use Rattle.schedule.specs.declared.act.Act.{Act}
@@ -13,18 +13,19 @@ use Rattle.runs.specs.World.{World, node_in}
 use Rattle.runs.specs.declared.outcome.Refusal.{Refusal as ActRefusal}
 use Rattle.runs.specs.Step.{Step, Takes as TakesStep, Changes, Denies, world_after}
 use Rattle.runs.specs.Run.{RunFrom, history_in}
-use Rattle.runs.specs.Acts.{At, Brings, IsRunOf}
+use Rattle.runs.specs.Acts.{At, IsRunOf}
+use Rattle.runs.proofs.Bringing.{Brings}
 use Rattle.runs.specs.Exact.{NoIdleDenial, OneOutcome, ActsRun, RunsOfSlots}
-use Rattle.histories.specs.declared.what.What.{What}
+use Rattle.histories.specs.declared.history_event.HistoryEvent.{HistoryEvent}
 use Rattle.histories.specs.After.{after, sent_at}
 use Rattle.histories.specs.Possible.{IsOfSlots}
 use Rattle.histories.specs.History.{FollowsSlots}
-use Rattle.histories.specs.What.{IsOf}
+use Rattle.histories.specs.HistoryEvent.{IsOf}
 use Rattle.histories.proofs.PublicLaws.{eq_nat}
 use Rattle.runs.proofs.Runs.{node_there, state_here, state_elsewhere}
 use Rattle.runs.proofs.Lawful.{allowed_of, slots_of}
 
-not_denied : (known : Bool) (n k : ℕ) (P : What → Type 0) (named : ℕ) (why : ActRefusal) → known ≡ true → At known n k P (Denies named why) → ⊥
+not_denied : (known : Bool) (n k : ℕ) (P : HistoryEvent → Type 0) (named : ℕ) (why : ActRefusal) → known ≡ true → At known n k P (Denies named why) → ⊥
 not_denied true n k P named why is h = absurd cc (h.1)
 not_denied false n k P named why is h = absurd cc
 
@@ -42,7 +43,7 @@ pub one_outcome : OneOutcome
 one_outcome slots self nodes s event (Core fault) taken fits refused of_slots = (let both : None ≡ Some fault = sym taken.1.by_core ∙ refused in absurd cc)
 one_outcome slots self nodes s event Full taken fits refused of_slots = absurd (fits of_slots)
 one_outcome slots self nodes s event Exhausted taken fits refused of_slots = absurd (taken.1.not_spent refused.1)
-one_outcome slots self nodes s event Worn taken fits refused of_slots = refl
+one_outcome slots self nodes s event AreaExhausted taken fits refused of_slots = refl
 
 acts_run : (nodes slots : ℕ) (acts : List Act) (steps : List Step) (w : World) → IsRunOf nodes slots w acts steps → RunFrom nodes w steps
 acts_run nodes slots [] [] w h = tt

@@ -13,7 +13,7 @@ use Rattle.node_core.specs.Words.{letter, own_group, task_of}
 use Rattle.node_core.specs.Timers.{timed}
 use Rattle.node_core.specs.Messages.{delivered}
 use Rattle.histories.specs.NodeState.{NodeState}
-use Rattle.histories.specs.declared.what.What.TheVariants.{Did}
+use Rattle.histories.specs.declared.history_event.HistoryEvent.TheVariants.{Did}
 use Rattle.runs.specs.World.{World, start}
 use Rattle.runs.specs.Step.{Step, Takes}
 use Rattle.runs.specs.Run.{world_at}

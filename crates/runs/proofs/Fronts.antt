@@ -19,7 +19,7 @@ pub record Front (nodes slots : ℕ) (w : World) (r : Report) (acts : List Act) 
   pub of_act : IsStepOf nodes before act step
   pub lawful : IsLawful slots nodes before step
   pub is : m ≡ moment_of nodes before act step
-  pub grows : report_from nodes w r (take (suc k) acts) (take (suc k) steps) ≡ grown nodes before act step (report_from nodes w r (take k acts) (take k steps))
+  pub grows : report_from nodes w r (take (suc k) acts) steps ≡ grown nodes before act step (report_from nodes w r (take k acts) steps)
 
 pub front : (k nodes slots : ℕ) (acts : List Act) (steps : List Step) (w : World) (r : Report) (m : Moment) → IsRunOf nodes slots w acts steps
     → slice_get (moments_from nodes w acts steps) k ≡ Some m → Front nodes slots w r acts steps k m

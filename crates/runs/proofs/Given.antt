@@ -2,7 +2,7 @@
 use Rattle.std.proofs.Common.{◌≡◌, ◌≢◌, ℕ, zero, suc, ◌+◌, ◌<◌, ◌≤◌, Bool, true, false, List, [], ◌∷◌, ◌++◌, map, slice_get, refl, sym, ◌∙◌, ap, subst, inl, inr, arith, Option, Some, None, IfSome, append_assoc}
 use Rattle.job_model.specs.declared.work.Work.{Work}
 use Rattle.std.proofs.lemmas.List.{append-nil}
-use Rattle.std.proofs.lemmas.Option.{IfSome_then}
+use Rattle.std.proofs.lemmas.Option.{IfSome_then, slice_get_within}
 use Rattle.std.specs.Prelude.{◌==◌}
 use Rattle.std.proofs.lemmas.Bool.Decides.{nat_tests}
 use Rattle.group_task.specs.Group.{Group}
@@ -20,9 +20,9 @@ use Rattle.node_core.specs.Words.{own_group}
 use Rattle.node_core.specs.State.{State}
 use Rattle.histories.specs.Lists.{IsAmong}
 use Rattle.histories.specs.NodeState.{NodeState, opening, wants_at, settled}
-use Rattle.histories.specs.declared.what.What.{What}
-use Rattle.histories.specs.declared.what.What.TheVariants.{Did, Refused, Faulted, Rests, Crashed, Recovered, MountFailed, RaiseFailed, RaiseRefused}
-use Rattle.histories.specs.What.{event_of, brought}
+use Rattle.histories.specs.declared.history_event.HistoryEvent.{HistoryEvent}
+use Rattle.histories.specs.declared.history_event.HistoryEvent.TheVariants.{Did, Refused, Faulted, NoOp, Crashed, Recovered, MountFailed, RaiseFailed, RaiseRefused}
+use Rattle.histories.specs.HistoryEvent.{event_of, brought}
 use Rattle.histories.specs.After.{after, sent_at, given_at, raised}
 use Rattle.histories.specs.Named.{AllHold, StateHolds}
 use Rattle.histories.proofs.PublicLaws.{eq_nat, among_left, among_right, among_either, each_append, each_at, each_of, each_more, AnyWork, any_pending, GivenHold, Knows, SaysIn, Says, entry_does}
@@ -30,7 +30,9 @@ use Rattle.std.specs.List.{range_with_len}
 use Rattle.runs.specs.World.{World, start, node_in}
 use Rattle.runs.specs.Step.{Step, Takes, Changes, Denies, world_after}
 use Rattle.runs.specs.Run.{IsBrought, IsAllowed, RunFrom, world_at}
-use Rattle.runs.specs.Given.{groups_at, groups_from, AllGiven, GivenBefore, IsOnceEach, NoneTwice}
+use Rattle.runs.specs.Given.{groups_at, groups_from, groups_of, AllGiven, GivenBefore, IsOnceEach, NoneTwice}
+use Rattle.runs.proofs.Keeping.{run_length}
+use Rattle.runs.proofs.Opened.{length_openings}
 use Rattle.runs.proofs.Runs.{brought_sent, node_there, state_here, state_elsewhere, opened}
 
 -- what is said names groups
@@ -141,10 +143,10 @@ settled_grows : (kept : Bool) (self : ℕ) (s : NodeState) → s.durable.counter
 settled_grows true self s = (wanted_raises self s.durable s.doubt).grows
 settled_grows false self s = omega arith
 
-entry_raises : (self nodes : ℕ) (s : NodeState) (what : What) → Raises self s.durable.counter (after self nodes s what).durable.counter (given_at self nodes s what)
+entry_raises : (self nodes : ℕ) (s : NodeState) (what : HistoryEvent) → Raises self s.durable.counter (after self nodes s what).durable.counter (given_at self nodes s what)
 entry_raises self nodes s (Did event) = wanted_raises self s.durable (wants_at self nodes s event)
 entry_raises self nodes s (Refused event fault) = none_raised self s.durable.counter s.durable.counter (omega arith)
-entry_raises self nodes s (Rests why) = none_raised self s.durable.counter s.durable.counter (omega arith)
+entry_raises self nodes s (NoOp why) = none_raised self s.durable.counter s.durable.counter (omega arith)
 entry_raises self nodes s (Faulted event) = none_raised self s.durable.counter s.durable.counter (omega arith)
 entry_raises self nodes s Crashed = none_raised self s.durable.counter s.durable.counter (omega arith)
 entry_raises self nodes s (Recovered kept) = one_raised self s.durable.counter ((settled kept s).counter + 1) (omega (arith, settled_grows kept self s))
@@ -228,11 +230,20 @@ openings_once : (k i : ℕ) → IsOnceEach (map (λ (x : ℕ). own_group x 1) (r
 openings_once zero i = tt
 openings_once (suc k) i = (λ h. (let it = openings_bound k (i + 1) (own_group i 1) h in let c : i ≡ i + 1 + it.0 = ap (λ (x : Group). x.creator) it.1 in absurd (omega (arith, c))), openings_once k (i + 1))
 
-pub none_twice : NoneTwice
-none_twice nodes steps run = (run_bounded nodes steps (start nodes) (map (λ (x : ℕ). own_group x 1) (range_with_len 0 nodes)) (record {
+all_bounded : (nodes : ℕ) (steps : List Step) → RunFrom nodes (start nodes) steps → Bounded (world_at nodes (start nodes) steps) (groups_of nodes steps)
+all_bounded nodes steps run = run_bounded nodes steps (start nodes) (map (λ (x : ℕ). own_group x 1) (range_with_len 0 nodes)) (record {
   bound = λ g h.
       (let it = openings_bound nodes 0 g h in
       let creator : g.creator ≡ it.0 = ap (λ (x : Group). x.creator) it.1 ∙ (let n : 0 + it.0 ≡ it.0 = omega arith in n) in
       (opening (0 + it.0), subst (λ (c : ℕ). slice_get (map opening (range_with_len 0 nodes)) c ≡ Some (opening (0 + it.0))) (sym creator) it.2, omega (arith, ap (λ (x : Group). x.count) it.1)));
   once = openings_once nodes 0;
-}) run).once
+}) run
+
+pub none_twice : NoneTwice
+none_twice nodes steps run = (all_bounded nodes steps run).once
+
+-- who gives a group is a node of the cluster
+pub given_inside : (nodes : ℕ) (steps : List Step) → RunFrom nodes (start nodes) steps → (g : Group) → IsAmong g (groups_of nodes steps) → g.creator < nodes
+given_inside nodes steps run g i =
+    let it = (all_bounded nodes steps run).bound g i in
+    omega (arith, slice_get_within (world_at nodes (start nodes) steps).states g.creator it.0 it.1, run_length nodes steps (start nodes), length_openings 0 nodes)

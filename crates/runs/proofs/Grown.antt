@@ -1,6 +1,6 @@
 -- A run and its report grow by one act.
 use Rattle.std.proofs.Common.{◌≡◌, ◌≢◌, ℕ, ◌+◌, List, [], ◌∷◌, ◌++◌, length, refl, sym, ◌∙◌, ap, subst, arith}
-use Rattle.node_core.specs.declared.fault.Refusal.TheVariants.{Worn}
+use Rattle.node_core.specs.declared.fault.Refusal.TheVariants.{AreaExhausted}
 use Rattle.std.proofs.lemmas.List.{length-append, length-map, map-append}
 use Rattle.schedule.specs.declared.act.Act.{Act}
 use Rattle.runs.specs.World.{World, start}
@@ -26,10 +26,6 @@ acts_go_on nodes slots [] [] w a step run next = (next.of_act, lawful_of slots n
 acts_go_on nodes slots [] (x ∷ steps) w a step run next = absurd run
 acts_go_on nodes slots (b ∷ acts) [] w a step run next = absurd run
 acts_go_on nodes slots (b ∷ acts) (x ∷ steps) w a step run next = (run.0, run.1, acts_go_on nodes slots acts steps (world_after nodes w x) a step run.2 next)
-
-run_length : (nodes : ℕ) (steps : List Step) (w : World) → length (world_at nodes w steps).states ≡ length w.states
-run_length nodes [] w = refl
-run_length nodes (step ∷ steps) w = run_length nodes steps (world_after nodes w step) ∙ step_length nodes w step
 
 world_goes_on : (nodes : ℕ) (steps : List Step) (step : Step) (w : World) → world_at nodes w (steps ++ step ∷ []) ≡ world_after nodes (world_at nodes w steps) step
 world_goes_on nodes [] step w = refl
@@ -60,7 +56,7 @@ runs_grow nodes slots w r a step left next few unworn =
     let was_run : IsRunOf nodes slots (start nodes) acts steps = left_run nodes slots w r left in
     let exact : IsExactStep nodes slots (world_at nodes (start nodes) steps) a step =
     exact_next slots nodes acts steps a step (omega (arith, few, many)) was_run (subst (λ (x : World). IsNext nodes slots x a step) left.world next)
-    (subst (λ (x : World). act_outcome nodes x a step ≢ Refused (OfNode Worn)) left.world unworn) in
+    (subst (λ (x : World). act_outcome nodes x a step ≢ Refused (OfNode AreaExhausted)) left.world unworn) in
     let run : IsExactRun nodes slots (start nodes) (acts ++ a ∷ []) (steps ++ step ∷ []) = exact_goes_on nodes slots acts steps (start nodes) a step left.is_run exact in
     let shown : acts_in (grown nodes w a step r) ≡ acts ++ a ∷ [] = map-append (λ (m : Moment). m.act) r.moments (moment_of nodes w a step ∷ []) in
     let reported : grown nodes w a step r ≡ report_of nodes (acts ++ a ∷ []) (steps ++ step ∷ []) =

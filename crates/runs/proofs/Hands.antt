@@ -14,18 +14,18 @@ use Rattle.node_core.specs.declared.event.Event.TheVariants.{Timer as TimerEvent
 use Rattle.node_core.specs.declared.timer.Timer.{Timer}
 use Rattle.node_core.specs.declared.timer.Timer.TheVariants as timer
 use Rattle.node_core.specs.declared.in_hand.InHand.{InHand}
-use Rattle.node_core.specs.State.{State, is_normal}
+use Rattle.node_core.specs.declared.phase.Phase.TheVariants.{Normal}
+use Rattle.node_core.specs.State.{State, in_phase}
 use Rattle.node_core.specs.Effect.{Effect}
 use Rattle.node_core.specs.Words.{members_of, owner, holds}
 use Rattle.node_core.specs.Priorities.{by_priority}
 use Rattle.node_core.proofs.PublicLaws.{few_by_priority}
-use Rattle.node_core.specs.Timers.{timed, is_own, own_jobs}
+use Rattle.node_core.specs.Timers.{timed, own_jobs}
 use Rattle.node_core.specs.Messages.{delivered}
-use Rattle.node_core.specs.Operator.{submit, finish}
 use Rattle.node_core.specs.Effects.{effect_of}
 use Rattle.histories.specs.NodeState.{NodeState, wants_at}
-use Rattle.histories.specs.declared.what.What.{What}
-use Rattle.histories.specs.declared.what.What.TheVariants.{Did, Refused, Faulted, Rests, Crashed, Recovered, MountFailed, RaiseFailed, RaiseRefused}
+use Rattle.histories.specs.declared.history_event.HistoryEvent.{HistoryEvent}
+use Rattle.histories.specs.declared.history_event.HistoryEvent.TheVariants.{Did, Refused, Faulted, NoOp, Crashed, Recovered, MountFailed, RaiseFailed, RaiseRefused}
 use Rattle.histories.specs.After.{after}
 use Rattle.runs.specs.World.{World}
 use Rattle.runs.specs.Step.{Step, Takes, world_after}
@@ -49,26 +49,25 @@ few_chosen test xs = omega (arith, length-filter test xs, count_by-le-length tes
 
 few_own : (self : ℕ) (s : State) (pending : List Job) → length (own_jobs self s pending) ≤ length pending
 few_own self s pending =
-    let test : Job → Bool = λ job. is_own self s job && not (holds s.hand self job.id) in
+    let test : Job → Bool = λ job. owner s job.work.queue == self && not (holds s.hand self job.id) in
     let taken : Job → InHand = λ job. record { origin = self; id = job.id; work = job.work } in
     omega (arith, length-map (filter test pending) taken, few_chosen test pending)
 
 body_few : (limit self from : ℕ) (body : Body) (answer : ℕ) (s : State) → length s.hand + 1 ≤ limit → HasFew limit (delivered self from body answer s)
 unfolding delivered
 body_few limit self from (WorkMessage group id work) answer s h =
-    few_if limit (is_normal s.phase && same_group group s.group && has (members_of s.task) from && owner s work.queue == self && not (holds s.hand from id)) _ _
+    few_if limit (in_phase Normal s.phase && same_group group s.group && has (members_of s.task) from && owner s work.queue == self && not (holds s.hand from id)) _ _
     (gains limit s (record { origin = from; id = id; work = work }) h) (record { few = omega (arith, h) })
 body_few limit self from body answer s h = search (rules, arith, h)
 
 timer_few : (limit nodes self : ℕ) (pending : List Job) (timer : Timer) (answer : ℕ) (s : State) → length s.hand + length pending + 1 ≤ limit → HasFew limit (timed nodes self pending timer answer s)
 unfolding timed
-timer_few limit nodes self pending timer.Dispatch answer s h = few_if limit (is_normal s.phase) _ _
+timer_few limit nodes self pending timer.Dispatch answer s h = few_if limit (in_phase Normal s.phase) _ _
     (record { few = omega (arith, length-append s.hand (own_jobs self s (by_priority pending)), few_own self s (by_priority pending), few_by_priority pending, h) })
     (record { few = omega (arith, h) })
 timer_few limit nodes self pending timer answer s h = search (rules, arith, h)
 
 event_few : (limit nodes self : ℕ) (pending : List Job) (event : Event) (answer : ℕ) (s : State) → length s.hand + length pending + 1 ≤ limit → HasFew limit (effect_of nodes self pending event answer s)
-unfolding submit finish
 event_few limit nodes self pending (TimerEvent timer) answer s h = timer_few limit nodes self pending timer answer s h
 event_few limit nodes self pending (Deliver m) answer s h = body_few limit self m.sender m.body answer s (omega (arith, h))
 event_few limit nodes self pending (Submit work) answer s h =
@@ -83,11 +82,11 @@ pub event_gains : (nodes self : ℕ) (pending : List Job) (event : Event) (answe
 event_gains nodes self pending event answer s = (event_few (length s.hand + length pending + 1) nodes self pending event answer s (omega arith)).few
 
 -- and so does anything that may come of it
-step_gains : (self nodes : ℕ) (s : NodeState) (what : What) → length (after self nodes s what).state.hand ≤ length s.state.hand + length s.durable.pending + 1
+step_gains : (self nodes : ℕ) (s : NodeState) (what : HistoryEvent) → length (after self nodes s what).state.hand ≤ length s.state.hand + length s.durable.pending + 1
 step_gains self nodes s (Did event) = event_gains nodes self s.durable.pending event (answer_to s.durable (wants_at self nodes s event)) s.state
 step_gains self nodes s (Refused event fault) = omega arith
 step_gains self nodes s (Faulted event) = omega arith
-step_gains self nodes s (Rests rest) = omega arith
+step_gains self nodes s (NoOp rest) = omega arith
 step_gains self nodes s Crashed = omega arith
 step_gains self nodes s (Recovered kept) = omega arith
 step_gains self nodes s MountFailed = omega arith

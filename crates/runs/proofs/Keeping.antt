@@ -1,14 +1,15 @@
 -- What each node keeps at its own steps, every node keeps.
-use Rattle.std.proofs.Common.{◌≡◌, ◌≢◌, ℕ, Bool, true, false, length, slice_get, refl, sym, ◌∙◌, subst, arith, Some}
+use Rattle.std.proofs.Common.{◌≡◌, ◌≢◌, ℕ, Bool, true, false, List, [], ◌∷◌, length, slice_get, refl, sym, ◌∙◌, subst, arith, Some}
 use Rattle.std.specs.Prelude.{◌==◌}
 use Rattle.std.proofs.lemmas.Bool.Decides.{nat_tests}
 use Rattle.std.proofs.lemmas.List.{length-set}
 use Rattle.histories.specs.NodeState.{NodeState}
-use Rattle.histories.specs.declared.what.What.{What}
+use Rattle.histories.specs.declared.history_event.HistoryEvent.{HistoryEvent}
 use Rattle.histories.specs.After.{after}
 use Rattle.histories.proofs.PublicLaws.{eq_nat}
 use Rattle.runs.specs.World.{World, node_in}
 use Rattle.runs.specs.Step.{Step, Takes, Changes, Denies, world_after}
+use Rattle.runs.specs.Run.{world_at}
 use Rattle.runs.proofs.Runs.{state_here, state_elsewhere}
 
 -- P holds of each node and its state
@@ -16,7 +17,7 @@ abbrev pub AllStates : (ℕ → NodeState → Type 0) → World → Type 0
 AllStates P w = (n : ℕ) (s : NodeState) → slice_get w.states n ≡ Some s → P n s
 
 -- where it holds of a node after its step, it holds of all nodes after that step
-pub states_keep : (P : ℕ → NodeState → Type 0) (nodes : ℕ) (w : World) (m number : ℕ) (what : What) (s : NodeState) → slice_get w.states m ≡ Some s → P m (after m nodes s what)
+pub states_keep : (P : ℕ → NodeState → Type 0) (nodes : ℕ) (w : World) (m number : ℕ) (what : HistoryEvent) (s : NodeState) → slice_get w.states m ≡ Some s → P m (after m nodes s what)
     → AllStates P w → AllStates P (world_after nodes w (Takes m number what))
 states_keep P nodes w m number what s at kept all n t at_n = by_place (m == n) refl
   where
@@ -36,3 +37,7 @@ pub step_length : (nodes : ℕ) (w : World) (step : Step) → length (world_afte
 step_length nodes w (Takes n number what) = length-set w.states n (after n nodes (node_in w.states n) what)
 step_length nodes w (Changes net) = refl
 step_length nodes w (Denies named why) = refl
+
+pub run_length : (nodes : ℕ) (steps : List Step) (w : World) → length (world_at nodes w steps).states ≡ length w.states
+run_length nodes [] w = refl
+run_length nodes (step ∷ steps) w = run_length nodes steps (world_after nodes w step) ∙ step_length nodes w step

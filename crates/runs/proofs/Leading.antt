@@ -14,8 +14,8 @@ use Rattle.node_core.specs.declared.phase.Phase.TheVariants.{Down, Election, Reo
 use Rattle.node_core.specs.State.{State}
 use Rattle.node_core.specs.Words.{own_group}
 use Rattle.histories.specs.NodeState.{NodeState, opening, wants_at, settled}
-use Rattle.histories.specs.declared.what.What.{What}
-use Rattle.histories.specs.declared.what.What.TheVariants.{Did, Refused, Faulted, Rests, Crashed, Recovered, MountFailed, RaiseFailed, RaiseRefused}
+use Rattle.histories.specs.declared.history_event.HistoryEvent.{HistoryEvent}
+use Rattle.histories.specs.declared.history_event.HistoryEvent.TheVariants.{Did, Refused, Faulted, NoOp, Crashed, Recovered, MountFailed, RaiseFailed, RaiseRefused}
 use Rattle.histories.specs.After.{after, raised}
 use Rattle.histories.specs.Possible.{IsPossible}
 use Rattle.histories.proofs.PublicLaws.{AnyGroup, AnyWork, GroupMove, assigns, calls, completes, entry_does, eq_nat, falls, joins, starts_alone, stays, takes}
@@ -67,13 +67,13 @@ one_raised d (Some Raise) k is = cc is
 one_raised d (Some (Put work)) k is = absurd cc
 one_raised d (Some (Done id)) k is = absurd cc
 
-leads_after : (self nodes : ℕ) (s : NodeState) (what : What) → IsPossible self nodes s what → LeadsLast self s → LeadsLast self (after self nodes s what)
+leads_after : (self nodes : ℕ) (s : NodeState) (what : HistoryEvent) → IsPossible self nodes s what → LeadsLast self s → LeadsLast self (after self nodes s what)
 leads_after self nodes s (Did event) may h =
     let row = entry_does AnyGroup AnyWork AnyWork self nodes s (Did event) may in
     moved self s.durable.counter (after self nodes s (Did event)).durable.counter s.state _ _ _ row.made row.moves (none_raised s.durable (wants_at self nodes s event)) (one_raised s.durable (wants_at self nodes s event)) h
 leads_after self nodes s (Refused event fault) may h = h
 leads_after self nodes s (Faulted event) may h = λ up leads. absurd (up refl)
-leads_after self nodes s (Rests rest) may h = h
+leads_after self nodes s (NoOp rest) may h = h
 leads_after self nodes s Crashed may h = λ up leads. absurd (up refl)
 leads_after self nodes s (Recovered kept) may h = λ up leads. refl
 leads_after self nodes s MountFailed may h = h
@@ -92,11 +92,11 @@ settled_more : (kept : Bool) (s : NodeState) → s.durable.counter ≤ (settled 
 settled_more true s = wanted_more s.durable s.doubt
 settled_more false s = omega arith
 
-counter_more : (self nodes : ℕ) (s : NodeState) (what : What) → s.durable.counter ≤ (after self nodes s what).durable.counter
+counter_more : (self nodes : ℕ) (s : NodeState) (what : HistoryEvent) → s.durable.counter ≤ (after self nodes s what).durable.counter
 counter_more self nodes s (Did event) = wanted_more s.durable (wants_at self nodes s event)
 counter_more self nodes s (Refused event fault) = omega arith
 counter_more self nodes s (Faulted event) = omega arith
-counter_more self nodes s (Rests rest) = omega arith
+counter_more self nodes s (NoOp rest) = omega arith
 counter_more self nodes s Crashed = omega arith
 counter_more self nodes s (Recovered kept) = omega (arith, settled_more kept s)
 counter_more self nodes s MountFailed = omega arith

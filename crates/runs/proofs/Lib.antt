@@ -1,4 +1,5 @@
 mod Runs
+mod Bringing
 mod Lawful
 mod RunBooks
 mod Tagged

@@ -6,11 +6,11 @@ use Rattle.histories.specs.Lists.{Each}
 use Rattle.histories.specs.NodeState.{NodeState}
 use Rattle.histories.proofs.PublicLaws.{each_split}
 use Rattle.schedule.specs.declared.act.Act.{Act}
-use Rattle.runs.specs.World.{World, node_in}
+use Rattle.runs.specs.World.{World, node_in, start}
 use Rattle.runs.specs.Step.{Step, Takes, Changes, Denies, world_after, step_sent}
 use Rattle.runs.specs.Run.{RunFrom, world_at}
 use Rattle.runs.specs.Acts.{IsRunOf}
-use Rattle.runs.specs.Reporting.{Moment, moment_of}
+use Rattle.runs.specs.Reporting.{Moment, Report, moment_of, grown, first_report, report_from, report_of}
 use Rattle.runs.proofs.Reports.{moments_from}
 use Rattle.histories.specs.After.{sent_at}
 
@@ -28,6 +28,16 @@ acts_front (suc k) nodes slots [] [] w run = tt
 acts_front (suc k) nodes slots [] (step ∷ steps) w run = absurd run
 acts_front (suc k) nodes slots (a ∷ acts) [] w run = absurd run
 acts_front (suc k) nodes slots (a ∷ acts) (step ∷ steps) w run = (run.0, run.1, acts_front k nodes slots acts steps (world_after nodes w step) run.2)
+
+-- of the report of the first acts the first steps decide
+steps_past : (k nodes : ℕ) (acts : List Act) (steps : List Step) (w : World) (r : Report) → report_from nodes w r (take k acts) steps ≡ report_from nodes w r (take k acts) (take k steps)
+steps_past zero nodes acts steps w r = refl
+steps_past (suc k) nodes [] steps w r = refl
+steps_past (suc k) nodes (a ∷ acts) [] w r = refl
+steps_past (suc k) nodes (a ∷ acts) (step ∷ steps) w r = steps_past k nodes acts steps (world_after nodes w step) (grown nodes w a step r)
+
+pub front_report : (nodes k : ℕ) (acts : List Act) (steps : List Step) → report_of nodes (take k acts) steps ≡ report_of nodes (take k acts) (take k steps)
+front_report nodes k acts steps = steps_past k nodes acts steps (start nodes) (first_report nodes)
 
 -- there is a step for each act
 pub as_many : (nodes slots : ℕ) (acts : List Act) (steps : List Step) (w : World) → IsRunOf nodes slots w acts steps → length acts ≡ length steps

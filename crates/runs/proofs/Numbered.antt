@@ -4,9 +4,9 @@ use Rattle.std.proofs.lemmas.List.{append-nil}
 use Rattle.std.proofs.Math.Seq.{drop-append_seam, take-append_seam}
 use Rattle.wire_msg.specs.Envelope.{Envelope}
 use Rattle.histories.specs.NodeState.{NodeState}
-use Rattle.histories.specs.declared.what.What.{What}
-use Rattle.histories.specs.declared.what.What.TheVariants.{Did, Rests, Crashed}
-use Rattle.histories.specs.declared.what.Rest.TheVariants.{Nothing, Compacted, CompactDown, CompactWorn}
+use Rattle.histories.specs.declared.history_event.HistoryEvent.{HistoryEvent}
+use Rattle.histories.specs.declared.history_event.HistoryEvent.TheVariants.{Did, NoOp, Crashed}
+use Rattle.histories.specs.declared.history_event.NoOpKind.TheVariants.{Nothing, Compacted, CompactDown, CompactAreaExhausted}
 use Rattle.histories.specs.After.{sent_at}
 use Rattle.schedule.specs.declared.act.Act.{Act}
 use Rattle.schedule.specs.declared.act.Act.TheVariants as act
@@ -26,13 +26,13 @@ part_between : (first part rest : List Envelope) → take (length part) (drop (l
 part_between first part rest = rw (append_assoc first part rest, drop-append_seam first (part ++ rest)) (take-append_seam part rest)
 
 -- what comes at a node
-node_numbered : (n nodes : ℕ) (before rest : List Envelope) (s : NodeState) (what : What) (a : Act)
+node_numbered : (n nodes : ℕ) (before rest : List Envelope) (s : NodeState) (what : HistoryEvent) (a : Act)
     → sent_at n nodes s what ≡ sent_under ((before ++ sent_at n nodes s what) ++ rest) (what_outcome n nodes (length before) s what a)
 node_numbered n nodes before rest s (Did event) a = sym (part_between before (sent_at n nodes s (Did event)) rest)
-node_numbered n nodes before rest s (Rests Nothing) a = refl
-node_numbered n nodes before rest s (Rests Compacted) a = refl
-node_numbered n nodes before rest s (Rests CompactDown) a = refl
-node_numbered n nodes before rest s (Rests CompactWorn) a = refl
+node_numbered n nodes before rest s (NoOp Nothing) a = refl
+node_numbered n nodes before rest s (NoOp Compacted) a = refl
+node_numbered n nodes before rest s (NoOp CompactDown) a = refl
+node_numbered n nodes before rest s (NoOp CompactAreaExhausted) a = refl
 node_numbered n nodes before rest s Crashed (act.Compact m) = refl
 node_numbered n nodes before rest s Crashed _ = refl
 node_numbered n nodes before rest s _ a = refl

@@ -6,8 +6,9 @@ use Rattle.job_model.specs.Durable.{formatted}
 use Rattle.node_core.specs.Words.{own_group}
 use Rattle.histories.specs.NodeState.{NodeState, opening}
 use Rattle.std.specs.List.{range_with_len}
-use Rattle.runs.specs.declared.tried.TriedAt.{TriedAt}
-use Rattle.runs.specs.Reporting.{MountedAt, first_report}
+use Rattle.runs.specs.declared.attempt_at.AttemptAt.{AttemptAt}
+use Rattle.histories.specs.Kept.{Mounting}
+use Rattle.runs.specs.Reporting.{first_report}
 
 pub length_openings : (n k : ℕ) → length (map opening (range_with_len n k)) ≡ k
 length_openings n zero = refl
@@ -23,12 +24,12 @@ pub opened_more : (k : ℕ) → record {
   moments = [];
   groups = (first_report k).groups ++ own_group k 1 ∷ [];
   commands = (first_report k).commands ++ record { node = k; tried = record { command = Raise; acked = Some 1 } } ∷ [];
-  mounted = (first_report k).mounted ++ record { node = k; mounting = record { before = 0; state = formatted } } ∷ [];
+  mounted = (first_report k).mounted ++ (k, record { before = 0; state = formatted }) ∷ [];
 } ≡ first_report (suc k)
 opened_more k = (λ i. record {
   opening = (sym (map-append (λ (s : NodeState). s.state) (map opening (range_with_len 0 k)) (opening k ∷ [])) ∙ ap (λ (ss : List NodeState). map (λ (s : NodeState). s.state) ss) (one_more opening k 0 k (omega arith))) i;
   moments = [];
   groups = one_more (λ (n : ℕ). own_group n 1) k 0 k (omega arith) i;
-  commands = one_more {A = TriedAt} (λ (n : ℕ). record { node = n; tried = record { command = Raise; acked = Some 1 } }) k 0 k (omega arith) i;
-  mounted = one_more {A = MountedAt} (λ (n : ℕ). record { node = n; mounting = record { before = 0; state = formatted } }) k 0 k (omega arith) i;
+  commands = one_more {A = AttemptAt} (λ (n : ℕ). record { node = n; tried = record { command = Raise; acked = Some 1 } }) k 0 k (omega arith) i;
+  mounted = one_more {A = ℕ × Mounting} (λ (n : ℕ). (n, record { before = 0; state = formatted })) k 0 k (omega arith) i;
 })

@@ -1,5 +1,7 @@
 -- What proofs of other crates may cite of this one: its other lemmas are its own.
 
+-- What a delivery is, by what the network answers to it.
+pub use Rattle.runs.proofs.Bringing.{Brings}
 -- How many commands each node tried.
 pub use Rattle.runs.proofs.Counted.{counts_more, counts_opened, own_few}
 -- What an act is, is exact: the network and the nodes can't refuse at will.

@@ -10,12 +10,12 @@ use Rattle.job_model.specs.declared.node_command.NodeCommand.TheVariants.{Raise,
 use Rattle.job_model.specs.Durable.{Durable, formatted}
 use Rattle.job_model.specs.Answer.{answer_of}
 use Rattle.histories.specs.NodeState.{NodeState, opening, wants_at}
-use Rattle.histories.specs.declared.what.What.{What}
-use Rattle.histories.specs.declared.what.What.TheVariants.{Did, Faulted}
-use Rattle.histories.specs.What.{Entry}
+use Rattle.histories.specs.declared.history_event.HistoryEvent.{HistoryEvent}
+use Rattle.histories.specs.declared.history_event.HistoryEvent.TheVariants.{Did, Faulted}
+use Rattle.histories.specs.HistoryEvent.{Entry}
 use Rattle.histories.specs.After.{after, sent_at, given_at, raised, mounted_at}
 use Rattle.histories.specs.Kept.{Mounting}
-use Rattle.histories.specs.declared.tried.Tried.{Tried}
+use Rattle.histories.specs.declared.attempt.Attempt.{Attempt}
 use Rattle.histories.specs.Marks.{Mark, Acknowledged, Unanswered, Mounted, commands_of, mountings_of, tried_marks, failed_marks, marks_at, marks_from, marks_of}
 use Rattle.histories.proofs.PublicLaws.{commands_append, eq_nat}
 use Rattle.schedule.specs.declared.act.Act.{Act}
@@ -25,8 +25,8 @@ use Rattle.runs.specs.Step.{Step, Takes, Changes, Denies, world_after}
 use Rattle.runs.specs.Run.{history_in}
 use Rattle.runs.specs.Acts.{IsRunOf}
 use Rattle.runs.specs.Given.{groups_at, groups_from, groups_of}
-use Rattle.runs.specs.Reporting.{Moment, MountedAt, Report, moment_of, own_commands, own_mountings, first_report, tries, grown, report_from, report_of, commands_at, group_of}
-use Rattle.runs.specs.declared.tried.TriedAt.{TriedAt}
+use Rattle.runs.specs.Reporting.{Moment, Report, moment_of, own_commands, own_mountings, first_report, tries, grown, report_from, report_of, commands_at, group_of}
+use Rattle.runs.specs.declared.attempt_at.AttemptAt.{AttemptAt}
 use Rattle.runs.proofs.Runs.{node_there, state_here, state_elsewhere, starts_opened}
 
 -- ---- openings, moments and groups
@@ -55,11 +55,11 @@ pub moments_are : (nodes : ℕ) (acts : List Act) (steps : List Step) → (repor
 moments_are nodes acts steps = moments_added nodes acts steps (start nodes) (first_report nodes)
 
 -- those of one node, with its number
-abbrev pub with_node : ℕ → List Tried → List TriedAt
-with_node m ts = map (λ (t : Tried). record { node = m; tried = t }) ts
+abbrev pub with_node : ℕ → List Attempt → List AttemptAt
+with_node m ts = map (λ (t : Attempt). record { node = m; tried = t }) ts
 
-abbrev pub groups_by : List TriedAt → List Group
-groups_by ts = flat_map (λ (t : TriedAt). group_of t.node t.tried.command t.tried.acked) ts
+abbrev pub groups_by : List AttemptAt → List Group
+groups_by ts = flat_map (λ (t : AttemptAt). group_of t.node t.tried.command t.tried.acked) ts
 
 did_gives : (n : ℕ) (d : Durable) (wants : Option Command) → groups_by (with_node n (map (λ (c : Command). record { command = c; acked = Some (answer_of d c) }) (option_to_list wants))) ≡ map (own_group n) (raised d wants)
 did_gives n d None = refl
@@ -73,7 +73,7 @@ failed_gives n (Some Raise) = refl
 failed_gives n (Some (Put work)) = refl
 failed_gives n (Some (Done id)) = refl
 
-what_gives : (n nodes : ℕ) (s : NodeState) (what : What) → groups_by (with_node n (tries n nodes s what)) ≡ map (own_group n) (given_at n nodes s what)
+what_gives : (n nodes : ℕ) (s : NodeState) (what : HistoryEvent) → groups_by (with_node n (tries n nodes s what)) ≡ map (own_group n) (given_at n nodes s what)
 what_gives n nodes s (Did event) = did_gives n s.durable (wants_at n nodes s event)
 what_gives n nodes s (Faulted event) = failed_gives n (wants_at n nodes s event)
 what_gives n nodes s _ = refl
@@ -102,20 +102,20 @@ mountings_append (Acknowledged c a ∷ ms) ns = mountings_append ms ns
 mountings_append (Unanswered c ∷ ms) ns = mountings_append ms ns
 mountings_append (Mounted w ∷ ms) ns = ap (λ (ws : List Mounting). w ∷ ws) (mountings_append ms ns)
 
-pub own_append : (n : ℕ) (xs ys : List TriedAt) → own_commands n (xs ++ ys) ≡ own_commands n xs ++ own_commands n ys
-own_append n xs ys = append_own (λ (t : TriedAt). t.node) (λ (t : TriedAt). t.tried) n xs ys
+pub own_append : (n : ℕ) (xs ys : List AttemptAt) → own_commands n (xs ++ ys) ≡ own_commands n xs ++ own_commands n ys
+own_append n xs ys = append_own (λ (t : AttemptAt). t.node) (λ (t : AttemptAt). t.tried) n xs ys
 
-own_mounted_append : (n : ℕ) (xs ys : List MountedAt) → own_mountings n (xs ++ ys) ≡ own_mountings n xs ++ own_mountings n ys
-own_mounted_append n xs ys = append_own (λ (w : MountedAt). w.node) (λ (w : MountedAt). w.mounting) n xs ys
+own_mounted_append : (n : ℕ) (xs ys : List (ℕ × Mounting)) → own_mountings n (xs ++ ys) ≡ own_mountings n xs ++ own_mountings n ys
+own_mounted_append n xs ys = append_own (λ (w : ℕ × Mounting). w.0) (λ (w : ℕ × Mounting). w.1) n xs ys
 
-abbrev mounted_there : ℕ → ℕ → Option Durable → List MountedAt
-mounted_there m before d = map (λ (d : Durable). record { node = m; mounting = record { before = before; state = d } }) (option_to_list d)
+abbrev mounted_there : ℕ → ℕ → Option Durable → List (ℕ × Mounting)
+mounted_there m before d = map (λ (d : Durable). (m, record { before = before; state = d })) (option_to_list d)
 
-own_here : (m n : ℕ) (ts : List Tried) → (m == n) ≡ true → own_commands n (with_node m ts) ≡ ts
+own_here : (m n : ℕ) (ts : List Attempt) → (m == n) ≡ true → own_commands n (with_node m ts) ≡ ts
 own_here m n [] is = refl
-own_here m n (t ∷ ts) is = rw is (ap (λ (us : List Tried). t ∷ us) (own_here m n ts is))
+own_here m n (t ∷ ts) is = rw is (ap (λ (us : List Attempt). t ∷ us) (own_here m n ts is))
 
-own_elsewhere : (m n : ℕ) (ts : List Tried) → (m == n) ≡ false → own_commands n (with_node m ts) ≡ []
+own_elsewhere : (m n : ℕ) (ts : List Attempt) → (m == n) ≡ false → own_commands n (with_node m ts) ≡ []
 own_elsewhere m n [] is = refl
 own_elsewhere m n (t ∷ ts) is = rw is (own_elsewhere m n ts is)
 
@@ -144,12 +144,12 @@ failed_mounts : (wants : Option Command) → [] ≡ mountings_of (failed_marks w
 failed_mounts None = refl
 failed_mounts (Some c) = refl
 
-tries_are : (n nodes count : ℕ) (s : NodeState) (what : What) → tries n nodes s what ≡ commands_of (marks_at n nodes s count what)
+tries_are : (n nodes count : ℕ) (s : NodeState) (what : HistoryEvent) → tries n nodes s what ≡ commands_of (marks_at n nodes s count what)
 tries_are n nodes count s (Did event) = did_tries s.durable (wants_at n nodes s event)
 tries_are n nodes count s (Faulted event) = failed_tries (wants_at n nodes s event)
 tries_are n nodes count s _ = refl
 
-mounts_are : (n nodes count : ℕ) (s : NodeState) (what : What) → map (λ (x : Durable). record { before = count; state = x }) (option_to_list (mounted_at s what)) ≡ mountings_of (marks_at n nodes s count what)
+mounts_are : (n nodes count : ℕ) (s : NodeState) (what : HistoryEvent) → map (λ (x : Durable). record { before = count; state = x }) (option_to_list (mounted_at s what)) ≡ mountings_of (marks_at n nodes s count what)
 mounts_are n nodes count s (Did event) = did_mounts s.durable (wants_at n nodes s event)
 mounts_are n nodes count s (Faulted event) = failed_mounts (wants_at n nodes s event)
 mounts_are n nodes count s _ = refl
@@ -161,8 +161,8 @@ record GoesOn (n : ℕ) (r r' : Report) (ms : List Mark) : Type 0 where
 
 then_on : (n : ℕ) (r q p : Report) (ms ns : List Mark) → GoesOn n r q ms → GoesOn n q p ns → GoesOn n r p (ms ++ ns)
 then_on n r q p ms ns first later = record {
-  commands = later.commands ∙ ap (λ (ts : List Tried). ts ++ commands_of ns) first.commands ∙ append_assoc (own_commands n r.commands) (commands_of ms) (commands_of ns)
-      ∙ ap (λ (ts : List Tried). own_commands n r.commands ++ ts) (sym (commands_append ms ns));
+  commands = later.commands ∙ ap (λ (ts : List Attempt). ts ++ commands_of ns) first.commands ∙ append_assoc (own_commands n r.commands) (commands_of ms) (commands_of ns)
+      ∙ ap (λ (ts : List Attempt). own_commands n r.commands ++ ts) (sym (commands_append ms ns));
   mounted = later.mounted ∙ ap (λ (ws : List Mounting). ws ++ mountings_of ns) first.mounted ∙ append_assoc (own_mountings n r.mounted) (mountings_of ms) (mountings_of ns)
       ∙ ap (λ (ws : List Mounting). own_mountings n r.mounted ++ ws) (sym (mountings_append ms ns));
 }
@@ -172,17 +172,17 @@ abbrev so_many : ℕ → Report → ℕ
 so_many n r = length (own_commands n r.commands)
 
 more_reported : (n : ℕ) (r q : Report) (ms : List Mark) → GoesOn n r q ms → so_many n q ≡ so_many n r + length (commands_of ms)
-more_reported n r q ms on = ap (λ (ts : List Tried). length ts) on.commands ∙ length-append (own_commands n r.commands) (commands_of ms)
+more_reported n r q ms on = ap (λ (ts : List Attempt). length ts) on.commands ∙ length-append (own_commands n r.commands) (commands_of ms)
 
 -- a step at the node, one at another node, and one of none
-step_here : (m n nodes number : ℕ) (w : World) (a : Act) (what : What) (r : Report) (s : NodeState) → (m == n) ≡ true → slice_get w.states n ≡ Some s
+step_here : (m n nodes number : ℕ) (w : World) (a : Act) (what : HistoryEvent) (r : Report) (s : NodeState) → (m == n) ≡ true → slice_get w.states n ≡ Some s
     → GoesOn n r (grown nodes w a (Takes m number what) r) (marks_at n nodes s (so_many n r) what)
 step_here m n nodes number w a what r s is at =
     let same : m ≡ n = eq_nat m n is in
     let here : node_in w.states m ≡ s = ap (λ (j : ℕ). node_in w.states j) same ∙ node_there w.states n s at in
     record {
       commands = own_append n r.commands (with_node m (tries m nodes (node_in w.states m) what))
-          ∙ ap (λ (ts : List Tried). own_commands n r.commands ++ ts)
+          ∙ ap (λ (ts : List Attempt). own_commands n r.commands ++ ts)
           (own_here m n (tries m nodes (node_in w.states m) what) is ∙ (λ i. tries (same i) nodes (here i) what) ∙ tries_are n nodes (so_many n r) s what);
       mounted = own_mounted_append n r.mounted (mounted_there m (so_many m r) (mounted_at (node_in w.states m) what))
           ∙ ap (λ (ws : List Mounting). own_mountings n r.mounted ++ ws)
@@ -190,18 +190,18 @@ step_here m n nodes number w a what r s is at =
           ∙ (λ i. map (λ (x : Durable). record { before = so_many (same i) r; state = x }) (option_to_list (mounted_at (here i) what))) ∙ mounts_are n nodes (so_many n r) s what);
     }
 
-step_elsewhere : (m n nodes number : ℕ) (w : World) (a : Act) (what : What) (r : Report) → (m == n) ≡ false → GoesOn n r (grown nodes w a (Takes m number what) r) []
+step_elsewhere : (m n nodes number : ℕ) (w : World) (a : Act) (what : HistoryEvent) (r : Report) → (m == n) ≡ false → GoesOn n r (grown nodes w a (Takes m number what) r) []
 step_elsewhere m n nodes number w a what r is = record {
   commands = own_append n r.commands (with_node m (tries m nodes (node_in w.states m) what))
-      ∙ ap (λ (ts : List Tried). own_commands n r.commands ++ ts) (own_elsewhere m n (tries m nodes (node_in w.states m) what) is);
+      ∙ ap (λ (ts : List Attempt). own_commands n r.commands ++ ts) (own_elsewhere m n (tries m nodes (node_in w.states m) what) is);
   mounted = own_mounted_append n r.mounted (mounted_there m (so_many m r) (mounted_at (node_in w.states m) what))
       ∙ ap (λ (ws : List Mounting). own_mountings n r.mounted ++ ws) (mounted_elsewhere m n (so_many m r) (mounted_at (node_in w.states m) what) is);
 }
 
 quiet_step : (n : ℕ) (r q : Report) → q.commands ≡ r.commands ++ [] → q.mounted ≡ r.mounted ++ [] → GoesOn n r q []
 quiet_step n r q same_commands same_mounted = record {
-  commands = ap (λ (ts : List TriedAt). own_commands n ts) same_commands ∙ own_append n r.commands [];
-  mounted = ap (λ (ws : List MountedAt). own_mountings n ws) same_mounted ∙ own_mounted_append n r.mounted [];
+  commands = ap (λ (ts : List AttemptAt). own_commands n ts) same_commands ∙ own_append n r.commands [];
+  mounted = ap (λ (ws : List (ℕ × Mounting)). own_mountings n ws) same_mounted ∙ own_mounted_append n r.mounted [];
 }
 
 -- and so does the report of a run, by the marks of the node's history
@@ -245,32 +245,32 @@ report_goes_on n nodes slots (a ∷ acts) (Denies named why ∷ steps) w r s at 
 
 -- ---- the openings
 
-abbrev raised_first : ℕ → TriedAt
+abbrev raised_first : ℕ → AttemptAt
 raised_first n = record { node = n; tried = record { command = Raise; acked = Some 1 } }
 
-abbrev mounted_first : ℕ → MountedAt
-mounted_first n = record { node = n; mounting = record { before = 0; state = formatted } }
+abbrev mounted_first : ℕ → ℕ × Mounting
+mounted_first n = (n, record { before = 0; state = formatted })
 
 -- each node raised once
 pub raised_once : (nodes n : ℕ) → n < nodes → own_commands n (first_report nodes).commands ≡ record { command = Raise; acked = Some 1 } ∷ []
-raised_once nodes n lt = one_each (λ (t : TriedAt). t.node) (λ (t : TriedAt). t.tried) raised_first (λ i. refl) nodes 0 n (omega arith) (omega (arith, lt))
+raised_once nodes n lt = one_each (λ (t : AttemptAt). t.node) (λ (t : AttemptAt). t.tried) raised_first (λ i. refl) nodes 0 n (omega arith) (omega (arith, lt))
 
 -- ---- what the report of a run says of a node is what its history says
 
 own_reported : (nodes slots n : ℕ) (acts : List Act) (steps : List Step) → IsRunOf nodes slots (start nodes) acts steps → n < nodes
     → GoesOn n (first_report nodes) (report_of nodes acts steps) (marks_from n nodes (opening n) 1 (history_in n nodes (start nodes) steps))
 own_reported nodes slots n acts steps run lt =
-    let once : so_many n (first_report nodes) ≡ 1 = ap (λ (ts : List Tried). length ts) (raised_once nodes n lt) in
+    let once : so_many n (first_report nodes) ≡ 1 = ap (λ (ts : List Attempt). length ts) (raised_once nodes n lt) in
     subst (λ (k : ℕ). GoesOn n (first_report nodes) (report_of nodes acts steps) (marks_from n nodes (opening n) k (history_in n nodes (start nodes) steps))) once
     (report_goes_on n nodes slots acts steps (start nodes) (first_report nodes) (opening n) (starts_opened nodes n lt) run)
 
 pub commands_reported : (nodes slots n : ℕ) (acts : List Act) (steps : List Step) → IsRunOf nodes slots (start nodes) acts steps → n < nodes
     → own_commands n (report_of nodes acts steps).commands ≡ commands_of (marks_of n nodes (history_in n nodes (start nodes) steps))
 commands_reported nodes slots n acts steps run lt =
-    (own_reported nodes slots n acts steps run lt).commands ∙ ap (λ (ts : List Tried). ts ++ commands_of (marks_from n nodes (opening n) 1 (history_in n nodes (start nodes) steps))) (raised_once nodes n lt)
+    (own_reported nodes slots n acts steps run lt).commands ∙ ap (λ (ts : List Attempt). ts ++ commands_of (marks_from n nodes (opening n) 1 (history_in n nodes (start nodes) steps))) (raised_once nodes n lt)
 
 pub mounted_reported : (nodes slots n : ℕ) (acts : List Act) (steps : List Step) → IsRunOf nodes slots (start nodes) acts steps → n < nodes
     → own_mountings n (report_of nodes acts steps).mounted ≡ mountings_of (marks_of n nodes (history_in n nodes (start nodes) steps))
 mounted_reported nodes slots n acts steps run lt =
     (own_reported nodes slots n acts steps run lt).mounted
-    ∙ ap (λ (ws : List Mounting). ws ++ mountings_of (marks_from n nodes (opening n) 1 (history_in n nodes (start nodes) steps))) (one_each (λ (w : MountedAt). w.node) (λ (w : MountedAt). w.mounting) mounted_first (λ i. refl) nodes 0 n (omega arith) (omega (arith, lt)))
+    ∙ ap (λ (ws : List Mounting). ws ++ mountings_of (marks_from n nodes (opening n) 1 (history_in n nodes (start nodes) steps))) (one_each (λ (w : ℕ × Mounting). w.0) (λ (w : ℕ × Mounting). w.1) mounted_first (λ i. refl) nodes 0 n (omega arith) (omega (arith, lt)))

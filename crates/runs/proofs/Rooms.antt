@@ -12,8 +12,8 @@ use Rattle.job_model.specs.Fold.{after_wanted}
 use Rattle.node_core.specs.State.{is_down}
 use Rattle.node_core.specs.NodeStep.{IsFull}
 use Rattle.histories.specs.NodeState.{NodeState, opening, wants_at, settled}
-use Rattle.histories.specs.declared.what.What.{What}
-use Rattle.histories.specs.declared.what.What.TheVariants.{Did, Refused, Faulted, Rests, Crashed, Recovered, MountFailed, RaiseFailed, RaiseRefused}
+use Rattle.histories.specs.declared.history_event.HistoryEvent.{HistoryEvent}
+use Rattle.histories.specs.declared.history_event.HistoryEvent.TheVariants.{Did, Refused, Faulted, NoOp, Crashed, Recovered, MountFailed, RaiseFailed, RaiseRefused}
 use Rattle.histories.specs.After.{after, mounted_at}
 use Rattle.histories.specs.Possible.{IsPossible, IsOfSlots}
 use Rattle.histories.specs.Marks.{IsNone}
@@ -68,7 +68,7 @@ record HasRoom (slots self : ℕ) (s : NodeState) : Type 0 where
   few : length s.durable.pending + gain s.doubt ≤ slots
   doubt : DoubtIsDown self s
 
-few_kept : (slots self nodes : ℕ) (s : NodeState) (what : What) → IsPossible self nodes s what → IsOfSlots slots self nodes s what → HasRoom slots self s
+few_kept : (slots self nodes : ℕ) (s : NodeState) (what : HistoryEvent) → IsPossible self nodes s what → IsOfSlots slots self nodes s what → HasRoom slots self s
     → length (after self nodes s what).durable.pending + gain (after self nodes s what).doubt ≤ slots
 few_kept slots self nodes s (Did event) may fits h =
     let wanted = wanted_few s.durable (wants_at self nodes s event) in
@@ -78,14 +78,14 @@ few_kept slots self nodes s (Did event) may fits h =
     ]
 few_kept slots self nodes s (Refused event fault) may fits h = h.few
 few_kept slots self nodes s (Faulted event) may fits h = leaves_room slots s.durable (wants_at self nodes s event) fits (omega (arith, h.few))
-few_kept slots self nodes s (Rests rest) may fits h = h.few
+few_kept slots self nodes s (NoOp rest) may fits h = h.few
 few_kept slots self nodes s Crashed may fits h = h.few
 few_kept slots self nodes s (Recovered kept) may fits h = omega (arith, settled_few kept s, h.few)
 few_kept slots self nodes s MountFailed may fits h = h.few
 few_kept slots self nodes s (RaiseFailed kept) may fits h = omega (arith, settled_few kept s, h.few)
 few_kept slots self nodes s (RaiseRefused kept) may fits h = h.few
 
-room_kept : (slots self nodes : ℕ) (s : NodeState) (what : What) → IsPossible self nodes s what → IsOfSlots slots self nodes s what → HasRoom slots self s → HasRoom slots self (after self nodes s what)
+room_kept : (slots self nodes : ℕ) (s : NodeState) (what : HistoryEvent) → IsPossible self nodes s what → IsOfSlots slots self nodes s what → HasRoom slots self s → HasRoom slots self (after self nodes s what)
 room_kept slots self nodes s what may fits h = record { few = few_kept slots self nodes s what may fits h; doubt = doubt_after self nodes s what may h.doubt }
 
 room_opened : (slots self : ℕ) → HasRoom slots self (opening self)
@@ -126,7 +126,7 @@ left_few nodes slots w r left n s at kept =
 
 -- what a mounting gives there, at a node that is down
 pub mounted_few : (nodes slots : ℕ) (w : World) (r : Report) → IsLeft nodes slots w r → (n : ℕ) (s : NodeState) → slice_get w.states n ≡ Some s
-    → (among : ℕ) (what : What) → IsPossible n among s what → (d : Durable) → mounted_at s what ≡ Some d → (is_down s.state.phase ≡ true) × (length d.pending ≤ slots)
+    → (among : ℕ) (what : HistoryEvent) → IsPossible n among s what → (d : Durable) → mounted_at s what ≡ Some d → (is_down s.state.phase ≡ true) × (length d.pending ≤ slots)
 mounted_few nodes slots w r left n s at among (Recovered kept) may d is =
     (may.0, subst (λ (x : Durable). length x.pending ≤ slots) (let same : settled kept s ≡ d = cc is in same) (left_few nodes slots w r left n s at kept))
 mounted_few nodes slots w r left n s at among (RaiseFailed kept) may d is =

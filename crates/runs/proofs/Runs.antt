@@ -5,8 +5,8 @@ use Rattle.std.proofs.lemmas.Bool.Decides.{nat_tests}
 use Rattle.wire_msg.specs.Envelope.{Envelope}
 use Rattle.histories.specs.Lists.{IsAmong}
 use Rattle.histories.specs.NodeState.{NodeState, opening}
-use Rattle.histories.specs.declared.what.What.{What}
-use Rattle.histories.specs.What.{Entry, event_of, brought, AreAddressed}
+use Rattle.histories.specs.declared.history_event.HistoryEvent.{HistoryEvent}
+use Rattle.histories.specs.HistoryEvent.{Entry, event_of, brought, AreAddressed}
 use Rattle.histories.specs.After.{after, sent_at}
 use Rattle.histories.specs.Possible.{IsPossible}
 use Rattle.histories.specs.History.{Follows, brought_in, sent_in}
@@ -50,13 +50,13 @@ pub node_there : (states : List NodeState) (n : ℕ) (s : NodeState) → slice_g
 node_there states n s at = rw at refl
 
 -- the node that takes a step is the one after it
-pub state_here : (m n nodes : ℕ) (what : What) (states : List NodeState) (s : NodeState) → m ≡ n → slice_get states n ≡ Some s
+pub state_here : (m n nodes : ℕ) (what : HistoryEvent) (states : List NodeState) (s : NodeState) → m ≡ n → slice_get states n ≡ Some s
     → slice_get (slice_set states m (after m nodes (node_in states m) what)) n ≡ Some (after n nodes s what)
 state_here m n nodes what states s same at =
     subst (λ (j : ℕ). slice_get (slice_set states j (after j nodes (node_in states j) what)) n ≡ Some (after n nodes s what)) (sym same)
     (subst (λ (x : NodeState). slice_get (slice_set states n (after n nodes x what)) n ≡ Some (after n nodes s what)) (sym (node_there states n s at)) (get_set_same states n s (after n nodes s what) at))
 
-pub state_elsewhere : (m n nodes : ℕ) (what : What) (states : List NodeState) → n ≢ m → slice_get (slice_set states m (after m nodes (node_in states m) what)) n ≡ slice_get states n
+pub state_elsewhere : (m n nodes : ℕ) (what : HistoryEvent) (states : List NodeState) → n ≢ m → slice_get (slice_set states m (after m nodes (node_in states m) what)) n ≡ slice_get states n
 state_elsewhere m n nodes what states ne = get_set_other states n m (after m nodes (node_in states m) what) ne
 
 -- the history of node n follows its own steps

@@ -3,7 +3,7 @@ use Rattle.std.proofs.Common.{◌≡◌, ◌≢◌, ℕ, suc, ◌+◌, ◌≤◌
 use Rattle.std.specs.Prelude.{if◌then◌else◌, ◌==◌}
 use Rattle.std.proofs.lemmas.Bool.Decides.{nat_tests}
 use Rattle.histories.specs.NodeState.{NodeState, opening}
-use Rattle.histories.specs.What.{Entry}
+use Rattle.histories.specs.HistoryEvent.{Entry}
 use Rattle.histories.specs.After.{after, sent_at}
 use Rattle.histories.specs.Kept.{Kept}
 use Rattle.histories.specs.Marks.{Mark, commands_of, mountings_of, marks_at, marks_from, marks_of, opening_marks}

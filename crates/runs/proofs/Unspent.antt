@@ -12,17 +12,17 @@ use Rattle.node_core.specs.declared.event.Event.TheVariants as on
 use Rattle.node_core.specs.declared.fault.Refusal.{Refusal}
 use Rattle.sim_net.specs.declared.fault.NetFault.{NetFault}
 use Rattle.sim_net.specs.Network.{Network, message_at, delivery, after_lost, after_cut, after_mend}
-use Rattle.node_core.specs.declared.fault.Refusal.TheVariants.{Core, Full, Exhausted, Worn}
+use Rattle.node_core.specs.declared.fault.Refusal.TheVariants.{Core, Full, Exhausted, AreaExhausted}
 use Rattle.histories.specs.Lists.{IsAmong}
 use Rattle.histories.specs.NodeState.{NodeState, opening, wants_at, settled}
-use Rattle.histories.specs.declared.what.What.{What}
-use Rattle.histories.specs.declared.what.What.TheVariants.{Did, Refused, Faulted, Rests, Crashed, Recovered, MountFailed, RaiseFailed, RaiseRefused}
-use Rattle.histories.specs.declared.what.Rest.TheVariants.{Nothing, Compacted, CompactDown, CompactWorn}
+use Rattle.histories.specs.declared.history_event.HistoryEvent.{HistoryEvent}
+use Rattle.histories.specs.declared.history_event.HistoryEvent.TheVariants.{Did, Refused, Faulted, NoOp, Crashed, Recovered, MountFailed, RaiseFailed, RaiseRefused}
+use Rattle.histories.specs.declared.history_event.NoOpKind.TheVariants.{Nothing, Compacted, CompactDown, CompactAreaExhausted}
 use Rattle.histories.specs.After.{after}
 use Rattle.histories.specs.Possible.{IsPossible}
 use Rattle.histories.specs.Counts.{IsShort}
 use Rattle.histories.specs.Marks.{IsNone}
-use Rattle.histories.specs.What.{IsOf}
+use Rattle.histories.specs.HistoryEvent.{IsOf}
 use Rattle.histories.proofs.PublicLaws.{DoubtIsDown, at_down, doubt_after}
 use Rattle.schedule.specs.declared.act.Act.{Act}
 use Rattle.schedule.specs.declared.act.Act.TheVariants as act
@@ -31,7 +31,8 @@ use Rattle.runs.specs.declared.outcome.Refusal.{Refusal as ActRefusal}
 use Rattle.runs.specs.declared.outcome.Refusal.TheVariants.{Node, Net as OfNet, Stranger}
 use Rattle.runs.specs.World.{World, node_in, start}
 use Rattle.runs.specs.Step.{Step, Takes, Changes, Denies, world_after}
-use Rattle.runs.specs.Acts.{At, BringsBy, IsCompaction, IsStepBy, IsStepOf, IsLawful, IsRunOf, act_outcome, receiver_or_first, what_outcome}
+use Rattle.runs.specs.Acts.{At, IsCompaction, IsStepBy, IsStepOf, IsLawful, IsRunOf, act_outcome, receiver_or_first, what_outcome}
+use Rattle.runs.proofs.Bringing.{BringsBy}
 use Rattle.runs.specs.Reporting.{Moment, report_of}
 use Rattle.runs.proofs.Keeping.{AllStates, states_keep}
 use Rattle.runs.proofs.Reports.{moments_from, moments_are}
@@ -78,10 +79,10 @@ low_doubts : (wants : Option Command) → doubts wants ≤ 1
 low_doubts None = omega arith
 low_doubts (Some c) = omega arith
 
-no_doubt : (self nodes : ℕ) (s : NodeState) (what : What) → IsPossible self nodes s what → DoubtIsDown self s → DoubtIsDown self (after self nodes s what)
+no_doubt : (self nodes : ℕ) (s : NodeState) (what : HistoryEvent) → IsPossible self nodes s what → DoubtIsDown self s → DoubtIsDown self (after self nodes s what)
 no_doubt self nodes s what may h = doubt_after self nodes s what may h
 
-few_more : (limit self nodes : ℕ) (s : NodeState) (what : What) → IsPossible self nodes s what → FewGiven limit self s → FewGiven (limit + 1) self (after self nodes s what)
+few_more : (limit self nodes : ℕ) (s : NodeState) (what : HistoryEvent) → IsPossible self nodes s what → FewGiven limit self s → FewGiven (limit + 1) self (after self nodes s what)
 few_more limit self nodes s (Did event) may h = record {
   low = h.low + doubts (wants_at self nodes s event);
   sum = elim h.doubt [
@@ -110,7 +111,7 @@ few_more limit self nodes s (RaiseFailed kept) may h = record {
   doubt = no_doubt self nodes s (RaiseFailed kept) may h.doubt;
 }
 few_more limit self nodes s (Refused event fault) may h = record { low = h.low; sum = omega (arith, h.sum); below = h.below; doubt = h.doubt }
-few_more limit self nodes s (Rests rest) may h = record { low = h.low; sum = omega (arith, h.sum); below = h.below; doubt = h.doubt }
+few_more limit self nodes s (NoOp rest) may h = record { low = h.low; sum = omega (arith, h.sum); below = h.below; doubt = h.doubt }
 few_more limit self nodes s Crashed may h = record { low = h.low; sum = omega (arith, h.sum); below = h.below; doubt = no_doubt self nodes s Crashed may h.doubt }
 few_more limit self nodes s MountFailed may h = record { low = h.low; sum = omega (arith, h.sum); below = h.below; doubt = h.doubt }
 few_more limit self nodes s (RaiseRefused kept) may h = record { low = h.low; sum = omega (arith, h.sum); below = h.below; doubt = h.doubt }
@@ -134,17 +135,17 @@ spent_high limit d (Some Raise) h short spent = omega (arith, h.counts, short, s
 spent_high limit d (Some (Put work)) h short spent = omega (arith, h.ids, short, spent)
 spent_high limit d (Some (Done id)) h short spent = spent
 
-what_unspent : (limit self nodes first : ℕ) (s : NodeState) (what : What) (a : Act) → IsPossible self nodes s what → FewGiven limit self s → limit + 1 < 2 ^ 64 → what_outcome self nodes first s what a ≢ outcome.Refused (Node Exhausted)
+what_unspent : (limit self nodes first : ℕ) (s : NodeState) (what : HistoryEvent) (a : Act) → IsPossible self nodes s what → FewGiven limit self s → limit + 1 < 2 ^ 64 → what_outcome self nodes first s what a ≢ outcome.Refused (Node Exhausted)
 what_unspent limit self nodes first s (Did event) a may h short is = absurd cc
 what_unspent limit self nodes first s (Refused event (Core fault)) a may h short is = absurd cc
 what_unspent limit self nodes first s (Refused event Full) a may h short is = absurd cc
 what_unspent limit self nodes first s (Refused event Exhausted) a may h short is = spent_high h.low s.durable (wants_at self nodes s event) h.below (omega (arith, h.sum, short)) may.1.1
-what_unspent limit self nodes first s (Refused event Worn) a may h short is = absurd cc
+what_unspent limit self nodes first s (Refused event AreaExhausted) a may h short is = absurd cc
 what_unspent limit self nodes first s (Faulted event) a may h short is = absurd cc
-what_unspent limit self nodes first s (Rests Nothing) a may h short is = absurd cc
-what_unspent limit self nodes first s (Rests Compacted) a may h short is = absurd cc
-what_unspent limit self nodes first s (Rests CompactDown) a may h short is = absurd cc
-what_unspent limit self nodes first s (Rests CompactWorn) a may h short is = absurd cc
+what_unspent limit self nodes first s (NoOp Nothing) a may h short is = absurd cc
+what_unspent limit self nodes first s (NoOp Compacted) a may h short is = absurd cc
+what_unspent limit self nodes first s (NoOp CompactDown) a may h short is = absurd cc
+what_unspent limit self nodes first s (NoOp CompactAreaExhausted) a may h short is = absurd cc
 what_unspent limit self nodes first s Crashed (act.Compact m) may h short is = absurd cc
 what_unspent limit self nodes first s Crashed _ may h short is = absurd cc
 what_unspent limit self nodes first s (Recovered kept) a may h short is = absurd cc
@@ -156,14 +157,14 @@ what_unspent limit self nodes first s (RaiseRefused kept) a may h short is = ome
 abbrev pub NoFault : ActRefusal → Type 0
 NoFault why = (fault : Refusal) → why ≡ Node fault → ⊥
 
-at_denied : (known : Bool) (n k : ℕ) (P : What → Type 0) (named : ℕ) (why : ActRefusal) → At known n k P (Denies named why) → NoFault why
+at_denied : (known : Bool) (n k : ℕ) (P : HistoryEvent → Type 0) (named : ℕ) (why : ActRefusal) → At known n k P (Denies named why) → NoFault why
 at_denied true n k P named why h fault is = absurd cc (h.1)
 at_denied false n k P named why h fault is = (let stranger : why ≡ Stranger = cc h in let both : Stranger ≡ Node fault = sym stranger ∙ is in absurd cc)
 
 net_denied : (f : NetFault) (n named : ℕ) (why : ActRefusal) → Denies named why ≡ Denies n (OfNet f) → NoFault why
 net_denied f n named why h fault is = (let net : why ≡ OfNet f = cc h in let both : OfNet f ≡ Node fault = sym net ∙ is in absurd cc)
 
-brings_denied : (E : ℕ → Event → What → Type 0) (nodes : ℕ) (net : Network) (k : ℕ) (d : Result Envelope NetFault) (named : ℕ) (why : ActRefusal) → BringsBy E nodes net k d (Denies named why) → NoFault why
+brings_denied : (E : ℕ → Event → HistoryEvent → Type 0) (nodes : ℕ) (net : Network) (k : ℕ) (d : Result Envelope NetFault) (named : ℕ) (why : ActRefusal) → BringsBy E nodes net k d (Denies named why) → NoFault why
 brings_denied E nodes net k (Ok x) named why h = at_denied (nat_lt x.receiver nodes) x.receiver k (E x.receiver (on.Deliver x)) named why h
 brings_denied E nodes net k (Err f) named why h = net_denied f (receiver_or_first nodes (slice_get net.sent k)) named why h
 
@@ -176,7 +177,7 @@ link_denied : (known : Bool) (net : Network) (named : ℕ) (why : ActRefusal) �
 link_denied true net named why h fault is = absurd cc
 link_denied false net named why h fault is = (let stranger : why ≡ Stranger = cc h in let both : Stranger ≡ Node fault = sym stranger ∙ is in absurd cc)
 
-pub no_fault : (E : ℕ → Event → What → Type 0) (C : ℕ → What → Type 0) (nodes : ℕ) (net : Network) (a : Act) (named : ℕ) (why : ActRefusal) → IsStepBy E C nodes net a (Denies named why) → NoFault why
+pub no_fault : (E : ℕ → Event → HistoryEvent → Type 0) (C : ℕ → HistoryEvent → Type 0) (nodes : ℕ) (net : Network) (a : Act) (named : ℕ) (why : ActRefusal) → IsStepBy E C nodes net a (Denies named why) → NoFault why
 no_fault E C nodes net (act.Timer n timer) named why h = at_denied (nat_lt n nodes) n 0 (E n (on.Timer timer)) named why h
 no_fault E C nodes net (act.Deliver k) named why h = brings_denied E nodes net k (delivery net k) named why h
 no_fault E C nodes net (act.Lose k) named why h = loses_denied net k (message_at net k) named why h
@@ -184,8 +185,8 @@ no_fault E C nodes net (act.Cut x y) named why h = link_denied (nat_lt x nodes &
 no_fault E C nodes net (act.Mend x y) named why h = link_denied (nat_lt x nodes && nat_lt y nodes) (after_mend net x y) named why h
 no_fault E C nodes net (act.Submit n work) named why h = at_denied (nat_lt n nodes) n 0 (E n (on.Submit work)) named why h
 no_fault E C nodes net (act.Finish n origin id) named why h = at_denied (nat_lt n nodes) n 0 (E n (on.Finish origin id)) named why h
-no_fault E C nodes net (act.Arm n calls) named why h = at_denied (nat_lt n nodes) n 0 (λ (x : What). x ≡ Rests Nothing) named why h
-no_fault E C nodes net (act.Crash n fill) named why h = at_denied (nat_lt n nodes) n 0 (λ (x : What). x ≡ Crashed) named why h
+no_fault E C nodes net (act.Arm n calls) named why h = at_denied (nat_lt n nodes) n 0 (λ (x : HistoryEvent). x ≡ NoOp Nothing) named why h
+no_fault E C nodes net (act.Crash n fill) named why h = at_denied (nat_lt n nodes) n 0 (λ (x : HistoryEvent). x ≡ Crashed) named why h
 no_fault E C nodes net (act.Recover n) named why h = at_denied (nat_lt n nodes) n 0 (E n on.Recover) named why h
 no_fault E C nodes net (act.Compact n) named why h = at_denied (nat_lt n nodes) n 0 (C n) named why h
 

@@ -4,14 +4,15 @@ use Rattle.wire_msg.specs.Envelope.{Envelope}
 use Rattle.node_core.specs.declared.event.Event.{Event}
 use Rattle.node_core.specs.declared.event.Event.TheVariants as on
 use Rattle.node_core.specs.declared.fault.CoreFault.TheVariants.{Down}
-use Rattle.node_core.specs.declared.fault.Refusal.TheVariants.{Core, Exhausted, Worn}
-use Rattle.node_core.specs.State.{is_down}
+use Rattle.node_core.specs.declared.fault.Refusal.TheVariants.{Core, Exhausted, AreaExhausted}
+use Rattle.node_core.specs.declared.phase.Phase.TheVariants as phases
+use Rattle.node_core.specs.State.{in_phase}
 use Rattle.histories.specs.NodeState.{NodeState, wants_at, settled}
-use Rattle.histories.specs.What.{IsOf}
+use Rattle.histories.specs.HistoryEvent.{IsOf}
 use Rattle.job_model.specs.Answer.{answer_of}
-use Rattle.histories.specs.declared.what.What.{What}
-use Rattle.histories.specs.declared.what.What.TheVariants.{Did, Refused, Rests, Crashed, Recovered, RaiseRefused}
-use Rattle.histories.specs.declared.what.Rest.TheVariants.{Nothing, CompactDown, CompactWorn}
+use Rattle.histories.specs.declared.history_event.HistoryEvent.{HistoryEvent}
+use Rattle.histories.specs.declared.history_event.HistoryEvent.TheVariants.{Did, Refused, NoOp, Crashed, Recovered, RaiseRefused}
+use Rattle.histories.specs.declared.history_event.NoOpKind.TheVariants.{Nothing, CompactDown, CompactAreaExhausted}
 use Rattle.histories.specs.After.{sent_at}
 use Rattle.histories.specs.Possible.{IsPossible, IsOfSlots}
 use Rattle.schedule.specs.declared.act.Act.{Act}
@@ -26,30 +27,28 @@ use Rattle.runs.specs.Step.{Step, Takes, Changes, Denies, world_after}
 
 -- it came of a compaction at a node in this state, which is done, is refused, or meets a device that fails: then a node that is up falls
 -- as in a crash
-abbrev pub IsCompaction : NodeState → What → Type 0
-IsCompaction s (Rests Nothing) = ⊥
-IsCompaction s (Rests rest) = Unit {0}
-IsCompaction s Crashed = is_down s.state.phase ≡ false
+abbrev pub IsCompaction : NodeState → HistoryEvent → Type 0
+IsCompaction s (NoOp Nothing) = ⊥
+IsCompaction s (NoOp rest) = Unit {0}
+IsCompaction s Crashed = in_phase phases.Down s.state.phase ≡ false
 IsCompaction s what = ⊥
 
 -- what comes at a node, of the message of this number, if any: a node outside the cluster is refused
-abbrev pub At : Bool → ℕ → ℕ → (What → Type 0) → Step → Type 0
-At true n number P step = (what : What) × (step ≡ Takes n number what) × P what
+abbrev pub At : Bool → ℕ → ℕ → (HistoryEvent → Type 0) → Step → Type 0
+At true n number P step = (what : HistoryEvent) × (step ≡ Takes n number what) × P what
 At false n number P step = step ≡ Denies 0 Stranger
 
 -- the receiver of a message, and node 0 where there is no message, or no such node
 abbrev pub receiver_or_first : ℕ → Option Envelope → ℕ
 receiver_or_first nodes message = unwrap_or (option_map (λ (m : Envelope). if nat_lt m.receiver nodes then m.receiver else 0) message) 0
 
--- what is delivered is an event of its receiver, of which this may come; what the network denies is no event
-abbrev pub BringsBy : (ℕ → Event → What → Type 0) → ℕ → Network → ℕ → Result Envelope NetFault → Step → Type 0
-BringsBy E nodes net k (Ok m) step = At (nat_lt m.receiver nodes) m.receiver k (E m.receiver (on.Deliver m)) step
-BringsBy E nodes net k (Err why) step = step ≡ Denies (receiver_or_first nodes (slice_get net.sent k)) (OfNet why)
-
--- the step that an act is, where E says what may come of an event at a node, and C what of a compaction
-abbrev pub IsStepBy : (ℕ → Event → What → Type 0) → (ℕ → What → Type 0) → ℕ → Network → Act → Step → Type 0
+-- the step that an act is, where E says what may come of an event at a node, and C what of a compaction. What is delivered is an event
+-- of its receiver; what the network denies is no event
+abbrev pub IsStepBy : (ℕ → Event → HistoryEvent → Type 0) → (ℕ → HistoryEvent → Type 0) → ℕ → Network → Act → Step → Type 0
 IsStepBy E C nodes net (act.Timer n timer) step = At (nat_lt n nodes) n 0 (E n (on.Timer timer)) step
-IsStepBy E C nodes net (act.Deliver k) step = BringsBy E nodes net k (delivery net k) step
+IsStepBy E C nodes net (act.Deliver k) step =
+    MatchResult (delivery net k) (λ m. At (nat_lt m.receiver nodes) m.receiver k (E m.receiver (on.Deliver m)) step)
+    (λ why. step ≡ Denies (receiver_or_first nodes (slice_get net.sent k)) (OfNet why))
 IsStepBy E C nodes net (act.Lose k) step =
     MatchResult (message_at net k) (λ m. step ≡ Changes (after_lost net k)) (λ why. step ≡ Denies 0 (OfNet why))
 IsStepBy E C nodes net (act.Cut a b) step =
@@ -58,16 +57,12 @@ IsStepBy E C nodes net (act.Mend a b) step =
     step ≡ (if nat_lt a nodes && nat_lt b nodes then Changes (after_mend net a b) else Denies 0 Stranger)
 IsStepBy E C nodes net (act.Submit n work) step = At (nat_lt n nodes) n 0 (E n (on.Submit work)) step
 IsStepBy E C nodes net (act.Finish n origin id) step = At (nat_lt n nodes) n 0 (E n (on.Finish origin id)) step
-IsStepBy E C nodes net (act.Arm n calls) step = At (nat_lt n nodes) n 0 (λ (what : What). what ≡ Rests Nothing) step
-IsStepBy E C nodes net (act.Crash n fill) step = At (nat_lt n nodes) n 0 (λ (what : What). what ≡ Crashed) step
+IsStepBy E C nodes net (act.Arm n calls) step = At (nat_lt n nodes) n 0 (λ (what : HistoryEvent). what ≡ NoOp Nothing) step
+IsStepBy E C nodes net (act.Crash n fill) step = At (nat_lt n nodes) n 0 (λ (what : HistoryEvent). what ≡ Crashed) step
 IsStepBy E C nodes net (act.Recover n) step = At (nat_lt n nodes) n 0 (E n on.Recover) step
 IsStepBy E C nodes net (act.Compact n) step = At (nat_lt n nodes) n 0 (C n) step
 
 -- ---- a run of any length
-
--- what comes of an event at its receiver, which may refuse it
-abbrev pub Brings : ℕ → Network → ℕ → Result Envelope NetFault → Step → Type 0
-Brings nodes net k comes step = BringsBy (λ (n : ℕ) (event : Event). IsOf event) nodes net k comes step
 
 -- the step that an act is
 abbrev pub IsStepOf : ℕ → World → Act → Step → Type 0
@@ -88,13 +83,13 @@ IsRunOf nodes slots w acts steps = ⊥
 -- ---- the outcome of an act
 
 -- the outcome of what came at a node, of this act, where so many messages were sent before it. In all else the device failed
-abbrev pub what_outcome : ℕ → ℕ → ℕ → NodeState → What → Act → Outcome
+abbrev pub what_outcome : ℕ → ℕ → ℕ → NodeState → HistoryEvent → Act → Outcome
 what_outcome n nodes first s (Did event) a =
     outcome.Done (option_map (answer_of s.durable) (wants_at n nodes s event)) first (length (sent_at n nodes s (Did event)))
 what_outcome n nodes first s (Refused event fault) a = outcome.Refused (Node fault)
-what_outcome n nodes first s (Rests CompactDown) a = outcome.Refused (Node (Core Down))
-what_outcome n nodes first s (Rests CompactWorn) a = outcome.Refused (Node Worn)
-what_outcome n nodes first s (Rests rest) a = outcome.Done None first 0
+what_outcome n nodes first s (NoOp CompactDown) a = outcome.Refused (Node (Core Down))
+what_outcome n nodes first s (NoOp CompactAreaExhausted) a = outcome.Refused (Node AreaExhausted)
+what_outcome n nodes first s (NoOp rest) a = outcome.Done None first 0
 what_outcome n nodes first s Crashed (act.Compact m) = outcome.Faulted
 what_outcome n nodes first s Crashed a = outcome.Done None first 0
 what_outcome n nodes first s (Recovered kept) a = outcome.Done (Some ((settled kept s).counter + 1)) first 0

@@ -1,6 +1,6 @@
 -- A cluster that a run leaves, with its report, and how they grow by one act.
 use Rattle.std.specs.Prelude.{ℕ, ◌≡◌, ◌≢◌, ◌+◌, ◌^◌, ◌<◌, List, [], length, map}
-use Rattle.node_core.specs.declared.fault.Refusal.TheVariants.{Worn}
+use Rattle.node_core.specs.declared.fault.Refusal.TheVariants.{AreaExhausted}
 use Rattle.runs.specs.declared.outcome.Outcome.TheVariants.{Refused}
 use Rattle.runs.specs.declared.outcome.Refusal.TheVariants.{Node as OfNode}
 use Rattle.schedule.specs.declared.act.Act.{Act}
@@ -44,7 +44,7 @@ RunsOpen = (nodes slots : ℕ) → IsLeft nodes slots (start nodes) (report_of n
 -- a cluster that a run left is left by a run after one more act, unless it is refused because the areas of a disk are used up
 abbrev pub RunsGrow : Type 0
 RunsGrow = (nodes slots : ℕ) (w : World) (r : Report) (a : Act) (step : Step) → IsLeft nodes slots w r → IsNext nodes slots w a step →
-    length r.moments + 2 < 2 ^ 64 → act_outcome nodes w a step ≢ Refused (OfNode Worn) →
+    length r.moments + 2 < 2 ^ 64 → act_outcome nodes w a step ≢ Refused (OfNode AreaExhausted) →
     IsExactStep nodes slots w a step × IsLeft nodes slots (world_after nodes w step) (grown nodes w a step r)
 
 -- and what is promised of every schedule holds of its report

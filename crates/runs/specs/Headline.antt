@@ -1,5 +1,5 @@
 -- What is promised of every schedule.
-use Rattle.std.specs.Prelude.{ℕ, suc, ◌≡◌, ◌≢◌, ◌+◌, ◌^◌, ◌⊎◌, ◌<◌, true, List, ◌∷◌, length, take, slice_get, Some, IfSome, Contains, AllPairs}
+use Rattle.std.specs.Prelude.{ℕ, suc, ◌≡◌, ◌≢◌, ◌+◌, ◌^◌, ◌⊎◌, ◌<◌, ◌≤◌, true, List, length, take, slice_get, Some, IfSome, All, AllPairs, Contains}
 use Rattle.job_model.specs.declared.node_command.NodeCommand.TheVariants.{Put, Done}
 use Rattle.job_model.specs.declared.work.Work.{Work}
 use Rattle.group_task.specs.Group.{Group}
@@ -8,13 +8,13 @@ use Rattle.wire_msg.specs.Envelope.{Envelope}
 use Rattle.wire_msg.specs.Kinds.{group_in}
 use Rattle.node_core.specs.declared.phase.Phase.TheVariants.{Down, Normal}
 use Rattle.node_core.specs.declared.in_hand.InHand.{InHand}
-use Rattle.node_core.specs.declared.fault.Refusal.TheVariants.{Worn}
+use Rattle.node_core.specs.declared.fault.Refusal.TheVariants.{AreaExhausted}
 use Rattle.node_core.specs.State.{State}
 use Rattle.node_core.specs.Words.{owner, task_of}
 use Rattle.histories.specs.Book.{IsInGroup}
 use Rattle.histories.specs.Counts.{IsShort}
 use Rattle.histories.specs.Kept.{Kept}
-use Rattle.histories.specs.declared.tried.Tried.{Tried}
+use Rattle.histories.specs.declared.attempt.Attempt.{Attempt}
 use Rattle.schedule.specs.declared.act.Act.{Act}
 use Rattle.schedule.specs.declared.act.Act.TheVariants as act
 use Rattle.runs.specs.World.{start}
@@ -24,17 +24,16 @@ use Rattle.runs.specs.declared.outcome.Refusal.TheVariants.{Node as OfNode}
 use Rattle.runs.specs.Step.{Step}
 use Rattle.runs.specs.Acts.{IsRunOf}
 use Rattle.runs.specs.ExactRuns.{IsExactRun}
-use Rattle.runs.specs.Reporting.{Moment, Report, own_commands, own_mountings, own_counts, report_of}
-use Rattle.runs.specs.declared.tried.TriedAt.{TriedAt}
+use Rattle.runs.specs.Reporting.{Moment, Report, own_commands, own_mountings, report_of}
+use Rattle.runs.specs.declared.attempt_at.AttemptAt.{AttemptAt}
 
 -- a state that the report shows: of a node's opening, or of the moment of an act
 abbrev pub IsShown : Report → ℕ → State → Type 0
-IsShown r n s =
-    (slice_get r.opening n ≡ Some s) ⊎ ((k : ℕ) × (m : Moment) × (slice_get r.moments k ≡ Some m) × (m.node ≡ n) × (m.state ≡ s))
+IsShown r n s = (slice_get r.opening n ≡ Some s) ⊎ ((m : Moment) × Contains r.moments m × (m.node ≡ n) × (m.state ≡ s))
 
--- the report of the first acts, so many of them
-abbrev pub report_within : ℕ → ℕ → List Act → List Step → Report
-report_within nodes count acts steps = report_of nodes (take count acts) (take count steps)
+-- and one that works in a group
+abbrev pub IsWorking : Report → ℕ → State → Type 0
+IsWorking r n s = IsShown r n s × (s.phase ≡ Normal)
 
 -- one of the first acts, so many of them, says that a worker finished the job of this origin and id, and isn't refused. Before it the
 -- worker is shown at work in a group, as the owner of the job's queue, with the job in hand; and by then the job was put at its origin,
@@ -43,19 +42,15 @@ report_within nodes count acts steps = report_of nodes (take count acts) (take c
 pub record IsFinished (nodes : ℕ) (acts : List Act) (steps : List Step) (count origin id : ℕ) : Type 0 where
   pub worker : ℕ
   pub place : ℕ
-  pub within : place < count
+  pub at : slice_get (take count acts) place ≡ Some (act.Finish worker origin id)
+  pub not_refused : (m : Moment) (why : Refusal) → slice_get (report_of nodes acts steps).moments place ≡ Some m → m.outcome ≢ Refused why
   pub earlier : worker ≢ origin → suc place < count
-  pub moment : Moment
-  pub at : slice_get (report_of nodes acts steps).moments place ≡ Some moment
-  pub of_act : moment.act ≡ act.Finish worker origin id
-  pub not_refused : (why : Refusal) → moment.outcome ≢ Refused why
   pub state : State
-  pub shown : IsShown (report_within nodes place acts steps) worker state
-  pub works : state.phase ≡ Normal
+  pub works : IsWorking (report_of nodes (take place acts) steps) worker state
   pub work : Work
   pub in_hand : Contains state.hand (record { origin = origin; id = id; work = work })
   pub owned : owner state work.queue ≡ worker
-  pub put : (t : Tried) × Contains (own_commands origin (report_within nodes place acts steps).commands) t
+  pub put : (t : Attempt) × Contains (own_commands origin (report_of nodes (take place acts) steps).commands) t
       × (t.command ≡ Put work) × ((a : ℕ) → t.acked ≡ Some a → a ≡ id)
 
 -- the groups that a moment names were given then or before
@@ -63,17 +58,9 @@ pub record NamesGiven (given : List Group) (m : Moment) : Type 0 where
   pub by_state : m.state.phase ≢ Down → Contains given m.state.group × IfSome m.state.task (λ t. Contains given t.group)
   pub by_messages : (x : Envelope) → Contains m.sent x → IfSome (group_in x.body) (Contains given)
 
--- one book has the members of each group. A node in a group has the group's creator as its coordinator; and one that works in it has the
--- task of just these members, and is one of them
-pub record HasBook (r : Report) : Type 0 where
-  pub members : Group → List ℕ
-  pub coordinator : (n : ℕ) (s : State) → IsShown r n s → IsInGroup s.phase → s.coordinator ≡ s.group.creator
-  pub task : (n : ℕ) (s : State) → IsShown r n s → s.phase ≡ Normal →
-      (s.task ≡ Some (task_of s.group (members s.group))) × (has (members s.group) n ≡ true)
-
 -- no act was refused because the areas of its node's disk are used up
-abbrev pub NoneWorn : Report → Type 0
-NoneWorn r = (k : ℕ) (m : Moment) → slice_get r.moments k ≡ Some m → m.outcome ≢ Refused (OfNode Worn)
+abbrev pub NoAreaExhausted : Report → Type 0
+NoAreaExhausted r = (k : ℕ) (m : Moment) → slice_get r.moments k ≡ Some m → m.outcome ≢ Refused (OfNode AreaExhausted)
 
 -- the report is that of a run of the acts, and keeps groups and jobs
 pub record Headline (nodes slots : ℕ) (acts : List Act) (r : Report) : Type 0 where
@@ -84,25 +71,27 @@ pub record Headline (nodes slots : ℕ) (acts : List Act) (r : Report) : Type 0 
   pub reported : r ≡ report_of nodes acts steps
   -- 2: each mounting gives the fold of the node's commands, every acknowledged one included
   pub kept : (n : ℕ) → n < nodes → Kept (own_commands n r.commands) (own_mountings n r.mounted)
-  -- 3: the counts of each node rise from 1 on, no group is given twice, and none is named before it is given
-  pub rising : (n : ℕ) → n < nodes → AllPairs (λ (j k : ℕ). j < k) (0 ∷ own_counts n r.groups)
+  -- 3: the counts of each node's groups are 1 and more, and rise; no group is given twice, and none is named before it is given
+  pub counted : All (λ (g : Group). 1 ≤ g.count) r.groups
+  pub rising : AllPairs (λ (g h : Group). g.creator ≡ h.creator → g.count < h.count) r.groups
   pub once : AllPairs (λ (g h : Group). g ≢ h) r.groups
-  pub given : (k : ℕ) (m : Moment) → slice_get r.moments k ≡ Some m → NamesGiven (report_within nodes (suc k) acts steps).groups m
-  -- 4: there is one book of groups
-  pub has_book : HasBook r
-  -- 5: so two states in one group have one coordinator, and one task where both nodes work
+  pub given : (k : ℕ) (m : Moment) → slice_get r.moments k ≡ Some m → NamesGiven (report_of nodes (take (suc k) acts) steps).groups m
+  -- 4: one book has the members of each group. A node in a group has the group's creator as its coordinator; and one that works in it has
+  -- the task of just these members, and is one of them
+  pub members : Group → List ℕ
+  pub coordinator : (n : ℕ) (s : State) → IsShown r n s → IsInGroup s.phase → s.coordinator ≡ s.group.creator
+  pub task : (n : ℕ) (s : State) → IsWorking r n s → (s.task ≡ Some (task_of s.group (members s.group))) × (has (members s.group) n ≡ true)
+  -- 5: so two states in one group have one coordinator; where both nodes work, they have one task, and jobs of one queue are in one hand
   pub one_coordinator : (n m : ℕ) (s t : State) → IsShown r n s → IsShown r m t → IsInGroup s.phase → IsInGroup t.phase →
       s.group ≡ t.group → s.coordinator ≡ t.coordinator
-  pub one_task : (n m : ℕ) (s t : State) → IsShown r n s → IsShown r m t → s.phase ≡ Normal → t.phase ≡ Normal →
-      s.group ≡ t.group → s.task ≡ t.task
-  -- so jobs of one queue are in the hand of one node where two nodes work in one group
-  pub one_worker : (n m : ℕ) (s t : State) → IsShown r n s → IsShown r m t → s.phase ≡ Normal → t.phase ≡ Normal →
-      s.group ≡ t.group → (a b : InHand) → Contains s.hand a → Contains t.hand b → a.work.queue ≡ b.work.queue → n ≡ m
+  pub one_task : (n m : ℕ) (s t : State) → IsWorking r n s → IsWorking r m t → s.group ≡ t.group → s.task ≡ t.task
+  pub one_worker : (n m : ℕ) (s t : State) → IsWorking r n s → IsWorking r m t → s.group ≡ t.group →
+      (a b : InHand) → Contains s.hand a → Contains t.hand b → a.work.queue ≡ b.work.queue → n ≡ m
   -- and a job is done only once an owner of its queue finished it: in the first acts, where the command is tried in them
-  pub finished : (k : ℕ) (t : TriedAt) (id : ℕ) → Contains (report_within nodes k acts steps).commands t → t.node < nodes →
+  pub finished : (k : ℕ) (t : AttemptAt) (id : ℕ) → Contains (report_of nodes (take k acts) steps).commands t → t.node < nodes →
       t.tried.command ≡ Done id → IsFinished nodes acts steps k t.node id
 
 -- whatever run of its acts a schedule has, in which the areas of no disk are used up, its report keeps groups and jobs
 abbrev pub EverySchedule : Type 0
 EverySchedule = (nodes slots : ℕ) (acts : List Act) (steps : List Step) →
-    IsShort acts → IsRunOf nodes slots (start nodes) acts steps → NoneWorn (report_of nodes acts steps) → Headline nodes slots acts (report_of nodes acts steps)
+    IsShort acts → IsRunOf nodes slots (start nodes) acts steps → NoAreaExhausted (report_of nodes acts steps) → Headline nodes slots acts (report_of nodes acts steps)

@@ -4,7 +4,7 @@ use Rattle.group_task.specs.Assignment.{Assignment}
 use Rattle.wire_msg.specs.Envelope.{Envelope}
 use Rattle.histories.specs.Lists.{Each}
 use Rattle.histories.specs.NodeState.{NodeState}
-use Rattle.histories.specs.What.{Entry, event_of, brought, AreAddressed}
+use Rattle.histories.specs.HistoryEvent.{Entry, event_of, brought, AreAddressed}
 use Rattle.histories.specs.Possible.{IsPossible}
 use Rattle.histories.specs.Bundle.{Bundle}
 use Rattle.histories.specs.Book.{AgreesAt}

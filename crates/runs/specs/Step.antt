@@ -2,14 +2,14 @@
 use Rattle.std.specs.Prelude.{ℕ, List, [], slice_set}
 use Rattle.wire_msg.specs.Envelope.{Envelope}
 use Rattle.sim_net.specs.Network.{Network, after_all_sent}
-use Rattle.histories.specs.declared.what.What.{What}
+use Rattle.histories.specs.declared.history_event.HistoryEvent.{HistoryEvent}
 use Rattle.histories.specs.After.{after, sent_at}
 use Rattle.runs.specs.declared.outcome.Refusal.{Refusal}
 use Rattle.runs.specs.World.{World, node_in}
 
 pub data Step : Type 0 where
   -- something comes of an event at a node, the message of this number being the one that it was brought, if any
-  Takes : (node : ℕ) (number : ℕ) (what : What) → Step
+  Takes : (node : ℕ) (number : ℕ) (what : HistoryEvent) → Step
   -- the network alone changes, and is this from then on
   Changes : (net : Network) → Step
   -- nothing is done, for this reason, and it is reported of this node

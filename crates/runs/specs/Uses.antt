@@ -13,25 +13,27 @@ use Rattle.node_core.specs.declared.in_hand.InHand.{InHand}
 use Rattle.node_core.specs.declared.event.Event.{Event}
 use Rattle.node_core.specs.declared.event.Event.TheVariants as on
 use Rattle.node_core.specs.declared.fault.CoreFault.TheVariants.{Down as IsDown}
-use Rattle.node_core.specs.declared.fault.Refusal.TheVariants.{Core, Exhausted, Worn}
+use Rattle.node_core.specs.declared.fault.Refusal.TheVariants.{Core, Exhausted, AreaExhausted}
 use Rattle.node_core.specs.State.{State, is_down}
 use Rattle.node_core.specs.Effects.{effect_of}
 use Rattle.node_core.specs.Start.{alone}
 use Rattle.node_core.specs.Words.{members_of, owner}
 use Rattle.histories.specs.Jobs.{WasPut}
 use Rattle.histories.specs.Lists.{IsAmong}
-use Rattle.histories.specs.declared.tried.Tried.{Tried}
+use Rattle.histories.specs.declared.attempt.Attempt.{Attempt}
 use Rattle.schedule.specs.declared.act.Act.{Act}
 use Rattle.schedule.specs.declared.act.Act.TheVariants as act
-use Rattle.runs.specs.Reporting.{Moment, MountedAt, Report, own_commands}
-use Rattle.runs.specs.declared.tried.TriedAt.{TriedAt}
+use Rattle.histories.specs.Kept.{Mounting}
+use Rattle.runs.specs.Reporting.{Moment, Report, own_commands, report_of}
+use Rattle.runs.specs.declared.attempt_at.AttemptAt.{AttemptAt}
 use Rattle.runs.specs.declared.outcome.Outcome.TheVariants as outcome
 use Rattle.runs.specs.declared.outcome.Refusal.{Refusal}
 use Rattle.runs.specs.declared.outcome.Refusal.TheVariants.{Node as OfNode}
 use Rattle.runs.specs.World.{node_in, start}
+use Rattle.runs.specs.Step.{Step}
 use Rattle.runs.specs.Run.{world_at}
 use Rattle.runs.specs.Events.{event_at}
-use Rattle.runs.specs.Headline.{Headline, report_within}
+use Rattle.runs.specs.Headline.{Headline, IsShown, IsWorking}
 
 -- ---- what is reported
 
@@ -41,6 +43,10 @@ ActsAreReported = (nodes slots : ℕ) (acts : List Act) (r : Report) → Headlin
     (map (λ (m : Moment). m.act) r.moments ≡ acts) × (length r.opening ≡ nodes) × ((n : ℕ) → n < nodes → slice_get r.opening n ≡ Some (alone n 1))
 
 -- ---- what an act does
+
+-- the report of the first acts, so many of them
+abbrev pub report_within : ℕ → ℕ → List Act → List Step → Report
+report_within nodes count acts steps = report_of nodes (take count acts) steps
 
 -- of these moments the last state of a node, and s where there is none
 abbrev pub last_of : ℕ → Option State → List Moment → Option State
@@ -80,7 +86,7 @@ DoneHasItsEffect = (nodes slots : ℕ) (acts : List Act) (r : Report) (h : Headl
 -- no act is refused because its node's counter or its ids are used up, or the areas of its disk
 abbrev pub NoneIsSpent : Type 0
 NoneIsSpent = (nodes slots : ℕ) (acts : List Act) (r : Report) → Headline nodes slots acts r → (k : ℕ) (m : Moment) → slice_get r.moments k ≡ Some m →
-    (m.outcome ≢ outcome.Refused (OfNode Exhausted)) × (m.outcome ≢ outcome.Refused (OfNode Worn))
+    (m.outcome ≢ outcome.Refused (OfNode Exhausted)) × (m.outcome ≢ outcome.Refused (OfNode AreaExhausted))
 
 -- a compaction at a node that was shown Down last is refused as Down: it never meets a device
 abbrev pub DownRefusesCompaction : Type 0
@@ -101,36 +107,36 @@ asks a = None
 abbrev pub AnsweredIsAcknowledged : Type 0
 AnsweredIsAcknowledged = (nodes slots : ℕ) (acts : List Act) (r : Report) (h : Headline nodes slots acts r) (k : ℕ) (m : Moment) (a first many : ℕ) →
     slice_get r.moments k ≡ Some m → m.outcome ≡ outcome.Done (Some a) first many →
-    (t : Tried) × ((report_within nodes (suc k) acts h.steps).commands ≡ (report_within nodes k acts h.steps).commands ++ record { node = m.node; tried = t } ∷ [])
+    (t : Attempt) × ((report_within nodes (suc k) acts h.steps).commands ≡ (report_within nodes k acts h.steps).commands ++ record { node = m.node; tried = t } ∷ [])
     × (t.acked ≡ Some a) × ((c : Command) → asks m.act ≡ Some c → t.command ≡ c)
 
 -- ---- what a disk keeps
 
 -- an acknowledged raise is kept: no later mounting of the node gives a smaller count than the raise gave
 abbrev pub RaisesAreKept : Type 0
-RaisesAreKept = (nodes slots : ℕ) (acts : List Act) (r : Report) → Headline nodes slots acts r → (w : MountedAt) → IsAmong w r.mounted → w.node < nodes →
-    (k count : ℕ) → slice_get (own_commands w.node r.commands) k ≡ Some (record { command = Raise; acked = Some count }) → k < w.mounting.before →
-    count ≤ w.mounting.state.counter
+RaisesAreKept = (nodes slots : ℕ) (acts : List Act) (r : Report) → Headline nodes slots acts r → (n : ℕ) (w : Mounting) → IsAmong (n, w) r.mounted → n < nodes →
+    (k count : ℕ) → slice_get (own_commands n r.commands) k ≡ Some (record { command = Raise; acked = Some count }) → k < w.before →
+    count ≤ w.state.counter
 
 -- an acknowledged job is kept: each later mounting of the node has it pending, with its work, unless its Done was
 -- tried between
 abbrev pub JobsAreKept : Type 0
-JobsAreKept = (nodes slots : ℕ) (acts : List Act) (r : Report) → Headline nodes slots acts r → (w : MountedAt) → IsAmong w r.mounted → w.node < nodes →
-    (k id : ℕ) (work : Work) → slice_get (own_commands w.node r.commands) k ≡ Some (record { command = Put work; acked = Some id }) → k < w.mounting.before →
-    ((j : ℕ) (t : Tried) → k < j → j < w.mounting.before → slice_get (own_commands w.node r.commands) j ≡ Some t → t.command ≡ Done id → ⊥) →
-    IsAmong (record { id = id; work = work }) w.mounting.state.pending
+JobsAreKept = (nodes slots : ℕ) (acts : List Act) (r : Report) → Headline nodes slots acts r → (n : ℕ) (w : Mounting) → IsAmong (n, w) r.mounted → n < nodes →
+    (k id : ℕ) (work : Work) → slice_get (own_commands n r.commands) k ≡ Some (record { command = Put work; acked = Some id }) → k < w.before →
+    ((j : ℕ) (t : Attempt) → k < j → j < w.before → slice_get (own_commands n r.commands) j ≡ Some t → t.command ≡ Done id → ⊥) →
+    IsAmong (record { id = id; work = work }) w.state.pending
 
 -- a job that was acknowledged as done stays done: no later mounting of the node has a job of its id pending
 abbrev pub DonesAreKept : Type 0
-DonesAreKept = (nodes slots : ℕ) (acts : List Act) (r : Report) → Headline nodes slots acts r → (w : MountedAt) → IsAmong w r.mounted → w.node < nodes →
-    (k id a : ℕ) → slice_get (own_commands w.node r.commands) k ≡ Some (record { command = Done id; acked = Some a }) → k < w.mounting.before →
-    (job : Job) → IsAmong job w.mounting.state.pending → job.id ≢ id
+DonesAreKept = (nodes slots : ℕ) (acts : List Act) (r : Report) → Headline nodes slots acts r → (n : ℕ) (w : Mounting) → IsAmong (n, w) r.mounted → n < nodes →
+    (k id a : ℕ) → slice_get (own_commands n r.commands) k ≡ Some (record { command = Done id; acked = Some a }) → k < w.before →
+    (job : Job) → IsAmong job w.state.pending → job.id ≢ id
 
 -- a command that wasn't acknowledged is the last of its life: a mounting of the node comes before its next command
 abbrev pub DoubtsApart : Type 0
 DoubtsApart = (nodes slots : ℕ) (acts : List Act) (r : Report) → Headline nodes slots acts r → (n : ℕ) → n < nodes →
-    (j k : ℕ) (t u : Tried) → j < k → slice_get (own_commands n r.commands) j ≡ Some t → t.acked ≡ None → slice_get (own_commands n r.commands) k ≡ Some u →
-    (w : MountedAt) × IsAmong w r.mounted × (w.node ≡ n) × (j < w.mounting.before) × (w.mounting.before ≤ k)
+    (j k : ℕ) (t u : Attempt) → j < k → slice_get (own_commands n r.commands) j ≡ Some t → t.acked ≡ None → slice_get (own_commands n r.commands) k ≡ Some u →
+    (w : Mounting) × IsAmong (n, w) r.mounted × (j < w.before) × (w.before ≤ k)
 
 -- ids of jobs are new: of two jobs that a node took, the later one has the greater id
 abbrev pub IdsAreNew : Type 0
@@ -148,7 +154,7 @@ GivenAtOnePlace = (nodes slots : ℕ) (acts : List Act) (r : Report) → Headlin
 -- of two groups of one node, the one that was given later has the greater count
 abbrev pub LaterIsGreater : Type 0
 LaterIsGreater = (nodes slots : ℕ) (acts : List Act) (r : Report) → Headline nodes slots acts r →
-    (i j : ℕ) (g h : Group) → i < j → slice_get r.groups i ≡ Some g → slice_get r.groups j ≡ Some h → g.creator ≡ h.creator → g.creator < nodes → g.count < h.count
+    (i j : ℕ) (g h : Group) → i < j → slice_get r.groups i ≡ Some g → slice_get r.groups j ≡ Some h → g.creator ≡ h.creator → g.count < h.count
 
 -- what a moment shows is no number that was yet to be given: the group of a node that is up, and the group that a message names,
 -- were given in the openings, by an earlier act or by this one
@@ -159,21 +165,13 @@ NamedWasGiven = (nodes slots : ℕ) (acts : List Act) (r : Report) (h : Headline
 
 -- ---- fences
 
--- the report shows this state of the node, in its opening or at some moment
-abbrev pub Shows : Report → ℕ → State → Type 0
-Shows r n s = (slice_get r.opening n ≡ Some s) ⊎ ((m : Moment) × IsAmong m r.moments × (m.node ≡ n) × (m.state ≡ s))
-
--- the report shows this state of the node, which works in a group
-abbrev pub ShowsWorking : Report → ℕ → State → Type 0
-ShowsWorking r n s = Shows r n s × (s.phase ≡ Normal)
-
 -- the node of this state leads the group that it works in or brings together
 abbrev pub Leads : ℕ → State → Type 0
 Leads n s = ((s.phase ≡ Normal) ⊎ (s.phase ≡ Reorganization)) × (s.coordinator ≡ n)
 
 -- the report shows such a state of the node
 abbrev pub ShowsLeading : Report → ℕ → State → Type 0
-ShowsLeading r n s = Shows r n s × Leads n s
+ShowsLeading r n s = IsShown r n s × Leads n s
 
 -- who leads a group is the node that its number names
 abbrev pub LeaderIsCreator : Type 0
@@ -192,17 +190,17 @@ OneLeader = (nodes slots : ℕ) (acts : List Act) (r : Report) → Headline node
 -- two moments, of any nodes, that work in one group name one owner of each queue
 abbrev pub OneOwnerEach : Type 0
 OneOwnerEach = (nodes slots : ℕ) (acts : List Act) (r : Report) → Headline nodes slots acts r →
-    (n m : ℕ) (s t : State) → ShowsWorking r n s → ShowsWorking r m t → s.group ≡ t.group → (queue : ℕ) → owner s queue ≡ owner t queue
+    (n m : ℕ) (s t : State) → IsWorking r n s → IsWorking r m t → s.group ≡ t.group → (queue : ℕ) → owner s queue ≡ owner t queue
 
 -- two moments that work in one group have the same members, each of the two nodes among them
 abbrev pub MembersAgree : Type 0
-MembersAgree = (nodes slots : ℕ) (acts : List Act) (r : Report) → Headline nodes slots acts r → (n m : ℕ) (s t : State) → ShowsWorking r n s → ShowsWorking r m t → s.group ≡ t.group →
+MembersAgree = (nodes slots : ℕ) (acts : List Act) (r : Report) → Headline nodes slots acts r → (n m : ℕ) (s t : State) → IsWorking r n s → IsWorking r m t → s.group ≡ t.group →
     (members_of s.task ≡ members_of t.task) × (has (members_of s.task) n ≡ true) × (has (members_of s.task) m ≡ true)
 
 -- two moments, of any nodes, that work in one group and have jobs of one queue in hand are of one node
 abbrev pub OneWorkerEach : Type 0
 OneWorkerEach = (nodes slots : ℕ) (acts : List Act) (r : Report) → Headline nodes slots acts r →
-    (n m : ℕ) (s t : State) → ShowsWorking r n s → ShowsWorking r m t → s.group ≡ t.group →
+    (n m : ℕ) (s t : State) → IsWorking r n s → IsWorking r m t → s.group ≡ t.group →
     (a b : InHand) → IsAmong a s.hand → IsAmong b t.hand → a.work.queue ≡ b.work.queue → n ≡ m
 
 -- ---- jobs
@@ -217,7 +215,7 @@ first_moments k r = record r { moments = take k r.moments }
 -- the payload that are in hand. A worker that isn't the origin finished it in an earlier act than that of the Done
 abbrev pub DoneWasFinished : Type 0
 DoneWasFinished = (nodes slots : ℕ) (acts : List Act) (r : Report) (h : Headline nodes slots acts r) →
-    (k : ℕ) (t : TriedAt) (id : ℕ) → IsAmong t (report_within nodes k acts h.steps).commands → t.node < nodes → t.tried.command ≡ Done id →
+    (k : ℕ) (t : AttemptAt) (id : ℕ) → IsAmong t (report_within nodes k acts h.steps).commands → t.node < nodes → t.tried.command ≡ Done id →
     (worker : ℕ) × (place : ℕ) × (m : Moment) × (place < k) × (worker ≢ t.node → suc place < k) × (slice_get r.moments place ≡ Some m) × (m.act ≡ act.Finish worker t.node id) × ((why : Refusal) → m.outcome ≢ outcome.Refused why)
-    × ((s : State) × (job : InHand) × ShowsWorking (first_moments place r) worker s × IsAmong job s.hand × (job.origin ≡ t.node) × (job.id ≡ id) × (owner s job.work.queue ≡ worker)
+    × ((s : State) × (job : InHand) × IsWorking (first_moments place r) worker s × IsAmong job s.hand × (job.origin ≡ t.node) × (job.id ≡ id) × (owner s job.work.queue ≡ worker)
     × WasPut (own_commands t.node (report_within nodes place acts h.steps).commands) id job.work)

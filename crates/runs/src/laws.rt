@@ -84,7 +84,7 @@ pub fn acts_do_as_answered()
     // Promise: A compaction at a node that was shown Down last is refused as Down: it never meets a device.
     // Refuses: cluster_sim::compaction_faults_while_down.
     ensures down { DownRefusesCompaction }
-    // Promise: No act is refused as Exhausted because the counter or the ids of its node are used up, or as Worn because the areas of
+    // Promise: No act is refused as Exhausted because the counter or the ids of its node are used up, or as AreaExhausted because the areas of
     // its disk are.
     // Refuses: recovery_refused_as_spent, compaction_refused_as_worn, cluster_sim::submit_refused_as_worn.
     ensures unspent { NoneIsSpent }

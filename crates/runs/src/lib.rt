@@ -1,13 +1,14 @@
 //! Runs of a whole cluster, as one list of steps of its nodes and its network, what a run reports, and the laws of all runs.
 //!
 //! The definitions stand in `specs/`, over the histories of nodes, and speak of no disk and of no code. The laws are contracts of
-//! functions that do nothing. [`Outcome`] is what comes of an act, and [`TriedAt`] a command in a report, as code has them.
+//! functions that do nothing. [`Outcome`] is what comes of an act, and [`AttemptAt`] a command in a report, as code has them.
 #![tactic(auto)]
 
+mod attempt_at;
 mod laws;
 mod outcome;
-mod tried;
 
+pub use attempt_at::AttemptAt;
 pub use laws::{
     acknowledged_is_kept, acts_are_exact, acts_are_reported, acts_do_as_answered,
     answered_is_acknowledged, every_schedule, goes_on, groups_given, ids_are_new,
@@ -15,4 +16,3 @@ pub use laws::{
     number_names_the_leader, numbers_are_new,
 };
 pub use outcome::{Outcome, Refusal};
-pub use tried::TriedAt;

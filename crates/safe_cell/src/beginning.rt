@@ -1,9 +1,10 @@
 // A cell begun on a disk that has none.
 ghost use Rattle.std.specs.Prelude.{◌≡◌, ◌⊎◌, ◌<◌, ◌+◌, ◌^◌, IsTrue, IsOk, IsErrOf, Some, None, false};
-ghost use Rattle.sector_disk.specs.Disk.{Counts, AllSynced};
-ghost use Rattle.sector_disk.specs.Run.{Run, Each};
+ghost use Rattle.sector_disk.specs.Disk.{AllSynced};
+ghost use Rattle.sector_disk.specs.Run.{Each};
 ghost use Rattle.slot_gate.specs.Slot.{InSlot};
 ghost use Rattle.slot_gate.specs.Stored.{Knows};
+ghost use Rattle.slot_gate.specs.Writing.{WritesOnly};
 ghost use Rattle.safe_cell.specs.Cell.{cell_at, AllHave};
 
 use crate::body::body_for;
@@ -17,11 +18,8 @@ pub fn begin<D: SectorDisk>(disk: &mut D, at: u64, value: u64) -> Result<(), Cel
     requires on_disk { at + 3 < (D.state disk.old).sectors }
     requires fits { at + 3 < 2 ^ 64 }
 
-    ensures device_alone { IsOk result ⊎ IsErrOf result CellFault.Device }
-    ensures counts { Counts (D.state disk.old) (D.state disk.new)
-        (IsErrOf result CellFault.Device) (IsErrOf result CellFault.Device → ⊥) }
-    ensures run { IsTrue (D.state disk.old).honest
-        → Run (InSlot at) (D.state disk.old) (D.state disk.new) }
+    ensures writes { WritesOnly (InSlot at) (D.state disk.old) (D.state disk.new)
+        (IsErrOf result CellFault.Device) (IsOk result) }
 
     // Each image since the start has no value or this one.
     // Promise: A cell that is begun on a disk that has none: each image since the start has no value or this one.

@@ -8,9 +8,6 @@ use Rattle.std.proofs.lemmas.Grind.{common_steps}
 use Rattle.std.proofs.Math.Seq.{take-append_seam, drop-append_seam}
 use Rattle.sealed_msg.specs.Sealing.{front, back}
 
-pub all_changed : (f : ℕ → ℕ) (xs ys : List ℕ) (i : ℕ) → length xs ≡ i → ys ≡ map f (take i xs) ++ drop i xs → ys ≡ map f xs
-all_changed f xs ys i long e = grind (arith, common_steps)
-
 -- an element that is there is read whatever stands for one that isn't
 pub any_default : (ys : List ℕ) (i : ℕ) → i < length ys → get_or ys i 0 ≡ get_or ys i (get_or ys i 0)
 any_default ys i below = grind (arith, common_steps)

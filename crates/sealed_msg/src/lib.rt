@@ -19,5 +19,5 @@ mod stamp;
 pub use cluster::cluster_key;
 pub use hmac::{Key, TAG};
 pub use laws::{clusters_are_apart, opened_as_sealed};
-pub use sealing::Opened;
+pub use sealing::OpenedMessage;
 pub use stamp::{STAMP, Stamp};

@@ -7,8 +7,8 @@ use crate::stamp::{STAMP, Stamp};
 use std::alloc::AllocError;
 
 /// What sealed bytes were opened to.
-#[derive(Clone, Copy)]
-pub struct Opened<'a> {
+#[derive(Clone, Copy, Debug)]
+pub struct OpenedMessage<'a> {
     pub message: &'a [u8],
     pub stamp: Stamp,
 }
@@ -28,7 +28,7 @@ impl Key {
     }
 
     /// The message and its stamp, where these bytes are what the two are sealed to under this key; none of any others.
-    pub fn open<'a>(&self, bytes: &'a [u8]) -> Option<Opened<'a>>
+    pub fn open<'a>(&self, bytes: &'a [u8]) -> Option<OpenedMessage<'a>>
         ensures opened { IfSome result (λ it. opened self.now bytes.now ≡ Some (it.message.now, it.stamp)) }
         ensures refused { IsNone result → opened self.now bytes.now ≡ None }
     {
@@ -40,7 +40,7 @@ impl Key {
             return None;
         }
         let (message, stamp) = stamped.split_at(stamped.len() - STAMP);
-        Some(Opened {
+        Some(OpenedMessage {
             message,
             stamp: Stamp::read(stamp),
         })

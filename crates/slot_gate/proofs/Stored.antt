@@ -1,14 +1,13 @@
 -- What each image has of a slot while its body is changed.
-use Rattle.std.proofs.Common.{◌≡◌, ◌+◌, ◌⊎◌, inl, inr, ⊎_elim, ℕ, List, Some, None, IsTrue}
+use Rattle.std.proofs.Common.{◌≡◌, ◌+◌, ◌⊎◌, inl, inr, ⊎_elim, ℕ, List, Some, None}
 use Rattle.sector_disk.specs.Disk.{DiskState}
 use Rattle.sector_disk.specs.Run.{Run, Each}
 use Rattle.sector_disk.proofs.PublicLaws.{same_trans, same_widen, each_of_two, run_widen}
 use Rattle.slot_gate.specs.Slot.{slot_at, InSlot}
-use Rattle.slot_gate.proofs.Calls.{run_on}
 use Rattle.slot_gate.specs.Stored.{IsStored, IsCleared, Follows}
 
 -- the first step as a part of the whole
-after_clear : (slot : ℕ) (content : List ℕ) (old clear : DiskState) → Each old clear (Follows (λ k. k ≡ slot + 1) old slot IsCleared) → Each old clear (Follows (InSlot slot) old slot (IsStored content))
+pub after_clear : (slot : ℕ) (content : List ℕ) (old clear : DiskState) → Each old clear (Follows (λ k. k ≡ slot + 1) old slot IsCleared) → Each old clear (Follows (InSlot slot) old slot (IsStored content))
 after_clear slot content old clear first c since =
     let f = first c since in
     record { from = f.from; image = f.image; same = same_widen _ (InSlot slot) f.from c (λ k is. inr is) f.same; step = ⊎_elim (λ same. inl same) (λ none. inr (inl none)) f.step }
@@ -25,10 +24,6 @@ one_more slot content old mid new run more step so_far =
     record { from = d.0; image = d.1; same = same_trans (InSlot slot) d.0 e.0 c d.2 e.2; step = inr (step c since) })
 
 -- the slot is filled behind the opening of its gate
-pub filled_run : (slot : ℕ) {old mid new : DiskState} → mid.honest ≡ old.honest → (IsTrue old.honest → Run (λ k. k ≡ slot + 1) old mid) → (IsTrue mid.honest → Run (λ k. k ≡ slot) mid new)
-    → IsTrue old.honest → Run (InSlot slot) old new
-filled_run slot same cleared filled = run_on (InSlot slot) (λ k is. inl is) same (λ honest. run_widen _ (InSlot slot) _ _ (λ k is. inr is) (cleared honest)) filled
-
 pub filled_images : (slot : ℕ) (content : List ℕ) {old mid new : DiskState} → Run (λ k. k ≡ slot + 1) old mid → Run (λ k. k ≡ slot) mid new
     → Each old mid (Follows (λ k. k ≡ slot + 1) old slot IsCleared) → Each mid new (λ c. slot_at c slot ≡ None) → Each old new (Follows (InSlot slot) old slot (IsStored content))
 filled_images slot content {old = old} {mid = mid} {new = new} cleared filled first none =

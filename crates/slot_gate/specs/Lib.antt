@@ -1,2 +1,3 @@
 pub mod Slot
 pub mod Stored
+pub mod Writing

@@ -1,9 +1,10 @@
 // A body put into a slot, in an order in which no crash leaves a torn one.
 ghost use Rattle.std.specs.Prelude.{◌≡◌, ◌<◌, ◌+◌, ◌^◌, IsTrue, IsOk, IsErrOf, Some, None};
-ghost use Rattle.sector_disk.specs.Disk.{Image, IsImage, Counts, AllSynced};
-ghost use Rattle.sector_disk.specs.Run.{Run, Each};
+ghost use Rattle.sector_disk.specs.Disk.{Image, IsImage, AllSynced};
+ghost use Rattle.sector_disk.specs.Run.{Each};
 ghost use Rattle.slot_gate.specs.Slot.{slot_at, InSlot};
 ghost use Rattle.slot_gate.specs.Stored.{Knows, IsStored, IsCleared, Follows};
+ghost use Rattle.slot_gate.specs.Writing.{WritesOnly};
 
 use crate::slot::{fill, seal, unseal};
 use sector_disk::{DiskFault, Sector, SectorDisk};
@@ -23,11 +24,8 @@ pub fn store<D: SectorDisk>(
     // Promise: Storing a body: in every image since the start the slot is as it was, unsealed, or sealed over the whole new body;
     // after `Ok` sealed over it, nothing unsynced; no sector outside the slot changes in any image.
     // Refuses: sealed_before_body_synced, unsealed_again, stored_over_a_sealed_slot.
-    ensures counts { Counts (D.state disk.old) (D.state disk.new)
+    ensures writes { WritesOnly (InSlot slot) (D.state disk.old) (D.state disk.new)
         (IsErrOf result DiskFault.Device) (IsOk result) }
-    ensures in_range { IsErrOf result DiskFault.OutOfRange → ⊥ }
-    ensures run { IsTrue (D.state disk.old).honest
-        → Run (InSlot slot) (D.state disk.old) (D.state disk.new) }
 
     // In each image since the start the slot is as it was, unsealed, or sealed over the whole new
     // body.
@@ -50,11 +48,8 @@ pub fn store<D: SectorDisk>(
 fn clear<D: SectorDisk>(disk: &mut D, slot: u64, sealed: bool) -> Result<(), DiskFault>
     requires on_disk { slot + 1 < (D.state disk.old).sectors }
     requires fits { slot + 1 < 2 ^ 64 }
-    ensures counts { Counts (D.state disk.old) (D.state disk.new)
+    ensures writes { WritesOnly (λ k. k ≡ slot + 1) (D.state disk.old) (D.state disk.new)
         (IsErrOf result DiskFault.Device) (IsOk result) }
-    ensures in_range { IsErrOf result DiskFault.OutOfRange → ⊥ }
-    ensures run { IsTrue (D.state disk.old).honest
-        → Run (λ k. k ≡ slot + 1) (D.state disk.old) (D.state disk.new) }
     ensures images { IsTrue (D.state disk.old).honest → Knows (D.state disk.old) slot sealed
         → Each (D.state disk.old) (D.state disk.new)
         (Follows (λ k. k ≡ slot + 1) (D.state disk.old) slot IsCleared) }

@@ -3,6 +3,7 @@ ghost use Rattle.std.specs.Prelude.{◌≡◌, ◌<◌, ◌+◌, ◌⊎◌, ◌^
 ghost use Rattle.sector_disk.specs.Disk.{Image, IsImage, Counts, AllSynced, nothing, sector_at};
 ghost use Rattle.sector_disk.specs.Run.{Run, Each};
 ghost use Rattle.slot_gate.specs.Slot.{slot_at, sealed_gate, unsealed_gate};
+ghost use Rattle.slot_gate.specs.Writing.{WritesOnly};
 
 use sector_disk::{DiskFault, Sector, SectorDisk};
 
@@ -18,11 +19,8 @@ pub fn unseal<D: SectorDisk>(disk: &mut D, slot: u64) -> Result<(), DiskFault>
     // Promise: After unsealing answers `Ok` the slot is unsealed, synced; until then, over a synced body, unsealed or sealed over
     // that body; no sector but the gate changes in any image.
     // Refuses: unseal_that_seals.
-    ensures counts { Counts (D.state disk.old) (D.state disk.new)
+    ensures writes { WritesOnly (λ k. k ≡ slot + 1) (D.state disk.old) (D.state disk.new)
         (IsErrOf result DiskFault.Device) (IsOk result) }
-    ensures in_range { IsErrOf result DiskFault.OutOfRange → ⊥ }
-    ensures run { IsTrue (D.state disk.old).honest
-        → Run (λ k. k ≡ slot + 1) (D.state disk.old) (D.state disk.new) }
 
     // Over a synced body: until the sync it is unsealed or still sealed over that body.
     ensures images { IsTrue (D.state disk.old).honest → (D.state disk.old).synced slot
@@ -51,11 +49,8 @@ pub fn fill<D: SectorDisk>(disk: &mut D, slot: u64, body: &Sector) -> Result<(),
     // answer leaves the count; no other fault of the disk comes.
     // Also: seal, unseal, unseal_all, store.
     // Refuses: device_fault_without_failure.
-    ensures counts { Counts (D.state disk.old) (D.state disk.new)
+    ensures writes { WritesOnly (λ k. k ≡ slot) (D.state disk.old) (D.state disk.new)
         (IsErrOf result DiskFault.Device) (IsOk result) }
-    ensures in_range { IsErrOf result DiskFault.OutOfRange → ⊥ }
-    ensures run { IsTrue (D.state disk.old).honest
-        → Run (λ k. k ≡ slot) (D.state disk.old) (D.state disk.new) }
 
     // An unsealed slot stays unsealed.
     ensures images { IsTrue (D.state disk.old).honest
@@ -78,11 +73,8 @@ pub fn seal<D: SectorDisk>(disk: &mut D, slot: u64) -> Result<(), DiskFault>
     // Promise: Sealing a synced body: in every image since the start unsealed or sealed over that body; after `Ok` sealed over it,
     // synced; no sector but the gate changes in any image.
     // Refuses: seal_before_its_sync.
-    ensures counts { Counts (D.state disk.old) (D.state disk.new)
+    ensures writes { WritesOnly (λ k. k ≡ slot + 1) (D.state disk.old) (D.state disk.new)
         (IsErrOf result DiskFault.Device) (IsOk result) }
-    ensures in_range { IsErrOf result DiskFault.OutOfRange → ⊥ }
-    ensures run { IsTrue (D.state disk.old).honest
-        → Run (λ k. k ≡ slot + 1) (D.state disk.old) (D.state disk.new) }
 
     // Over a synced body: until the sync it is unsealed or sealed over that body.
     ensures images { IsTrue (D.state disk.old).honest → (D.state disk.old).synced slot
@@ -129,11 +121,8 @@ pub fn look<D: SectorDisk>(disk: &mut D, slot: u64) -> Result<Option<Sector>, Di
 // Writes a sector and makes sure of it.
 fn write_synced<D: SectorDisk>(disk: &mut D, at: u64, sector: &Sector) -> Result<(), DiskFault>
     requires { at < (D.state disk.old).sectors }
-    ensures counts { Counts (D.state disk.old) (D.state disk.new)
+    ensures writes { WritesOnly (λ k. k ≡ at) (D.state disk.old) (D.state disk.new)
         (IsErrOf result DiskFault.Device) (IsOk result) }
-    ensures in_range { IsErrOf result DiskFault.OutOfRange → ⊥ }
-    ensures run { IsTrue (D.state disk.old).honest
-        → Run (λ k. k ≡ at) (D.state disk.old) (D.state disk.new) }
     ensures written { IsTrue (D.state disk.old).honest → IsOk result
         → sector_at (D.state disk.new).contents at ≡ sector.now }
     ensures synced { IsTrue (D.state disk.old).honest → IsOk result

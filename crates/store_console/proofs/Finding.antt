@@ -19,13 +19,15 @@ use Rattle.job_journal.specs.Readings.{Replay, Reads, Damage}
 use Rattle.job_journal.specs.declared.fault.JournalFault.{JournalFault}
 use Rattle.job_journal.proofs.PublicLaws.{whole_slots}
 use Rattle.node_store.specs.Store.{slots_for}
-use Rattle.console_text.specs.Ends.{Outcome, outcome_of}
-use Rattle.console_text.specs.declared.ends.Printout.{Printout}
+use Rattle.console_text.specs.Ends.{outcome_of}
+use Rattle.console_text.specs.declared.ends.Output.{Output}
 use Rattle.store_console.specs.declared.found.Counter.{Counter}
 use Rattle.store_console.specs.declared.found.Counter.TheVariants.{Missing, Value, Damaged}
 use Rattle.store_console.specs.declared.found.Owner.{Owner}
 use Rattle.store_console.specs.Held.{IsHeldBy, counter_by, counter_of, journal_of, jobs_or_damage, owner_of, used_in}
-use Rattle.store_console.specs.Printed.{IsExport, IsInspection, export, export_text, found_text, inspection, too_small}
+use Rattle.store_console.specs.Printed.{IsShown, found_text, held_text, too_small}
+use Rattle.store_console.specs.declared.inspecting.Shown.{Shown}
+use Rattle.store_console.specs.declared.inspecting.Shown.TheVariants.{All}
 
 -- ---- the counter
 
@@ -106,27 +108,15 @@ none_sealed image at (suc n) is = ap (λ s. length (sealed_prefix (s ∷ slots_f
 
 -- ---- all of it
 
-pub inspection_is : (owner : Owner) (image : Image) (slots used : ℕ) (counter : Counter) (journal : Result Jobs ℕ) → 24 ≤ length image → slots ≡ slots_for (length image)
-    → used ≡ used_in slots image → counter ≡ counter_of image → journal ≡ journal_of slots image → found_text owner slots used counter journal ≡ inspection owner image
-inspection_is owner image slots used counter journal large s u k j =
-    let size = slots_for (length image) in
-    let whole = found_text owner size (used_in size image) (counter_of image) (journal_of size image) in
+pub found_is : (owner : Owner) (image : Image) (slots used : ℕ) (counter : Counter) (journal : Result Jobs ℕ) → slots ≡ slots_for (length image)
+    → used ≡ used_in slots image → counter ≡ counter_of image → journal ≡ journal_of slots image → found_text owner slots used counter journal ≡ held_text All owner image
+found_is owner image slots used counter journal s u k j =
+    λ i. found_text owner (s i) ((u ∙ ap (λ n. used_in n image) s) i) (k i) ((j ∙ ap (λ n. journal_of n image) s) i)
+
+-- of a disk that is large enough
+pub shown_held : (shown : Shown) (bytes : List ℕ) (image : Image) (result : Result Output AllocError) → IsHeldBy bytes image → 24 ≤ length image
+    → IfOk result (λ p. outcome_of p ≡ held_text shown (owner_of bytes) image) → IfOk result (λ p. IsShown shown bytes (outcome_of p))
+shown_held shown bytes image (Err e) held large is = tt
+shown_held shown bytes image (Ok p) held large is =
     let enough : nat_lt (length image) 24 ≡ false = grind (arith, nat_tests, large) in
-    (λ i. found_text owner (s i) ((u ∙ ap (λ n. used_in n image) s) i) (k i) ((j ∙ ap (λ n. journal_of n image) s) i))
-    ∙ sym (ap (λ b. if b then too_small (length image) else whole) enough)
-
-pub export_is : (image : Image) (slots : ℕ) (journal : Result Jobs ℕ) → 24 ≤ length image → slots ≡ slots_for (length image) → journal ≡ journal_of slots image → export_text journal ≡ export image
-export_is image slots journal large s j =
-    let size = slots_for (length image) in
-    let enough : nat_lt (length image) 24 ≡ false = grind (arith, nat_tests, large) in
-    ap export_text (j ∙ ap (λ n. journal_of n image) s) ∙ sym (ap (λ b. if b then too_small (length image) else export_text (journal_of size image)) enough)
-
-pub inspected : (bytes : List ℕ) (image : Image) (printed : Outcome) (result : Result Printout AllocError) → IsHeldBy bytes image → printed ≡ inspection (owner_of bytes) image
-    → IfOk result (λ p. outcome_of p ≡ printed) → IfOk result (λ p. IsInspection bytes (outcome_of p))
-inspected bytes image printed (Err e) held is h = tt
-inspected bytes image printed (Ok p) held is h = record { image = image; held = held; printed = h ∙ is }
-
-pub exported : (bytes : List ℕ) (image : Image) (printed : Outcome) (result : Result Printout AllocError) → IsHeldBy bytes image → printed ≡ export image
-    → IfOk result (λ p. outcome_of p ≡ printed) → IfOk result (λ p. IsExport bytes (outcome_of p))
-exported bytes image printed (Err e) held is h = tt
-exported bytes image printed (Ok p) held is h = record { image = image; held = held; printed = h ∙ is }
+    record { image = image; held = held; printed = is ∙ sym (ap (λ b. if b then too_small (length image) else held_text shown (owner_of bytes) image) enough) }

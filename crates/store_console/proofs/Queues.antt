@@ -1,7 +1,6 @@
 -- Lines for queues, one after another, and jobs that are counted.
-use Rattle.std.proofs.Common.{◌≡◌, ◌+◌, ◌-◌, ◌<◌, ◌==◌, ◌++◌, ◌∙◌, ℕ, List, suc, length, take, get_or, false, ap, sym, arith, append_assoc}
+use Rattle.std.proofs.Common.{◌≡◌, ◌+◌, ◌-◌, ◌<◌, ◌++◌, ◌∙◌, ℕ, List, suc, ap, sym, arith, append_assoc}
 use Rattle.std.specs.List.{range_with_len}
-use Rattle.std.proofs.lemmas.List.Sums.{count_by_more_yes, count_by_more_no}
 use Rattle.job_model.specs.declared.job.Job.{Job}
 use Rattle.store_console.specs.Printed.{jobs_in_queue, queue_text, queues_text}
 
@@ -22,12 +21,3 @@ queue_pushed jobs queue count first old new less counted added before =
     ∙ ap (λ n. old ++ (queue_text queue n ++ rest)) counted
     ∙ ap (λ t. old ++ t) (sym (first_queue jobs queue less))
     ∙ before
-
-pub counted_yes : (jobs : List Job) (at count queue : ℕ) (d : Job) → at < length jobs → (get_or jobs at d).work.queue ≡ queue → count ≡ jobs_in_queue (take at jobs) queue
-    → count + 1 ≡ jobs_in_queue (take (at + 1) jobs) queue
-counted_yes jobs at count queue d within is before =
-    ap (λ n. n + 1) before ∙ sym (count_by_more_yes (λ (job : Job). job.work.queue == queue) jobs at d within (grind (arith, is)))
-
-pub counted_no : (jobs : List Job) (at count queue : ℕ) (d : Job) → at < length jobs → ((get_or jobs at d).work.queue == queue) ≡ false → count ≡ jobs_in_queue (take at jobs) queue
-    → count ≡ jobs_in_queue (take (at + 1) jobs) queue
-counted_no jobs at count queue d within is before = before ∙ sym (count_by_more_no (λ (job : Job). job.work.queue == queue) jobs at d within is)

@@ -12,6 +12,8 @@ use Rattle.store_console.specs.declared.found.Counter.{Counter}
 use Rattle.store_console.specs.declared.found.Counter.TheVariants.{Missing, Value, Damaged}
 use Rattle.store_console.specs.declared.found.Owner.{Owner}
 use Rattle.store_console.specs.declared.found.Owner.TheVariants.{Store, Node, Unknown}
+use Rattle.store_console.specs.declared.inspecting.Shown.{Shown}
+use Rattle.store_console.specs.declared.inspecting.Shown.TheVariants.{All, Jobs as Listed}
 use Rattle.store_console.specs.Held.{IsHeldBy, owner_of, counter_of, journal_of, used_in}
 
 -- a line of a name and its value
@@ -73,28 +75,23 @@ found_text owner slots used counter journal = record {
 abbrev pub too_small : ℕ → Outcome
 too_small sectors = refused (codes "too_small " ++ decimal sectors)
 
-abbrev pub inspection : Owner → Image → Outcome
-inspection owner image =
-    if nat_lt (length image) 24 then too_small (length image)
-    else found_text owner (slots_for (length image)) (used_in (slots_for (length image)) image) (counter_of image) (journal_of (slots_for (length image)) image)
-
--- What is printed of a file with these bytes: whose it is, and what it keeps, or the sector of the first thing that isn't allowed.
-pub record IsInspection (bytes : List ℕ) (outcome : Outcome) : Type 0 where
-  pub image : Image
-  pub held : IsHeldBy bytes image
-  pub printed : outcome ≡ inspection (owner_of bytes) image
-
 -- ---- the jobs
 
 abbrev pub export_text : Result Jobs ℕ → Outcome
 export_text (Ok jobs) = record { text = flat_map (λ job. line (job_text job)) jobs.pending; good = true }
 export_text (Err sector) = refused (codes "damaged_journal " ++ decimal sector)
 
-abbrev pub export : Image → Outcome
-export image = if nat_lt (length image) 24 then too_small (length image) else export_text (journal_of (slots_for (length image)) image)
+-- what is printed of a disk with as many sectors as a store has
+abbrev pub held_text : Shown → Owner → Image → Outcome
+held_text All owner image = found_text owner (slots_for (length image)) (used_in (slots_for (length image)) image) (counter_of image) (journal_of (slots_for (length image)) image)
+held_text Listed owner image = export_text (journal_of (slots_for (length image)) image)
 
--- The jobs of a file with these bytes, or why there are none.
-pub record IsExport (bytes : List ℕ) (outcome : Outcome) : Type 0 where
+abbrev pub shown_text : Shown → Owner → Image → Outcome
+shown_text shown owner image = if nat_lt (length image) 24 then too_small (length image) else held_text shown owner image
+
+-- What is printed of a file with these bytes: whose it is, and what it keeps, or the sector of the first thing that isn't allowed; or its
+-- jobs, or why there are none.
+pub record IsShown (shown : Shown) (bytes : List ℕ) (outcome : Outcome) : Type 0 where
   pub image : Image
   pub held : IsHeldBy bytes image
-  pub printed : outcome ≡ export image
+  pub printed : outcome ≡ shown_text shown (owner_of bytes) image

@@ -1,31 +1,14 @@
 -- The requests that lines spell.
-use Rattle.std.specs.Prelude.{ℕ, ◌+◌, List, [], ◌∷◌, ◌++◌, length, nat_lt, nat_le, Bool, false, bytes_eq, codes, if◌then◌else◌, Option, Some, None, option_map, Result, Ok, Err}
-use Rattle.job_model.specs.declared.queue.TheConstants.{QUEUES}
-use Rattle.job_model.specs.declared.payload.TheConstants.{PAYLOAD_CAPACITY}
+use Rattle.std.specs.Prelude.{ℕ, ◌+◌, List, [], ◌∷◌, ◌++◌, bytes_eq, codes, if◌then◌else◌, Option, Some, None, option_map, Result, Ok, Err}
+use Rattle.disk_sector.specs.declared.layout.TheConstants.{LEAST_SLOTS, MOST_SLOTS}
 use Rattle.line_words.specs.Words.{number_of, words_of}
-use Rattle.line_words.specs.Lines.{bytes_of, lines_of}
-use Rattle.store_console.specs.declared.request.TheConstants.{LEAST_SLOTS, MOST_SLOTS}
+use Rattle.line_words.specs.Lines.{lines_of}
+use Rattle.schedule.specs.Fields.{number_between, payload_of, priority_of, queue_of}
 use Rattle.store_console.specs.declared.request.Request.{Request}
 use Rattle.store_console.specs.declared.request.Request.TheVariants as request
 
--- ---- fields: what is past the range of its type can't be read
-
-abbrev pub kept_if : {A : Type 0} → (A → Bool) → Option A → Option A
-kept_if test None = None
-kept_if test (Some x) = if test x then Some x else None
-
-abbrev pub queue_of : List ℕ → Option ℕ
-queue_of word = kept_if (λ n. nat_lt n QUEUES) (number_of word)
-
--- a priority that is named is from 1 to 255; 0 is left out
-abbrev pub priority_of : List ℕ → Option ℕ
-priority_of word = kept_if (λ n. if nat_le 1 n then nat_le n 255 else false) (number_of word)
-
-abbrev pub payload_of : List ℕ → Option (List ℕ)
-payload_of word = kept_if (λ bytes. nat_le (length bytes) PAYLOAD_CAPACITY) (bytes_of word)
-
 abbrev pub slots_of : List ℕ → Option ℕ
-slots_of word = kept_if (λ n. if nat_le LEAST_SLOTS n then nat_le n MOST_SLOTS else false) (number_of word)
+slots_of word = number_between LEAST_SLOTS MOST_SLOTS word
 
 -- ---- lines
 
@@ -48,25 +31,17 @@ put_of None payload priority = None
 put_of (Some queue) None priority = None
 put_of (Some queue) (Some payload) priority = option_map (λ p. request.Put (record { queue = queue; priority = p; payload = payload })) priority
 
--- a job that is put with this priority, if it is one
-abbrev pub put_with : List ℕ → List ℕ → Option ℕ → Option Request
-put_with first second priority = put_of (queue_of first) (payload_of second) priority
-
--- a name with two fields
-abbrev pub with_two : List ℕ → List ℕ → List ℕ → Option Request
-with_two name first second = if bytes_eq name (codes "put") then put_with first second (Some 0) else None
-
--- a name with three fields
-abbrev pub with_three : List ℕ → List ℕ → List ℕ → List ℕ → Option Request
-with_three name first second third = if bytes_eq name (codes "put") then put_with first second (priority_of third) else None
+-- a name with the fields of a job, which is put with this priority
+abbrev pub put_named : List ℕ → List ℕ → List ℕ → Option ℕ → Option Request
+put_named name queue payload priority = if bytes_eq name (codes "put") then put_of (queue_of queue) (payload_of payload) priority else None
 
 -- the request of these words
 abbrev pub request_of : List (List ℕ) → Option Request
 request_of [] = None
 request_of (name ∷ []) = alone_of name
 request_of (name ∷ a ∷ []) = with_one name a
-request_of (name ∷ a ∷ b ∷ []) = with_two name a b
-request_of (name ∷ a ∷ b ∷ c ∷ []) = with_three name a b c
+request_of (name ∷ a ∷ b ∷ []) = put_named name a b (Some 0)
+request_of (name ∷ a ∷ b ∷ c ∷ []) = put_named name a b (priority_of c)
 request_of (name ∷ a ∷ b ∷ c ∷ d ∷ rest) = None
 
 -- ---- the whole input

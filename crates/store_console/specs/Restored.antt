@@ -8,7 +8,7 @@ use Rattle.line_words.specs.Words.{number_of, words_of}
 use Rattle.line_words.specs.Lines.{lines_of}
 use Rattle.line_words.specs.declared.lines.LineFault.{LineFault}
 use Rattle.line_words.specs.declared.lines.LineFault.TheVariants.{BadLine, NoMemory}
-use Rattle.store_console.specs.Requests.{payload_of, priority_of, queue_of}
+use Rattle.schedule.specs.Fields.{payload_of, priority_of, queue_of}
 
 -- ---- a line
 

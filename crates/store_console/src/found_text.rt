@@ -8,18 +8,18 @@ ghost use Rattle.store_console.specs.Printed.{all_queues_text, counter_text, exp
 
 use crate::found::{Counter, Owner};
 use crate::text::push_jobs;
-use console_text::{Printout, push_number, push_text};
+use console_text::{Output, push_number, push_text};
 use job_journal::JobJournal;
 use job_model::{Job, JobTable, QUEUES};
 use std::alloc::{AllocError, Global};
 
 /// What is printed of a file with too few sectors.
-pub fn too_small(alloc: Global, sectors: u64) -> Result<Printout, AllocError>
+pub fn too_small(alloc: Global, sectors: u64) -> Result<Output, AllocError>
     ensures { IfOk result (λ printout. outcome_of printout ≡ too_small sectors) }
 {
     let mut text = Vec::new(alloc);
     push_named(&mut text, "too_small", sectors)?;
-    Ok(Printout { text, good: false })
+    Ok(Output { text, good: false })
 }
 
 /// What is printed of what was found.
@@ -30,7 +30,7 @@ pub fn described(
     used: u64,
     counter: Counter,
     journal: &Result<JobJournal, u64>,
-) -> Result<Printout, AllocError>
+) -> Result<Output, AllocError>
     ensures { IfOk result (λ printout. outcome_of printout ≡ found_text owner slots used counter (found_in journal.now)) }
 {
     let mut text = Vec::new(alloc);
@@ -40,11 +40,11 @@ pub fn described(
     push_counter(&mut text, counter)?;
     push_journal(&mut text, journal)?;
     let good = has_value(counter) && has_jobs(journal);
-    Ok(Printout { text, good })
+    Ok(Output { text, good })
 }
 
 /// What is printed of the jobs alone.
-pub fn jobs_alone(alloc: Global, journal: &Result<JobJournal, u64>) -> Result<Printout, AllocError>
+pub fn jobs_alone(alloc: Global, journal: &Result<JobJournal, u64>) -> Result<Output, AllocError>
     ensures { IfOk result (λ printout. outcome_of printout ≡ export_text (found_in journal.now)) }
 {
     let mut text = Vec::new(alloc);
@@ -52,7 +52,7 @@ pub fn jobs_alone(alloc: Global, journal: &Result<JobJournal, u64>) -> Result<Pr
         Ok(journal) => push_jobs(&mut text, journal.table().pending())?,
         Err(sector) => push_named(&mut text, "damaged_journal", *sector)?,
     }
-    Ok(Printout {
+    Ok(Output {
         text,
         good: has_jobs(journal),
     })

@@ -1,12 +1,17 @@
 //! The commands over files. `store`: lines that ask something of a store over a file in, what each was answered out. `inspect` and `export`: what
 //! the bytes of a file hold, whether a node's or a store's; nothing is locked, and nothing is written. And the jobs that a file is made with,
 //! from the lines that `export` prints.
+//!
+//! ```
+//! let ended = store(rt, alloc, path, &mut input, &mut output);     // mount, put 3 6869, list ..; each is answered
+//! let ending = inspect(alloc, Shown::Jobs, &mut file, &mut output);
+//! let table = read_jobs(alloc, slots, next, &bytes)?;              // the lines that were printed, for a file that is made with them
+//! ```
 #![tactic(auto)]
 
 mod acting;
 mod barring;
 mod copying;
-mod fields;
 mod found;
 mod found_text;
 mod inspecting;
@@ -21,6 +26,6 @@ mod restoring;
 mod running;
 mod text;
 
-pub use inspecting::{export, inspect};
+pub use inspecting::{Shown, inspect};
 pub use restoring::{no_jobs, read_jobs};
 pub use running::store;

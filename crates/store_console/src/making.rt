@@ -39,38 +39,33 @@ pub fn make<P: AsPath>(
         Err(fault) => return Ok(barred(fault)),
     };
     match old.label() {
-        Ok(label) if is_of_a_node(label) => Ok(Reply::Barred(Bar::Foreign)),
-        Ok(_) => replace(rt, alloc, path, sectors),
+        Ok(label) if is_of_a_node(label) => return Ok(Reply::Barred(Bar::Foreign)),
+        Ok(_) => {}
+        Err(error) => return Ok(barred(OpenFault::from(error))),
+    }
+    match names(rt, alloc, path) {
+        Ok((whole, beside)) => Ok(replace(rt, &whole, &beside, sectors)),
+        Err(error) if error.kind() == ErrorKind::OutOfMemory => Err(AllocError),
         Err(error) => Ok(barred(OpenFault::from(error))),
     }
 }
 
-/// Makes a store beside the file of this path, and puts it in that file's place.
-fn replace<P: AsPath>(
-    rt: &impl Files<File = File>,
-    alloc: Global,
-    path: &P,
-    sectors: u64,
-) -> Result<Reply, AllocError>
-    ensures { IfOk result IsFormatted }
+/// Makes a store of this name beside a whole file, and puts it in that file's place.
+fn replace(rt: &impl Files<File = File>, whole: &PathBuf, beside: &String, sectors: u64) -> Reply
+    ensures { IsFormatted result }
 {
-    let (whole, beside) = match names(rt, alloc, path) {
-        Ok(names) => names,
-        Err(error) if error.kind() == ErrorKind::OutOfMemory => return Err(AllocError),
-        Err(error) => return Ok(barred(OpenFault::from(error))),
-    };
     // what another format left when it was cut off: none is at work, for the old file is locked
-    let _ = fs::remove_file(rt, &beside);
-    let made = FileDisk::create_new(rt, &beside, sectors, Stride::Packed);
-    let reply = finish(rt, &beside, made);
+    let _ = fs::remove_file(rt, beside);
+    let made = FileDisk::create_new(rt, beside, sectors, Stride::Packed);
+    let reply = finish(rt, beside, made);
     if reply != Reply::Done {
-        return Ok(reply);
+        return reply;
     }
-    if let Err(error) = put_in_place(rt, &beside, &whole) {
-        let _ = fs::remove_file(rt, &beside);
-        return Ok(barred(OpenFault::from(error)));
+    if let Err(error) = put_in_place(rt, beside, whole) {
+        let _ = fs::remove_file(rt, beside);
+        return barred(OpenFault::from(error));
     }
-    Ok(Reply::Done)
+    Reply::Done
 }
 
 /// The name of the file that a path leads to, and the one beside it.

@@ -1,11 +1,12 @@
-ghost use Rattle.std.specs.Prelude.{◌≡◌, bytes_eq, IfOk};
+ghost use Rattle.std.specs.Prelude.{◌≡◌, IfOk};
 ghost use Rattle.line_words.specs.Words.{words_of};
-ghost use Rattle.store_console.specs.Requests.{request_of, alone_of, with_one, with_two, with_three, put_with};
+ghost use Rattle.store_console.specs.Requests.{alone_of, put_named, request_of, slots_of, with_one};
 
-use crate::fields::{payload, priority, queue, slots};
 use crate::request::Request;
+use disk_sector::{LEAST_SLOTS, MOST_SLOTS};
 use job_model::Work;
-use line_words::{cut_word, number};
+use line_words::{cut_word, is_word, number};
+use schedule::fields::{between, payload, priority, queue};
 use std::alloc::{AllocError, Global};
 
 /// The request of the words of a line.
@@ -20,10 +21,10 @@ pub fn request(alloc: Global, line: &[u8]) -> Result<Option<Request>, AllocError
         return Ok(one(name, fields));
     };
     let Some((second, third)) = cut_word(more) else {
-        return two(alloc, name, first, more);
+        return put(alloc, name, first, more, Some(0));
     };
     match cut_word(third) {
-        None => three(alloc, name, first, second, third),
+        None => put(alloc, name, first, second, priority(third)),
         Some(_) => Ok(None),
     }
 }
@@ -32,89 +33,58 @@ pub fn request(alloc: Global, line: &[u8]) -> Result<Option<Request>, AllocError
 fn alone(name: &[u8]) -> Option<Request>
     ensures { result ≡ alone_of name.now }
 {
-    if is(name, "mount") {
+    if is_word(name, "mount") {
         Some(Request::Mount)
-    } else if is(name, "raise") {
+    } else if is_word(name, "raise") {
         Some(Request::Raise)
-    } else if is(name, "compact") {
+    } else if is_word(name, "compact") {
         Some(Request::Compact)
-    } else if is(name, "list") {
+    } else if is_word(name, "list") {
         Some(Request::List)
     } else {
         None
     }
 }
 
+/// How many slots a word names.
+fn slots(word: &[u8]) -> Option<u64>
+    ensures { result ≡ slots_of word.now }
+{
+    between(LEAST_SLOTS, MOST_SLOTS, word)
+}
+
 /// A request with one field.
 fn one(name: &[u8], field: &[u8]) -> Option<Request>
     ensures { result ≡ with_one name.now field.now }
 {
-    if is(name, "format") {
+    if is_word(name, "format") {
         Some(Request::Format(slots(field)?))
-    } else if is(name, "done") {
+    } else if is_word(name, "done") {
         Some(Request::Done(number(field)?))
     } else {
         None
     }
 }
 
-/// A request with two fields.
-fn two(
-    alloc: Global,
-    name: &[u8],
-    first: &[u8],
-    second: &[u8],
-) -> Result<Option<Request>, AllocError>
-    ensures { IfOk result (λ request. request ≡ with_two name.now first.now second.now) }
-{
-    if is(name, "put") {
-        put(alloc, first, second, Some(0))
-    } else {
-        Ok(None)
-    }
-}
-
-/// A request with three fields.
-fn three(
-    alloc: Global,
-    name: &[u8],
-    first: &[u8],
-    second: &[u8],
-    third: &[u8],
-) -> Result<Option<Request>, AllocError>
-    ensures { IfOk result (λ request. request ≡ with_three name.now first.now second.now third.now) }
-{
-    if is(name, "put") {
-        put(alloc, first, second, priority(third))
-    } else {
-        Ok(None)
-    }
-}
-
+/// A job that is put, where the name says so.
 fn put(
     alloc: Global,
+    name: &[u8],
     first: &[u8],
     second: &[u8],
     priority: Option<u8>,
 ) -> Result<Option<Request>, AllocError>
-    ensures { IfOk result (λ request. request ≡ put_with first.now second.now priority) }
+    ensures { IfOk result (λ request. request ≡ put_named name.now first.now second.now priority) }
 {
-    let (Some(queue), Some(priority)) = (queue(first), priority) else {
+    if !is_word(name, "put") {
         return Ok(None);
-    };
-    let Some(payload) = payload(alloc, second)? else {
-        return Ok(None);
-    };
-    Ok(Some(Request::Put(Work {
-        queue,
-        priority,
-        payload,
-    })))
-}
-
-/// Whether a word is this name.
-fn is(word: &[u8], name: &str) -> bool
-    ensures { result ≡ bytes_eq word.now name.now }
-{
-    word == name.as_bytes()
+    }
+    match (queue(first), payload(alloc, second)?, priority) {
+        (Some(queue), Some(payload), Some(priority)) => Ok(Some(Request::Put(Work {
+            queue,
+            priority,
+            payload,
+        }))),
+        _ => Ok(None),
+    }
 }

@@ -1,12 +1,12 @@
 //! What is wrong with a line of the input, as standard error says it.
 
-ghost use Rattle.std.specs.Prelude.{◌≡◌, ◌++◌, IfOk, OnOk, MatchOption, None, Some, bytes_eq};
+ghost use Rattle.std.specs.Prelude.{◌≡◌, ◌++◌, IfOk, OnOk, MatchOption, None, Some};
 ghost use Rattle.line_words.specs.Lines.{line_numbered, lines_of};
 ghost use Rattle.console_text.specs.Reasons.{line_head};
 ghost use Rattle.store_console.specs.Reasons.{form_of, name_flaw, request_flaw};
 
 use console_text::{line_reason, push_text, push_unknown};
-use line_words::{first_word, line_numbered};
+use line_words::{first_word, is_word, line_numbered};
 use std::alloc::{AllocError, Global};
 
 /// Why the line of this number can't be read, where it is known that it can't.
@@ -35,28 +35,21 @@ fn push_flaw(text: &mut Vec<u8>, name: &[u8]) -> Result<(), AllocError>
 fn form(name: &[u8]) -> Option<&'static str>
     ensures { MatchOption result (form_of name.now ≡ None) (λ form. form_of name.now ≡ Some form.now) }
 {
-    if is(name, "format") {
+    if is_word(name, "format") {
         Some("format SLOTS")
-    } else if is(name, "mount") {
+    } else if is_word(name, "mount") {
         Some("mount")
-    } else if is(name, "raise") {
+    } else if is_word(name, "raise") {
         Some("raise")
-    } else if is(name, "put") {
+    } else if is_word(name, "put") {
         Some("put QUEUE HEX [P]")
-    } else if is(name, "done") {
+    } else if is_word(name, "done") {
         Some("done ID")
-    } else if is(name, "compact") {
+    } else if is_word(name, "compact") {
         Some("compact")
-    } else if is(name, "list") {
+    } else if is_word(name, "list") {
         Some("list")
     } else {
         None
     }
-}
-
-/// Whether a word is this name.
-fn is(word: &[u8], name: &str) -> bool
-    ensures { result ≡ bytes_eq word.now name.now }
-{
-    word == name.as_bytes()
 }

@@ -6,9 +6,9 @@ ghost use Rattle.job_journal.specs.Jobs.{jobs_of};
 ghost use Rattle.line_words.specs.Words.{words_of};
 ghost use Rattle.store_console.specs.Restored.{IsInputFault, IsLineNotTaken, TakesInput, TakesLine, job_of, job_with};
 
-use crate::fields::{payload, priority, queue};
 use job_model::{Job, JobTable, Work};
 use line_words::{LineFault, cut_line, cut_word, number};
+use schedule::fields::{payload, priority, queue};
 use std::alloc::{AllocError, Global};
 
 /// No jobs, and this id for the next one.

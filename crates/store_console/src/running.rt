@@ -14,7 +14,7 @@ use crate::reply::Reply;
 use crate::request::Request;
 use crate::text::push_reply;
 use console_text::{
-    Ended, Explained, Printout, Source, Trouble, bad_line, print_explained, read_source,
+    CommandError, Ended, IoTrouble, Output, Source, bad_line, print_explained, read_source,
 };
 use file_disk::FileDisk;
 use line_words::LineFault;
@@ -50,7 +50,7 @@ pub fn store<P: AsPath, R: Read, W: Write>(
     ensures reads { input.old.left ≤ input.new.left + 16777216 }
 {
     let outcome = match read_source(alloc, input) {
-        Ok(bytes) => store_to(rt, alloc, &path, &bytes).map_err(Trouble::from),
+        Ok(bytes) => store_to(rt, alloc, &path, &bytes).map_err(IoTrouble::from),
         Err(trouble) => Err(trouble),
     };
     print_explained(alloc, output, outcome)
@@ -62,17 +62,17 @@ fn store_to<P: AsPath>(
     alloc: Global,
     path: &P,
     input: &[u8],
-) -> Result<Explained, AllocError>
+) -> Result<CommandError, AllocError>
     ensures prints { IfOk result (λ explained. IsSession input.now (outcome_of explained.printout)) }
     ensures why { IfOk result (λ explained. explained.why.items ≡ session_flaw input.now) }
 {
     match read_requests(alloc, input) {
         Ok(requests) => {
             let text = answer(rt, alloc, path, &requests)?;
-            let printout = Printout { text, good: true };
+            let printout = Output { text, good: true };
             Ok(printout.without_why(alloc))
         }
-        Err(LineFault::BadLine(number)) => Ok(Explained {
+        Err(LineFault::BadLine(number)) => Ok(CommandError {
             printout: bad_line(alloc, number)?,
             why: reason(alloc, input, number)?,
         }),

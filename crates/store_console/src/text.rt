@@ -6,7 +6,7 @@ ghost use Rattle.console_text.specs.Ends.{line};
 ghost use Rattle.store_console.specs.Replies.{bar_text, fault_text, job_text, list_text, reply_text};
 
 use crate::reply::{Bar, Reply};
-use console_text::{push_number, push_text, push_work};
+use console_text::{push_named_number, push_text, push_work};
 use file_disk::FileDisk;
 use job_model::{Job, JobTable};
 use node_store::{NodeStore, StoreFault};
@@ -23,8 +23,7 @@ pub fn push_reply(
     match reply {
         Reply::Done => push_text(text, "ok\n"),
         Reply::Value(value) => {
-            push_text(text, "ok ")?;
-            push_number(text, value)?;
+            push_named_number(text, "ok ", value)?;
             push_text(text, "\n")
         }
         Reply::Refused(fault) => {
@@ -52,10 +51,7 @@ fn push_fault(text: &mut Vec<u8>, fault: StoreFault) -> Result<(), AllocError>
         StoreFault::Broken => push_text(text, "Broken"),
         StoreFault::Exhausted => push_text(text, "Exhausted"),
         StoreFault::NotFormatted => push_text(text, "NotFormatted"),
-        StoreFault::Damaged(sector) => {
-            push_text(text, "Damaged ")?;
-            push_number(text, sector)
-        }
+        StoreFault::Damaged(sector) => push_named_number(text, "Damaged ", sector),
         StoreFault::Full => push_text(text, "Full"),
         StoreFault::NoSuchJob => push_text(text, "NoSuchJob"),
         StoreFault::NoMemory => push_text(text, "NoMemory"),
@@ -82,10 +78,8 @@ fn bar_name(bar: Bar) -> &'static str
 fn push_list(text: &mut Vec<u8>, count: u64, table: &JobTable) -> Result<(), AllocError>
     ensures { OnOk result (text.new.items ≡ text.old.items ++ list_text (durable_of count table.now)) }
 {
-    push_text(text, "count ")?;
-    push_number(text, count)?;
-    push_text(text, " next ")?;
-    push_number(text, table.next())?;
+    push_named_number(text, "count ", count)?;
+    push_named_number(text, " next ", table.next())?;
     push_text(text, "\n")?;
     push_jobs(text, table.pending())
 }
@@ -103,8 +97,7 @@ pub fn push_jobs(text: &mut Vec<u8>, jobs: &[Job]) -> Result<(), AllocError>
 fn push_job(text: &mut Vec<u8>, job: &Job) -> Result<(), AllocError>
     ensures { OnOk result (text.new.items ≡ text.old.items ++ line (job_text job.now)) }
 {
-    push_text(text, "job ")?;
-    push_number(text, job.id)?;
+    push_named_number(text, "job ", job.id)?;
     push_text(text, " ")?;
     let work = &job.work;
     push_work(

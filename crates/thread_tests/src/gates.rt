@@ -4,7 +4,7 @@ use crate::threads::{add, checks, fault, whole};
 use crossbeam_utils::CachePadded;
 use group_task::NodeId;
 use node_core::Timer;
-use node_lock::{Gate, Order, Plans, Worker};
+use node_lock::{Gate, OperatorOrder, Plans, Worker};
 use node_threads::ThreadsFault;
 use std::alloc::{AllocError, Global};
 use std::process::Abort;
@@ -124,8 +124,8 @@ impl Gate for Inside {
 fn two_workers(alloc: Global) -> Result<Plans, AllocError> {
     let clock = vec![in alloc; Timer::Check; 2]?;
     let mut operator = Vec::new(alloc);
-    operator.push(Order::Arm(1000))?;
-    operator.push(Order::Arm(1000))?;
+    operator.push(OperatorOrder::Arm(1000))?;
+    operator.push(OperatorOrder::Arm(1000))?;
     Ok(Plans::new(Vec::new(alloc), clock, operator))
 }
 

@@ -1,6 +1,6 @@
 //! Events of a node over its disk that are refused for want of memory and made again. In a run of this test by itself there is memory, and no event
 //! is refused; `tests/hostile/refused_tried.py` runs it again and again, and each time refuses one allocation more.
-use durable_node::{Came, DurableNode};
+use durable_node::{DurableNode, StepReport};
 use group_task::{GroupNo, Members, NodeId, Task};
 use job_model::{Payload, Queue, Work};
 use node_core::{Event, Phase, Timer};
@@ -69,22 +69,22 @@ type Known = (
 );
 
 fn known(node: &DurableNode<MemDisk>) -> Known {
-    let standing = &node.vector().standing;
+    let group_state = &node.vector().group_state;
     let kept = match node.durable() {
         Some((count, table)) => Some((count, table.next(), table.pending().len())),
         None => None,
     };
     (
-        standing.phase,
-        standing.group,
-        standing.task,
-        standing.up,
+        group_state.phase,
+        group_state.group,
+        group_state.task,
+        group_state.up,
         kept,
     )
 }
 
 /// An event. One that is refused for want of memory changes nothing, and is made again.
-fn step<R: Abort + Print>(rt: &R, node: &mut DurableNode<MemDisk>, event: &Event) -> Came {
+fn step<R: Abort + Print>(rt: &R, node: &mut DurableNode<MemDisk>, event: &Event) -> StepReport {
     let before = known(node);
     if let Ok(came) = node.step(event) {
         return came;
@@ -108,7 +108,7 @@ fn take<R: Abort + Print>(
         if came.fault() != other.fault() {
             return false;
         }
-        assert!(rt; came.fate == other.fate && came.answer == other.answer);
+        assert!(rt; came.event_outcome == other.event_outcome && came.answer == other.answer);
         assert!(rt; came.sent == other.sent);
         assert!(rt; known(node) == known(twin));
     }

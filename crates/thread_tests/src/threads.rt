@@ -8,11 +8,11 @@ use crate::judged::is_run;
 use crate::turns::came;
 use crossbeam_utils::CachePadded;
 use group_task::{NODES, NodeId};
-use histories::What;
+use histories::HistoryEvent;
 use link_ring::LinkEnd;
 use node_core::{Event, Timer};
 use node_lock::{Gate, History, MOST_ENTRIES, Plans, Worker};
-use node_threads::{Gathered, Size, ThreadsFault, poll_others, run_threads};
+use node_threads::{Gathered, RunSize, ThreadsFault, poll_others, run_threads};
 use std::alloc::{AllocError, Global};
 use std::process::Abort;
 use std::sync::Wait;
@@ -24,11 +24,11 @@ use wire_msg::Message;
 const LOOKS: u64 = 1_000_000_000;
 
 /// The size of a run of these plans, on disks of four slots, with room for four messages on each link.
-fn size_for(plans: &[Plans]) -> Option<Size>
+fn size_for(plans: &[Plans]) -> Option<RunSize>
     ensures { IfSome result (λ size. (length plans.now ≡ size.nodes) × (size.nodes ≤ NODES) × (4 ≤ size.slots) × (size.slots ≤ 4096) × PollOthers plans.now) }
 {
     if plans.len() <= usize::from(NODES) && poll_others(plans) {
-        Some(Size {
+        Some(RunSize {
             nodes: plans.len() as u8,
             slots: 4,
             capacity: 4,
@@ -137,7 +137,9 @@ impl Gate for Meeting {
 /// Expects one turn, in which the clock fired Check.
 fn expect_check(rt: &impl Abort, history: &History) {
     assert_eq!(rt; history.len(), 1);
-    assert!(rt; came(history, 0, Worker::Clock, 0) == Some(What::Did(Event::Timer(Timer::Check))));
+    assert!(rt;
+        came(history, 0, Worker::Clock, 0) == Some(HistoryEvent::Did(Event::Timer(Timer::Check)))
+    );
 }
 
 /// Expects a link that carried one message, which wasn't taken.
@@ -234,7 +236,7 @@ fn expect_delivered(rt: &impl Abort, sender: &History, receiver: &History) {
     let question = sent_first(sender).expect(rt, "a question");
     assert_eq!(rt; receiver.len(), 1);
     let told = came(receiver, 0, Worker::Intake, 0);
-    assert!(rt; told == Some(What::Did(Event::Deliver(question))));
+    assert!(rt; told == Some(HistoryEvent::Did(Event::Deliver(question))));
 }
 
 #[test]

@@ -4,11 +4,13 @@ ghost use Rattle.std.specs.Prelude.{◌≡◌, ◌<◌, ◌-◌, [], ◌∷◌, 
 ghost use Rattle.link_ring.specs.Sides.{unused};
 
 use group_task::NodeId;
-use histories::{Rest, What};
+use histories::{HistoryEvent, NoOpKind};
 use link_ring::{PutEnd, TakeEnd, link};
 use message_list::MessageList;
 use node_core::{Event, Timer};
-use node_lock::{Gate, Held, HeldFault, History, NodeLock, Parts, Plans, Run, TurnFault, Worker};
+use node_lock::{
+    Gate, Held, HeldFault, HeldParts, History, NodeLock, Plans, Run, TurnFault, Worker,
+};
 use std::alloc::{AllocError, Global};
 use std::io::Print;
 use std::process::Abort;
@@ -113,7 +115,12 @@ fn take<R: Abort + Print>(rt: &R, held: &mut Held, worker: Worker, turns: usize)
 }
 
 /// What came of the turn at this place, where it is that of this worker and has this number in its plan.
-pub(crate) fn came(history: &History, place: usize, worker: Worker, index: u64) -> Option<What> {
+pub(crate) fn came(
+    history: &History,
+    place: usize,
+    worker: Worker,
+    index: u64,
+) -> Option<HistoryEvent> {
     let entry = history.entry(place)?;
     if entry.worker == worker && entry.index == index {
         Some(entry.what)
@@ -131,8 +138,8 @@ fn expect_polled(
     found: Option<Message>,
 ) {
     let what = match found {
-        Some(message) => What::Did(Event::Deliver(message)),
-        None => What::Rests(Rest::Nothing),
+        Some(message) => HistoryEvent::Did(Event::Deliver(message)),
+        None => HistoryEvent::NoOp(NoOpKind::Nothing),
     };
     assert!(rt; came(history, place, Worker::Intake, index) == Some(what));
 }
@@ -180,10 +187,11 @@ fn gate_shuts(rt: HostRuntime) {
 }
 
 /// Expects that the message was taken from its ring once, and what is answered and asked is put once.
-fn expect_answered_once(rt: &impl Abort, parts: &Parts) {
+fn expect_answered_once(rt: &impl Abort, parts: &HeldParts) {
     expect_polled(rt, &parts.history, 0, 0, Some(question()));
     assert!(rt;
-        came(&parts.history, 1, Worker::Clock, 0) == Some(What::Did(Event::Timer(Timer::Check)))
+        came(&parts.history, 1, Worker::Clock, 0)
+            == Some(HistoryEvent::Did(Event::Timer(Timer::Check)))
     );
     assert!(rt; parts.waiting.is_none());
     expect_taken(rt, &parts.takes, question());

@@ -9,30 +9,30 @@ use Rattle.line_words.specs.Lines.{IsFaultAt, IsLineFault}
 use Rattle.line_words.specs.Words.{words_of}
 use Rattle.node_lock.specs.Planned.{Planned}
 use Rattle.node_threads.proofs.PublicLaws.{place_of}
-use Rattle.threads_console.specs.declared.turn.Turn.{Turn}
-use Rattle.threads_console.specs.declared.turn.Turn.TheVariants.{Poll, Fire, Do}
+use Rattle.threads_console.specs.declared.turn.PlanTurn.{PlanTurn}
+use Rattle.threads_console.specs.declared.turn.PlanTurn.TheVariants.{Poll, Fire, Do}
 use Rattle.threads_console.specs.Planning.{AddsLine, ArePlanned, IsPlaced, done_in, fired_in, no_plans, polled_in, turns_at, with_turn}
 use Rattle.threads_console.specs.Scripts.{AreRead, in_front, turns_of}
 use Rattle.threads_console.specs.Turns.{line_of}
 
 -- the turn added to the plans of its node
-abbrev pub placed : ℕ × Turn → List Planned → List Planned
+abbrev pub placed : ℕ × PlanTurn → List Planned → List Planned
 placed turn ps = slice_set ps turn.0 (with_turn (slice_index_or ps turn.0 no_plans) turn.1)
 
-abbrev pub after_turns : List Planned → List (ℕ × Turn) → List Planned
+abbrev pub after_turns : List Planned → List (ℕ × PlanTurn) → List Planned
 after_turns ps [] = ps
 after_turns ps (turn ∷ turns) = after_turns (placed turn ps) turns
 
-abbrev pub filled : List Planned → Result (List (ℕ × Turn)) ℕ → Result (List Planned) ℕ
+abbrev pub filled : List Planned → Result (List (ℕ × PlanTurn)) ℕ → Result (List Planned) ℕ
 filled ps (Ok turns) = Ok (after_turns ps turns)
 filled ps (Err n) = Err n
 
-is_placed : (turn : ℕ × Turn) (old new : List Planned) → turn.0 < length old → IsPlaced turn old new → new ≡ placed turn old
+is_placed : (turn : ℕ × PlanTurn) (old new : List Planned) → turn.0 < length old → IsPlaced turn old new → new ≡ placed turn old
 is_placed turn old new within is =
     let at = place_of old turn.0 within in
     is at.0 at.1 ∙ ap (λ (p : Planned). slice_set old turn.0 (with_turn p turn.1)) (sym (get_or_from_slice_get old turn.0 at.0 no_plans at.1))
 
-filled_turn : (n : ℕ) (turn : ℕ × Turn) (old : List Planned) (r : Result (List (ℕ × Turn)) ℕ) → filled old (in_front n (Some turn) r) ≡ filled (placed turn old) r
+filled_turn : (n : ℕ) (turn : ℕ × PlanTurn) (old : List Planned) (r : Result (List (ℕ × PlanTurn)) ℕ) → filled old (in_front n (Some turn) r) ≡ filled (placed turn old) r
 filled_turn n turn old (Ok turns) = refl
 filled_turn n turn old (Err m) = refl
 
@@ -44,7 +44,7 @@ filled_line nodes n line lines old new count adds =
     rw adds.reads (rw is (filled_turn n adds.turn old (turns_of nodes lines)))
 
 -- and so they are as many
-length_placed : (turn : ℕ × Turn) (ps : List Planned) → length (placed turn ps) ≡ length ps
+length_placed : (turn : ℕ × PlanTurn) (ps : List Planned) → length (placed turn ps) ≡ length ps
 length_placed turn ps = length-set ps turn.0 (with_turn (slice_index_or ps turn.0 no_plans) turn.1)
 
 pub as_many : (nodes : ℕ) (line : List ℕ) (old new : List Planned) → length old ≡ nodes → AddsLine nodes line old new → length new ≡ nodes
@@ -53,7 +53,7 @@ as_many nodes line old new count adds =
 
 -- ---- a line that can't be read
 
-is_err : (ps : List Planned) (r : Result (List (ℕ × Turn)) ℕ) (n : ℕ) → filled ps r ≡ Err n → r ≡ Err n
+is_err : (ps : List Planned) (r : Result (List (ℕ × PlanTurn)) ℕ) (n : ℕ) → filled ps r ≡ Err n → r ≡ Err n
 is_err ps (Ok turns) n is = absurd cc
 is_err ps (Err m) n is = let same : m ≡ n = cc in rw same refl
 
@@ -66,13 +66,13 @@ fault_named nodes n line lines all old start NoMemory bad reads_so = tt
 
 -- ---- what stands in the plans once all turns were added
 
-abbrev joined : Planned → List Turn → Planned
+abbrev joined : Planned → List PlanTurn → Planned
 joined p turns = record { intake = p.intake ++ flat_map polled_in turns; clock = p.clock ++ flat_map fired_in turns; operator = p.operator ++ flat_map done_in turns }
 
 joined_none : (p : Planned) → joined p [] ≡ p
 joined_none p = λ i. record { intake = append-nil p.intake i; clock = append-nil p.clock i; operator = append-nil p.operator i }
 
-joined_more : (p : Planned) (turn : Turn) (turns : List Turn) → joined (with_turn p turn) turns ≡ joined p (turn ∷ turns)
+joined_more : (p : Planned) (turn : PlanTurn) (turns : List PlanTurn) → joined (with_turn p turn) turns ≡ joined p (turn ∷ turns)
 joined_more p (Poll j) turns = ap (λ (js : List ℕ). record { intake = js; clock = p.clock ++ flat_map fired_in turns; operator = p.operator ++ flat_map done_in turns }) (append_assoc p.intake (j ∷ []) (flat_map polled_in turns))
 joined_more p (Fire timer) turns = λ i. record { intake = p.intake ++ flat_map polled_in turns; clock = append_assoc p.clock (timer ∷ []) (flat_map fired_in turns) i; operator = p.operator ++ flat_map done_in turns }
 joined_more p (Do order) turns = λ i. record { intake = p.intake ++ flat_map polled_in turns; clock = p.clock ++ flat_map fired_in turns; operator = append_assoc p.operator (order ∷ []) (flat_map done_in turns) i }
@@ -89,12 +89,12 @@ set_elsewhere (p ∷ ps) zero (suc n) x other = refl
 set_elsewhere (p ∷ ps) (suc m) zero x other = refl
 set_elsewhere (p ∷ ps) (suc m) (suc n) x other = set_elsewhere ps m n x (λ same. other (ap (λ (k : ℕ). suc k) same))
 
-record StoodAt (ps : List Planned) (n : ℕ) (turns : List Turn) (q : Planned) : Type 0 where
+record StoodAt (ps : List Planned) (n : ℕ) (turns : List PlanTurn) (q : Planned) : Type 0 where
   pub was : Planned
   pub stood : slice_get ps n ≡ Some was
   pub is : q ≡ joined was turns
 
-after_at : (turns : List (ℕ × Turn)) (ps : List Planned) (n : ℕ) (q : Planned) → slice_get (after_turns ps turns) n ≡ Some q → StoodAt ps n (turns_at n turns) q
+after_at : (turns : List (ℕ × PlanTurn)) (ps : List Planned) (n : ℕ) (q : Planned) → slice_get (after_turns ps turns) n ≡ Some q → StoodAt ps n (turns_at n turns) q
 after_at [] ps n q at = record { was = q; stood = at; is = sym (joined_none q) }
 after_at (turn ∷ turns) ps n q at =
     let rest = after_at turns (placed turn ps) n q at in
@@ -115,7 +115,7 @@ after_at (turn ∷ turns) ps n q at =
         let apart : turn.0 ≢ n = λ same. grind (arith, nat_tests, other, same) in
         record { was = p; stood = sym (set_elsewhere ps turn.0 n (with_turn (slice_index_or ps turn.0 no_plans) turn.1) apart) ∙ stood; is = is }
 
-length_after : (turns : List (ℕ × Turn)) (ps : List Planned) → length (after_turns ps turns) ≡ length ps
+length_after : (turns : List (ℕ × PlanTurn)) (ps : List Planned) → length (after_turns ps turns) ≡ length ps
 length_after [] ps = refl
 length_after (turn ∷ turns) ps = length_after turns (placed turn ps) ∙ length_placed turn ps
 
@@ -124,7 +124,7 @@ all_empty zero n p at = absurd cc
 all_empty (suc k) zero p at = let same : no_plans ≡ p = cc in sym same
 all_empty (suc k) (suc n) p at = all_empty k n p at
 
-are_planned : (nodes : ℕ) (turns : List (ℕ × Turn)) → ArePlanned nodes turns (after_turns (replicate nodes no_plans) turns)
+are_planned : (nodes : ℕ) (turns : List (ℕ × PlanTurn)) → ArePlanned nodes turns (after_turns (replicate nodes no_plans) turns)
 are_planned nodes turns = record {
   count = length_after turns (replicate nodes no_plans) ∙ length-replicate nodes no_plans;
   each = λ n p at.
@@ -136,7 +136,7 @@ are_planned nodes turns = record {
 pub all_read : (nodes : ℕ) (all : List (ℕ × List ℕ)) (ps : List Planned) → Ok ps ≡ filled (replicate nodes no_plans) (turns_of nodes all) → AreRead nodes all ps
 all_read nodes all ps reads_so = by_result (turns_of nodes all) refl reads_so
   where
-    by_result : (r : Result (List (ℕ × Turn)) ℕ) → turns_of nodes all ≡ r → Ok ps ≡ filled (replicate nodes no_plans) r → AreRead nodes all ps
+    by_result : (r : Result (List (ℕ × PlanTurn)) ℕ) → turns_of nodes all ≡ r → Ok ps ≡ filled (replicate nodes no_plans) r → AreRead nodes all ps
     by_result (Ok turns) reads reads_so =
         let is : after_turns (replicate nodes no_plans) turns ≡ ps = cc in
         record { turns = turns; reads = reads; planned = subst (λ (qs : List Planned). ArePlanned nodes turns qs) is (are_planned nodes turns) }

@@ -5,8 +5,8 @@ use Rattle.std.proofs.lemmas.List.{length-set}
 use Rattle.node_lock.specs.Planned.{Planned}
 use Rattle.node_threads.specs.Nodes.{ArePolled, PollOthers}
 use Rattle.node_threads.proofs.PublicLaws.{place_of}
-use Rattle.threads_console.specs.declared.turn.Turn.{Turn}
-use Rattle.threads_console.specs.declared.turn.Turn.TheVariants.{Poll, Fire, Do}
+use Rattle.threads_console.specs.declared.turn.PlanTurn.{PlanTurn}
+use Rattle.threads_console.specs.declared.turn.PlanTurn.TheVariants.{Poll, Fire, Do}
 use Rattle.threads_console.specs.Planning.{IsPlaced, PollFits, TurnFits, no_plans, with_turn}
 use Rattle.threads_console.proofs.Filling.{all_empty, set_here, set_elsewhere}
 
@@ -16,12 +16,12 @@ one_more own nodes [] j fits polled (suc i) k at = absurd cc
 one_more own nodes (x ∷ js) j fits polled zero k at = polled zero k at
 one_more own nodes (x ∷ js) j fits polled (suc i) k at = one_more own nodes js j fits (λ i k at. polled (suc i) k at) i k at
 
-with_poll : (own nodes : ℕ) (p : Planned) (turn : Turn) → PollFits nodes own turn → ArePolled own nodes p.intake → ArePolled own nodes (with_turn p turn).intake
+with_poll : (own nodes : ℕ) (p : Planned) (turn : PlanTurn) → PollFits nodes own turn → ArePolled own nodes p.intake → ArePolled own nodes (with_turn p turn).intake
 with_poll own nodes p (Poll j) fits polled = one_more own nodes p.intake j fits polled
 with_poll own nodes p (Fire timer) fits polled = polled
 with_poll own nodes p (Do order) fits polled = polled
 
-pub placed_polls : (turn : ℕ × Turn) (old new : List Planned) → TurnFits (length old) turn → IsPlaced turn old new → PollOthers old → PollOthers new
+pub placed_polls : (turn : ℕ × PlanTurn) (old new : List Planned) → TurnFits (length old) turn → IsPlaced turn old new → PollOthers old → PollOthers new
 placed_polls turn old new fits is polls =
     let at = place_of old turn.0 fits.0 in
     let x = with_turn at.0 turn.1 in

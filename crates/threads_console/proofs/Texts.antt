@@ -1,7 +1,7 @@
 -- Texts of items that are written one after another.
 use Rattle.std.proofs.Common.{◌≡◌, ◌<◌, ◌≤◌, ◌+◌, ℕ, Bool, true, List, [], ◌∷◌, ◌++◌, length, drop, slice_get, IfSome, refl, sym, ap, ap₂, ◌∙◌, append_assoc}
 use Rattle.serde_json.specs.Written.{comma_if, compact_text}
-use Rattle.histories.specs.declared.what.What.{What}
+use Rattle.histories.specs.declared.history_event.HistoryEvent.{HistoryEvent}
 use Rattle.hex.specs.Hex.{encode_lower}
 use Rattle.json.specs.Token.{Token, string}
 use Rattle.wire_msg.specs.Envelope.{Envelope}
@@ -11,7 +11,7 @@ use Rattle.node_lock.specs.History.{Turn}
 use Rattle.node_core.specs.declared.event.Event.{Event}
 use Rattle.node_lock.specs.Kept.{IsHandledAt, IsQuietAt, Log}
 use Rattle.trace_check.specs.Claims.{Claim}
-use Rattle.run_trace.specs.Traced.{deed_of, done}
+use Rattle.cluster_sim.specs.Traced.{deed_of, done}
 use Rattle.trace_text.specs.Tokens.{message_tokens}
 use Rattle.trace_text.specs.Written.{entry_data, history_data}
 use Rattle.trace_text.proofs.PublicLaws.{there, drop_get, drop_all, messages_more}
@@ -28,7 +28,7 @@ turn_more text new item bytes later turns i is same added =
     more text new (comma_if later) whole (entries_text true (drop (i + 1) turns)) (added ∙ ap (λ (s : List ℕ). text ++ (comma_if later ++ s)) (same ∙ is.is_text)) ∙ ap (λ (ts : List Turn). text ++ entries_text later ts) (sym (drop_get turns i is.turn is.at))
 
 quiet_is : (turns : List Turn) (i : ℕ) (q : Quiet) (is : IsQuietAt i q turns) → quiet_claim q ≡ turn_claim is.turn
-quiet_is turns i q is = sym (ap₂ (λ (what : What) (sent : List Envelope). record { deed = deed_of what; sent = sent }) is.what is.sent)
+quiet_is turns i q is = sym (ap₂ (λ (what : HistoryEvent) (sent : List Envelope). record { deed = deed_of what; sent = sent }) is.what is.sent)
 
 pub quiet_more : (text new item : List ℕ) (later : Bool) (turns : List Turn) (i : ℕ) (q : Quiet) → IsQuietAt i q turns → item ≡ compact_text (entry_data (quiet_claim q)) → new ≡ text ++ (comma_if later ++ item)
     → new ++ entries_text true (drop (i + 1) turns) ≡ text ++ entries_text later (drop i turns)
@@ -55,5 +55,5 @@ pub handled_text : (place : ℕ) (turns : List Turn) (event : Event) (sent : Lis
 handled_text place turns event sent is text said = record {
   turn = is.turn;
   at = is.at;
-  is_text = said ∙ ap (λ (c : Claim). compact_text (entry_data c)) (sym (ap₂ (λ (what : What) (ms : List Envelope). record { deed = deed_of what; sent = ms }) is.what is.sent));
+  is_text = said ∙ ap (λ (c : Claim). compact_text (entry_data c)) (sym (ap₂ (λ (what : HistoryEvent) (ms : List Envelope). record { deed = deed_of what; sent = ms }) is.what is.sent));
 }

@@ -9,7 +9,7 @@ use Rattle.node_lock.specs.Kept.{Log}
 use Rattle.node_lock.specs.Planned.{Planned}
 use Rattle.node_threads.specs.declared.fault.ThreadsFault.{ThreadsFault}
 use Rattle.node_threads.specs.declared.fault.ThreadsFault.TheVariants.{GateShut, Unfinished, NoMemory, Unpaired}
-use Rattle.node_threads.specs.declared.size.Size.{Size}
+use Rattle.node_threads.specs.declared.size.RunSize.{RunSize}
 use Rattle.node_threads.specs.Reasons.{IsReason}
 use Rattle.node_threads.specs.Whole.{IsWhole}
 use Rattle.trace_text.specs.Written.{trace_data}
@@ -33,7 +33,7 @@ abbrev pub run_outcome : List Log → Outcome
 run_outcome histories = record { text = line (compact_text (trace_data (run_claims histories))); good = true }
 
 -- some whole run of these plans is printed
-pub record PrintsWhole (size : Size) (plans : List Planned) (outcome : Outcome) : Type 0 where
+pub record PrintsWhole (size : RunSize) (plans : List Planned) (outcome : Outcome) : Type 0 where
   pub histories : List Log
   pub links : List LinkEnd
   pub whole : IsWhole size plans histories links
@@ -49,7 +49,7 @@ pub record PrintsFault (plans : List Planned) (outcome : Outcome) : Type 0 where
   pub reason : IsReason never_shut plans fault
   pub printed : outcome ≡ refused (fault_text fault)
 
-abbrev pub PrintsRun : Size → List Planned → Outcome → Type 0
+abbrev pub PrintsRun : RunSize → List Planned → Outcome → Type 0
 PrintsRun size plans outcome = PrintsWhole size plans outcome ⊎ PrintsFault plans outcome
 
 abbrev pub PrintsScript : Result Script ℕ → Outcome → Type 0

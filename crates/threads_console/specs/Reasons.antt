@@ -3,7 +3,7 @@ use Rattle.std.specs.Prelude.{ℕ, List, [], ◌∷◌, ◌++◌, drop, bytes_eq
 use Rattle.line_words.specs.Words.{first_word, words_of}
 use Rattle.line_words.specs.Lines.{line_numbered, lines_of}
 use Rattle.node_core.specs.TimerWords.{timer_named}
-use Rattle.schedule.specs.declared.size.Size.{Size as ClusterSize}
+use Rattle.schedule.specs.declared.size.Size.{Size}
 use Rattle.schedule.specs.Fields.{number_below}
 use Rattle.schedule.specs.Text.{size_of}
 use Rattle.console_text.specs.Reasons.{line_flaw, word_shown}
@@ -45,12 +45,12 @@ turn_flaw nodes words =
     else no_such (codes "node") (first_word words)
 
 -- of these lines the first has to name the links
-abbrev pub links_flaw : ClusterSize → List (ℕ × List ℕ) → List ℕ → List ℕ
+abbrev pub links_flaw : Size → List (ℕ × List ℕ) → List ℕ → List ℕ
 links_flaw cluster [] line = codes "there is no line links CAPACITY"
 links_flaw cluster (links ∷ turns) line =
     if is_some (capacity_of (words_of links.1)) then turn_flaw cluster.nodes (words_of line) else codes "not of the form links CAPACITY"
 
-abbrev pub cluster_flaw : Option ClusterSize → List (ℕ × List ℕ) → List ℕ → List ℕ
+abbrev pub cluster_flaw : Option Size → List (ℕ × List ℕ) → List ℕ → List ℕ
 cluster_flaw None lines line = codes "not of the form cluster NODES SLOTS"
 cluster_flaw (Some cluster) lines line = links_flaw cluster lines line
 

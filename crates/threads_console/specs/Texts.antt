@@ -7,7 +7,7 @@ use Rattle.node_lock.specs.declared.line.Quiet.{Quiet}
 use Rattle.node_lock.specs.declared.line.Quiet.TheVariants.{Rested, Crashed}
 use Rattle.node_lock.specs.Kept.{Log, what_quiet}
 use Rattle.trace_check.specs.Claims.{Claim}
-use Rattle.run_trace.specs.Traced.{claim_of, deed_of}
+use Rattle.cluster_sim.specs.Traced.{claim_of, deed_of}
 use Rattle.trace_text.specs.Written.{entry_data, history_data}
 use Rattle.threads_console.specs.declared.writing.Known.{Known}
 

@@ -2,12 +2,18 @@
 //!
 //! Plans are lines, each a turn of one worker of one node (`specs/Scripts`). They are run by `node_threads`, and the histories of that run
 //! are printed as a trace, entry by entry (`specs/Texts`).
+//!
+//! ```
+//! let setup = read_plans(alloc, &input)?;                          // cluster 3 8, links 16, 0 operator submit 3 6869 ..
+//! let run = run_threads(rt, alloc, setup.size, &setup.plans, &gate)?;
+//! let trace = trace_of(alloc, &run)?;
+//! ```
 #![tactic(auto)]
 
-mod drafts;
 mod fields;
 mod lines;
 mod parsing;
+mod planning;
 mod reading;
 mod reasons;
 mod running;
@@ -18,4 +24,4 @@ mod writing;
 pub use reading::{Setup, read_plans};
 pub use running::threads;
 pub use tracing::trace_of;
-pub use turn::Turn;
+pub use turn::PlanTurn;

@@ -4,22 +4,27 @@ ghost use Rattle.std.specs.Prelude.{◌≡◌, ◌≤◌, ◌<◌, IfOk, IfSome,
 ghost use Rattle.group_task.specs.declared.node.TheConstants.{NODES};
 ghost use Rattle.line_words.specs.Words.{words_of};
 ghost use Rattle.node_core.specs.TimerWords.{timer_named};
-ghost use Rattle.threads_console.specs.declared.turn.Turn.TheVariants.{Poll};
+ghost use Rattle.threads_console.specs.declared.turn.PlanTurn.TheVariants.{Poll};
 ghost use Rattle.threads_console.specs.Planning.{PollFits, TurnFits};
 ghost use Rattle.threads_console.specs.Turns.{alone_order, line_of, long_order, middle_order, of_one, order_of, other_of, short_order, submit_order, turn_of};
 
-use crate::fields::{member, node, other, priority, queue};
-use crate::turn::Turn;
+use crate::fields::{member, other};
+use crate::turn::PlanTurn;
 use group_task::NodeId;
 use job_model::NewJob;
 use line_words::{bytes, cut_word, is_word, number};
 use node_core::Timer;
-use node_lock::{Fill, Order};
+use node_lock::{CrashFill, OperatorOrder};
+use schedule::fields::{node, priority, queue};
 use std::alloc::{AllocError, Global};
 
 /// The node and the turn of a line, in a cluster of so many nodes.
 #[tactic(auto, using(crate::proofs::Counts::no_fields))]
-pub fn turn_in(alloc: Global, nodes: u8, line: &[u8]) -> Result<Option<(NodeId, Turn)>, AllocError>
+pub fn turn_in(
+    alloc: Global,
+    nodes: u8,
+    line: &[u8],
+) -> Result<Option<(NodeId, PlanTurn)>, AllocError>
     requires { nodes ≤ NODES }
     ensures value { IfOk result (λ turn. turn ≡ line_of nodes (words_of line.now)) }
     ensures fits { IfOk result (λ turn. IfSome turn (TurnFits nodes)) }
@@ -46,7 +51,7 @@ fn turn(
     own: NodeId,
     worker: &[u8],
     fields: &[u8],
-) -> Result<Option<Turn>, AllocError>
+) -> Result<Option<PlanTurn>, AllocError>
     requires most { nodes ≤ NODES }
     requires own { own < nodes }
     ensures value { IfOk result (λ turn. turn ≡ turn_of nodes own worker.now (words_of fields.now)) }
@@ -56,12 +61,12 @@ fn turn(
         Ok(poll(nodes, own, fields))
     } else if is_word(worker, "clock") {
         match fire(fields) {
-            Some(timer) => Ok(Some(Turn::Fire(timer))),
+            Some(timer) => Ok(Some(PlanTurn::Fire(timer))),
             None => Ok(None),
         }
     } else if is_word(worker, "operator") {
         match order(alloc, fields)? {
-            Some(order) => Ok(Some(Turn::Do(order))),
+            Some(order) => Ok(Some(PlanTurn::Do(order))),
             None => Ok(None),
         }
     } else {
@@ -71,14 +76,14 @@ fn turn(
 
 /// A poll of the link from the node that is named.
 #[tactic(auto, using(crate::proofs::Counts::more_than_one))]
-fn poll(nodes: u8, own: NodeId, fields: &[u8]) -> Option<Turn>
+fn poll(nodes: u8, own: NodeId, fields: &[u8]) -> Option<PlanTurn>
     requires most { nodes ≤ NODES }
     requires own { own < nodes }
     ensures value { result ≡ option_map Poll (of_one (other_of nodes own) (words_of fields.now)) }
     ensures fits { IfSome result (PollFits nodes own) }
 {
     match cut_word(fields) {
-        None => Some(Turn::Poll(other(nodes, own, fields)?)),
+        None => Some(PlanTurn::Poll(other(nodes, own, fields)?)),
         Some(_) => None,
     }
 }
@@ -96,7 +101,7 @@ fn fire(fields: &[u8]) -> Option<Timer>
 
 /// What the operator does.
 #[tactic(auto, using(crate::proofs::Counts::too_many))]
-fn order(alloc: Global, line: &[u8]) -> Result<Option<Order>, AllocError>
+fn order(alloc: Global, line: &[u8]) -> Result<Option<OperatorOrder>, AllocError>
     ensures { IfOk result (λ order. order ≡ order_of (words_of line.now)) }
 {
     let Some((name, fields)) = cut_word(line) else {
@@ -115,30 +120,30 @@ fn order(alloc: Global, line: &[u8]) -> Result<Option<Order>, AllocError>
 }
 
 /// An order with no field.
-fn alone(alloc: Global, name: &[u8]) -> Option<Order>
+fn alone(alloc: Global, name: &[u8]) -> Option<OperatorOrder>
     ensures { result ≡ alone_order name.now }
 {
     if is_word(name, "crash") {
-        Some(Order::Crash(Fill::new(Vec::new(alloc))))
+        Some(OperatorOrder::Crash(CrashFill::new(Vec::new(alloc))))
     } else if is_word(name, "recover") {
-        Some(Order::Recover)
+        Some(OperatorOrder::Recover)
     } else {
         None
     }
 }
 
 /// An order with one field.
-fn short(alloc: Global, name: &[u8], field: &[u8]) -> Result<Option<Order>, AllocError>
+fn short(alloc: Global, name: &[u8], field: &[u8]) -> Result<Option<OperatorOrder>, AllocError>
     ensures { IfOk result (λ order. order ≡ short_order name.now field.now) }
 {
     if is_word(name, "arm") {
         match number(field) {
-            Some(calls) => Ok(Some(Order::Arm(calls))),
+            Some(calls) => Ok(Some(OperatorOrder::Arm(calls))),
             None => Ok(None),
         }
     } else if is_word(name, "crash") {
         match bytes(alloc, field)? {
-            Some(bytes) => Ok(Some(Order::Crash(Fill::new(bytes)))),
+            Some(bytes) => Ok(Some(OperatorOrder::Crash(CrashFill::new(bytes)))),
             None => Ok(None),
         }
     } else {
@@ -152,14 +157,14 @@ fn middle(
     name: &[u8],
     first: &[u8],
     second: &[u8],
-) -> Result<Option<Order>, AllocError>
+) -> Result<Option<OperatorOrder>, AllocError>
     ensures { IfOk result (λ order. order ≡ middle_order name.now first.now second.now) }
 {
     if is_word(name, "submit") {
         submit(alloc, first, second, Some(0))
     } else if is_word(name, "finish") {
         match (node(first), number(second)) {
-            (Some(origin), Some(id)) => Ok(Some(Order::Finish(origin, id))),
+            (Some(origin), Some(id)) => Ok(Some(OperatorOrder::Finish(origin, id))),
             _ => Ok(None),
         }
     } else {
@@ -174,7 +179,7 @@ fn long(
     first: &[u8],
     second: &[u8],
     third: &[u8],
-) -> Result<Option<Order>, AllocError>
+) -> Result<Option<OperatorOrder>, AllocError>
     ensures { IfOk result (λ order. order ≡ long_order name.now first.now second.now third.now) }
 {
     if is_word(name, "submit") {
@@ -189,7 +194,7 @@ fn submit(
     first: &[u8],
     second: &[u8],
     priority: Option<u8>,
-) -> Result<Option<Order>, AllocError>
+) -> Result<Option<OperatorOrder>, AllocError>
     ensures { IfOk result (λ order. order ≡ submit_order first.now second.now priority) }
 {
     let (Some(queue), Some(priority)) = (queue(first), priority) else {
@@ -199,7 +204,7 @@ fn submit(
         return Ok(None);
     };
     match NewJob::new(queue, priority, payload) {
-        Some(job) => Ok(Some(Order::Submit(job))),
+        Some(job) => Ok(Some(OperatorOrder::Submit(job))),
         None => Ok(None),
     }
 }

@@ -10,22 +10,22 @@ ghost use Rattle.threads_console.specs.Turns.{line_of};
 ghost use Rattle.threads_console.specs.Planning.{AddsLine};
 ghost use Rattle.threads_console.specs.Scripts.{AreRead, CanRun, ClusterFits, IsRead, capacity_of, script_left, script_of, sized, turns_of, with_links, with_turns};
 
-use crate::drafts::{Draft, drafts, place, plans};
-use crate::fields::between;
 use crate::lines::Lines;
 use crate::parsing::turn_in;
+use crate::planning::{no_plans, place};
 use crate::turn::{LEAST_CAPACITY, MOST_CAPACITY};
 use group_task::NODES;
 use line_words::{LineFault, cut_word, is_word};
 use node_lock::Plans;
-use node_threads::Size;
-use schedule::{LEAST_SLOTS, MOST_SLOTS, Size as ClusterSize};
+use node_threads::RunSize;
+use schedule::fields::between;
+use schedule::{LEAST_SLOTS, MOST_SLOTS, Size};
 use std::alloc::Global;
 
 /// A run that was planned.
 #[derive(Drop)]
 pub struct Setup {
-    pub size: Size,
+    pub size: RunSize,
     /// What the workers of each node are to do, by the node's number.
     pub plans: Vec<Plans>,
 }
@@ -41,20 +41,17 @@ pub fn read_plans(alloc: Global, input: &[u8]) -> Result<Setup, LineFault>
     let mut lines = Lines::new(input);
     let cluster = read_cluster(&mut lines)?;
     let capacity = read_links(cluster, &mut lines)?;
-    let drafts = read_turns(alloc, cluster.nodes, &mut lines)?;
-    let size = Size {
+    let plans = read_turns(alloc, cluster.nodes, &mut lines)?;
+    let size = RunSize {
         nodes: cluster.nodes,
         slots: cluster.slots,
         capacity: capacity as usize,
     };
-    Ok(Setup {
-        size,
-        plans: plans(alloc, drafts)?,
-    })
+    Ok(Setup { size, plans })
 }
 
 /// The cluster that the first line names.
-fn read_cluster(lines: &mut Lines<'_>) -> Result<ClusterSize, LineFault>
+fn read_cluster(lines: &mut Lines<'_>) -> Result<Size, LineFault>
     ensures ok { IfOk result (λ cluster. script_left lines.old ≡ with_links lines.new.end cluster lines.new.lines) }
     ensures fits { IfOk result ClusterFits }
     ensures err { IfErr result (IsLineFault (script_left lines.old)) }
@@ -66,7 +63,7 @@ fn read_cluster(lines: &mut Lines<'_>) -> Result<ClusterSize, LineFault>
 }
 
 /// For how many messages each link has room, as the second line names it.
-fn read_links(cluster: ClusterSize, lines: &mut Lines<'_>) -> Result<u64, LineFault>
+fn read_links(cluster: Size, lines: &mut Lines<'_>) -> Result<u64, LineFault>
     ensures ok { IfOk result (λ capacity. with_links lines.old.end cluster lines.old.lines ≡ with_turns (sized cluster capacity) (turns_of cluster.nodes lines.new.lines)) }
     ensures err { IfErr result (IsLineFault (with_links lines.old.end cluster lines.old.lines)) }
 {
@@ -78,7 +75,7 @@ fn read_links(cluster: ClusterSize, lines: &mut Lines<'_>) -> Result<u64, LineFa
 
 /// The size that the words of a line name.
 #[tactic(auto, using(crate::proofs::Counts::too_long))]
-pub(crate) fn cluster(line: &[u8]) -> Option<ClusterSize>
+pub(crate) fn cluster(line: &[u8]) -> Option<Size>
     ensures value { result ≡ size_of (words_of line.now) }
     ensures fits { IfSome result ClusterFits }
 {
@@ -90,14 +87,15 @@ pub(crate) fn cluster(line: &[u8]) -> Option<ClusterSize>
     }
 }
 
-fn named_cluster(name: &[u8], nodes: &[u8], slots: &[u8]) -> Option<ClusterSize>
+#[tactic(auto, using(crate::proofs::Counts::between_fits))]
+fn named_cluster(name: &[u8], nodes: &[u8], slots: &[u8]) -> Option<Size>
     ensures value { result ≡ named_size name.now nodes.now slots.now }
     ensures fits { IfSome result ClusterFits }
 {
     if !is_word(name, "cluster") {
         return None;
     }
-    Some(ClusterSize {
+    Some(Size {
         nodes: between(1, u64::from(NODES), nodes)? as u8,
         slots: between(LEAST_SLOTS, MOST_SLOTS, slots)?,
     })
@@ -117,17 +115,17 @@ pub(crate) fn capacity(line: &[u8]) -> Option<u64>
 
 /// The turns of all lines that are left, in the plans of their nodes.
 #[tactic(auto, using(crate::proofs::Filling::filled_line, crate::proofs::Filling::as_many, crate::proofs::Filling::fault_named, crate::proofs::Filling::all_read, crate::proofs::Polls::none_polls))]
-fn read_turns(alloc: Global, nodes: u8, lines: &mut Lines<'_>) -> Result<Vec<Draft>, LineFault>
+fn read_turns(alloc: Global, nodes: u8, lines: &mut Lines<'_>) -> Result<Vec<Plans>, LineFault>
     requires { nodes ≤ NODES }
-    ensures read { IfOk result (λ drafts. AreRead nodes lines.old.lines drafts.items) }
-    ensures polls { IfOk result (λ drafts. PollOthers drafts.items) }
+    ensures read { IfOk result (λ plans. AreRead nodes lines.old.lines plans.items) }
+    ensures polls { IfOk result (λ plans. PollOthers plans.items) }
     ensures err { IfErr result (IsLineFault (turns_of nodes lines.old.lines)) }
 {
-    let mut drafts = drafts(alloc, nodes)?;
+    let mut plans = no_plans(alloc, nodes)?;
     while let Ok((number, line)) = lines.next() {
-        read_turn(alloc, nodes, number, line, &mut drafts)?;
+        read_turn(alloc, nodes, number, line, &mut plans)?;
     }
-    Ok(drafts)
+    Ok(plans)
 }
 
 /// Adds the turn of the line of this number to the plans of its node.
@@ -136,15 +134,15 @@ fn read_turn(
     nodes: u8,
     number: u64,
     line: &[u8],
-    drafts: &mut Vec<Draft>,
+    plans: &mut Vec<Plans>,
 ) -> Result<(), LineFault>
-    requires { (length drafts.old.items ≡ nodes) × (nodes ≤ NODES) }
-    ensures adds { OnOk result (AddsLine nodes line.now drafts.old.items drafts.new.items) }
-    ensures polls { PollOthers drafts.old.items → OnOk result (PollOthers drafts.new.items) }
+    requires { (length plans.old.items ≡ nodes) × (nodes ≤ NODES) }
+    ensures adds { OnOk result (AddsLine nodes line.now plans.old.items plans.new.items) }
+    ensures polls { PollOthers plans.old.items → OnOk result (PollOthers plans.new.items) }
     ensures err { IfErr result (IsFaultAt number (line_of nodes (words_of line.now))) }
 {
     match turn_in(alloc, nodes, line)? {
-        Some((node, turn)) => Ok(place(drafts, node, turn)?),
+        Some((node, turn)) => Ok(place(plans, node, turn)?),
         None => Err(LineFault::BadLine(number)),
     }
 }

@@ -11,20 +11,20 @@ ghost use Rattle.threads_console.specs.Reasons.{flaw_at, no_such, order_flaw, or
 use crate::fields::member;
 use crate::lines::Lines;
 use crate::reading::{capacity, cluster};
-use console_text::{Explained, bad_line, line_reason, push_text, push_unknown};
+use console_text::{CommandError, bad_line, line_reason, push_text, push_unknown};
 use line_words::{cut_word, first_word, is_word, line_numbered};
 use node_core::Timer;
 use std::alloc::{AllocError, Global};
 
 /// What is printed for plans of which the line of this number can't be read, where it is known that it is the first such line.
-pub fn bad_plans(alloc: Global, input: &[u8], number: u64) -> Result<Explained, AllocError>
+pub fn bad_plans(alloc: Global, input: &[u8], number: u64) -> Result<CommandError, AllocError>
     ensures printed { IfOk result (λ explained. outcome_of explained.printout ≡ refused (codes "bad line " ++ decimal number)) }
     ensures why { IfOk result (λ explained. explained.why.items ≡ line_head number ++ flaw_at number (lines_of input.now)) }
 {
     let mut why = line_reason(alloc, number)?;
     let mut lines = Lines::new(input);
     push_flaw(&mut why, &mut lines, line_numbered(input, number))?;
-    Ok(Explained {
+    Ok(CommandError {
         printout: bad_line(alloc, number)?,
         why,
     })

@@ -11,7 +11,7 @@ use crate::reading::{Setup, read_plans};
 use crate::reasons::bad_plans;
 use crate::writing::write_run;
 use console_text::{
-    Ended, Explained, Printout, Source, Trouble, print_explained, push_number, push_text,
+    CommandError, Ended, IoTrouble, Output, Source, print_explained, push_number, push_text,
     read_source,
 };
 use group_task::NodeId;
@@ -56,7 +56,7 @@ pub fn threads<T: Threads + Wait + Sync, R: Read, W: Write>(
     ensures reads { input.old.left ≤ input.new.left + 16777216 }
 {
     let outcome = match read_source(alloc, input) {
-        Ok(bytes) => run_text(rt, alloc, &bytes).map_err(Trouble::from),
+        Ok(bytes) => run_text(rt, alloc, &bytes).map_err(IoTrouble::from),
         Err(trouble) => Err(trouble),
     };
     print_explained(alloc, output, outcome)
@@ -67,7 +67,7 @@ fn run_text<T: Threads + Wait + Sync>(
     rt: &T,
     alloc: Global,
     input: &[u8],
-) -> Result<Explained, AllocError>
+) -> Result<CommandError, AllocError>
     ensures printed { IfOk result (λ explained. IsThreading input.now (outcome_of explained.printout)) }
     ensures why { IfOk result (λ explained. explained.why.items ≡ plans_flaw input.now) }
 {
@@ -82,11 +82,7 @@ fn run_text<T: Threads + Wait + Sync>(
 }
 
 /// What is printed for plans that were read.
-fn run<T: Threads + Wait + Sync>(
-    rt: &T,
-    alloc: Global,
-    setup: &Setup,
-) -> Result<Printout, AllocError>
+fn run<T: Threads + Wait + Sync>(rt: &T, alloc: Global, setup: &Setup) -> Result<Output, AllocError>
     requires { CanRun setup.now.size setup.now.plans.items }
     ensures { IfOk result (λ printout. PrintsRun setup.now.size setup.now.plans.items (outcome_of printout)) }
 {
@@ -98,17 +94,17 @@ fn run<T: Threads + Wait + Sync>(
 }
 
 /// The line of the trace of a run.
-fn print_run(alloc: Global, run: Gathered) -> Result<Printout, AllocError>
+fn print_run(alloc: Global, run: Gathered) -> Result<Output, AllocError>
     requires { vec_len run.histories ≤ NODES }
     ensures { IfOk result (λ printout. outcome_of printout ≡ run_outcome run.histories.items) }
 {
     let mut text = write_run(alloc, run)?;
     push_text(&mut text, "\n")?;
-    Ok(Printout { text, good: true })
+    Ok(Output { text, good: true })
 }
 
 /// The line that says why there is no trace.
-fn refuse(alloc: Global, fault: ThreadsFault) -> Result<Printout, AllocError>
+fn refuse(alloc: Global, fault: ThreadsFault) -> Result<Output, AllocError>
     ensures { IfOk result (λ printout. outcome_of printout ≡ refused (fault_text fault)) }
 {
     let mut text = Vec::new(alloc);
@@ -119,7 +115,7 @@ fn refuse(alloc: Global, fault: ThreadsFault) -> Result<Printout, AllocError>
         ThreadsFault::Unpaired => push_text(&mut text, "unpaired")?,
     }
     push_text(&mut text, "\n")?;
-    Ok(Printout { text, good: false })
+    Ok(Output { text, good: false })
 }
 
 fn push_unfinished(text: &mut Vec<u8>, node: NodeId, worker: Worker) -> Result<(), AllocError>

@@ -2,7 +2,7 @@
 
 use group_task::NodeId;
 use node_core::Timer;
-use node_lock::Order;
+use node_lock::OperatorOrder;
 
 /// For how many messages a link has room at least.
 pub const LEAST_CAPACITY: u64 = 1;
@@ -12,11 +12,11 @@ pub const MOST_CAPACITY: u64 = 65_536;
 
 /// What a line gives to a worker of its node.
 #[derive(Drop)]
-pub enum Turn {
+pub enum PlanTurn {
     /// The intake polls the link from this node.
     Poll(NodeId),
     /// The clock fires this timer.
     Fire(Timer),
     /// The operator does this.
-    Do(Order),
+    Do(OperatorOrder),
 }

@@ -4,18 +4,18 @@ ghost use Rattle.std.specs.Prelude.{◌≡◌, ◌≤◌, ◌<◌, ◌++◌, [],
 ghost use Rattle.group_task.specs.declared.node.TheConstants.{NODES};
 ghost use Rattle.serde_json.specs.Written.{comma_if, compact_text};
 ghost use Rattle.node_lock.specs.Kept.{what_quiet};
-ghost use Rattle.run_trace.specs.Traced.{deed_of, done, failed};
+ghost use Rattle.cluster_sim.specs.Traced.{deed_of, done};
 ghost use Rattle.trace_text.specs.Tokens.{Adds, head_tokens, message_tokens};
 ghost use Rattle.trace_text.specs.Written.{entry_data, history_data, trace_data};
 ghost use Rattle.threads_console.specs.Texts.{AreKnown, IsTextAt, entries_text, histories_text, log_claims, quiet_claim, run_claims};
 
-use histories::What;
+use histories::HistoryEvent;
 use json::Writer;
 use node_core::Event;
 use node_lock::{History, Quiet, Sent};
 use node_threads::Gathered;
 use std::alloc::{AllocError, Global};
-use trace_check::{Deed, RecoverFault};
+use trace_check::{RecoverFault, TraceAction};
 use trace_text::{
     begin_entry, begin_handled, begin_items, begin_trace, end_entry, end_items, end_trace,
     push_item, write_spelled,
@@ -63,12 +63,12 @@ fn quiet_text(alloc: Global, quiet: Quiet) -> Result<Vec<u8>, AllocError>
 }
 
 /// How a trace has what came of a turn that handed no event to its node.
-fn quiet_deed(quiet: Quiet) -> Deed
+fn quiet_deed(quiet: Quiet) -> TraceAction
     ensures { result ≡ deed_of (what_quiet quiet) }
 {
     match quiet {
-        Quiet::Rested => Deed::Nothing,
-        Quiet::Crashed => Deed::Crashed,
+        Quiet::Rested => TraceAction::Nothing,
+        Quiet::Crashed => TraceAction::Crashed,
     }
 }
 
@@ -177,7 +177,7 @@ fn begin_done(alloc: Global, out: &mut Writer, event: &Event) -> Result<(), Allo
     ensures { OnOk result (Adds out.old out.new (head_tokens (done event.now))) }
 {
     match event {
-        Event::Recover => begin_entry(alloc, out, &Deed::Recovered(false)),
+        Event::Recover => begin_entry(alloc, out, &TraceAction::Recovered(false)),
         _ => begin_handled(alloc, out, event),
     }
 }
@@ -223,36 +223,21 @@ fn write_sent(
 }
 
 /// How a trace has what came of a turn.
-pub(crate) fn deed_of(what: &What) -> Deed
+pub(crate) fn deed_of(what: &HistoryEvent) -> TraceAction
     ensures { result ≡ deed_of what.now }
 {
     match what {
-        What::Did(event) => done(event),
-        What::Faulted(event) => failed(event),
-        What::Refused(_, _) | What::Rests(_) | What::RaiseRefused(_) => Deed::Nothing,
-        What::Crashed => Deed::Crashed,
-        What::Recovered(kept) => Deed::Recovered(*kept),
-        What::MountFailed => Deed::NotRecovered(false, RecoverFault::Mount),
-        What::RaiseFailed(kept) => Deed::NotRecovered(*kept, RecoverFault::Raise),
-    }
-}
-
-/// An event that was handled.
-fn done(event: &Event) -> Deed
-    ensures { result ≡ done event.now }
-{
-    match event {
-        Event::Recover => Deed::Recovered(false),
-        _ => Deed::Done(*event),
-    }
-}
-
-/// An event in whose command the device failed.
-fn failed(event: &Event) -> Deed
-    ensures { result ≡ failed event.now }
-{
-    match event {
-        Event::Recover => Deed::NotRecovered(false, RecoverFault::Raise),
-        _ => Deed::Faulted(*event),
+        HistoryEvent::Did(Event::Recover) => TraceAction::Recovered(false),
+        HistoryEvent::Did(event) => TraceAction::Done(*event),
+        HistoryEvent::Faulted(Event::Recover) => {
+            TraceAction::NotRecovered(false, RecoverFault::Raise)
+        }
+        HistoryEvent::Faulted(event) => TraceAction::Faulted(*event),
+        HistoryEvent::Refused(_, _) | HistoryEvent::NoOp(_) | HistoryEvent::RaiseRefused(_) =>
+            TraceAction::Nothing,
+        HistoryEvent::Crashed => TraceAction::Crashed,
+        HistoryEvent::Recovered(kept) => TraceAction::Recovered(*kept),
+        HistoryEvent::MountFailed => TraceAction::NotRecovered(false, RecoverFault::Mount),
+        HistoryEvent::RaiseFailed(kept) => TraceAction::NotRecovered(*kept, RecoverFault::Raise),
     }
 }

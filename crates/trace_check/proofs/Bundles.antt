@@ -7,15 +7,15 @@ use Rattle.wire_msg.specs.Envelope.{Envelope}
 use Rattle.node_core.specs.State.{is_down}
 use Rattle.histories.specs.Lists.{IsAmong, Each}
 use Rattle.histories.specs.NodeState.{NodeState, opening}
-use Rattle.histories.specs.declared.what.What.{What}
-use Rattle.histories.specs.What.{Entry, event_of, brought, AreAddressed}
+use Rattle.histories.specs.declared.history_event.HistoryEvent.{HistoryEvent}
+use Rattle.histories.specs.HistoryEvent.{Entry, event_of, brought, AreAddressed}
 use Rattle.histories.specs.After.{sent_at}
 use Rattle.histories.specs.Possible.{IsPossible}
 use Rattle.histories.specs.History.{Follows, sent_in, brought_in}
 use Rattle.histories.specs.Bundle.{sent_by_all}
 use Rattle.histories.proofs.PublicLaws.{among_left, among_right, sent_of_one, each_append, each_at, each_more}
-use Rattle.trace_check.specs.declared.trace.Deed.{Deed}
-use Rattle.trace_check.specs.declared.trace.Deed.TheVariants as deed
+use Rattle.trace_check.specs.declared.trace.TraceAction.{TraceAction}
+use Rattle.trace_check.specs.declared.trace.TraceAction.TheVariants as deed
 use Rattle.trace_check.specs.declared.trace.RecoverFault.TheVariants as recover
 use Rattle.trace_check.specs.Claims.{Claim, what_of, what_at, MayCome, after_what, after_claim, state_after, brought_by}
 use Rattle.trace_check.specs.Orders.{history, taken, state_of, IsSent, MayTake, IsLegal, IsComplete}
@@ -48,7 +48,7 @@ all_from_places self nodes P s (c ∷ cs) each =
           record { claim = here.claim; at = here.at; possible = here.possible; brings = here.brings }),
     )
 
-follows_by : (self nodes : ℕ) (s : NodeState) (c : Claim) (o : Option What) (es : List Entry) → IsSomeAnd o (λ (what : What). IsPossible self nodes s what × (c.sent ≡ sent_at self nodes s what))
+follows_by : (self nodes : ℕ) (s : NodeState) (c : Claim) (o : Option HistoryEvent) (es : List Entry) → IsSomeAnd o (λ (what : HistoryEvent). IsPossible self nodes s what × (c.sent ≡ sent_at self nodes s what))
     → Follows self nodes (after_what self nodes s o) es → Follows self nodes s (entry_with c o es)
 follows_by self nodes s c None es may rest = absurd may
 follows_by self nodes s c (Some what) es may rest = (may.0, may.1, rest)
@@ -59,7 +59,7 @@ follows_all self nodes P s (c ∷ cs) all =
     follows_by self nodes s c (what_at s c) (entries_of self nodes (after_claim self nodes s c) cs) all.0 (follows_all self nodes P (after_claim self nodes s c) cs all.2)
 
 -- an entry stands for one that brings the same
-same_brought : (down : Bool) (d : Deed) (what : What) → what_of down d ≡ Some what → brought (event_of what) ≡ brought_by d
+same_brought : (down : Bool) (d : TraceAction) (what : HistoryEvent) → what_of down d ≡ Some what → brought (event_of what) ≡ brought_by d
 same_brought down deed.Nothing what is = rw (sym (same_Some _ what is)) refl
 same_brought down (deed.Done event) what is = rw (sym (same_Some _ what is)) refl
 same_brought down (deed.Faulted event) what is = rw (sym (same_Some _ what is)) refl
@@ -74,7 +74,7 @@ same_brought false (deed.NotRecovered kept recover.Mount) what is = absurd cc
 same_brought false (deed.NotRecovered false recover.Raise) what is = rw (sym (same_Some _ what is)) refl
 same_brought false (deed.NotRecovered true recover.Raise) what is = absurd cc
 
-brings_by : (P : Envelope → Type 0) (down : Bool) (c : Claim) (o : Option What) (es : List Entry) → what_of down c.deed ≡ o → Each P (brought_by c.deed) → Each P (brought_in es) → Each P (brought_in (entry_with c o es))
+brings_by : (P : Envelope → Type 0) (down : Bool) (c : Claim) (o : Option HistoryEvent) (es : List Entry) → what_of down c.deed ≡ o → Each P (brought_by c.deed) → Each P (brought_in es) → Each P (brought_in (entry_with c o es))
 brings_by P down c None es is here rest = rest
 brings_by P down c (Some what) es is here rest =
     each_append P (brought (event_of what)) (brought_in es) (subst (λ (ms : List Envelope). Each P ms) (sym (same_brought down c.deed what is)) here) rest
@@ -84,11 +84,11 @@ brings_all self nodes P s [] all = tt
 brings_all self nodes P s (c ∷ cs) all =
     brings_by P (is_down s.state.phase) c (what_at s c) (entries_of self nodes (after_claim self nodes s c) cs) refl all.1 (brings_all self nodes P (after_claim self nodes s c) cs all.2)
 
-sent_first : (c : Claim) (o : Option What) (Q : What → Type 0) (es : List Entry) (m : Envelope) → IsSomeAnd o Q → IsAmong m c.sent → IsAmong m (sent_in (entry_with c o es))
+sent_first : (c : Claim) (o : Option HistoryEvent) (Q : HistoryEvent → Type 0) (es : List Entry) (m : Envelope) → IsSomeAnd o Q → IsAmong m c.sent → IsAmong m (sent_in (entry_with c o es))
 sent_first c None Q es m may is = absurd may
 sent_first c (Some what) Q es m may is = among_left m c.sent (sent_in es) is
 
-sent_later : (c : Claim) (o : Option What) (es : List Entry) (m : Envelope) → IsAmong m (sent_in es) → IsAmong m (sent_in (entry_with c o es))
+sent_later : (c : Claim) (o : Option HistoryEvent) (es : List Entry) (m : Envelope) → IsAmong m (sent_in es) → IsAmong m (sent_in (entry_with c o es))
 sent_later c None es m is = is
 sent_later c (Some what) es m is = among_right m c.sent (sent_in es) is
 
@@ -96,7 +96,7 @@ sends_all : (self nodes : ℕ) (P : Envelope → Type 0) (s : NodeState) (h : Li
     → IsAmong m (sent_in (entries_of self nodes s h))
 sends_all self nodes P s [] k claim m all at is = absurd cc
 sends_all self nodes P s (c ∷ cs) zero claim m all at is =
-    sent_first c (what_at s c) (λ (what : What). IsPossible self nodes s what × (c.sent ≡ sent_at self nodes s what)) (entries_of self nodes (after_claim self nodes s c) cs) m all.0
+    sent_first c (what_at s c) (λ (what : HistoryEvent). IsPossible self nodes s what × (c.sent ≡ sent_at self nodes s what)) (entries_of self nodes (after_claim self nodes s c) cs) m all.0
     (subst (λ (x : Claim). IsAmong m x.sent) (sym (same_Some c claim at)) is)
 sends_all self nodes P s (c ∷ cs) (suc k) claim m all at is =
     sent_later c (what_at s c) (entries_of self nodes (after_claim self nodes s c) cs) m (sends_all self nodes P (after_claim self nodes s c) cs k claim m all.2 at is)

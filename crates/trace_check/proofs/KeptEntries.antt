@@ -9,14 +9,14 @@ use Rattle.job_model.specs.declared.payload.TheConstants.{PAYLOAD_CAPACITY}
 use Rattle.wire_msg.specs.Envelope.{Envelope}
 use Rattle.node_core.specs.declared.event.Event.{Event}
 use Rattle.node_core.specs.declared.event.Event.TheVariants as on
-use Rattle.histories.specs.What.{brought}
-use Rattle.trace_check.specs.declared.trace.Deed.{Deed}
-use Rattle.trace_check.specs.declared.trace.Deed.TheVariants as deed
-use Rattle.trace_check.specs.declared.kept.KeptEvent.{KeptEvent}
-use Rattle.trace_check.specs.declared.kept.KeptEvent.TheVariants as kept
-use Rattle.trace_check.specs.declared.kept.KeptDeed.{KeptDeed}
-use Rattle.trace_check.specs.declared.kept.KeptDeed.TheVariants as done
-use Rattle.trace_check.specs.declared.kept.KeptEntry.{KeptEntry}
+use Rattle.histories.specs.HistoryEvent.{brought}
+use Rattle.trace_check.specs.declared.trace.TraceAction.{TraceAction}
+use Rattle.trace_check.specs.declared.trace.TraceAction.TheVariants as deed
+use Rattle.trace_check.specs.declared.kept.PackedEvent.{PackedEvent}
+use Rattle.trace_check.specs.declared.kept.PackedEvent.TheVariants as kept
+use Rattle.trace_check.specs.declared.kept.PackedAction.{PackedAction}
+use Rattle.trace_check.specs.declared.kept.PackedAction.TheVariants as done
+use Rattle.trace_check.specs.declared.kept.PackedEntry.{PackedEntry}
 use Rattle.trace_check.specs.Claims.{Claim, brought_by}
 use Rattle.trace_check.specs.Traces.{claim}
 use Rattle.trace_check.specs.Kept.{kept_event, kept_deed, payload_of, payload_in, delivered, part, event_said, deed_said, claim_said, EventStands, DeedStands, EntryStands}
@@ -33,14 +33,14 @@ part_same {A} xs more start len within =
     ap (λ (ys : List A). take len ys) (drop-append-le start xs more (omega (arith, within)))
     ∙ take-append-le len (drop start xs) more (omega (arith, within, length-drop start xs))
 
-pub event_same : (ms more : List Envelope) (p bytes : List ℕ) (e : KeptEvent) → EventStands (length ms) (length p) e → event_said (ms ++ more) (p ++ bytes) e ≡ event_said ms p e
+pub event_same : (ms more : List Envelope) (p bytes : List ℕ) (e : PackedEvent) → EventStands (length ms) (length p) e → event_said (ms ++ more) (p ++ bytes) e ≡ event_said ms p e
 event_same ms more p bytes (kept.Timer timer) h = refl
 event_same ms more p bytes (kept.Deliver place) h = ap (λ (o : Option Envelope). delivered o) (get_same ms more place h)
-event_same ms more p bytes (kept.Submit queue priority start len) h = ap (λ (xs : List ℕ). on.Submit (record { queue = queue; priority = priority; payload = xs })) (part_same p bytes start len h.0)
+event_same ms more p bytes (kept.Submit queue priority len start) h = ap (λ (xs : List ℕ). on.Submit (record { queue = queue; priority = priority; payload = xs })) (part_same p bytes start len h.0)
 event_same ms more p bytes (kept.Finish origin id) h = refl
 event_same ms more p bytes kept.Recover h = refl
 
-deed_same : (ms more : List Envelope) (p bytes : List ℕ) (d : KeptDeed) → DeedStands (length ms) (length p) d → deed_said (ms ++ more) (p ++ bytes) d ≡ deed_said ms p d
+deed_same : (ms more : List Envelope) (p bytes : List ℕ) (d : PackedAction) → DeedStands (length ms) (length p) d → deed_said (ms ++ more) (p ++ bytes) d ≡ deed_said ms p d
 deed_same ms more p bytes done.Nothing h = refl
 deed_same ms more p bytes (done.Done event) h = ap (λ (e : Event). deed.Done e) (event_same ms more p bytes event h)
 deed_same ms more p bytes (done.Faulted event) h = ap (λ (e : Event). deed.Faulted e) (event_same ms more p bytes event h)
@@ -48,12 +48,12 @@ deed_same ms more p bytes done.Crashed h = refl
 deed_same ms more p bytes (done.Recovered kept) h = refl
 deed_same ms more p bytes (done.NotRecovered kept fault) h = refl
 
-claim_same : (ms more : List Envelope) (p bytes : List ℕ) (e : KeptEntry) → EntryStands (length ms) (length p) e → claim_said (ms ++ more) (p ++ bytes) e ≡ claim_said ms p e
+claim_same : (ms more : List Envelope) (p bytes : List ℕ) (e : PackedEntry) → EntryStands (length ms) (length p) e → claim_said (ms ++ more) (p ++ bytes) e ≡ claim_said ms p e
 claim_same ms more p bytes e h =
-    ap (λ (d : Deed). claim d (part e.start e.end (ms ++ more))) (deed_same ms more p bytes e.deed h.deed)
+    ap (λ (d : TraceAction). claim d (part e.start e.end (ms ++ more))) (deed_same ms more p bytes e.deed h.deed)
     ∙ ap (λ (xs : List Envelope). claim (deed_said ms p e.deed) xs) (part_same ms more e.start (e.end - e.start) (let front = h.sent.0 in let back = h.sent.1 in omega (arith, front, back)))
 
-pub claims_same : (ms more : List Envelope) (p bytes : List ℕ) (es : List KeptEntry) → All (EntryStands (length ms) (length p)) es → map (claim_said (ms ++ more) (p ++ bytes)) es ≡ map (claim_said ms p) es
+pub claims_same : (ms more : List Envelope) (p bytes : List ℕ) (es : List PackedEntry) → All (EntryStands (length ms) (length p)) es → map (claim_said (ms ++ more) (p ++ bytes)) es ≡ map (claim_said ms p) es
 claims_same ms more p bytes [] h = refl
 claims_same ms more p bytes (e ∷ es) h =
     ap (λ (c : Claim). c ∷ map (claim_said (ms ++ more) (p ++ bytes)) es) (claim_same ms more p bytes e (All-head (EntryStands (length ms) (length p)) e es h))
@@ -79,7 +79,7 @@ event_again ms p (on.Submit work) = ap (λ (xs : List ℕ). on.Submit (record wo
 event_again ms p (on.Finish origin id) = refl
 event_again ms p on.Recover = refl
 
-pub deed_again : (ms : List Envelope) (p : List ℕ) (d : Deed) → deed_said (ms ++ brought_by d) (p ++ payload_in d) (kept_deed (length ms) (length p) d) ≡ d
+pub deed_again : (ms : List Envelope) (p : List ℕ) (d : TraceAction) → deed_said (ms ++ brought_by d) (p ++ payload_in d) (kept_deed (length ms) (length p) d) ≡ d
 deed_again ms p deed.Nothing = refl
 deed_again ms p (deed.Done event) = ap (λ (e : Event). deed.Done e) (event_again ms p event)
 deed_again ms p (deed.Faulted event) = ap (λ (e : Event). deed.Faulted e) (event_again ms p event)
@@ -94,7 +94,7 @@ event_stands ms p (on.Submit work) few = (omega (arith, length-append p work.pay
 event_stands ms p (on.Finish origin id) few = tt
 event_stands ms p on.Recover few = tt
 
-pub deed_stands : (ms : List Envelope) (p : List ℕ) (d : Deed) → length (payload_in d) ≤ PAYLOAD_CAPACITY → DeedStands (length (ms ++ brought_by d)) (length (p ++ payload_in d)) (kept_deed (length ms) (length p) d)
+pub deed_stands : (ms : List Envelope) (p : List ℕ) (d : TraceAction) → length (payload_in d) ≤ PAYLOAD_CAPACITY → DeedStands (length (ms ++ brought_by d)) (length (p ++ payload_in d)) (kept_deed (length ms) (length p) d)
 deed_stands ms p deed.Nothing few = tt
 deed_stands ms p (deed.Done event) few = event_stands ms p event few
 deed_stands ms p (deed.Faulted event) few = event_stands ms p event few
@@ -104,14 +104,14 @@ deed_stands ms p (deed.NotRecovered kept fault) few = tt
 
 -- ---- where more can be read, what could be read still can
 
-pub event_longer : (m m' p p' : ℕ) (e : KeptEvent) → m ≤ m' → p ≤ p' → EventStands m p e → EventStands m' p' e
+pub event_longer : (m m' p p' : ℕ) (e : PackedEvent) → m ≤ m' → p ≤ p' → EventStands m p e → EventStands m' p' e
 event_longer m m' p p' (kept.Timer timer) a b h = tt
 event_longer m m' p p' (kept.Deliver place) a b h = omega (arith, a, h)
-event_longer m m' p p' (kept.Submit queue priority start len) a b h = (let within = h.0 in omega (arith, b, within), h.1)
+event_longer m m' p p' (kept.Submit queue priority len start) a b h = (let within = h.0 in omega (arith, b, within), h.1)
 event_longer m m' p p' (kept.Finish origin id) a b h = tt
 event_longer m m' p p' kept.Recover a b h = tt
 
-pub deed_longer : (m m' p p' : ℕ) (d : KeptDeed) → m ≤ m' → p ≤ p' → DeedStands m p d → DeedStands m' p' d
+pub deed_longer : (m m' p p' : ℕ) (d : PackedAction) → m ≤ m' → p ≤ p' → DeedStands m p d → DeedStands m' p' d
 deed_longer m m' p p' done.Nothing a b h = tt
 deed_longer m m' p p' (done.Done event) a b h = event_longer m m' p p' event a b h
 deed_longer m m' p p' (done.Faulted event) a b h = event_longer m m' p p' event a b h
@@ -119,29 +119,29 @@ deed_longer m m' p p' done.Crashed a b h = tt
 deed_longer m m' p p' (done.Recovered kept) a b h = tt
 deed_longer m m' p p' (done.NotRecovered kept fault) a b h = tt
 
-pub entry_longer : (m m' p p' : ℕ) → m ≤ m' → p ≤ p' → (e : KeptEntry) → EntryStands m p e → EntryStands m' p' e
+pub entry_longer : (m m' p p' : ℕ) → m ≤ m' → p ≤ p' → (e : PackedEntry) → EntryStands m p e → EntryStands m' p' e
 entry_longer m m' p p' a b e h = record { deed = deed_longer m m' p p' e.deed a b h.deed; sent = (h.sent.0, let back = h.sent.1 in omega (arith, a, back)) }
 
 -- ---- one entry more
 
 -- the entry, as it is kept behind these messages and payloads
-abbrev pub kept_entry : ℕ → ℕ → Deed → List Envelope → KeptEntry
+abbrev pub kept_entry : ℕ → ℕ → TraceAction → List Envelope → PackedEntry
 kept_entry messages payloads d sent = record { deed = kept_deed messages payloads d; start = messages + length (brought_by d); end = messages + length (brought_by d) + length sent }
 
-sent_again : (ms : List Envelope) (d : Deed) (sent : List Envelope) → part (length ms + length (brought_by d)) (length ms + length (brought_by d) + length sent) (ms ++ brought_by d ++ sent) ≡ sent
+sent_again : (ms : List Envelope) (d : TraceAction) (sent : List Envelope) → part (length ms + length (brought_by d)) (length ms + length (brought_by d) + length sent) (ms ++ brought_by d ++ sent) ≡ sent
 sent_again ms d sent =
     ap (λ (k : ℕ). take k (drop (length ms + length (brought_by d)) (ms ++ brought_by d ++ sent))) (let many : length ms + length (brought_by d) + length sent - (length ms + length (brought_by d)) ≡ length sent = omega arith in many)
     ∙ ap (λ (k : ℕ). take (length sent) (drop k (ms ++ brought_by d ++ sent))) (sym (length-append ms (brought_by d)))
     ∙ part_again (ms ++ brought_by d) sent
 
-claim_again : (ms : List Envelope) (p : List ℕ) (d : Deed) (sent : List Envelope) → length (payload_in d) ≤ PAYLOAD_CAPACITY
+claim_again : (ms : List Envelope) (p : List ℕ) (d : TraceAction) (sent : List Envelope) → length (payload_in d) ≤ PAYLOAD_CAPACITY
     → claim_said (ms ++ brought_by d ++ sent) (p ++ payload_in d) (kept_entry (length ms) (length p) d sent) ≡ claim d sent
 claim_again ms p d sent few =
-    ap (λ (x : Deed). claim x (part (length ms + length (brought_by d)) (length ms + length (brought_by d) + length sent) (ms ++ brought_by d ++ sent)))
+    ap (λ (x : TraceAction). claim x (part (length ms + length (brought_by d)) (length ms + length (brought_by d) + length sent) (ms ++ brought_by d ++ sent)))
     (deed_later ms p d sent few ∙ deed_again ms p d)
     ∙ ap (λ (xs : List Envelope). claim d xs) (sent_again ms d sent)
   where
-    deed_later : (ms : List Envelope) (p : List ℕ) (d : Deed) (sent : List Envelope) → length (payload_in d) ≤ PAYLOAD_CAPACITY
+    deed_later : (ms : List Envelope) (p : List ℕ) (d : TraceAction) (sent : List Envelope) → length (payload_in d) ≤ PAYLOAD_CAPACITY
         → deed_said (ms ++ brought_by d ++ sent) (p ++ payload_in d) (kept_deed (length ms) (length p) d) ≡ deed_said (ms ++ brought_by d) (p ++ payload_in d) (kept_deed (length ms) (length p) d)
     deed_later ms p d sent few =
         ap (λ (q : List ℕ). deed_said (ms ++ brought_by d ++ sent) q (kept_deed (length ms) (length p) d)) (sym (append_none (p ++ payload_in d)))
@@ -151,7 +151,7 @@ claim_again ms p d sent few =
         append_none [] = refl
         append_none (x ∷ xs) = ap (λ (ys : List ℕ). x ∷ ys) (append_none xs)
 
-pub claims_more : (es : List KeptEntry) (ms : List Envelope) (p : List ℕ) (d : Deed) (sent : List Envelope) → length (payload_in d) ≤ PAYLOAD_CAPACITY → All (EntryStands (length ms) (length p)) es
+pub claims_more : (es : List PackedEntry) (ms : List Envelope) (p : List ℕ) (d : TraceAction) (sent : List Envelope) → length (payload_in d) ≤ PAYLOAD_CAPACITY → All (EntryStands (length ms) (length p)) es
     → map (claim_said (ms ++ brought_by d ++ sent) (p ++ payload_in d)) (es ++ kept_entry (length ms) (length p) d sent ∷ []) ≡ map (claim_said ms p) es ++ claim d sent ∷ []
 claims_more es ms p d sent few h =
     let f = claim_said (ms ++ brought_by d ++ sent) (p ++ payload_in d) in
@@ -163,10 +163,10 @@ claims_more es ms p d sent few h =
     append_twice [] b c = refl
     append_twice (x ∷ a) b c = ap (λ (ys : List Envelope). x ∷ ys) (append_twice a b c)
 
-    later : (xs : List KeptEntry) → All (EntryStands (length ms) (length p)) xs → map (claim_said (ms ++ brought_by d ++ sent) (p ++ payload_in d)) xs ≡ map (claim_said ms p) xs
+    later : (xs : List PackedEntry) → All (EntryStands (length ms) (length p)) xs → map (claim_said (ms ++ brought_by d ++ sent) (p ++ payload_in d)) xs ≡ map (claim_said ms p) xs
     later xs all = rw (append_twice ms (brought_by d) sent) (claims_same ms (brought_by d ++ sent) p (payload_in d) xs all)
 
-pub all_stand_more : (es : List KeptEntry) (ms : List Envelope) (p : List ℕ) (d : Deed) (sent : List Envelope) → length (payload_in d) ≤ PAYLOAD_CAPACITY → All (EntryStands (length ms) (length p)) es
+pub all_stand_more : (es : List PackedEntry) (ms : List Envelope) (p : List ℕ) (d : TraceAction) (sent : List Envelope) → length (payload_in d) ≤ PAYLOAD_CAPACITY → All (EntryStands (length ms) (length p)) es
     → All (EntryStands (length (ms ++ brought_by d ++ sent)) (length (p ++ payload_in d))) (es ++ kept_entry (length ms) (length p) d sent ∷ [])
 all_stand_more es ms p d sent few h =
     let m' = length (ms ++ brought_by d ++ sent) in

@@ -6,14 +6,14 @@ use Rattle.std.proofs.lemmas.Option.{same_Some}
 use Rattle.wire_msg.specs.Envelope.{Envelope}
 use Rattle.histories.specs.Lists.{Each}
 use Rattle.histories.specs.NodeState.{NodeState, opening}
-use Rattle.histories.specs.What.{brought}
-use Rattle.histories.specs.declared.what.What.{What}
+use Rattle.histories.specs.HistoryEvent.{brought}
+use Rattle.histories.specs.declared.history_event.HistoryEvent.{HistoryEvent}
 use Rattle.histories.specs.After.{sent_at}
 use Rattle.histories.specs.Possible.{IsPossible}
 use Rattle.node_core.specs.declared.event.Event.{Event}
 use Rattle.node_core.specs.declared.event.Event.TheVariants as on
-use Rattle.trace_check.specs.declared.trace.Deed.{Deed}
-use Rattle.trace_check.specs.declared.trace.Deed.TheVariants as deed
+use Rattle.trace_check.specs.declared.trace.TraceAction.{TraceAction}
+use Rattle.trace_check.specs.declared.trace.TraceAction.TheVariants as deed
 use Rattle.trace_check.specs.declared.trace.RecoverFault.TheVariants as recover
 use Rattle.trace_check.specs.declared.leftover.Holdup.{Holdup}
 use Rattle.trace_check.specs.declared.leftover.Holdup.TheVariants.{Waits, Misaddressed, Refused, Sends}
@@ -54,7 +54,7 @@ event_brings (on.Submit work) = omega arith
 event_brings (on.Finish origin id) = omega arith
 event_brings on.Recover = omega arith
 
-pub brings_few : (d : Deed) → length (brought_by d) < 2
+pub brings_few : (d : TraceAction) → length (brought_by d) < 2
 brings_few deed.Nothing = omega arith
 brings_few (deed.Done event) = event_brings event
 brings_few (deed.Faulted event) = event_brings event
@@ -80,12 +80,12 @@ held_up hs past n c (Sends ms) stuck next holds = (holds, tt)
 
 -- ---- what holds an entry up, holds it up whatever is sent
 
-possible_so : (self nodes : ℕ) (s : NodeState) (c : Claim) (o : Option What) → IsSomeAnd o (λ (what : What). IsPossible self nodes s what × (c.sent ≡ sent_at self nodes s what)) → IsSomeAnd o (λ (what : What). IsPossible self nodes s what)
+possible_so : (self nodes : ℕ) (s : NodeState) (c : Claim) (o : Option HistoryEvent) → IsSomeAnd o (λ (what : HistoryEvent). IsPossible self nodes s what × (c.sent ≡ sent_at self nodes s what)) → IsSomeAnd o (λ (what : HistoryEvent). IsPossible self nodes s what)
 possible_so self nodes s c None may = may
 possible_so self nodes s c (Some what) may = may.0
 
-sends_so : (self nodes : ℕ) (s : NodeState) (c : Claim) (ms : List Envelope) (o : Option What) → IsSomeAnd o (λ (what : What). IsPossible self nodes s what × (ms ≡ sent_at self nodes s what))
-    → IsSomeAnd o (λ (what : What). IsPossible self nodes s what × (c.sent ≡ sent_at self nodes s what)) → ms ≡ c.sent
+sends_so : (self nodes : ℕ) (s : NodeState) (c : Claim) (ms : List Envelope) (o : Option HistoryEvent) → IsSomeAnd o (λ (what : HistoryEvent). IsPossible self nodes s what × (ms ≡ sent_at self nodes s what))
+    → IsSomeAnd o (λ (what : HistoryEvent). IsPossible self nodes s what × (c.sent ≡ sent_at self nodes s what)) → ms ≡ c.sent
 sends_so self nodes s c ms None would may = absurd may
 sends_so self nodes s c ms (Some what) would may = would.1 ∙ sym may.1
 
@@ -97,18 +97,18 @@ hold self nodes s c (Sends ms) other holds may addressed = holds.1 (sends_so sel
 
 -- ---- what sends nothing
 
-pub silent_refused : (self nodes : ℕ) (s : NodeState) (o : Option What) → IfSome o (λ (what : What). sent_at self nodes s what ≡ []) → (IsSomeAnd o (λ (what : What). IsPossible self nodes s what × ([] ≡ sent_at self nodes s what)) → ⊥)
-    → IsSomeAnd o (λ (what : What). IsPossible self nodes s what) → ⊥
+pub silent_refused : (self nodes : ℕ) (s : NodeState) (o : Option HistoryEvent) → IfSome o (λ (what : HistoryEvent). sent_at self nodes s what ≡ []) → (IsSomeAnd o (λ (what : HistoryEvent). IsPossible self nodes s what × ([] ≡ sent_at self nodes s what)) → ⊥)
+    → IsSomeAnd o (λ (what : HistoryEvent). IsPossible self nodes s what) → ⊥
 silent_refused self nodes s None silent cant may = may
 silent_refused self nodes s (Some what) silent cant may = cant (may, sym silent)
 
 -- but for an event that is handled, and a recovery
-abbrev pub IsQuiet : Bool → Deed → Type 0
+abbrev pub IsQuiet : Bool → TraceAction → Type 0
 IsQuiet down (deed.Done event) = ⊥
 IsQuiet down (deed.Recovered kept) = down ≡ true
 IsQuiet down d = Unit {0}
 
-pub quiet_silent : (self nodes : ℕ) (s : NodeState) (down : Bool) (d : Deed) → IsQuiet down d → IfSome (what_of down d) (λ (what : What). sent_at self nodes s what ≡ [])
+pub quiet_silent : (self nodes : ℕ) (s : NodeState) (down : Bool) (d : TraceAction) → IsQuiet down d → IfSome (what_of down d) (λ (what : HistoryEvent). sent_at self nodes s what ≡ [])
 quiet_silent self nodes s down deed.Nothing quiet = refl
 quiet_silent self nodes s down (deed.Done event) quiet = absurd quiet
 quiet_silent self nodes s down (deed.Faulted event) quiet = refl

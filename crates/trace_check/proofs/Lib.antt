@@ -6,7 +6,7 @@ mod Bundles
 mod Turning
 mod Twins
 mod Keyed
-mod Desks
+mod Searches
 mod Turns
 mod KeptEntries
 mod Brought

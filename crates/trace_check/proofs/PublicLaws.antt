@@ -3,7 +3,7 @@
 -- What was kept of an event is that event again, and stays so whatever is kept after it.
 pub use Rattle.trace_check.proofs.KeptEntries.{get_same, get_again, part_same, part_again, part_length, event_same, event_again, event_stands, event_longer}
 -- A check goes on: a node is stopped, waits, or takes its next entry.
-pub use Rattle.trace_check.proofs.Desks.{twin_in}
+pub use Rattle.trace_check.proofs.Searches.{twin_in}
 -- The messages that were sent, once one more is put in.
 pub use Rattle.trace_check.proofs.Keyed.{on_ok}
 -- What one turn changes, and that verdicts decide.

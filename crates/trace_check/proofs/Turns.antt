@@ -10,82 +10,82 @@ use Rattle.group_task.proofs.PublicLaws.{has_below, has_ids_below}
 use Rattle.wire_msg.specs.Envelope.{Envelope}
 use Rattle.histories.specs.Lists.{Each}
 use Rattle.histories.specs.NodeState.{opening}
-use Rattle.trace_check.specs.declared.desk.Seat.{Seat}
-use Rattle.trace_check.specs.declared.desk.Judgement.TheVariants.{Stops, Waits}
+use Rattle.trace_check.specs.declared.search.NodeView.{NodeView}
+use Rattle.trace_check.specs.declared.search.Judgement.TheVariants.{Stops, Waits}
 use Rattle.trace_check.specs.Claims.{Claim, MayCome}
 use Rattle.trace_check.specs.Orders.{history, claims_of, taken, IsSent, IsLegal, IsStuck}
 use Rattle.trace_check.specs.Twins.{Twin}
-use Rattle.trace_check.specs.Desks.{twin_at, IsDesk, IsTaken, Judges, PostsAll}
-use Rattle.trace_check.proofs.Desks.{Reseats, twin_in, stop_desk, wait_desk, take_desk}
+use Rattle.trace_check.specs.Searches.{twin_at, IsDesk, IsTaken, Judges, PostsAll}
+use Rattle.trace_check.proofs.Searches.{Reseats, twin_in, stop_desk, wait_desk, take_desk}
 
--- ---- lists of seats
+-- ---- lists of nodes
 
-set_length : (xs : List Seat) (i : ℕ) (v : Seat) → length (slice_set xs i v) ≡ length xs
+set_length : (xs : List NodeView) (i : ℕ) (v : NodeView) → length (slice_set xs i v) ≡ length xs
 set_length [] i v = refl
 set_length (x ∷ xs) zero v = refl
 set_length (x ∷ xs) (suc i) v = ap suc (set_length xs i v)
 
-set_here : (xs : List Seat) (i : ℕ) (v t : Seat) → slice_get (slice_set xs i v) i ≡ Some t → t ≡ v
+set_here : (xs : List NodeView) (i : ℕ) (v t : NodeView) → slice_get (slice_set xs i v) i ≡ Some t → t ≡ v
 set_here [] i v t at = absurd cc
 set_here (x ∷ xs) zero v t at = sym (same_Some v t at)
 set_here (x ∷ xs) (suc i) v t at = set_here xs i v t at
 
-set_other : (xs : List Seat) (i : ℕ) (v : Seat) (k : ℕ) → k ≢ i → slice_get (slice_set xs i v) k ≡ slice_get xs k
+set_other : (xs : List NodeView) (i : ℕ) (v : NodeView) (k : ℕ) → k ≢ i → slice_get (slice_set xs i v) k ≡ slice_get xs k
 set_other [] i v k other = refl
 set_other (x ∷ xs) zero v zero other = absurd (other refl)
 set_other (x ∷ xs) zero v (suc k) other = refl
 set_other (x ∷ xs) (suc i) v zero other = refl
 set_other (x ∷ xs) (suc i) v (suc k) other = set_other xs i v k (λ same. other (ap suc same))
 
-set_same : (xs : List Seat) (i : ℕ) (v : Seat) → slice_get xs i ≡ Some v → slice_set xs i v ≡ xs
+set_same : (xs : List NodeView) (i : ℕ) (v : NodeView) → slice_get xs i ≡ Some v → slice_set xs i v ≡ xs
 set_same [] i v at = absurd cc
-set_same (x ∷ xs) zero v at = ap (λ (s : Seat). s ∷ xs) (sym (same_Some x v at))
-set_same (x ∷ xs) (suc i) v at = ap (λ (ss : List Seat). x ∷ ss) (set_same xs i v at)
+set_same (x ∷ xs) zero v at = ap (λ (s : NodeView). s ∷ xs) (sym (same_Some x v at))
+set_same (x ∷ xs) (suc i) v at = ap (λ (ss : List NodeView). x ∷ ss) (set_same xs i v at)
 
-pub reseats_set : (seats : List Seat) (n : ℕ) (s : Seat) → Reseats seats (slice_set seats n s) n s
+pub reseats_set : (seats : List NodeView) (n : ℕ) (s : NodeView) → Reseats seats (slice_set seats n s) n s
 reseats_set seats n s = record { count = set_length seats n s; here = λ t at. set_here seats n s t at; others = λ k other. set_other seats n s k other }
 
 -- ---- the three answers
 
-pub desk_stops : (hs : List (List Claim)) (seats : List Seat) (ready stopped : List ℕ) (posted : List Envelope) (past : List ℕ) (n : ℕ) (old new : Seat) → IsDesk hs seats ready stopped posted past → has ready n ≡ true
+pub desk_stops : (hs : List (List Claim)) (seats : List NodeView) (ready stopped : List ℕ) (posted : List Envelope) (past : List ℕ) (n : ℕ) (old new : NodeView) → IsDesk hs seats ready stopped posted past → has ready n ≡ true
     → slice_get seats n ≡ Some old → Judges hs posted n old new Stops → IsDesk hs (slice_set seats n new) (without_id ready n) (with_id stopped n) posted past
-desk_stops hs seats ready stopped posted past n old new desk is_ready at judged =
-    let fits = desk.fits n old at in
-    let twin : old.replica ≡ twin_at hs past n = fits.replica (desk.live n is_ready) in
-    stop_desk hs seats (slice_set seats n new) ready stopped posted past n old new desk (reseats_set seats n new) at judged.0
+desk_stops hs seats ready stopped posted past n old new search is_ready at judged =
+    let fits = search.fits n old at in
+    let twin : old.node_model ≡ twin_at hs past n = fits.node_model (search.live n is_ready) in
+    stop_desk hs seats (slice_set seats n new) ready stopped posted past n old new search (reseats_set seats n new) at judged.0
     (λ c next possible addressed.
     judged.1 c (subst (λ (k : ℕ). slice_get (history hs n) k ≡ Some c) (sym fits.place) next) (subst (λ (w : Twin). MayCome w.id w.nodes w.node c) (sym twin) possible) addressed)
 
-pub desk_waits : (hs : List (List Claim)) (seats : List Seat) (ready stopped : List ℕ) (posted : List Envelope) (past : List ℕ) (n : ℕ) (old new : Seat) → IsDesk hs seats ready stopped posted past
+pub desk_waits : (hs : List (List Claim)) (seats : List NodeView) (ready stopped : List ℕ) (posted : List Envelope) (past : List ℕ) (n : ℕ) (old new : NodeView) → IsDesk hs seats ready stopped posted past
     → slice_get seats n ≡ Some old → Judges hs posted n old new Waits → IsDesk hs (slice_set seats n new) (without_id ready n) stopped posted past
-desk_waits hs seats ready stopped posted past n old new desk at judged =
-    let fits = desk.fits n old at in
+desk_waits hs seats ready stopped posted past n old new search at judged =
+    let fits = search.fits n old at in
     let unsent = judged.1 in
-    let same : slice_set seats n new ≡ seats = ap (λ (s : Seat). slice_set seats n s) judged.0 ∙ set_same seats n old at in
-    subst (λ (ss : List Seat). IsDesk hs ss (without_id ready n) stopped posted past) (sym same)
-    (wait_desk hs seats ready stopped posted past n desk (λ may.
+    let same : slice_set seats n new ≡ seats = ap (λ (s : NodeView). slice_set seats n s) judged.0 ∙ set_same seats n old at in
+    subst (λ (ss : List NodeView). IsDesk hs ss (without_id ready n) stopped posted past) (sym same)
+    (wait_desk hs seats ready stopped posted past n search (λ may.
     let brought = unsent.brought may.claim (subst (λ (k : ℕ). slice_get (history hs n) k ≡ Some may.claim) (sym fits.place) may.next) in
     let sent : Each (λ (m : Envelope). IsSent hs past m) (unsent.message ∷ []) = subst (λ (ms : List Envelope). Each (λ (m : Envelope). IsSent hs past m) ms) brought may.sent in
-    unsent.unsent ((desk.posts unsent.message).1 sent.0)))
+    unsent.unsent ((search.posts unsent.message).1 sent.0)))
 
-pub desk_takes : (hs : List (List Claim)) (seats : List Seat) (ready ready' stopped : List ℕ) (posted posted' : List Envelope) (order : List ℕ) (n : ℕ) (old new : Seat) (c : Claim) → IsDesk hs seats ready stopped posted (reverse order)
+pub desk_takes : (hs : List (List Claim)) (seats : List NodeView) (ready ready' stopped : List ℕ) (posted posted' : List Envelope) (order : List ℕ) (n : ℕ) (old new : NodeView) (c : Claim) → IsDesk hs seats ready stopped posted (reverse order)
     → has ready n ≡ true → ((m : ℕ) → m < n → has ready m ≡ false) → slice_get seats n ≡ Some old → IsTaken hs posted n old new → slice_get (history hs n) old.place ≡ Some c
     → PostsAll stopped posted posted' ready ready' c.sent → IsDesk hs (slice_set seats n new) ready' stopped posted' (reverse (order ++ n ∷ []))
-desk_takes hs seats ready ready' stopped posted posted' order n old new c desk is_ready first at t next all =
+desk_takes hs seats ready ready' stopped posted posted' order n old new c search is_ready first at t next all =
     let is : c ≡ t.claim = same_Some c t.claim (sym next ∙ t.next) in
     subst (λ (past : List ℕ). IsDesk hs (slice_set seats n new) ready' stopped posted' past) (sym (reverse-append order (n ∷ [])))
-    (take_desk hs seats (slice_set seats n new) ready ready' stopped posted posted' (reverse order) n old new desk (reseats_set seats n new) at is_ready first t
+    (take_desk hs seats (slice_set seats n new) ready ready' stopped posted posted' (reverse order) n old new search (reseats_set seats n new) at is_ready first t
     (subst (λ (d : Claim). PostsAll stopped posted posted' ready ready' d.sent) is all))
 
 -- a node that isn't there has no entries
 pub none_past : (hs : List (List Claim)) (n : ℕ) → length hs ≤ n → history hs n ≡ []
 none_past hs n past = ap claims_of (slice_get_past hs n past)
 
-pub desk_without : (hs : List (List Claim)) (seats : List Seat) (ready stopped : List ℕ) (posted : List Envelope) (past : List ℕ) (n : ℕ) → IsDesk hs seats ready stopped posted past → length seats ≤ n
+pub desk_without : (hs : List (List Claim)) (seats : List NodeView) (ready stopped : List ℕ) (posted : List Envelope) (past : List ℕ) (n : ℕ) → IsDesk hs seats ready stopped posted past → length seats ≤ n
     → IsDesk hs seats (without_id ready n) stopped posted past
-desk_without hs seats ready stopped posted past n desk outside =
-    let count = desk.count in
-    wait_desk hs seats ready stopped posted past n desk (λ may.
+desk_without hs seats ready stopped posted past n search outside =
+    let count = search.count in
+    wait_desk hs seats ready stopped posted past n search (λ may.
     let none : slice_get [] (taken n past) ≡ Some may.claim = subst (λ (h : List Claim). slice_get h (taken n past) ≡ Some may.claim) (none_past hs n (omega (arith, count, outside))) may.next in cc)
 
 -- ---- the least node
@@ -103,27 +103,27 @@ least_first ready (Some id) set is =
 -- ---- the opening
 
 -- each seat is of a node that has just opened
-abbrev pub AreOpen : ℕ → List Seat → Type 0
-AreOpen nodes seats = (n : ℕ) (s : Seat) → slice_get seats n ≡ Some s → s ≡ record { replica = record { id = n; nodes = nodes; node = opening n }; place = 0 }
+abbrev pub AreOpen : ℕ → List NodeView → Type 0
+AreOpen nodes seats = (n : ℕ) (s : NodeView) → slice_get seats n ≡ Some s → s ≡ record { node_model = record { id = n; nodes = nodes; node = opening n }; place = 0 }
 
-last_or_before : (xs : List Seat) (v s : Seat) (n : ℕ) → slice_get (xs ++ v ∷ []) n ≡ Some s → (slice_get xs n ≡ Some s) ⊎ ((n ≡ length xs) × (s ≡ v))
+last_or_before : (xs : List NodeView) (v s : NodeView) (n : ℕ) → slice_get (xs ++ v ∷ []) n ≡ Some s → (slice_get xs n ≡ Some s) ⊎ ((n ≡ length xs) × (s ≡ v))
 last_or_before [] v s zero at = inr (refl, sym (same_Some v s at))
 last_or_before [] v s (suc n) at = absurd cc
 last_or_before (x ∷ xs) v s zero at = inl at
 last_or_before (x ∷ xs) v s (suc n) at = elim (last_or_before xs v s n at) [ inl before ↦ inl before | inr now ↦ inr (ap suc now.0, now.1) ]
 
-pub open_more : (nodes : ℕ) (seats : List Seat) (s : Seat) → AreOpen nodes seats → s ≡ record { replica = record { id = length seats; nodes = nodes; node = opening (length seats) }; place = 0 } → AreOpen nodes (seats ++ s ∷ [])
+pub open_more : (nodes : ℕ) (seats : List NodeView) (s : NodeView) → AreOpen nodes seats → s ≡ record { node_model = record { id = length seats; nodes = nodes; node = opening (length seats) }; place = 0 } → AreOpen nodes (seats ++ s ∷ [])
 open_more nodes seats s each is n t at = elim (last_or_before seats s t n at) [
   | inl before ↦ each n t before
-  | inr now ↦ now.1 ∙ is ∙ ap (λ (k : ℕ). record { replica = record { id = k; nodes = nodes; node = opening k }; place = 0 }) (sym now.0)
+  | inr now ↦ now.1 ∙ is ∙ ap (λ (k : ℕ). record { node_model = record { id = k; nodes = nodes; node = opening k }; place = 0 }) (sym now.0)
 ]
 
-pub desk_opens : (hs : List (List Claim)) (nodes : ℕ) (seats : List Seat) → nodes ≡ length hs → length seats ≡ length hs → AreOpen nodes seats → IsDesk hs seats (ids_below nodes) [] [] []
+pub desk_opens : (hs : List (List Claim)) (nodes : ℕ) (seats : List NodeView) → nodes ≡ length hs → length seats ≡ length hs → AreOpen nodes seats → IsDesk hs seats (ids_below nodes) [] [] []
 desk_opens hs nodes seats size count each = record {
   count = count;
   fits = λ n s at. record {
-    place = ap (λ (x : Seat). x.place) (each n s at);
-    replica = λ _. ap (λ (x : Seat). x.replica) (each n s at) ∙ ap (λ (k : ℕ). twin_in n k (opening n)) size;
+    place = ap (λ (x : NodeView). x.place) (each n s at);
+    node_model = λ _. ap (λ (x : NodeView). x.node_model) (each n s at) ∙ ap (λ (k : ℕ). twin_in n k (opening n)) size;
   };
   legal = tt;
   least = tt;
@@ -167,15 +167,15 @@ outside_taken hs past n legal outside =
     let none : length (history hs n) ≡ 0 = ap (λ (h : List Claim). length h) (none_past hs n outside) in
     omega (arith, few, none)
 
-pub desk_stuck : (hs : List (List Claim)) (seats : List Seat) (ready stopped : List ℕ) (posted : List Envelope) (past : List ℕ) → IsDesk hs seats ready stopped posted past → ready ≡ [] → IsStuck hs past
-desk_stuck hs seats ready stopped posted past desk none n may = desk.waits n (ap (λ (ids : List ℕ). has ids n) none) may
+pub desk_stuck : (hs : List (List Claim)) (seats : List NodeView) (ready stopped : List ℕ) (posted : List Envelope) (past : List ℕ) → IsDesk hs seats ready stopped posted past → ready ≡ [] → IsStuck hs past
+desk_stuck hs seats ready stopped posted past search none n may = search.waits n (ap (λ (ids : List ℕ). has ids n) none) may
 
 -- the same under other names
-pub desk_same : (hs : List (List Claim)) (s s' : List Seat) (r r' t t' : List ℕ) (p p' : List Envelope) (past : List ℕ) → s' ≡ s → r' ≡ r → t' ≡ t → p' ≡ p → IsDesk hs s r t p past → IsDesk hs s' r' t' p' past
-desk_same hs s s' r r' t t' p p' past es er et ep desk =
-    subst (λ (x : List Seat). IsDesk hs x r' t' p' past) (sym es)
-    (subst (λ (x : List ℕ). IsDesk hs s x t' p' past) (sym er) (subst (λ (x : List ℕ). IsDesk hs s r x p' past) (sym et) (subst (λ (x : List Envelope). IsDesk hs s r t x past) (sym ep) desk)))
+pub desk_same : (hs : List (List Claim)) (s s' : List NodeView) (r r' t t' : List ℕ) (p p' : List Envelope) (past : List ℕ) → s' ≡ s → r' ≡ r → t' ≡ t → p' ≡ p → IsDesk hs s r t p past → IsDesk hs s' r' t' p' past
+desk_same hs s s' r r' t t' p p' past es er et ep search =
+    subst (λ (x : List NodeView). IsDesk hs x r' t' p' past) (sym es)
+    (subst (λ (x : List ℕ). IsDesk hs s x t' p' past) (sym er) (subst (λ (x : List ℕ). IsDesk hs s r x p' past) (sym et) (subst (λ (x : List Envelope). IsDesk hs s r t x past) (sym ep) search)))
 
 -- the seat at a place of the list
-pub seat_at : (seats : List Seat) (k n : ℕ) (s : Seat) → k ≡ n → k < length seats → s ≡ slice_index_or seats k s → slice_get seats n ≡ Some s
+pub seat_at : (seats : List NodeView) (k n : ℕ) (s : NodeView) → k ≡ n → k < length seats → s ≡ slice_index_or seats k s → slice_get seats n ≡ Some s
 seat_at seats k n s is within at = subst (λ (j : ℕ). slice_get seats j ≡ Some s) is (slice_get_read seats (length seats) k s refl within at)

@@ -1,4 +1,4 @@
--- What a replica's invariant says after an event.
+-- What a node model's invariant says after an event.
 use Rattle.std.proofs.Common.{◌≡◌, ℕ, Bool, true, false, List, Option, None, inl, inr, refl, sym, ap, ◌∙◌, subst}
 use Rattle.std.proofs.lemmas.Bool.{cases_Bool}
 use Rattle.std.specs.Prelude.{◌↔◌, IsTrue}
@@ -21,7 +21,7 @@ use Rattle.node_core.specs.State.{State, is_down}
 use Rattle.node_core.specs.Wants.{wants_of}
 use Rattle.histories.specs.NodeState.{wants_at, effect_at}
 use Rattle.histories.specs.Possible.{IsForNode, Takes}
-use Rattle.histories.specs.declared.what.What.TheVariants.{Did}
+use Rattle.histories.specs.declared.history_event.HistoryEvent.TheVariants.{Did}
 use Rattle.histories.proofs.PublicLaws.{at_down, stays_up}
 use Rattle.trace_check.specs.Twins.{Twin, IsTwin, Judged}
 

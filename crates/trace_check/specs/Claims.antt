@@ -4,24 +4,24 @@ use Rattle.wire_msg.specs.Envelope.{Envelope}
 use Rattle.node_core.specs.declared.event.Event.TheVariants as on
 use Rattle.node_core.specs.State.{is_down}
 use Rattle.histories.specs.NodeState.{NodeState}
-use Rattle.histories.specs.declared.what.What.{What}
-use Rattle.histories.specs.declared.what.What.TheVariants.{Did, Faulted, Rests, Crashed, Recovered, MountFailed, RaiseFailed}
-use Rattle.histories.specs.declared.what.Rest.TheVariants.{Nothing}
-use Rattle.histories.specs.What.{brought}
+use Rattle.histories.specs.declared.history_event.HistoryEvent.{HistoryEvent}
+use Rattle.histories.specs.declared.history_event.HistoryEvent.TheVariants.{Did, Faulted, NoOp, Crashed, Recovered, MountFailed, RaiseFailed}
+use Rattle.histories.specs.declared.history_event.NoOpKind.TheVariants.{Nothing}
+use Rattle.histories.specs.HistoryEvent.{brought}
 use Rattle.histories.specs.After.{after, sent_at}
 use Rattle.histories.specs.Possible.{IsPossible}
-use Rattle.trace_check.specs.declared.trace.Deed.{Deed}
-use Rattle.trace_check.specs.declared.trace.Deed.TheVariants as deed
+use Rattle.trace_check.specs.declared.trace.TraceAction.{TraceAction}
+use Rattle.trace_check.specs.declared.trace.TraceAction.TheVariants as deed
 use Rattle.trace_check.specs.declared.trace.RecoverFault.TheVariants as recover
 
 -- an entry of a trace without where it lies in memory: what was done, and what was sent
 pub record Claim : Type 0 where
-  pub deed : Deed
+  pub deed : TraceAction
   pub sent : List Envelope
 
 -- what came of the deed at a node that was down, or wasn't. None where the deed contradicts itself
-abbrev pub what_of : Bool → Deed → Option What
-what_of down deed.Nothing = Some (Rests Nothing)
+abbrev pub what_of : Bool → TraceAction → Option HistoryEvent
+what_of down deed.Nothing = Some (NoOp Nothing)
 what_of down (deed.Done event) = Some (Did event)
 what_of down (deed.Faulted event) = Some (Faulted event)
 what_of down deed.Crashed = Some Crashed
@@ -36,14 +36,14 @@ what_of false (deed.NotRecovered false recover.Raise) = Some (Faulted on.Recover
 what_of false (deed.NotRecovered true recover.Raise) = None
 
 -- and so in this state
-abbrev pub what_at : NodeState → Claim → Option What
+abbrev pub what_at : NodeState → Claim → Option HistoryEvent
 what_at s c = what_of (is_down s.state.phase) c.deed
 
 -- the entry is possible at a node in this state: what it says may come there, and it sends what is sent then
 abbrev pub MayCome : ℕ → ℕ → NodeState → Claim → Type 0
-MayCome self nodes s c = IsSomeAnd (what_at s c) (λ (what : What). IsPossible self nodes s what × (c.sent ≡ sent_at self nodes s what))
+MayCome self nodes s c = IsSomeAnd (what_at s c) (λ (what : HistoryEvent). IsPossible self nodes s what × (c.sent ≡ sent_at self nodes s what))
 
-abbrev pub after_what : ℕ → ℕ → NodeState → Option What → NodeState
+abbrev pub after_what : ℕ → ℕ → NodeState → Option HistoryEvent → NodeState
 after_what self nodes s None = s
 after_what self nodes s (Some what) = after self nodes s what
 
@@ -57,7 +57,7 @@ state_after self nodes s [] = s
 state_after self nodes s (c ∷ cs) = state_after self nodes (after_claim self nodes s c) cs
 
 -- the message that a deed was brought
-abbrev pub brought_by : Deed → List Envelope
+abbrev pub brought_by : TraceAction → List Envelope
 brought_by deed.Nothing = []
 brought_by (deed.Done event) = brought (Some event)
 brought_by (deed.Faulted event) = brought (Some event)

@@ -4,21 +4,21 @@ use Rattle.job_model.specs.declared.payload.TheConstants.{PAYLOAD_CAPACITY}
 use Rattle.wire_msg.specs.Envelope.{Envelope}
 use Rattle.node_core.specs.declared.event.Event.{Event}
 use Rattle.node_core.specs.declared.event.Event.TheVariants as on
-use Rattle.trace_check.specs.declared.trace.Deed.{Deed}
-use Rattle.trace_check.specs.declared.trace.Deed.TheVariants as deed
-use Rattle.trace_check.specs.declared.kept.KeptEvent.{KeptEvent}
-use Rattle.trace_check.specs.declared.kept.KeptEvent.TheVariants as kept
-use Rattle.trace_check.specs.declared.kept.KeptDeed.{KeptDeed}
-use Rattle.trace_check.specs.declared.kept.KeptDeed.TheVariants as done
-use Rattle.trace_check.specs.declared.kept.KeptEntry.{KeptEntry}
+use Rattle.trace_check.specs.declared.trace.TraceAction.{TraceAction}
+use Rattle.trace_check.specs.declared.trace.TraceAction.TheVariants as deed
+use Rattle.trace_check.specs.declared.kept.PackedEvent.{PackedEvent}
+use Rattle.trace_check.specs.declared.kept.PackedEvent.TheVariants as kept
+use Rattle.trace_check.specs.declared.kept.PackedAction.{PackedAction}
+use Rattle.trace_check.specs.declared.kept.PackedAction.TheVariants as done
+use Rattle.trace_check.specs.declared.kept.PackedEntry.{PackedEntry}
 use Rattle.trace_check.specs.Claims.{Claim}
 
 -- ---- what is kept of an event, where so many messages and bytes of payloads are kept before it
 
-abbrev pub kept_event : ℕ → ℕ → Event → KeptEvent
+abbrev pub kept_event : ℕ → ℕ → Event → PackedEvent
 kept_event messages payloads (on.Timer timer) = kept.Timer timer
 kept_event messages payloads (on.Deliver m) = kept.Deliver messages
-kept_event messages payloads (on.Submit work) = kept.Submit work.queue work.priority payloads (length work.payload)
+kept_event messages payloads (on.Submit work) = kept.Submit work.queue work.priority (length work.payload) payloads
 kept_event messages payloads (on.Finish origin id) = kept.Finish origin id
 kept_event messages payloads on.Recover = kept.Recover
 
@@ -29,7 +29,7 @@ payload_of (on.Submit work) = work.payload
 payload_of (on.Finish origin id) = []
 payload_of on.Recover = []
 
-abbrev pub kept_deed : ℕ → ℕ → Deed → KeptDeed
+abbrev pub kept_deed : ℕ → ℕ → TraceAction → PackedAction
 kept_deed messages payloads deed.Nothing = done.Nothing
 kept_deed messages payloads (deed.Done event) = done.Done (kept_event messages payloads event)
 kept_deed messages payloads (deed.Faulted event) = done.Faulted (kept_event messages payloads event)
@@ -37,7 +37,7 @@ kept_deed messages payloads deed.Crashed = done.Crashed
 kept_deed messages payloads (deed.Recovered kept) = done.Recovered kept
 kept_deed messages payloads (deed.NotRecovered kept fault) = done.NotRecovered kept fault
 
-abbrev pub payload_in : Deed → List ℕ
+abbrev pub payload_in : TraceAction → List ℕ
 payload_in deed.Nothing = []
 payload_in (deed.Done event) = payload_of event
 payload_in (deed.Faulted event) = payload_of event
@@ -55,14 +55,14 @@ abbrev pub delivered : Option Envelope → Event
 delivered None = on.Recover
 delivered (Some m) = on.Deliver m
 
-abbrev pub event_said : List Envelope → List ℕ → KeptEvent → Event
+abbrev pub event_said : List Envelope → List ℕ → PackedEvent → Event
 event_said messages payloads (kept.Timer timer) = on.Timer timer
 event_said messages payloads (kept.Deliver place) = delivered (slice_get messages place)
-event_said messages payloads (kept.Submit queue priority start len) = on.Submit (record { queue = queue; priority = priority; payload = take len (drop start payloads) })
+event_said messages payloads (kept.Submit queue priority len start) = on.Submit (record { queue = queue; priority = priority; payload = take len (drop start payloads) })
 event_said messages payloads (kept.Finish origin id) = on.Finish origin id
 event_said messages payloads kept.Recover = on.Recover
 
-abbrev pub deed_said : List Envelope → List ℕ → KeptDeed → Deed
+abbrev pub deed_said : List Envelope → List ℕ → PackedAction → TraceAction
 deed_said messages payloads done.Nothing = deed.Nothing
 deed_said messages payloads (done.Done event) = deed.Done (event_said messages payloads event)
 deed_said messages payloads (done.Faulted event) = deed.Faulted (event_said messages payloads event)
@@ -70,19 +70,19 @@ deed_said messages payloads done.Crashed = deed.Crashed
 deed_said messages payloads (done.Recovered kept) = deed.Recovered kept
 deed_said messages payloads (done.NotRecovered kept fault) = deed.NotRecovered kept fault
 
-abbrev pub claim_said : List Envelope → List ℕ → KeptEntry → Claim
+abbrev pub claim_said : List Envelope → List ℕ → PackedEntry → Claim
 claim_said messages payloads e = record { deed = deed_said messages payloads e.deed; sent = part e.start e.end messages }
 
 -- ---- where the message stands that it was brought
 
-abbrev pub delivered_at : KeptEvent → Option ℕ
+abbrev pub delivered_at : PackedEvent → Option ℕ
 delivered_at (kept.Timer timer) = None
 delivered_at (kept.Deliver place) = Some place
-delivered_at (kept.Submit queue priority start len) = None
+delivered_at (kept.Submit queue priority len start) = None
 delivered_at (kept.Finish origin id) = None
 delivered_at kept.Recover = None
 
-abbrev pub brought_at : KeptDeed → Option ℕ
+abbrev pub brought_at : PackedAction → Option ℕ
 brought_at done.Nothing = None
 brought_at (done.Done event) = delivered_at event
 brought_at (done.Faulted event) = delivered_at event
@@ -92,14 +92,14 @@ brought_at (done.NotRecovered kept fault) = None
 
 -- ---- what can be read back, from so many messages and bytes of payloads
 
-abbrev pub EventStands : ℕ → ℕ → KeptEvent → Type 0
+abbrev pub EventStands : ℕ → ℕ → PackedEvent → Type 0
 EventStands messages payloads (kept.Timer timer) = ⊤
 EventStands messages payloads (kept.Deliver place) = place < messages
-EventStands messages payloads (kept.Submit queue priority start len) = (start + len ≤ payloads) × (len ≤ PAYLOAD_CAPACITY)
+EventStands messages payloads (kept.Submit queue priority len start) = (start + len ≤ payloads) × (len ≤ PAYLOAD_CAPACITY)
 EventStands messages payloads (kept.Finish origin id) = ⊤
 EventStands messages payloads kept.Recover = ⊤
 
-abbrev pub DeedStands : ℕ → ℕ → KeptDeed → Type 0
+abbrev pub DeedStands : ℕ → ℕ → PackedAction → Type 0
 DeedStands messages payloads done.Nothing = ⊤
 DeedStands messages payloads (done.Done event) = EventStands messages payloads event
 DeedStands messages payloads (done.Faulted event) = EventStands messages payloads event
@@ -107,6 +107,6 @@ DeedStands messages payloads done.Crashed = ⊤
 DeedStands messages payloads (done.Recovered kept) = ⊤
 DeedStands messages payloads (done.NotRecovered kept fault) = ⊤
 
-pub record EntryStands (messages payloads : ℕ) (e : KeptEntry) : Type 0 where
+pub record EntryStands (messages payloads : ℕ) (e : PackedEntry) : Type 0 where
   pub deed : DeedStands messages payloads e.deed
   pub sent : (e.start ≤ e.end) × (e.end ≤ messages)

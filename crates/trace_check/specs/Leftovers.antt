@@ -2,8 +2,8 @@
 use Rattle.std.specs.Prelude.{◌≡◌, ◌≢◌, ◌<◌, ℕ, zero, suc, List, [], ◌∷◌, ◌++◌, length, Option, Some, None, slice_get, IfSome, IsSomeAnd}
 use Rattle.wire_msg.specs.Envelope.{Envelope}
 use Rattle.histories.specs.NodeState.{NodeState}
-use Rattle.histories.specs.declared.what.What.{What}
-use Rattle.histories.specs.What.{AreAddressed}
+use Rattle.histories.specs.declared.history_event.HistoryEvent.{HistoryEvent}
+use Rattle.histories.specs.HistoryEvent.{AreAddressed}
 use Rattle.histories.specs.After.{sent_at}
 use Rattle.histories.specs.Possible.{IsPossible}
 use Rattle.trace_check.specs.declared.leftover.Holdup.{Holdup}
@@ -14,15 +14,15 @@ use Rattle.trace_check.specs.Orders.{history, taken, state_of, IsSent, IsLegal, 
 
 -- what the entry says was done can't come at a node in this state, whatever the entry says that it sent
 abbrev pub IsRefused : ℕ → ℕ → NodeState → Claim → Type 0
-IsRefused self nodes s c = IsSomeAnd (what_at s c) (λ (what : What). IsPossible self nodes s what) → ⊥
+IsRefused self nodes s c = IsSomeAnd (what_at s c) (λ (what : HistoryEvent). IsPossible self nodes s what) → ⊥
 
 -- nothing is sent where it can
 abbrev pub IsSilent : ℕ → ℕ → NodeState → Claim → Type 0
-IsSilent self nodes s c = IfSome (what_at s c) (λ (what : What). sent_at self nodes s what ≡ [])
+IsSilent self nodes s c = IfSome (what_at s c) (λ (what : HistoryEvent). sent_at self nodes s what ≡ [])
 
 -- it can, and sends these messages
 abbrev pub WouldSend : ℕ → ℕ → NodeState → Claim → List Envelope → Type 0
-WouldSend self nodes s c ms = IsSomeAnd (what_at s c) (λ (what : What). IsPossible self nodes s what × (ms ≡ sent_at self nodes s what))
+WouldSend self nodes s c ms = IsSomeAnd (what_at s c) (λ (what : HistoryEvent). IsPossible self nodes s what × (ms ≡ sent_at self nodes s what))
 
 -- why an entry isn't taken at a node in this state: all but its message is there, or it can't be there, whatever is sent
 abbrev pub HoldsUp : ℕ → ℕ → NodeState → Claim → Holdup → Type 0

@@ -1,5 +1,5 @@
 pub mod Claims
-pub mod Desks
+pub mod Searches
 pub mod Followed
 pub mod Kept
 pub mod Leftovers

@@ -3,7 +3,7 @@ use Rattle.std.specs.Prelude.{◌≡◌, ◌≤◌, ◌<◌, ◌==◌, ℕ, ◌+
 use Rattle.wire_msg.specs.Envelope.{Envelope}
 use Rattle.histories.specs.Lists.{IsAmong, Each}
 use Rattle.histories.specs.NodeState.{NodeState, opening}
-use Rattle.histories.specs.What.{AreAddressed}
+use Rattle.histories.specs.HistoryEvent.{AreAddressed}
 use Rattle.trace_check.specs.Claims.{Claim, MayCome, state_after, brought_by}
 
 -- the history of a node, empty outside the cluster

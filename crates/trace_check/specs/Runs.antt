@@ -1,13 +1,13 @@
 -- What histories are of which all entries can be taken in some order.
 use Rattle.std.specs.Prelude.{ℕ, ◌+◌, List, [], ◌∷◌, length, Option, Some, None}
 use Rattle.histories.specs.NodeState.{NodeState, opening}
-use Rattle.histories.specs.declared.what.What.{What}
-use Rattle.histories.specs.What.{Entry}
+use Rattle.histories.specs.declared.history_event.HistoryEvent.{HistoryEvent}
+use Rattle.histories.specs.HistoryEvent.{Entry}
 use Rattle.histories.specs.Bundle.{Bundle}
 use Rattle.trace_check.specs.Claims.{Claim, what_at, after_claim}
 use Rattle.trace_check.specs.Orders.{IsLegal, IsComplete}
 
-abbrev pub entry_with : Claim → Option What → List Entry → List Entry
+abbrev pub entry_with : Claim → Option HistoryEvent → List Entry → List Entry
 entry_with c None es = es
 entry_with c (Some what) es = record { what = what; sent = c.sent } ∷ es
 

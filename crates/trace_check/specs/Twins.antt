@@ -1,4 +1,4 @@
--- What contracts see of a replica, and what it says of an entry.
+-- What contracts see of a node model, and what it says of an entry.
 use Rattle.std.specs.Prelude.{ℕ, ◌≡◌, ◌<◌, ◌≤◌, Bool, true, false, List, Option, Some, None}
 use Rattle.job_model.specs.declared.node_command.NodeCommand.{NodeCommand as Command}
 use Rattle.job_model.specs.Durable.{Durable}
@@ -12,7 +12,7 @@ use Rattle.node_core.specs.NodeStep.{IsSpent}
 use Rattle.node_core.specs.Start.{down}
 use Rattle.node_core.specs.State.{is_down}
 use Rattle.histories.specs.NodeState.{NodeState, wants_at, settled}
-use Rattle.histories.specs.declared.what.What.{What}
+use Rattle.histories.specs.declared.history_event.HistoryEvent.{HistoryEvent}
 use Rattle.histories.specs.After.{after, sent_at}
 use Rattle.histories.specs.Possible.{IsPossible, IsSettling, Takes}
 use Rattle.trace_check.specs.Claims.{Claim, MayCome, after_claim}
@@ -32,7 +32,7 @@ pub record IsTwin (t : Twin) : Type 0 where
   pub sure : is_down t.node.state.phase ≡ false → t.node.doubt ≡ None
   pub not_spent : IsSpent t.node.durable t.node.doubt → ⊥
 
--- what is true of a replica in a cluster of so many nodes
+-- what is true of a node model in a cluster of so many nodes
 pub record IsReplica (nodes : ℕ) (t : Twin) : Type 0 where
   pub twin : IsTwin t
   pub size : t.nodes ≡ nodes
@@ -40,11 +40,11 @@ pub record IsReplica (nodes : ℕ) (t : Twin) : Type 0 where
   pub most : nodes ≤ NODES
 
 -- this may come, and sends just these messages
-abbrev pub Comes : Twin → What → List Envelope → Type 0
+abbrev pub Comes : Twin → HistoryEvent → List Envelope → Type 0
 Comes t what sent = IsPossible t.id t.nodes t.node what × (sent ≡ sent_at t.id t.nodes t.node what)
 
 -- it came: the node is in the state after it. Or it can't come, and nothing is said of the node
-abbrev pub Judged : Twin → Twin → What → List Envelope → Bool → Type 0
+abbrev pub Judged : Twin → Twin → HistoryEvent → List Envelope → Bool → Type 0
 Judged old new what sent true = Comes old what sent × (new.node ≡ after old.id old.nodes old.node what)
 Judged old new what sent false = Comes old what sent → ⊥
 

@@ -1,15 +1,15 @@
 ghost use Rattle.std.specs.Prelude.{◌≡◌, ◌≤◌, ◌<◌, ◌+◌, [], ℕ, length, slice_get, reverse, IfOk, IsTrue, true, false, MatchOption, Ok, None};
 ghost use Rattle.group_task.specs.Ids.{has, without_id};
-ghost use Rattle.trace_check.specs.Desks.{Fits};
+ghost use Rattle.trace_check.specs.Searches.{Fits};
 ghost use Rattle.trace_check.specs.Leftovers.{AreLeftovers};
 ghost use Rattle.trace_check.specs.Orders.{history};
 ghost use Rattle.trace_check.specs.Verdicts.{AreTaken, IsVerdict, IsOrderOf, DecidesRun};
 
-use crate::desk::{Desk, Judgement, Seat, judge, post_all};
 use crate::leaving::leftovers;
 use crate::leftover::Leftover;
-use crate::posted::Posted;
-use crate::replica::Replica;
+use crate::node_model::NodeModel;
+use crate::search::{Judgement, NodeView, Search, judge, post_all};
+use crate::sent_messages::SentMessages;
 use crate::trace::{Trace, Verdict};
 use group_task::{Members, NodeId};
 use std::alloc::{AllocError, Global};
@@ -26,8 +26,8 @@ pub fn check(alloc: Global, trace: &Trace) -> Result<Verdict, AllocError>
     // Refuses: always_not_a_run.
     ensures decides { IfOk result (DecidesRun trace.now) }
 {
-    let desk = taken(alloc, trace)?;
-    Ok(decided(trace, desk))
+    let search = taken(alloc, trace)?;
+    Ok(decided(trace, search))
 }
 
 /// A verdict, and the next entry of each node that has entries left where it is no run.
@@ -49,10 +49,10 @@ pub fn examine(alloc: Global, trace: &Trace) -> Result<Examined, AllocError>
     // Refuses: run_taken_in_another_order, last_turn_left_out.
     ensures taken { IfOk result (λ examined. AreTaken trace.now examined.verdict examined.taken.items) }
 {
-    let desk = taken(alloc, trace)?;
-    let left = leftovers(alloc, trace, &desk)?;
-    let taken = desk.order.to_vec(alloc)?;
-    let verdict = decided(trace, desk);
+    let search = taken(alloc, trace)?;
+    let left = leftovers(alloc, trace, &search)?;
+    let taken = search.order.to_vec(alloc)?;
+    let verdict = decided(trace, search);
     Ok(Examined {
         verdict,
         left,
@@ -61,24 +61,24 @@ pub fn examine(alloc: Global, trace: &Trace) -> Result<Examined, AllocError>
 }
 
 /// A check at its end: no entry more can be taken.
-fn taken<'a>(alloc: Global, trace: &'a Trace) -> Result<Desk<'a>, AllocError>
+fn taken<'a>(alloc: Global, trace: &'a Trace) -> Result<Search<'a>, AllocError>
     ensures fits { IfOk result (Fits trace.now) }
-    ensures none { IfOk result (λ desk. desk.ready ≡ []) }
+    ensures none { IfOk result (λ search. search.ready ≡ []) }
 {
-    let mut desk = open(alloc, trace)?;
+    let mut search = open(alloc, trace)?;
     for _turn in 0..u64::MAX {
-        if !take_turn(trace, &mut desk)? {
-            return Ok(desk);
+        if !take_turn(trace, &mut search)? {
+            return Ok(search);
         }
     }
     unreachable!()
 }
 
 /// All nodes opened, and no entry is taken. There is room for as many messages as there are entries, which is about as many as are sent.
-pub(crate) fn open<'a>(alloc: Global, trace: &'a Trace) -> Result<Desk<'a>, AllocError>
+pub(crate) fn open<'a>(alloc: Global, trace: &'a Trace) -> Result<Search<'a>, AllocError>
     ensures fits { IfOk result (Fits trace.now) }
-    ensures order { IfOk result (λ desk. desk.order.items ≡ []) }
-    ensures none { IfOk result (λ desk. desk.stopped ≡ []) }
+    ensures order { IfOk result (λ search. search.order.items ≡ []) }
+    ensures none { IfOk result (λ search. search.stopped ≡ []) }
 {
     let mut entries = 0usize;
     for history in trace.histories() {
@@ -87,28 +87,31 @@ pub(crate) fn open<'a>(alloc: Global, trace: &'a Trace) -> Result<Desk<'a>, Allo
     let nodes = trace.nodes();
     let mut seats = Vec::with_capacity(alloc, usize::from(nodes))?;
     for number in 0..nodes {
-        let replica = Replica::new(alloc, NodeId::numbered(number), nodes)?;
-        seats.push(Seat { replica, place: 0 })?;
+        let node_model = NodeModel::new(alloc, NodeId::numbered(number), nodes)?;
+        seats.push(NodeView {
+            node_model,
+            place: 0,
+        })?;
     }
-    Ok(Desk {
+    Ok(Search {
         seats,
         ready: Members::below(nodes),
         stopped: Members::new(),
-        posted: Posted::with_room(alloc, entries)?,
+        posted: SentMessages::with_room(alloc, entries)?,
         message: Message::blank(),
         order: Vec::with_capacity(alloc, entries)?,
     })
 }
 
 /// The least node that can takes its next entry. False where none can.
-fn take_turn<'a>(trace: &'a Trace, desk: &mut Desk<'a>) -> Result<bool, AllocError>
-    requires { Fits trace.now desk.old }
-    ensures fits { IfOk result (λ _. Fits trace.now desk.new) }
-    ensures more { IfOk result (λ more. more ≡ true → length desk.new.order.items ≡ length desk.old.order.items + 1) }
-    ensures none { IfOk result (λ more. more ≡ false → (desk.new.ready ≡ []) × (desk.new.order.items ≡ desk.old.order.items)) }
+fn take_turn<'a>(trace: &'a Trace, search: &mut Search<'a>) -> Result<bool, AllocError>
+    requires { Fits trace.now search.old }
+    ensures fits { IfOk result (λ _. Fits trace.now search.new) }
+    ensures more { IfOk result (λ more. more ≡ true → length search.new.order.items ≡ length search.old.order.items + 1) }
+    ensures none { IfOk result (λ more. more ≡ false → (search.new.ready ≡ []) × (search.new.order.items ≡ search.old.order.items)) }
 {
-    while let Some(id) = least(&desk.ready) {
-        if take_next(trace, desk, id)? {
+    while let Some(id) = least(&search.ready) {
+        if take_next(trace, search, id)? {
             return Ok(true);
         }
     }
@@ -124,71 +127,76 @@ fn least(ready: &Members) -> Option<NodeId>
 }
 
 /// The node takes its next entry, if it can.
-fn take_next<'a>(trace: &'a Trace, desk: &mut Desk<'a>, id: NodeId) -> Result<bool, AllocError>
-    requires fits { Fits trace.now desk.old }
-    requires ready { has desk.old.ready id ≡ true }
-    requires least { (m : ℕ) → m < id → has desk.old.ready m ≡ false }
-    ensures fits { IfOk result (λ _. Fits trace.now desk.new) }
-    ensures more { IfOk result (λ more. more ≡ true → length desk.new.order.items ≡ length desk.old.order.items + 1) }
-    ensures none { IfOk result (λ more. more ≡ false → (desk.new.ready ≡ without_id desk.old.ready id) × (desk.new.order.items ≡ desk.old.order.items)) }
+fn take_next<'a>(trace: &'a Trace, search: &mut Search<'a>, id: NodeId) -> Result<bool, AllocError>
+    requires fits { Fits trace.now search.old }
+    requires ready { has search.old.ready id ≡ true }
+    requires least { (m : ℕ) → m < id → has search.old.ready m ≡ false }
+    ensures fits { IfOk result (λ _. Fits trace.now search.new) }
+    ensures more { IfOk result (λ more. more ≡ true → length search.new.order.items ≡ length search.old.order.items + 1) }
+    ensures none { IfOk result (λ more. more ≡ false → (search.new.ready ≡ without_id search.old.ready id) × (search.new.order.items ≡ search.old.order.items)) }
 {
     let index = usize::from(id.number());
-    if index >= desk.seats.len() {
-        desk.ready.remove(id);
+    if index >= search.seats.len() {
+        search.ready.remove(id);
         return Ok(false);
     }
-    let place = desk.seats[index].place;
+    let place = search.seats[index].place;
     match judge(
         trace,
-        &desk.posted,
-        &mut desk.message,
-        &mut desk.seats[index],
+        &search.posted,
+        &mut search.message,
+        &mut search.seats[index],
         id,
     )? {
         Judgement::Stops => {
-            desk.ready.remove(id);
-            desk.stopped.insert(id);
+            search.ready.remove(id);
+            search.stopped.insert(id);
             Ok(false)
         }
         Judgement::Waits => {
-            desk.ready.remove(id);
+            search.ready.remove(id);
             Ok(false)
         }
         Judgement::Takes => {
             let Some(sent) = trace.sent(id, place) else {
                 unreachable!()
             };
-            post_all(&mut desk.posted, &mut desk.ready, &desk.stopped, &sent)?;
-            desk.order.push(id)?;
+            post_all(
+                &mut search.posted,
+                &mut search.ready,
+                &search.stopped,
+                &sent,
+            )?;
+            search.order.push(id)?;
             Ok(true)
         }
     }
 }
 
 /// The verdict, which decides whether some order is a run.
-fn decided(trace: &Trace, desk: Desk<'_>) -> Verdict
-    requires fits { Fits trace.now desk }
-    requires none { desk.ready ≡ [] }
+fn decided(trace: &Trace, search: Search<'_>) -> Verdict
+    requires fits { Fits trace.now search }
+    requires none { search.ready ≡ [] }
     ensures verdict { IsVerdict trace.now result }
     ensures decides { DecidesRun trace.now result }
-    ensures order { IsOrderOf result desk.entry.order.items }
+    ensures order { IsOrderOf result search.entry.order.items }
 {
-    verdict(trace, desk)
+    verdict(trace, search)
 }
 
 /// The verdict, once no entry more can be taken.
-fn verdict(trace: &Trace, desk: Desk<'_>) -> Verdict
-    requires fits { Fits trace.now desk }
-    requires none { desk.ready ≡ [] }
+fn verdict(trace: &Trace, search: Search<'_>) -> Verdict
+    requires fits { Fits trace.now search }
+    requires none { search.ready ≡ [] }
     ensures verdict { IsVerdict trace.now result }
-    ensures order { IsOrderOf result desk.entry.order.items }
+    ensures order { IsOrderOf result search.entry.order.items }
 {
     for number in 0..trace.nodes() {
         let id = NodeId::numbered(number);
-        let index = desk.seats[usize::from(number)].place;
+        let index = search.seats[usize::from(number)].place;
         if trace.entry(id, index).is_some() {
             return Verdict::NotARun(id, index);
         }
     }
-    Verdict::Run(desk.order)
+    Verdict::Run(search.order)
 }

@@ -4,7 +4,7 @@ ghost use Rattle.trace_check.specs.Followed.{IsFollowed, Follows};
 ghost use Rattle.trace_check.specs.Orders.{IsComplete, IsLegal};
 
 use crate::checking::open;
-use crate::desk::{Desk, Judgement, judge, post_all};
+use crate::search::{Judgement, Search, judge, post_all};
 use crate::trace::Trace;
 use group_task::NodeId;
 use std::alloc::{AllocError, Global};
@@ -14,29 +14,29 @@ pub fn is_order(alloc: Global, trace: &Trace, order: &[NodeId]) -> Result<bool, 
     // Promise: Whether all entries can be taken in an order that is given is answered exactly.
     ensures { IfOk result (λ is. IsTrue is ↔ (IsLegal trace.now (reverse order.now) × IsComplete trace.now (reverse order.now))) }
 {
-    let mut desk = open(alloc, trace)?;
+    let mut search = open(alloc, trace)?;
     for turn in 0..order.len() {
-        if !follow(trace, &mut desk, order[turn])? {
+        if !follow(trace, &mut search, order[turn])? {
             return Ok(false);
         }
     }
-    Ok(is_complete(trace, &desk))
+    Ok(is_complete(trace, &search))
 }
 
-/// The node takes its next entry, if it can. Where it can't, the desk is of no more use.
-fn follow<'a>(trace: &'a Trace, desk: &mut Desk<'a>, id: NodeId) -> Result<bool, AllocError>
-    ensures { IfOk result (Follows trace.now desk.old desk.new id) }
+/// The node takes its next entry, if it can. Where it can't, the search is of no more use.
+fn follow<'a>(trace: &'a Trace, search: &mut Search<'a>, id: NodeId) -> Result<bool, AllocError>
+    ensures { IfOk result (Follows trace.now search.old search.new id) }
 {
     let index = usize::from(id.number());
-    if index >= desk.seats.len() {
+    if index >= search.seats.len() {
         return Ok(false);
     }
-    let place = desk.seats[index].place;
+    let place = search.seats[index].place;
     match judge(
         trace,
-        &desk.posted,
-        &mut desk.message,
-        &mut desk.seats[index],
+        &search.posted,
+        &mut search.message,
+        &mut search.seats[index],
         id,
     )? {
         Judgement::Stops => Ok(false),
@@ -45,19 +45,24 @@ fn follow<'a>(trace: &'a Trace, desk: &mut Desk<'a>, id: NodeId) -> Result<bool,
             let Some(sent) = trace.sent(id, place) else {
                 unreachable!()
             };
-            post_all(&mut desk.posted, &mut desk.ready, &desk.stopped, &sent)?;
+            post_all(
+                &mut search.posted,
+                &mut search.ready,
+                &search.stopped,
+                &sent,
+            )?;
             Ok(true)
         }
     }
 }
 
 /// Whether no node has entries left.
-fn is_complete(trace: &Trace, desk: &Desk<'_>) -> bool
-    requires { length desk.now.seats.items ≡ length trace.now }
-    ensures { (past : List ℕ) → IsFollowed trace.now desk.now past → IsTrue result ↔ IsComplete trace.now past }
+fn is_complete(trace: &Trace, search: &Search<'_>) -> bool
+    requires { length search.now.seats.items ≡ length trace.now }
+    ensures { (past : List ℕ) → IsFollowed trace.now search.now past → IsTrue result ↔ IsComplete trace.now past }
 {
     for number in 0..trace.nodes() {
-        let index = desk.seats[usize::from(number)].place;
+        let index = search.seats[usize::from(number)].place;
         if trace.entry(NodeId::numbered(number), index).is_some() {
             return false;
         }

@@ -6,8 +6,8 @@ ghost use Rattle.trace_check.specs.Kept.{part};
 ghost use Rattle.trace_check.specs.Traces.{claim, claim_seen};
 ghost use Rattle.trace_check.specs.Views.{Stands, claim_kept};
 
-use crate::kept::{KeptEntry, brought_at, deed_said, keep_deed};
-use crate::trace::Deed;
+use crate::kept::{PackedEntry, brought_at, deed_said, keep_deed};
+use crate::trace::TraceAction;
 use group_task::NodeId;
 use job_model::PAYLOAD_CAPACITY;
 use message_list::{LentMessage, MessageList};
@@ -17,11 +17,11 @@ use wire_msg::Message;
 
 /// The entries of one node, in their order.
 ///
-/// An entry takes 48 bytes or less. The message that it was brought and those that it sent stand in a list of messages, which
+/// An entry takes 40 bytes or less. The message that it was brought and those that it sent stand in a list of messages, which
 /// takes 16 bytes for most, and the payload of a job in a list of bytes.
 #[derive(Drop)]
 pub struct History {
-    entries: Vec<KeptEntry>,
+    entries: Vec<PackedEntry>,
     messages: MessageList,
     payloads: Vec<u8>,
 }
@@ -58,7 +58,7 @@ impl History {
     }
 
     /// Adds an entry: what was done, and the messages sent in their order.
-    pub fn push(&mut self, deed: &Deed, sent: &[Message]) -> Result<(), AllocError>
+    pub fn push(&mut self, deed: &TraceAction, sent: &[Message]) -> Result<(), AllocError>
         // Promise: A history is the list of its entries, each as it was put in; want of memory leaves it as it was.
         // Also: History::entry.
         // Refuses: payload_read_from_the_start, entry_keeps_what_it_was_brought_as_sent.
@@ -71,7 +71,7 @@ impl History {
         let deed = keep_deed(&mut self.messages, &mut self.payloads, deed);
         let start = self.messages.len();
         keep_messages(&mut self.messages, sent);
-        self.entries.push_reserved(KeptEntry {
+        self.entries.push_reserved(PackedEntry {
             deed,
             start,
             end: self.messages.len(),
@@ -157,7 +157,7 @@ pub fn keep_messages(messages: &mut MessageList, sent: &[Message])
 /// An entry of a history, lent.
 #[derive(Drop)]
 pub struct EntryView<'a> {
-    pub deed: Deed,
+    pub deed: TraceAction,
     pub sent: Sent<'a>,
 }
 
@@ -166,7 +166,7 @@ pub struct EntryView<'a> {
 pub(crate) struct KeptView<'a> {
     pub(crate) messages: &'a MessageList,
     pub(crate) payloads: &'a [u8],
-    pub(crate) entry: KeptEntry,
+    pub(crate) entry: PackedEntry,
 }
 
 impl<'a> KeptView<'a> {

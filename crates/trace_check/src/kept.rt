@@ -3,34 +3,35 @@
 
 ghost use Rattle.std.specs.Prelude.{◌≡◌, ◌≤◌, ◌<◌, ◌+◌, ◌++◌, length, vec_len, vec_capacity, Some};
 ghost use Rattle.job_model.specs.declared.payload.TheConstants.{PAYLOAD_CAPACITY};
-ghost use Rattle.histories.specs.What.{brought};
+ghost use Rattle.histories.specs.HistoryEvent.{brought};
 ghost use Rattle.trace_check.specs.Claims.{brought_by};
 ghost use Rattle.trace_check.specs.Kept.{kept_event, kept_deed, payload_of, payload_in, event_said, deed_said, delivered_at, brought_at, EventStands, DeedStands};
 
-use crate::trace::{Deed, RecoverFault};
+use crate::trace::{RecoverFault, TraceAction};
 use group_task::NodeId;
 use job_model::{PAYLOAD_CAPACITY, Payload, Queue, Work};
 use message_list::MessageList;
 use node_core::{Event, Timer};
+use std::mem::size_of;
 
 /// An event as it is kept.
 #[derive(Clone, Copy)]
-pub enum KeptEvent {
+pub enum PackedEvent {
     Timer(Timer),
     /// The message stands at this place of its list.
     Deliver(usize),
-    /// A queue and a priority; the payload begins at this place of all payloads, and has so many bytes.
-    Submit(Queue, u8, usize, u16),
+    /// A queue and a priority; the payload has so many bytes, and begins at this place of all payloads.
+    Submit(Queue, u8, u16, usize),
     Finish(NodeId, u64),
     Recover,
 }
 
 /// What was done, as it is kept.
 #[derive(Clone, Copy)]
-pub enum KeptDeed {
+pub enum PackedAction {
     Nothing,
-    Done(KeptEvent),
-    Faulted(KeptEvent),
+    Done(PackedEvent),
+    Faulted(PackedEvent),
     Crashed,
     Recovered(bool),
     NotRecovered(bool, RecoverFault),
@@ -38,14 +39,21 @@ pub enum KeptDeed {
 
 /// An entry as it is kept. What it sent stands in the list of messages from start up to end.
 #[derive(Clone, Copy)]
-pub struct KeptEntry {
-    pub deed: KeptDeed,
+pub struct PackedEntry {
+    pub deed: PackedAction,
     pub start: usize,
     pub end: usize,
 }
 
+// a long history takes about what its text takes
+const _: () = prove!(size_of::<PackedEntry>() == 40);
+
 /// Keeps what was done, in the room that is there.
-pub fn keep_deed(messages: &mut MessageList, payloads: &mut Vec<u8>, deed: &Deed) -> KeptDeed
+pub fn keep_deed(
+    messages: &mut MessageList,
+    payloads: &mut Vec<u8>,
+    deed: &TraceAction,
+) -> PackedAction
     requires room { 1 ≤ messages.old.room }
     requires bytes { vec_len payloads.old + PAYLOAD_CAPACITY ≤ vec_capacity payloads.old }
     ensures value { result ≡ kept_deed (length messages.old.messages) (length payloads.old.items) deed.now }
@@ -55,17 +63,17 @@ pub fn keep_deed(messages: &mut MessageList, payloads: &mut Vec<u8>, deed: &Deed
     ensures few { length (payload_in deed.now) ≤ PAYLOAD_CAPACITY }
 {
     match deed {
-        Deed::Nothing => KeptDeed::Nothing,
-        Deed::Done(event) => KeptDeed::Done(keep_event(messages, payloads, event)),
-        Deed::Faulted(event) => KeptDeed::Faulted(keep_event(messages, payloads, event)),
-        Deed::Crashed => KeptDeed::Crashed,
-        Deed::Recovered(kept) => KeptDeed::Recovered(*kept),
-        Deed::NotRecovered(kept, fault) => KeptDeed::NotRecovered(*kept, *fault),
+        TraceAction::Nothing => PackedAction::Nothing,
+        TraceAction::Done(event) => PackedAction::Done(keep_event(messages, payloads, event)),
+        TraceAction::Faulted(event) => PackedAction::Faulted(keep_event(messages, payloads, event)),
+        TraceAction::Crashed => PackedAction::Crashed,
+        TraceAction::Recovered(kept) => PackedAction::Recovered(*kept),
+        TraceAction::NotRecovered(kept, fault) => PackedAction::NotRecovered(*kept, *fault),
     }
 }
 
 /// Keeps an event, in the room that is there.
-pub fn keep_event(messages: &mut MessageList, payloads: &mut Vec<u8>, event: &Event) -> KeptEvent
+pub fn keep_event(messages: &mut MessageList, payloads: &mut Vec<u8>, event: &Event) -> PackedEvent
     requires room { 1 ≤ messages.old.room }
     requires bytes { vec_len payloads.old + PAYLOAD_CAPACITY ≤ vec_capacity payloads.old }
     ensures value { result ≡ kept_event (length messages.old.messages) (length payloads.old.items) event.now }
@@ -77,39 +85,39 @@ pub fn keep_event(messages: &mut MessageList, payloads: &mut Vec<u8>, event: &Ev
     ensures capacity { vec_capacity payloads.old ≤ vec_capacity payloads.new }
 {
     match event {
-        Event::Timer(timer) => KeptEvent::Timer(*timer),
+        Event::Timer(timer) => PackedEvent::Timer(*timer),
         Event::Deliver(message) => {
             let place = messages.len();
             messages.push(message);
-            KeptEvent::Deliver(place)
+            PackedEvent::Deliver(place)
         }
         Event::Submit(work) => {
             let start = payloads.len();
             let _ = payloads.extend_from_slice(work.payload.as_slice());
-            KeptEvent::Submit(work.queue, work.priority, start, work.payload.len() as u16)
+            PackedEvent::Submit(work.queue, work.priority, work.payload.len() as u16, start)
         }
-        Event::Finish(origin, id) => KeptEvent::Finish(*origin, *id),
-        Event::Recover => KeptEvent::Recover,
+        Event::Finish(origin, id) => PackedEvent::Finish(*origin, *id),
+        Event::Recover => PackedEvent::Recover,
     }
 }
 
 /// What was done, read back.
-pub fn deed_said(messages: &MessageList, payloads: &[u8], deed: KeptDeed) -> Deed
+pub fn deed_said(messages: &MessageList, payloads: &[u8], deed: PackedAction) -> TraceAction
     requires { DeedStands (length messages.now.messages) (length payloads.now) deed }
     ensures { result ≡ deed_said messages.now.messages payloads.now deed }
 {
     match deed {
-        KeptDeed::Nothing => Deed::Nothing,
-        KeptDeed::Done(event) => Deed::Done(event_said(messages, payloads, event)),
-        KeptDeed::Faulted(event) => Deed::Faulted(event_said(messages, payloads, event)),
-        KeptDeed::Crashed => Deed::Crashed,
-        KeptDeed::Recovered(kept) => Deed::Recovered(kept),
-        KeptDeed::NotRecovered(kept, fault) => Deed::NotRecovered(kept, fault),
+        PackedAction::Nothing => TraceAction::Nothing,
+        PackedAction::Done(event) => TraceAction::Done(event_said(messages, payloads, event)),
+        PackedAction::Faulted(event) => TraceAction::Faulted(event_said(messages, payloads, event)),
+        PackedAction::Crashed => TraceAction::Crashed,
+        PackedAction::Recovered(kept) => TraceAction::Recovered(kept),
+        PackedAction::NotRecovered(kept, fault) => TraceAction::NotRecovered(kept, fault),
     }
 }
 
 /// An event, read back.
-pub fn event_said(messages: &MessageList, payloads: &[u8], event: KeptEvent) -> Event
+pub fn event_said(messages: &MessageList, payloads: &[u8], event: PackedEvent) -> Event
     requires { EventStands (length messages.now.messages) (length payloads.now) event }
     ensures { result ≡ event_said messages.now.messages payloads.now event }
 {
@@ -119,17 +127,17 @@ pub fn event_said(messages: &MessageList, payloads: &[u8], event: KeptEvent) -> 
 }
 
 /// Makes `said` an event, read back, in place, since an event is long.
-pub fn read_event(messages: &MessageList, payloads: &[u8], event: KeptEvent, said: &mut Event)
+pub fn read_event(messages: &MessageList, payloads: &[u8], event: PackedEvent, said: &mut Event)
     requires { EventStands (length messages.now.messages) (length payloads.now) event }
     ensures { said.new ≡ event_said messages.now.messages payloads.now event }
 {
     match event {
-        KeptEvent::Timer(timer) => *said = Event::Timer(timer),
-        KeptEvent::Deliver(place) => match messages.get(place) {
+        PackedEvent::Timer(timer) => *said = Event::Timer(timer),
+        PackedEvent::Deliver(place) => match messages.get(place) {
             Some(message) => *said = Event::Deliver(message),
             None => unreachable!(),
         },
-        KeptEvent::Submit(queue, priority, start, len) => {
+        PackedEvent::Submit(queue, priority, len, start) => {
             let bytes = &payloads[start..start + usize::from(len)];
             let payload = Payload::new(bytes).unwrap();
             *said = Event::Submit(Work {
@@ -138,26 +146,26 @@ pub fn read_event(messages: &MessageList, payloads: &[u8], event: KeptEvent, sai
                 payload,
             });
         }
-        KeptEvent::Finish(origin, id) => *said = Event::Finish(origin, id),
-        KeptEvent::Recover => *said = Event::Recover,
+        PackedEvent::Finish(origin, id) => *said = Event::Finish(origin, id),
+        PackedEvent::Recover => *said = Event::Recover,
     }
 }
 
 /// Where the message stands that a deed was brought, if it was brought one.
-pub fn brought_at(deed: KeptDeed) -> Option<usize>
+pub fn brought_at(deed: PackedAction) -> Option<usize>
     ensures { result ≡ brought_at deed }
 {
     match deed {
-        KeptDeed::Done(event) | KeptDeed::Faulted(event) => delivered_at(event),
+        PackedAction::Done(event) | PackedAction::Faulted(event) => delivered_at(event),
         _ => None,
     }
 }
 
-fn delivered_at(event: KeptEvent) -> Option<usize>
+fn delivered_at(event: PackedEvent) -> Option<usize>
     ensures { result ≡ delivered_at event }
 {
     match event {
-        KeptEvent::Deliver(place) => Some(place),
+        PackedEvent::Deliver(place) => Some(place),
         _ => None,
     }
 }

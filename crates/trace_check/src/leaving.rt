@@ -1,18 +1,18 @@
-//! What is left once no entry more can be taken. Each node that has entries left is brought through its history again, since the replica
+//! What is left once no entry more can be taken. Each node that has entries left is brought through its history again, since the node model
 //! of one that was stopped is spoiled.
 ghost use Rattle.std.specs.Prelude.{◌≡◌, ◌<◌, ◌↔◌, [], length, slice_get, IfOk, IsTrue};
-ghost use Rattle.histories.specs.What.{AreAddressed};
+ghost use Rattle.histories.specs.HistoryEvent.{AreAddressed};
 ghost use Rattle.trace_check.specs.Claims.{brought_by};
-ghost use Rattle.trace_check.specs.Desks.{Fits};
+ghost use Rattle.trace_check.specs.Searches.{Fits};
 ghost use Rattle.trace_check.specs.Leftovers.{AreLeftovers, CanReplay, HoldsUp, IsFound};
 ghost use Rattle.trace_check.specs.Orders.{history, state_of};
 ghost use Rattle.trace_check.specs.Traces.{claim_seen};
 
-use crate::desk::Desk;
 use crate::history::EntryView;
 use crate::leftover::{Holdup, Leftover};
-use crate::replica::{Replica, same};
-use crate::trace::{Deed, Trace};
+use crate::node_model::{NodeModel, same};
+use crate::search::Search;
+use crate::trace::{Trace, TraceAction};
 use group_task::NodeId;
 use std::alloc::{AllocError, Global};
 
@@ -20,16 +20,16 @@ use std::alloc::{AllocError, Global};
 pub(crate) fn leftovers(
     alloc: Global,
     trace: &Trace,
-    desk: &Desk<'_>,
+    search: &Search<'_>,
 ) -> Result<Vec<Leftover>, AllocError>
-    requires fits { Fits trace.now desk.now }
-    requires none { desk.now.ready ≡ [] }
+    requires fits { Fits trace.now search.now }
+    requires none { search.now.ready ≡ [] }
     ensures { IfOk result (λ left. AreLeftovers trace.now left.items) }
 {
     let mut left = Vec::new(alloc);
     for number in 0..trace.nodes() {
         let node = NodeId::numbered(number);
-        let index = desk.seats[usize::from(number)].place;
+        let index = search.seats[usize::from(number)].place;
         if let Some(holdup) = next_holdup(alloc, trace, node, index)? {
             left.push(Leftover {
                 node,
@@ -58,12 +58,12 @@ fn next_holdup(
     if !is_for(&entry.deed, node) {
         return Ok(Some(Holdup::Misaddressed));
     }
-    let replica = replayed(alloc, trace, node, place)?;
-    Ok(Some(holdup_at(replica, &entry)?))
+    let node_model = replayed(alloc, trace, node, place)?;
+    Ok(Some(holdup_at(node_model, &entry)?))
 }
 
 /// Whether the message that was brought, if there is one, is for this node.
-fn is_for(deed: &Deed, node: NodeId) -> bool
+fn is_for(deed: &TraceAction, node: NodeId) -> bool
     ensures { IsTrue result ↔ AreAddressed node (brought_by deed.now) }
 {
     match deed.brought() {
@@ -73,12 +73,12 @@ fn is_for(deed: &Deed, node: NodeId) -> bool
 }
 
 /// What holds an entry up at a node that stands before it.
-fn holdup_at(replica: Replica, entry: &EntryView<'_>) -> Result<Holdup, AllocError>
-    requires { AreAddressed replica.id (brought_by entry.now.deed) }
-    ensures { IfOk result (HoldsUp replica.id replica.nodes replica.node (claim_seen entry.now)) }
+fn holdup_at(node_model: NodeModel, entry: &EntryView<'_>) -> Result<Holdup, AllocError>
+    requires { AreAddressed node_model.id (brought_by entry.now.deed) }
+    ensures { IfOk result (HoldsUp node_model.id node_model.nodes node_model.node (claim_seen entry.now)) }
 {
-    let phase = replica.vector().standing.phase;
-    let Some(made) = replica.sends(entry)? else {
+    let phase = node_model.vector().group_state.phase;
+    let Some(made) = node_model.sends(entry)? else {
         return Ok(Holdup::Refused(phase));
     };
     if same(&made, &entry.sent) {
@@ -89,20 +89,25 @@ fn holdup_at(replica: Replica, entry: &EntryView<'_>) -> Result<Holdup, AllocErr
 }
 
 /// The node, brought through so many entries of its history.
-fn replayed(alloc: Global, trace: &Trace, node: NodeId, many: usize) -> Result<Replica, AllocError>
+fn replayed(
+    alloc: Global,
+    trace: &Trace,
+    node: NodeId,
+    many: usize,
+) -> Result<NodeModel, AllocError>
     requires within { node < length trace.now }
     requires before { CanReplay trace.now node many }
     requires there { many < length (history trace.now node) }
-    ensures { IfOk result (λ replica. replica ≡ record { id = node; nodes = length trace.now; node = state_of trace.now node many }) }
+    ensures { IfOk result (λ node_model. node_model ≡ record { id = node; nodes = length trace.now; node = state_of trace.now node many }) }
 {
-    let mut replica = Replica::new(alloc, node, trace.nodes())?;
+    let mut node_model = NodeModel::new(alloc, node, trace.nodes())?;
     for place in 0..many {
         let Some(entry) = trace.entry(node, place) else {
             unreachable!()
         };
-        if !replica.take(&entry)? {
+        if !node_model.take(&entry)? {
             unreachable!()
         }
     }
-    Ok(replica)
+    Ok(node_model)
 }

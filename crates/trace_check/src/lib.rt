@@ -10,28 +10,28 @@
 #![tactic(auto)]
 
 mod checking;
-mod desk;
+mod durable_state;
 mod following;
 mod history;
 mod kept;
 mod laws;
 mod leaving;
-mod ledger;
 mod leftover;
+mod node_model;
 mod order;
-mod posted;
-mod replica;
+mod search;
+mod sent_messages;
 mod trace;
 
 pub use checking::{Examined, check, examine};
 pub use following::is_order;
 pub use history::{EntryView, History, Sent, keep_messages};
-pub use kept::{KeptEvent, event_said, keep_event, read_event};
+pub use kept::{PackedEvent, event_said, keep_event, read_event};
 pub use laws::{
     holdups_hold, none_complete, none_goes_further, orders_are_bundles, turns_go_on,
     verdicts_decide,
 };
 pub use leftover::{Holdup, Leftover};
+pub use node_model::NodeModel;
 pub use order::Order;
-pub use replica::Replica;
-pub use trace::{Deed, RecoverFault, Trace, Verdict};
+pub use trace::{RecoverFault, Trace, TraceAction, Verdict};

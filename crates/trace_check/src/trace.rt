@@ -9,20 +9,21 @@ use crate::history::{EntryView, History, KeptView, Sent};
 use group_task::NodeId;
 use node_core::Event;
 use std::marker::Model;
+use thiserror::Error;
 use wire_msg::Message;
 
 /// Why a recovery didn't bring its node up.
-#[derive(Clone, Copy, Debug, PartialEq, Eq)]
+#[derive(Clone, Copy, Debug, PartialEq, Eq, Error)]
 pub enum RecoverFault {
-    /// The disk couldn't be mounted.
+    #[error("the disk couldn't be mounted")]
     Mount,
-    /// The device failed in the raise.
+    #[error("the device failed in the raise")]
     Raise,
 }
 
 /// What an entry says was done.
 #[derive(Clone, Copy, Debug, PartialEq, Eq)]
-pub enum Deed {
+pub enum TraceAction {
     /// A refused event, or a poll that took nothing.
     Nothing,
     /// The event was handled. It is none of Recover.
@@ -37,14 +38,14 @@ pub enum Deed {
     NotRecovered(bool, RecoverFault),
 }
 
-impl Deed {
+impl TraceAction {
     /// The message that the node was brought.
     pub fn brought(&self) -> Option<&Message>
         ensures { MatchOption result (brought_by self.now ≡ []) (λ message. brought_by self.now ≡ message.now ∷ []) }
     {
         match self {
-            Deed::Done(Event::Deliver(message)) => Some(message),
-            Deed::Faulted(Event::Deliver(message)) => Some(message),
+            TraceAction::Done(Event::Deliver(message)) => Some(message),
+            TraceAction::Faulted(Event::Deliver(message)) => Some(message),
             _ => None,
         }
     }
@@ -99,6 +100,13 @@ impl Trace {
         ensures { result.now ≡ self.now }
     {
         &self.histories
+    }
+
+    /// The histories, one for each node, handed on.
+    pub fn into_histories(self) -> Vec<History>
+        ensures { result.items ≡ self }
+    {
+        self.histories
     }
 
     /// The entry of a node at this place of its history.

@@ -6,7 +6,7 @@ use Rattle.std.proofs.lemmas.List.{append-nil, take_more}
 use Rattle.std.proofs.lemmas.Option.{get_or_from_slice_get, slice_get_read, slice_get_within}
 use Rattle.group_task.specs.declared.node.TheConstants.{NODES}
 use Rattle.trace_check.specs.Claims.{Claim}
-use Rattle.trace_text.specs.declared.fault.Spot.{Spot}
+use Rattle.trace_text.specs.declared.fault.Location.{Location}
 use Rattle.trace_text.specs.Wholes.{trace_of}
 use Rattle.trace_text.proofs.PublicLaws.{drop_all, drop_get}
 use Rattle.trace_draw.specs.declared.files.TraceFile.{TraceFile}
@@ -17,13 +17,13 @@ pub behind_none : (found : Result (List (List Claim)) BadFile) → found ≡ beh
 behind_none (Ok hs) = refl
 behind_none (Err bad) =
     let counted : bad.before ≡ 0 + bad.before = omega arith in
-    ap (λ (n : ℕ). Err (record { name = bad.name; spot = bad.spot; before = n })) counted
+    ap (λ (n : ℕ). Err (record { name = bad.name; location = bad.location; before = n })) counted
 
 behind_more : (hs xs : List (List Claim)) (found : Result (List (List Claim)) BadFile) → behind hs (behind xs found) ≡ behind (hs ++ xs) found
 behind_more hs xs (Ok more) = ap (λ (all : List (List Claim)). Ok all) (sym (append_assoc hs xs more))
 behind_more hs xs (Err bad) =
     let counted : length hs + (length xs + bad.before) ≡ length (hs ++ xs) + bad.before = omega (arith, length-append hs xs) in
-    ap (λ (n : ℕ). Err (record { name = bad.name; spot = bad.spot; before = n })) counted
+    ap (λ (n : ℕ). Err (record { name = bad.name; location = bad.location; before = n })) counted
 
 -- the files from this one on
 from_here : (files : List TraceFile) (i : ℕ) (file : TraceFile) → i < length files → file ≡ get_or files i file → histories_of (drop i files) ≡ first_file file.name.now (trace_of file.text.items) (histories_of (drop (i + 1) files))
@@ -36,11 +36,11 @@ file_more hs xs files i file within at read is =
     is ∙ ap (behind hs) (from_here files i file within at ∙ ap (λ found. first_file file.name.now found (histories_of (drop (i + 1) files))) read) ∙ behind_more hs xs (histories_of (drop (i + 1) files))
 
 -- a file is no trace
-pub file_bad : (hs : List (List Claim)) (spot : Option Spot) (files : List TraceFile) (i : ℕ) (file : TraceFile) → i < length files → file ≡ get_or files i file → trace_of file.text.items ≡ Err spot → histories_of files ≡ behind hs (histories_of (drop i files))
-    → histories_of files ≡ Err (record { name = file.name.now; spot = spot; before = length hs })
-file_bad hs spot files i file within at read is =
+pub file_bad : (hs : List (List Claim)) (location : Option Location) (files : List TraceFile) (i : ℕ) (file : TraceFile) → i < length files → file ≡ get_or files i file → trace_of file.text.items ≡ Err location → histories_of files ≡ behind hs (histories_of (drop i files))
+    → histories_of files ≡ Err (record { name = file.name.now; location = location; before = length hs })
+file_bad hs location files i file within at read is =
     let counted : length hs + 0 ≡ length hs = omega arith in
-    is ∙ ap (behind hs) (from_here files i file within at ∙ ap (λ found. first_file file.name.now found (histories_of (drop (i + 1) files))) read) ∙ ap (λ (n : ℕ). Err (record { name = file.name.now; spot = spot; before = n })) counted
+    is ∙ ap (behind hs) (from_here files i file within at ∙ ap (λ found. first_file file.name.now found (histories_of (drop (i + 1) files))) read) ∙ ap (λ (n : ℕ). Err (record { name = file.name.now; location = location; before = n })) counted
 
 -- all files were read
 pub files_all : (hs : List (List Claim)) (files : List TraceFile) (i : ℕ) → length files ≤ i → histories_of files ≡ behind hs (histories_of (drop i files)) → histories_of files ≡ Ok hs
@@ -49,8 +49,3 @@ files_all hs files i past is = is ∙ ap (λ left. behind hs (histories_of left)
 -- what is said of histories that aren't too many
 pub report_if : (hs : List (List Claim)) (why : List ℕ) → length hs ≤ NODES → IsReport hs why → IsReportIf (nat_le (length hs) NODES) hs why
 report_if hs why few is = subst (λ (b : Bool). IsReportIf b hs why) (sym (le-leb (length hs) NODES few)) is
-
--- one item more is taken
-pub item_more : {A : Type 0} (xs out new : List A) (i : ℕ) (x : A) → slice_get xs i ≡ Some x → out ≡ take i xs → new ≡ out ++ x ∷ [] → new ≡ take (i + 1) xs
-item_more xs out new i x at is added =
-    added ∙ ap (λ front. front ++ x ∷ []) is ∙ sym (take_more xs i x (slice_get_within xs i x at) ∙ ap (λ y. take i xs ++ y ∷ []) (get_or_from_slice_get xs i x x at))

@@ -1,5 +1,5 @@
 mod Lists
-mod Seats
+mod NodeViews
 mod Mails
 mod Steps
 mod Sources

@@ -7,10 +7,10 @@ use Rattle.wire_msg.specs.Envelope.{Envelope}
 use Rattle.node_core.specs.declared.event.Event.{Event}
 use Rattle.node_core.specs.declared.event.Event.TheVariants as on
 use Rattle.histories.specs.Lists.{Each}
-use Rattle.histories.specs.What.{brought}
+use Rattle.histories.specs.HistoryEvent.{brought}
 use Rattle.trace_check.specs.declared.order.Order.{Order}
-use Rattle.trace_check.specs.declared.trace.Deed.{Deed}
-use Rattle.trace_check.specs.declared.trace.Deed.TheVariants as deed
+use Rattle.trace_check.specs.declared.trace.TraceAction.{TraceAction}
+use Rattle.trace_check.specs.declared.trace.TraceAction.TheVariants as deed
 use Rattle.trace_check.specs.Claims.{Claim, brought_by}
 use Rattle.trace_check.specs.Followed.{before}
 use Rattle.trace_check.specs.Orders.{history, taken, IsLegal, IsSent, MayTake}
@@ -67,7 +67,7 @@ event_brings_one (on.Finish origin id) = omega arith
 event_brings_one on.Recover = omega arith
 
 -- a deed is brought one message at most
-pub one_brought : (d : Deed) → length (brought_by d) ≤ 1
+pub one_brought : (d : TraceAction) → length (brought_by d) ≤ 1
 one_brought deed.Nothing = omega arith
 one_brought (deed.Done event) = event_brings_one event
 one_brought (deed.Faulted event) = event_brings_one event

@@ -9,7 +9,7 @@ use Rattle.trace_check.specs.Claims.{Claim}
 use Rattle.trace_check.specs.Leftovers.{AreLeftovers}
 use Rattle.trace_check.specs.Orders.{IsLegal, IsComplete}
 use Rattle.trace_check.specs.Verdicts.{IsVerdict, DecidesRun, AreTaken}
-use Rattle.trace_text.specs.declared.fault.Spot.{Spot}
+use Rattle.trace_text.specs.declared.fault.Location.{Location}
 use Rattle.trace_text.specs.Ordered.{Ordered, order_of, ordered_by}
 use Rattle.trace_text.specs.Wholes.{trace_of}
 use Rattle.trace_draw.specs.Judged.{bad_trace}
@@ -64,9 +64,9 @@ abbrev pub IsDrawing : Form → List (List Claim) → Option Ordered → Outcome
 IsDrawing form hs None outcome = DrawsTaken form hs outcome
 IsDrawing form hs (Some given) outcome = (IsRunIn hs given.0 × DrawsRecorded form hs given outcome) ⊎ ((IsRunIn hs given.0 → ⊥) × DrawsTaken form hs outcome)
 
-abbrev pub IsDrawnBy : Form → Option Ordered → Result (List (List Claim)) (Option Spot) → Outcome → Type 0
+abbrev pub IsDrawnBy : Form → Option Ordered → Result (List (List Claim)) (Option Location) → Outcome → Type 0
 IsDrawnBy form given (Ok hs) outcome = IsDrawing form hs given outcome
-IsDrawnBy form given (Err spot) outcome = outcome ≡ refused (bad_trace spot)
+IsDrawnBy form given (Err location) outcome = outcome ≡ refused (bad_trace location)
 
 abbrev pub IsDrawn : Form → List ℕ → Outcome → Type 0
 IsDrawn form text outcome = IsDrawnBy form (order_of text) (trace_of text) outcome

@@ -5,7 +5,7 @@ use Rattle.trace_check.specs.declared.trace.Verdict.{Verdict}
 use Rattle.trace_check.specs.declared.trace.Verdict.TheVariants.{Run, NotARun}
 use Rattle.trace_check.specs.Claims.{Claim}
 use Rattle.trace_check.specs.Verdicts.{IsVerdict, DecidesRun}
-use Rattle.trace_text.specs.declared.fault.Spot.{Spot}
+use Rattle.trace_text.specs.declared.fault.Location.{Location}
 use Rattle.trace_text.specs.Wholes.{trace_of}
 
 -- each number behind a space
@@ -17,9 +17,9 @@ abbrev pub verdict_printed : Verdict → Outcome
 verdict_printed (Run order) = record { text = line (codes "Run" ++ words order.items); good = true }
 verdict_printed (NotARun node index) = refused (codes "NotARun" ++ words (node ∷ index ∷ []))
 
-abbrev pub bad_trace : Option Spot → List ℕ
+abbrev pub bad_trace : Option Location → List ℕ
 bad_trace None = codes "bad trace"
-bad_trace (Some spot) = codes "bad trace" ++ words (spot.node ∷ spot.index ∷ [])
+bad_trace (Some location) = codes "bad trace" ++ words (location.node ∷ location.index ∷ [])
 
 -- a verdict on these histories, which decides whether some order of them is a run
 pub record IsJudgement (histories : List (List Claim)) (outcome : Outcome) : Type 0 where
@@ -28,9 +28,9 @@ pub record IsJudgement (histories : List (List Claim)) (outcome : Outcome) : Typ
   pub decides : DecidesRun histories verdict
   pub printed : outcome ≡ verdict_printed verdict
 
-abbrev pub IsJudgedBy : Result (List (List Claim)) (Option Spot) → Outcome → Type 0
+abbrev pub IsJudgedBy : Result (List (List Claim)) (Option Location) → Outcome → Type 0
 IsJudgedBy (Ok histories) outcome = IsJudgement histories outcome
-IsJudgedBy (Err spot) outcome = outcome ≡ refused (bad_trace spot)
+IsJudgedBy (Err location) outcome = outcome ≡ refused (bad_trace location)
 
 -- the verdict on the trace that the text is, or where the text is none
 abbrev pub IsJudged : List ℕ → Outcome → Type 0

@@ -8,7 +8,7 @@ use Rattle.trace_check.specs.declared.trace.Verdict.TheVariants.{Run, NotARun}
 use Rattle.trace_check.specs.Claims.{Claim}
 use Rattle.trace_check.specs.Leftovers.{AreLeftovers}
 use Rattle.trace_check.specs.Verdicts.{AreTaken, DecidesRun, IsVerdict}
-use Rattle.trace_text.specs.declared.fault.Spot.{Spot}
+use Rattle.trace_text.specs.declared.fault.Location.{Location}
 use Rattle.trace_text.specs.Wholes.{trace_of}
 use Rattle.trace_draw.specs.declared.judging.Stage.{Stage}
 use Rattle.trace_draw.specs.declared.judging.Stage.TheVariants.{Over, Ongoing}
@@ -45,12 +45,12 @@ pub record IsFollowing (histories : List (List Claim)) (outcome : Outcome) : Typ
   pub are_left : AreLeftovers histories left
   pub printed : outcome ≡ ongoing_printed verdict taken left
 
-abbrev pub IsFollowedBy : Result (List (List Claim)) (Option Spot) → Outcome → Type 0
+abbrev pub IsFollowedBy : Result (List (List Claim)) (Option Location) → Outcome → Type 0
 IsFollowedBy (Ok histories) outcome = IsFollowing histories outcome
-IsFollowedBy (Err spot) outcome = outcome ≡ refused (bad_trace spot)
+IsFollowedBy (Err location) outcome = outcome ≡ refused (bad_trace location)
 
 -- what is printed of a trace, or where there is none
-abbrev pub IsFoundAt : Stage → Result (List (List Claim)) (Option Spot) → Outcome → Type 0
+abbrev pub IsFoundAt : Stage → Result (List (List Claim)) (Option Location) → Outcome → Type 0
 IsFoundAt Over found outcome = IsJudgedBy found outcome
 IsFoundAt Ongoing found outcome = IsFollowedBy found outcome
 

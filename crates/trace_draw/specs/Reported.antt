@@ -2,19 +2,19 @@
 use Rattle.std.specs.Prelude.{ℕ, Bool, true, false, if◌then◌else◌, ◌≡◌, List, [], ◌∷◌, ◌++◌, map, codes, decimal, Option, Some, None, IfSome, Result, Ok, Err, slice_get}
 use Rattle.std.specs.List.{flat_map}
 use Rattle.hex.specs.Hex.{encode_lower}
-use Rattle.console_text.specs.declared.ends.Ending.{Ending}
-use Rattle.console_text.specs.declared.ends.Ending.TheVariants.{Done, Refused, NoMemory, Unread, Unwritten}
+use Rattle.console_text.specs.declared.ends.ExitKind.{ExitKind}
+use Rattle.console_text.specs.declared.ends.ExitKind.TheVariants.{Done, Refused, NoMemory, Unread, Unwritten}
 use Rattle.wire_msg.specs.Envelope.{Envelope}
 use Rattle.wire_msg.specs.Spelling.{spelling}
 use Rattle.node_words.specs.Words.{phase_text}
-use Rattle.trace_check.specs.declared.trace.Deed.{Deed}
+use Rattle.trace_check.specs.declared.trace.TraceAction.{TraceAction}
 use Rattle.trace_check.specs.declared.leftover.Holdup.{Holdup}
 use Rattle.trace_check.specs.declared.leftover.Holdup.TheVariants as holdup
 use Rattle.trace_check.specs.declared.leftover.Leftover.{Leftover}
 use Rattle.trace_check.specs.Claims.{Claim, brought_by}
 use Rattle.trace_check.specs.Leftovers.{AreLeftovers}
 use Rattle.trace_check.specs.Orders.{history}
-use Rattle.trace_text.specs.declared.fault.Spot.{Spot}
+use Rattle.trace_text.specs.declared.fault.Location.{Location}
 use Rattle.trace_text.specs.Wholes.{trace_of}
 use Rattle.trace_text.specs.Written.{deed_name}
 use Rattle.trace_draw.specs.Judged.{words}
@@ -31,7 +31,7 @@ abbrev pub sent_text : List Envelope → List ℕ
 sent_text [] = codes " nothing"
 sent_text (m ∷ ms) = messages_text (m ∷ ms)
 
-abbrev pub cannot_text : Deed → List ℕ
+abbrev pub cannot_text : TraceAction → List ℕ
 cannot_text deed = codes " (" ++ deed_name deed ++ codes ") can't be: "
 
 -- what holds an entry up
@@ -79,9 +79,9 @@ abbrev pub IsReport : List (List Claim) → List ℕ → Type 0
 IsReport hs why = (left : List Leftover) × AreLeftovers hs left × (why ≡ report hs left)
 
 -- what is wrong with a text that is no trace is printed, and not said again
-abbrev pub IsReportBy : Result (List (List Claim)) (Option Spot) → List ℕ → Type 0
+abbrev pub IsReportBy : Result (List (List Claim)) (Option Location) → List ℕ → Type 0
 IsReportBy (Ok hs) why = IsReport hs why
-IsReportBy (Err spot) why = why ≡ []
+IsReportBy (Err location) why = why ≡ []
 
 abbrev pub IsReported : List ℕ → List ℕ → Type 0
 IsReported text why = IsReportBy (trace_of text) why
@@ -91,7 +91,7 @@ abbrev pub IsReportOf : Option (List ℕ) → List ℕ → Type 0
 IsReportOf input why = (bytes : List ℕ) × IfSome input (λ known. known ≡ bytes) × IsReported bytes why
 
 -- so where the verdict was printed
-abbrev pub IsTold : Option (List ℕ) → Ending → List ℕ → Type 0
+abbrev pub IsTold : Option (List ℕ) → ExitKind → List ℕ → Type 0
 IsTold input Done why = IsReportOf input why
 IsTold input Refused why = IsReportOf input why
 IsTold input NoMemory why = Unit {0}

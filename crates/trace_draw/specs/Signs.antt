@@ -6,8 +6,8 @@ use Rattle.node_core.specs.declared.event.Event.{Event}
 use Rattle.node_core.specs.declared.event.Event.TheVariants as on
 use Rattle.node_core.specs.TimerWords.{word_of}
 use Rattle.trace_check.specs.Claims.{Claim, brought_by}
-use Rattle.trace_check.specs.declared.trace.Deed.{Deed}
-use Rattle.trace_check.specs.declared.trace.Deed.TheVariants as deed
+use Rattle.trace_check.specs.declared.trace.TraceAction.{TraceAction}
+use Rattle.trace_check.specs.declared.trace.TraceAction.TheVariants as deed
 use Rattle.trace_check.specs.declared.leftover.Leftover.{Leftover}
 use Rattle.trace_text.specs.Written.{deed_name}
 use Rattle.trace_draw.specs.Reported.{leftover_text}
@@ -20,7 +20,7 @@ use Rattle.trace_draw.specs.Places.{across, below, down, place}
 
 -- ---- an entry
 
-abbrev pub look : Deed → List ℕ
+abbrev pub look : TraceAction → List ℕ
 look deed.Nothing = codes "rest"
 look (deed.Done event) = codes "done"
 look (deed.Faulted event) = codes "fail"
@@ -29,11 +29,11 @@ look (deed.Recovered kept) = codes "rise"
 look (deed.NotRecovered kept fault) = codes "fail"
 
 -- a cross over the dot of a crash
-abbrev pub cross : Deed → List ℕ
+abbrev pub cross : TraceAction → List ℕ
 cross deed.Crashed = codes "<path class=\"crash\" d=\"M-8 -8L8 8M-8 8L8 -8\"/>"
 cross d = []
 
-unfoldable pub sign : Deed → List ℕ
+unfoldable pub sign : TraceAction → List ℕ
 sign d = codes "<circle r=\"4\" class=\"" ++ look d ++ codes "\"/>" ++ cross d
 
 unfoldable pub entry_place : Turn → List ℕ
@@ -49,7 +49,7 @@ event_word (on.Submit work) = codes "submit"
 event_word (on.Finish origin id) = codes "finish"
 event_word on.Recover = codes "recover"
 
-abbrev pub word : Deed → List ℕ
+abbrev pub word : TraceAction → List ℕ
 word deed.Nothing = []
 word (deed.Done event) = event_word event
 word (deed.Faulted event) = event_word event

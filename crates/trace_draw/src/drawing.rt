@@ -11,7 +11,7 @@ use crate::reporting::report;
 use crate::svg::picture;
 use crate::turn::Plot;
 use crate::turns::plot;
-use console_text::{Ended, Explained, Printout, Source, Trouble, print_explained, read_source};
+use console_text::{CommandError, Ended, IoTrouble, Output, Source, print_explained, read_source};
 use std::alloc::{AllocError, Global};
 use std::io::{Read, Write};
 use trace_check::{Examined, Leftover, Order, Trace, Verdict, examine, is_order};
@@ -52,14 +52,14 @@ pub fn draw<R: Read, W: Write>(
     ensures reads { input.old.left ≤ input.new.left + 16777216 }
 {
     let outcome = match read_source(alloc, input) {
-        Ok(bytes) => draw_text(alloc, form, &bytes).map_err(Trouble::from),
+        Ok(bytes) => draw_text(alloc, form, &bytes).map_err(IoTrouble::from),
         Err(trouble) => Err(trouble),
     };
     print_explained(alloc, output, outcome)
 }
 
 /// What `draw` prints for an input, and what it says of it.
-fn draw_text(alloc: Global, form: Form, text: &[u8]) -> Result<Explained, AllocError>
+fn draw_text(alloc: Global, form: Form, text: &[u8]) -> Result<CommandError, AllocError>
     ensures printed { IfOk result (λ explained. IsDrawn form text.now (outcome_of explained.printout)) }
     ensures why { IfOk result (λ explained. IsReported text.now explained.why.items) }
 {
@@ -68,8 +68,8 @@ fn draw_text(alloc: Global, form: Form, text: &[u8]) -> Result<Explained, AllocE
             let order = read_order(alloc, text)?;
             draw_trace(alloc, form, &trace, &order)
         }
-        Err(TraceFault::BadTrace(spot)) => {
-            let printout = bad_printout(alloc, spot)?;
+        Err(TraceFault::BadTrace(location)) => {
+            let printout = bad_printout(alloc, location)?;
             Ok(printout.without_why(alloc))
         }
         Err(TraceFault::NoMemory) => Err(AllocError),
@@ -82,7 +82,7 @@ fn draw_trace(
     form: Form,
     trace: &Trace,
     order: &Option<Order>,
-) -> Result<Explained, AllocError>
+) -> Result<CommandError, AllocError>
     ensures printed { IfOk result (λ explained. IsDrawing form trace.now (option_map ordered_by order.now) (outcome_of explained.printout)) }
     ensures why { IfOk result (λ explained. IsReport trace.now explained.why.items) }
 {
@@ -102,19 +102,19 @@ fn draw_recorded(
     form: Form,
     trace: &Trace,
     order: &Order,
-) -> Result<Explained, AllocError>
+) -> Result<CommandError, AllocError>
     requires { IsRunIn trace.now order.now.nodes.items }
     ensures printed { IfOk result (λ explained. DrawsRecorded form trace.now (ordered_by order.now) (outcome_of explained.printout)) }
     ensures why { IfOk result (λ explained. IsReport trace.now explained.why.items) }
 {
     let plot = plot(alloc, trace, order, true)?;
     let text = drawn_as(alloc, form, trace, &plot, &[])?;
-    let printout = Printout { text, good: true };
+    let printout = Output { text, good: true };
     Ok(printout.without_why(alloc))
 }
 
 /// What can be taken, and what is left.
-fn draw_taken(alloc: Global, form: Form, trace: &Trace) -> Result<Explained, AllocError>
+fn draw_taken(alloc: Global, form: Form, trace: &Trace) -> Result<CommandError, AllocError>
     ensures printed { IfOk result (λ explained. DrawsTaken form trace.now (outcome_of explained.printout)) }
     ensures why { IfOk result (λ explained. IsReport trace.now explained.why.items) }
 {
@@ -131,8 +131,8 @@ fn draw_taken(alloc: Global, form: Form, trace: &Trace) -> Result<Explained, All
     let text = drawn_as(alloc, form, trace, &plot, &left)?;
     let why = report(alloc, trace, &left)?;
     let good = is_run(&verdict);
-    Ok(Explained {
-        printout: Printout { text, good },
+    Ok(CommandError {
+        printout: Output { text, good },
         why,
     })
 }

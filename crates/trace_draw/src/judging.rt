@@ -7,14 +7,14 @@ ghost use Rattle.trace_draw.specs.Reported.{IsReport, IsReported, IsTold};
 use crate::ongoing::ongoing_printout;
 use crate::reporting::report;
 use console_text::{
-    Ended, Explained, Printout, Source, Trouble, print_explained, push_number, push_text,
+    CommandError, Ended, IoTrouble, Output, Source, print_explained, push_number, push_text,
     read_source,
 };
 use group_task::NodeId;
 use std::alloc::{AllocError, Global};
 use std::io::{Read, Write};
 use trace_check::{Examined, Trace, Verdict, examine};
-use trace_text::{Spot, TraceFault, read};
+use trace_text::{Location, TraceFault, read};
 
 /// Whether a run is over, or may go on: then each node's history is the front of what it will have done.
 #[derive(Clone, Copy, Debug, PartialEq, Eq)]
@@ -45,21 +45,21 @@ pub fn trace<R: Read, W: Write>(
     ensures reads { input.old.left ≤ input.new.left + 16777216 }
 {
     let outcome = match read_source(alloc, input) {
-        Ok(bytes) => judge_text(alloc, stage, &bytes).map_err(Trouble::from),
+        Ok(bytes) => judge_text(alloc, stage, &bytes).map_err(IoTrouble::from),
         Err(trouble) => Err(trouble),
     };
     print_explained(alloc, output, outcome)
 }
 
 /// What `trace` prints for an input, and what it says of it.
-fn judge_text(alloc: Global, stage: Stage, text: &[u8]) -> Result<Explained, AllocError>
+fn judge_text(alloc: Global, stage: Stage, text: &[u8]) -> Result<CommandError, AllocError>
     ensures printed { IfOk result (λ explained. IsJudgedAt stage text.now (outcome_of explained.printout)) }
     ensures why { IfOk result (λ explained. IsReported text.now explained.why.items) }
 {
     match read(alloc, text) {
         Ok(trace) => judge(alloc, stage, &trace),
-        Err(TraceFault::BadTrace(spot)) => {
-            let printout = bad_printout(alloc, spot)?;
+        Err(TraceFault::BadTrace(location)) => {
+            let printout = bad_printout(alloc, location)?;
             Ok(printout.without_why(alloc))
         }
         Err(TraceFault::NoMemory) => Err(AllocError),
@@ -67,18 +67,18 @@ fn judge_text(alloc: Global, stage: Stage, text: &[u8]) -> Result<Explained, All
 }
 
 /// The verdict on a trace, and what is said of it.
-pub(crate) fn judge(alloc: Global, stage: Stage, trace: &Trace) -> Result<Explained, AllocError>
+pub(crate) fn judge(alloc: Global, stage: Stage, trace: &Trace) -> Result<CommandError, AllocError>
     ensures printed { IfOk result (λ explained. IsJudgementAt stage trace.now (outcome_of explained.printout)) }
     ensures why { IfOk result (λ explained. IsReport trace.now explained.why.items) }
 {
     let examined = examine(alloc, trace)?;
     let why = report(alloc, trace, &examined.left)?;
     let printout = printout_at(alloc, stage, &examined)?;
-    Ok(Explained { printout, why })
+    Ok(CommandError { printout, why })
 }
 
 /// What is printed of what was found.
-fn printout_at(alloc: Global, stage: Stage, examined: &Examined) -> Result<Printout, AllocError>
+fn printout_at(alloc: Global, stage: Stage, examined: &Examined) -> Result<Output, AllocError>
     ensures { IfOk result (λ printout. outcome_of printout ≡ printed_at stage examined.now) }
 {
     match stage {
@@ -88,7 +88,7 @@ fn printout_at(alloc: Global, stage: Stage, examined: &Examined) -> Result<Print
 }
 
 /// What is printed for a verdict.
-pub(crate) fn verdict_printout(alloc: Global, verdict: &Verdict) -> Result<Printout, AllocError>
+pub(crate) fn verdict_printout(alloc: Global, verdict: &Verdict) -> Result<Output, AllocError>
     ensures { IfOk result (λ printout. outcome_of printout ≡ verdict_printed verdict.now) }
 {
     let mut text = Vec::new(alloc);
@@ -97,28 +97,28 @@ pub(crate) fn verdict_printout(alloc: Global, verdict: &Verdict) -> Result<Print
             push_text(&mut text, "Run")?;
             push_nodes(&mut text, order)?;
             push_text(&mut text, "\n")?;
-            Ok(Printout { text, good: true })
+            Ok(Output { text, good: true })
         }
         Verdict::NotARun(node, index) => {
             push_text(&mut text, "NotARun")?;
             push_place(&mut text, u64::from(node.number()), *index as u64)?;
             push_text(&mut text, "\n")?;
-            Ok(Printout { text, good: false })
+            Ok(Output { text, good: false })
         }
     }
 }
 
 /// What is printed for a text that is no trace.
-pub(crate) fn bad_printout(alloc: Global, spot: Option<Spot>) -> Result<Printout, AllocError>
-    ensures { IfOk result (λ printout. outcome_of printout ≡ refused (bad_trace spot)) }
+pub(crate) fn bad_printout(alloc: Global, location: Option<Location>) -> Result<Output, AllocError>
+    ensures { IfOk result (λ printout. outcome_of printout ≡ refused (bad_trace location)) }
 {
     let mut text = Vec::new(alloc);
     push_text(&mut text, "bad trace")?;
-    if let Some(spot) = spot {
-        push_place(&mut text, spot.node as u64, spot.index as u64)?;
+    if let Some(location) = location {
+        push_place(&mut text, location.node as u64, location.index as u64)?;
     }
     push_text(&mut text, "\n")?;
-    Ok(Printout { text, good: false })
+    Ok(Output { text, good: false })
 }
 
 /// Adds the nodes, each behind a space.

@@ -5,13 +5,13 @@ ghost use Rattle.trace_draw.specs.Ongoing.{first_stopped, left_printed, ongoing_
 
 use crate::judging::{push_nodes, verdict_printout};
 use crate::reporting::waits;
-use console_text::{Printout, push_text};
+use console_text::{Output, push_text};
 use group_task::NodeId;
 use std::alloc::{AllocError, Global};
 use trace_check::{Examined, Leftover, Verdict};
 
 /// What is printed of a run that may go on.
-pub(crate) fn ongoing_printout(alloc: Global, examined: &Examined) -> Result<Printout, AllocError>
+pub(crate) fn ongoing_printout(alloc: Global, examined: &Examined) -> Result<Output, AllocError>
     ensures { IfOk result (λ printout. outcome_of printout ≡ ongoing_printed examined.now.verdict examined.now.taken.items examined.now.left.items) }
 {
     match &examined.verdict {
@@ -21,7 +21,7 @@ pub(crate) fn ongoing_printout(alloc: Global, examined: &Examined) -> Result<Pri
 }
 
 /// What is printed where entries are left: those that were taken, where all others wait, or the first that can't be.
-fn left_printout(alloc: Global, taken: &[NodeId], left: &[Leftover]) -> Result<Printout, AllocError>
+fn left_printout(alloc: Global, taken: &[NodeId], left: &[Leftover]) -> Result<Output, AllocError>
     ensures { IfOk result (λ printout. outcome_of printout ≡ left_printed taken.now (first_stopped left.now)) }
 {
     match first_stopped(left) {
@@ -42,12 +42,12 @@ fn first_stopped(left: &[Leftover]) -> Option<&Leftover>
     None
 }
 
-fn taken_printout(alloc: Global, taken: &[NodeId]) -> Result<Printout, AllocError>
+fn taken_printout(alloc: Global, taken: &[NodeId]) -> Result<Output, AllocError>
     ensures { IfOk result (λ printout. outcome_of printout ≡ left_printed taken.now None) }
 {
     let mut text = Vec::new(alloc);
     push_text(&mut text, "Ongoing")?;
     push_nodes(&mut text, taken)?;
     push_text(&mut text, "\n")?;
-    Ok(Printout { text, good: true })
+    Ok(Output { text, good: true })
 }

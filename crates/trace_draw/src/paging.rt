@@ -15,7 +15,7 @@ use crate::turn::{Plot, Source, Stand, Stay, Turn};
 use console_text::{push_number, push_text};
 use node_words::{phase_word, push_group, push_ids};
 use std::alloc::{AllocError, Global};
-use trace_check::{Deed, Leftover, Trace};
+use trace_check::{Leftover, Trace, TraceAction};
 use trace_text::deed_name;
 
 /// The page of a run, which needs nothing else to be looked at: it moves, zooms, and tells of each entry.
@@ -175,7 +175,7 @@ fn push_end(alloc: Global, text: &mut Vec<u8>, turn: &Turn) -> Result<(), AllocE
 }
 
 /// Adds the message that a node was brought, in words and in hex digits.
-fn push_brought(alloc: Global, text: &mut Vec<u8>, deed: &Deed) -> Result<(), AllocError>
+fn push_brought(alloc: Global, text: &mut Vec<u8>, deed: &TraceAction) -> Result<(), AllocError>
     ensures { OnOk result (text.new.items ≡ text.old.items ++ message_data (brought_by deed.now)) }
 {
     let Some(message) = deed.brought() else {

@@ -12,7 +12,7 @@ use console_text::{push_hex, push_number, push_text};
 use group_task::NodeId;
 use node_words::phase_word;
 use std::alloc::{AllocError, Global};
-use trace_check::{Deed, EntryView, Holdup, Leftover, Trace};
+use trace_check::{EntryView, Holdup, Leftover, Trace, TraceAction};
 use trace_text::deed_name;
 use wire_msg::{Message, encode};
 
@@ -156,7 +156,7 @@ fn push_holdup(
     }
 }
 
-fn push_cannot(text: &mut Vec<u8>, deed: &Deed) -> Result<(), AllocError>
+fn push_cannot(text: &mut Vec<u8>, deed: &TraceAction) -> Result<(), AllocError>
     ensures { OnOk result (text.new.items ≡ text.old.items ++ cannot_text deed.now) }
 {
     push_text(text, " (")?;
@@ -165,7 +165,7 @@ fn push_cannot(text: &mut Vec<u8>, deed: &Deed) -> Result<(), AllocError>
 }
 
 /// Adds the message that an entry was brought.
-fn push_brought(alloc: Global, text: &mut Vec<u8>, deed: &Deed) -> Result<(), AllocError>
+fn push_brought(alloc: Global, text: &mut Vec<u8>, deed: &TraceAction) -> Result<(), AllocError>
     ensures { OnOk result (text.new.items ≡ text.old.items ++ messages_text (brought_by deed.now)) }
 {
     match deed.brought() {
@@ -175,7 +175,7 @@ fn push_brought(alloc: Global, text: &mut Vec<u8>, deed: &Deed) -> Result<(), Al
 }
 
 /// Adds the node that it is for.
-fn push_receiver(text: &mut Vec<u8>, deed: &Deed) -> Result<(), AllocError>
+fn push_receiver(text: &mut Vec<u8>, deed: &TraceAction) -> Result<(), AllocError>
     ensures { OnOk result (text.new.items ≡ text.old.items ++ words (map (λ (m : Envelope). m.receiver) (brought_by deed.now))) }
 {
     match deed.brought() {

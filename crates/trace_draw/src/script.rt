@@ -55,7 +55,7 @@ pub const SCRIPT: &str = r##"</script>
 const data = JSON.parse(document.getElementById("data").textContent);
 const [NODE, INDEX, LOOK, NAME, FROM, SURE, SAYS, BYTES, UNTAKEN] = [0, 1, 2, 3, 4, 5, 6, 7, 8];
 const turns = data.turns.slice(0, -1), nodes = data.nodes, left = [...document.querySelectorAll("header li")];
-const [canvas, told, sight, word] = ["picture", "told", "sight", "word"].map(id => document.getElementById(id));
+const [canvas, told, snapshot, word] = ["picture", "told", "sight", "word"].map(id => document.getElementById(id));
 const pen = canvas.getContext("2d");
 const MARGIN = 78, RULER = 18, FAR = 400, MOST = 6000;
 const INK = { done: "#222", rest: "#aaa", fail: "#c00", rise: "#080" };
@@ -219,7 +219,7 @@ function draw() {
     const each = arrows(from, until);
     marks(from, until);
     margins(from, until);
-    sight.textContent = `turns ${from} to ${until - 1} of ${turns.length}` + (each > 1 ? `; one arrow of ${each} is drawn` : "");
+    snapshot.textContent = `turns ${from} to ${until - 1} of ${turns.length}` + (each > 1 ? `; one arrow of ${each} is drawn` : "");
 }
 function show() {
     step = Math.max(Math.min(26, wide() / (turns.length + 2)), Math.min(60, step));

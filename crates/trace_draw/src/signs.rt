@@ -15,7 +15,7 @@ use group_task::{Members, NodeId};
 use node_core::Event;
 use node_words::push_ids;
 use std::alloc::{AllocError, Global};
-use trace_check::{Deed, Leftover, Trace};
+use trace_check::{Leftover, Trace, TraceAction};
 use trace_text::deed_name;
 use wire_msg::Message;
 
@@ -67,7 +67,7 @@ fn push_entry(text: &mut Vec<u8>, turn: &Turn) -> Result<(), AllocError>
 }
 
 #[tactic(auto, unfolding(crate::specs::Signs::sign))]
-fn push_sign(text: &mut Vec<u8>, deed: &Deed) -> Result<(), AllocError>
+fn push_sign(text: &mut Vec<u8>, deed: &TraceAction) -> Result<(), AllocError>
     ensures { OnOk result (text.new.items ≡ text.old.items ++ sign deed.now) }
 {
     push_text(text, "<circle r=\"4\" class=\"")?;
@@ -77,30 +77,32 @@ fn push_sign(text: &mut Vec<u8>, deed: &Deed) -> Result<(), AllocError>
 }
 
 /// Adds the class of an entry's mark.
-fn push_look(text: &mut Vec<u8>, deed: &Deed) -> Result<(), AllocError>
+fn push_look(text: &mut Vec<u8>, deed: &TraceAction) -> Result<(), AllocError>
     ensures { OnOk result (text.new.items ≡ text.old.items ++ look deed.now) }
 {
     push_text(text, look(deed))
 }
 
 /// The class of an entry's mark.
-pub(crate) fn look(deed: &Deed) -> &'static str
+pub(crate) fn look(deed: &TraceAction) -> &'static str
     ensures { result.now ≡ look deed.now }
 {
     match deed {
-        Deed::Nothing => "rest",
-        Deed::Done(_) => "done",
-        Deed::Faulted(_) | Deed::Crashed | Deed::NotRecovered(_, _) => "fail",
-        Deed::Recovered(_) => "rise",
+        TraceAction::Nothing => "rest",
+        TraceAction::Done(_) => "done",
+        TraceAction::Faulted(_) | TraceAction::Crashed | TraceAction::NotRecovered(_, _) => "fail",
+        TraceAction::Recovered(_) => "rise",
     }
 }
 
 /// Adds the cross over the mark of a crash.
-fn push_cross(text: &mut Vec<u8>, deed: &Deed) -> Result<(), AllocError>
+fn push_cross(text: &mut Vec<u8>, deed: &TraceAction) -> Result<(), AllocError>
     ensures { OnOk result (text.new.items ≡ text.old.items ++ cross deed.now) }
 {
     match deed {
-        Deed::Crashed => { push_text(text, "<path class=\"crash\" d=\"M-8 -8L8 8M-8 8L8 -8\"/>") }
+        TraceAction::Crashed => {
+            push_text(text, "<path class=\"crash\" d=\"M-8 -8L8 8M-8 8L8 -8\"/>")
+        }
         _ => Ok(()),
     }
 }
@@ -147,14 +149,14 @@ fn push_label(text: &mut Vec<u8>, word: &str) -> Result<(), AllocError>
 }
 
 /// What stands at an entry's mark. Of a message its kind does.
-fn word(deed: &Deed) -> &'static str
+fn word(deed: &TraceAction) -> &'static str
     ensures { result.now ≡ word deed.now }
 {
     match deed {
-        Deed::Nothing => "",
-        Deed::Done(event) | Deed::Faulted(event) => event_word(event),
-        Deed::Crashed => "crash",
-        Deed::Recovered(_) | Deed::NotRecovered(_, _) => "recover",
+        TraceAction::Nothing => "",
+        TraceAction::Done(event) | TraceAction::Faulted(event) => event_word(event),
+        TraceAction::Crashed => "crash",
+        TraceAction::Recovered(_) | TraceAction::NotRecovered(_, _) => "recover",
     }
 }
 
@@ -171,7 +173,7 @@ fn event_word(event: &Event) -> &'static str
 }
 
 /// Adds the kind of the message that came, if one did.
-fn push_kinds(text: &mut Vec<u8>, deed: &Deed) -> Result<(), AllocError>
+fn push_kinds(text: &mut Vec<u8>, deed: &TraceAction) -> Result<(), AllocError>
     ensures { OnOk result (text.new.items ≡ text.old.items ++ kind_labels (brought_by deed.now)) }
 {
     match deed.brought() {
@@ -231,7 +233,7 @@ fn push_arrow_from(
     text: &mut Vec<u8>,
     from: &Source,
     to: Point,
-    deed: &Deed,
+    deed: &TraceAction,
 ) -> Result<(), AllocError>
     ensures { OnOk result (text.new.items ≡ text.old.items ++ arrow_of from.now to (brought_by deed.now)) }
 {
@@ -259,7 +261,7 @@ fn push_path(text: &mut Vec<u8>, from: &Source, to: Point) -> Result<(), AllocEr
     push_text(text, "\"><title>")
 }
 
-fn push_brought(text: &mut Vec<u8>, deed: &Deed) -> Result<(), AllocError>
+fn push_brought(text: &mut Vec<u8>, deed: &TraceAction) -> Result<(), AllocError>
     ensures { OnOk result (text.new.items ≡ text.old.items ++ flat_map message_text (brought_by deed.now)) }
 {
     match deed.brought() {

@@ -10,7 +10,7 @@ use crate::turn::{Stand, Stay};
 use crate::walk::stand_of;
 use group_task::NodeId;
 use std::alloc::{AllocError, Global};
-use trace_check::{Replica, Trace};
+use trace_check::{NodeModel, Trace};
 
 /// How a node stands, and the turn from which on it does, or the opening.
 #[derive(Clone, Copy)]
@@ -45,10 +45,10 @@ fn opened(alloc: Global, trace: &Trace) -> Result<Vec<Pose>, AllocError>
     let mut poses = Vec::new(alloc);
     let nodes = trace.nodes();
     for number in 0..nodes {
-        let replica = Replica::new(alloc, NodeId::numbered(number), nodes)?;
+        let node_model = NodeModel::new(alloc, NodeId::numbered(number), nodes)?;
         poses.push(Pose {
             since: 0,
-            stand: stand_of(&replica),
+            stand: stand_of(&node_model),
         })?;
     }
     Ok(poses)

@@ -1,6 +1,6 @@
 use group_task::{GroupNo, Members, NodeId};
 use node_core::Phase;
-use trace_check::Deed;
+use trace_check::TraceAction;
 
 /// Where an entry stands in the picture: at which turn, counted from 0, and at which node.
 #[derive(Clone, Copy, Debug, PartialEq, Eq)]
@@ -26,7 +26,7 @@ pub struct Turn {
     pub at: Point,
     /// Its index in the history of its node.
     pub index: usize,
-    pub deed: Deed,
+    pub deed: TraceAction,
     /// The sending of the message that it was brought; None where it was brought none.
     pub from: Option<Source>,
     /// The nodes for which this turn sent a message that no turn was brought, as far as is known.

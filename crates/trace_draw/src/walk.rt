@@ -10,12 +10,12 @@ use crate::turn::Stand;
 use group_task::{Members, NodeId, Task};
 use node_core::Phase;
 use std::alloc::{AllocError, Global};
-use trace_check::{Replica, Trace};
+use trace_check::{NodeModel, Trace};
 
 /// A node of the trace, after the turns so far, and the index of its next entry.
 #[derive(Drop)]
-pub(crate) struct Seat {
-    pub(crate) replica: Replica,
+pub(crate) struct NodeView {
+    pub(crate) node_model: NodeModel,
     pub(crate) index: usize,
 }
 
@@ -33,14 +33,17 @@ pub(crate) fn steps(alloc: Global, trace: &Trace, order: &[NodeId]) -> Result<Ve
 }
 
 /// All nodes, before the first turn.
-fn open(alloc: Global, trace: &Trace) -> Result<Vec<Seat>, AllocError>
+fn open(alloc: Global, trace: &Trace) -> Result<Vec<NodeView>, AllocError>
     ensures { IfOk result (λ seats. AreSeats trace.now [] seats.items) }
 {
     let nodes = trace.nodes();
     let mut seats = Vec::new(alloc);
     for number in 0..nodes {
-        let replica = Replica::new(alloc, NodeId::numbered(number), nodes)?;
-        seats.push(Seat { replica, index: 0 })?;
+        let node_model = NodeModel::new(alloc, NodeId::numbered(number), nodes)?;
+        seats.push(NodeView {
+            node_model,
+            index: 0,
+        })?;
     }
     Ok(seats)
 }
@@ -50,7 +53,7 @@ fn take_turn(
     trace: &Trace,
     order: &[NodeId],
     turn: usize,
-    seats: &mut Vec<Seat>,
+    seats: &mut Vec<NodeView>,
     steps: &mut Vec<Step>,
 ) -> Result<(), AllocError>
     requires more { turn < length order.now }
@@ -63,32 +66,32 @@ fn take_turn(
     ensures steps { OnOk result (AreFirst trace.now order.now steps.new.items) }
 {
     let node = order[turn];
-    let seat = &mut seats[usize::from(node.number())];
-    let index = seat.index;
+    let node_view = &mut seats[usize::from(node.number())];
+    let index = node_view.index;
     let Some(entry) = trace.entry(node, index) else {
         unreachable!()
     };
-    if !seat.replica.take(&entry)? {
+    if !node_view.node_model.take(&entry)? {
         unreachable!()
     }
-    seat.index += 1;
-    let stand = stand_of(&seat.replica);
+    node_view.index += 1;
+    let stand = stand_of(&node_view.node_model);
     steps.push(Step { index, stand })?;
     Ok(())
 }
 
 /// How a node stands; None where it is down.
-pub(crate) fn stand_of(replica: &Replica) -> Option<Stand>
-    ensures { result ≡ stand_of replica.now.node.state }
+pub(crate) fn stand_of(node_model: &NodeModel) -> Option<Stand>
+    ensures { result ≡ stand_of node_model.now.node.state }
 {
-    let standing = &replica.vector().standing;
-    match standing.phase {
+    let group_state = &node_model.vector().group_state;
+    match group_state.phase {
         Phase::Down => None,
         phase => Some(Stand {
             phase,
-            group: standing.group,
-            coordinator: standing.coordinator,
-            members: members_of(&standing.task),
+            group: group_state.group,
+            coordinator: group_state.coordinator,
+            members: members_of(&group_state.task),
         }),
     }
 }

@@ -19,11 +19,11 @@ use Rattle.node_core.specs.declared.event.Event.{Event}
 use Rattle.node_core.specs.declared.event.Event.TheVariants as on
 use Rattle.node_core.specs.declared.timer.Timer.TheVariants as timer
 use Rattle.histories.specs.Lists.{Each}
-use Rattle.trace_check.specs.declared.trace.Deed.{Deed}
-use Rattle.trace_check.specs.declared.trace.Deed.TheVariants as deed
+use Rattle.trace_check.specs.declared.trace.TraceAction.{TraceAction}
+use Rattle.trace_check.specs.declared.trace.TraceAction.TheVariants as deed
 use Rattle.trace_check.specs.declared.trace.RecoverFault.TheVariants as recover
 use Rattle.trace_check.specs.Claims.{Claim}
-use Rattle.trace_text.specs.declared.fault.Spot.{Spot}
+use Rattle.trace_text.specs.declared.fault.Location.{Location}
 use Rattle.trace_text.specs.Fields.{fields_in}
 use Rattle.trace_text.specs.Entries.{good, message_in, with_first, messages_in, below, short, priority_in, submitted, done_in, deed_in, claim_in}
 use Rattle.trace_text.specs.Fits.{WorkFits, DeedFits, ClaimFits, TraceFits, HasName, IsWritable}
@@ -91,10 +91,10 @@ finish_back : (failed : Bool) (origin id : ℕ) → origin < NODES
     → option_and_then (λ (event : Event). Some (done_in event failed)) (option_and_then (λ (o : ℕ). Some (on.Finish o id)) (below NODES origin)) ≡ Some (done_in (on.Finish origin id) failed)
 finish_back failed origin id h = ap (λ (x : Option ℕ). option_and_then (λ (event : Event). Some (done_in event failed)) (option_and_then (λ (o : ℕ). Some (on.Finish o id)) x)) (below_back NODES origin h)
 
-abbrev pub claim_with : Deed → List Envelope → Claim
+abbrev pub claim_with : TraceAction → List Envelope → Claim
 claim_with d ms = record { deed = d; sent = ms }
 
-deed_back : (d : Deed) (ms : List Envelope) → DeedFits d → HasName d → deed_in (fields_in (entry_data (claim_with d ms))) ≡ Some d
+deed_back : (d : TraceAction) (ms : List Envelope) → DeedFits d → HasName d → deed_in (fields_in (entry_data (claim_with d ms))) ≡ Some d
 deed_back deed.Nothing ms fits named = refl
 deed_back (deed.Done (on.Timer timer.Check)) ms fits named = refl
 deed_back (deed.Done (on.Timer _)) ms fits named = refl
@@ -121,7 +121,7 @@ work_sent true false w ms = refl
 work_sent false true w ms = refl
 work_sent false false w ms = refl
 
-sent_there : (d : Deed) (ms : List Envelope) → get (codes "sent") (entry_data (claim_with d ms)) ≡ Some (sent_data ms)
+sent_there : (d : TraceAction) (ms : List Envelope) → get (codes "sent") (entry_data (claim_with d ms)) ≡ Some (sent_data ms)
 sent_there deed.Nothing ms = refl
 sent_there (deed.Done (on.Timer t)) ms = refl
 sent_there (deed.Done (on.Deliver m)) ms = refl
@@ -139,21 +139,21 @@ sent_there (deed.NotRecovered kept fault) ms = refl
 
 claim_back : (c : Claim) → ClaimFits c → HasName c.deed → claim_in (entry_data c) ≡ Some c
 claim_back c fits named =
-    ap (λ (o : Option Data). option_and_then (λ (done : Deed). option_map (λ (sent : List Envelope). claim_with done sent) (option_and_then messages_in (option_and_then as_array o))) (deed_in (fields_in (entry_data c)))) (sent_there c.deed c.sent)
-    ∙ ap (λ (o : Option Deed). option_and_then (λ (done : Deed). option_map (λ (sent : List Envelope). claim_with done sent) (messages_in (items_of (map message_data c.sent)))) o) (deed_back c.deed c.sent fits.0 named)
+    ap (λ (o : Option Data). option_and_then (λ (done : TraceAction). option_map (λ (sent : List Envelope). claim_with done sent) (option_and_then messages_in (option_and_then as_array o))) (deed_in (fields_in (entry_data c)))) (sent_there c.deed c.sent)
+    ∙ ap (λ (o : Option TraceAction). option_and_then (λ (done : TraceAction). option_map (λ (sent : List Envelope). claim_with done sent) (messages_in (items_of (map message_data c.sent)))) o) (deed_back c.deed c.sent fits.0 named)
     ∙ ap (λ (o : Option (List Envelope)). option_map (λ (sent : List Envelope). claim_with c.deed sent) o) (messages_back c.sent fits.1)
 
 entries_back : (node i : ℕ) (h : List Claim) → Each ClaimFits h → Each (λ (c : Claim). HasName c.deed) h → entries_from node i (items_of (map entry_data h)) ≡ Ok h
 entries_back node i [] fits named = refl
 entries_back node i (c ∷ h) fits named =
     ap (λ (o : Option Claim). first_entry node i o (entries_from node (i + 1) (items_of (map entry_data h)))) (claim_back c fits.0 named.0)
-    ∙ ap (λ (r : Result (List Claim) (Option Spot)). first_entry node i (Some c) r) (entries_back node (i + 1) h fits.1 named.1)
+    ∙ ap (λ (r : Result (List Claim) (Option Location)). first_entry node i (Some c) r) (entries_back node (i + 1) h fits.1 named.1)
 
 pub histories_back : (node : ℕ) (hs : List (List Claim)) → TraceFits hs → Each (λ (h : List Claim). Each (λ (c : Claim). HasName c.deed) h) hs → histories_from node (items_of (map history_data hs)) ≡ Ok hs
 histories_back node [] fits named = refl
 histories_back node (h ∷ hs) fits named =
-    ap (λ (r : Result (List Claim) (Option Spot)). first_history r (histories_from (node + 1) (items_of (map history_data hs)))) (entries_back node 0 h fits.0 named.0)
-    ∙ ap (λ (r : Result (List (List Claim)) (Option Spot)). first_history (Ok h) r) (histories_back (node + 1) hs fits.1 named.1)
+    ap (λ (r : Result (List Claim) (Option Location)). first_history r (histories_from (node + 1) (items_of (map history_data hs)))) (entries_back node 0 h fits.0 named.0)
+    ∙ ap (λ (r : Result (List (List Claim)) (Option Location)). first_history (Ok h) r) (histories_back (node + 1) hs fits.1 named.1)
 
 -- ---- the whole
 

@@ -116,29 +116,32 @@ module _ (depth : ℕ) (ts : List Token) where
   list_is : data_at depth (Token.begin_array ∷ ts) ≡ parse_map array (converted of_items (inner_items depth ts))
   list_is = ap (converted of_json) (value_is depth (Token.begin_array ∷ ts)) ∙ converted_array (inner_items depth ts)
 
+  -- a reading that finds nothing in a scalar finds nothing in a value that begins with another token than its own
+  module _ {A : Type 0} (f : Data → Option A) (of_null : f null ≡ None) (of_boolean : (b : Bool) → f (boolean b) ≡ None) (of_number : (n : Num) → f (number n) ≡ None) (of_string : (s : List ℕ) → f (string s) ≡ None) where
+    abbrev FindsNone : Token → Type 0
+    FindsNone t = parse_map f (data_at depth (t ∷ ts)) ≡ parse_map none_of (data_at depth (t ∷ ts))
+
+    other_than : (t : Token) → (t ≡ Token.begin_array → FindsNone Token.begin_array) → (t ≡ Token.begin_object → FindsNone Token.begin_object) → FindsNone t
+    other_than Token.begin_object at_list at_object = at_object refl
+    other_than Token.end_object at_list at_object = scalar f depth (Token.end_object ∷ ts) _ (ap (converted of_json) (value_is depth (Token.end_object ∷ ts))) refl
+    other_than Token.begin_array at_list at_object = at_list refl
+    other_than Token.end_array at_list at_object = scalar f depth (Token.end_array ∷ ts) _ (ap (converted of_json) (value_is depth (Token.end_array ∷ ts))) refl
+    other_than (Token.key s) at_list at_object = scalar f depth (Token.key s ∷ ts) _ (ap (converted of_json) (value_is depth (Token.key s ∷ ts))) refl
+    other_than (Token.string s) at_list at_object = scalar f depth (Token.string s ∷ ts) _ (ap (converted of_json) (value_is depth (Token.string s ∷ ts))) (ap (λ (a : Option A). Some (a, ts)) (of_string s))
+    other_than (Token.number s) at_list at_object = scalar f depth (Token.number s ∷ ts) _ (ap (converted of_json) (value_is depth (Token.number s ∷ ts))) (numbers f ts (number_of s) of_number)
+    other_than (Token.boolean b) at_list at_object = scalar f depth (Token.boolean b ∷ ts) _ (ap (converted of_json) (value_is depth (Token.boolean b ∷ ts))) (ap (λ (a : Option A). Some (a, ts)) (of_boolean b))
+    other_than Token.null at_list at_object = scalar f depth (Token.null ∷ ts) _ (ap (converted of_json) (value_is depth (Token.null ∷ ts))) (ap (λ (a : Option A). Some (a, ts)) of_null)
+    other_than Token.bad at_list at_object = scalar f depth (Token.bad ∷ ts) _ (ap (converted of_json) (value_is depth (Token.bad ∷ ts))) refl
+
   other_than_list : (t : Token) → (t ≡ Token.begin_array → ⊥) → parse_map as_array (data_at depth (t ∷ ts)) ≡ parse_map none_of (data_at depth (t ∷ ts))
-  other_than_list Token.begin_object other = scalar as_array depth (Token.begin_object ∷ ts) _ object_is (under as_array object (of_object (inner_members depth ts)) (λ ms. refl))
-  other_than_list Token.end_object other = scalar as_array depth (Token.end_object ∷ ts) _ (ap (converted of_json) (value_is depth (Token.end_object ∷ ts))) refl
-  other_than_list Token.begin_array other = absurd (other refl)
-  other_than_list Token.end_array other = scalar as_array depth (Token.end_array ∷ ts) _ (ap (converted of_json) (value_is depth (Token.end_array ∷ ts))) refl
-  other_than_list (Token.key s) other = scalar as_array depth (Token.key s ∷ ts) _ (ap (converted of_json) (value_is depth (Token.key s ∷ ts))) refl
-  other_than_list (Token.string s) other = scalar as_array depth (Token.string s ∷ ts) _ (ap (converted of_json) (value_is depth (Token.string s ∷ ts))) refl
-  other_than_list (Token.number s) other = scalar as_array depth (Token.number s ∷ ts) _ (ap (converted of_json) (value_is depth (Token.number s ∷ ts))) (numbers as_array ts (number_of s) (λ n. refl))
-  other_than_list (Token.boolean b) other = scalar as_array depth (Token.boolean b ∷ ts) _ (ap (converted of_json) (value_is depth (Token.boolean b ∷ ts))) refl
-  other_than_list Token.null other = scalar as_array depth (Token.null ∷ ts) _ (ap (converted of_json) (value_is depth (Token.null ∷ ts))) refl
-  other_than_list Token.bad other = scalar as_array depth (Token.bad ∷ ts) _ (ap (converted of_json) (value_is depth (Token.bad ∷ ts))) refl
+  other_than_list t other =
+      other_than as_array refl (λ b. refl) (λ n. refl) (λ s. refl) t (λ is. absurd (other is))
+      (λ is. scalar as_array depth (Token.begin_object ∷ ts) _ object_is (under as_array object (of_object (inner_members depth ts)) (λ ms. refl)))
 
   other_than_object : (t : Token) → (t ≡ Token.begin_object → ⊥) → parse_map as_object (data_at depth (t ∷ ts)) ≡ parse_map none_of (data_at depth (t ∷ ts))
-  other_than_object Token.begin_object other = absurd (other refl)
-  other_than_object Token.end_object other = scalar as_object depth (Token.end_object ∷ ts) _ (ap (converted of_json) (value_is depth (Token.end_object ∷ ts))) refl
-  other_than_object Token.begin_array other = scalar as_object depth (Token.begin_array ∷ ts) _ list_is (under as_object array (converted of_items (inner_items depth ts)) (λ ds. refl))
-  other_than_object Token.end_array other = scalar as_object depth (Token.end_array ∷ ts) _ (ap (converted of_json) (value_is depth (Token.end_array ∷ ts))) refl
-  other_than_object (Token.key s) other = scalar as_object depth (Token.key s ∷ ts) _ (ap (converted of_json) (value_is depth (Token.key s ∷ ts))) refl
-  other_than_object (Token.string s) other = scalar as_object depth (Token.string s ∷ ts) _ (ap (converted of_json) (value_is depth (Token.string s ∷ ts))) refl
-  other_than_object (Token.number s) other = scalar as_object depth (Token.number s ∷ ts) _ (ap (converted of_json) (value_is depth (Token.number s ∷ ts))) (numbers as_object ts (number_of s) (λ n. refl))
-  other_than_object (Token.boolean b) other = scalar as_object depth (Token.boolean b ∷ ts) _ (ap (converted of_json) (value_is depth (Token.boolean b ∷ ts))) refl
-  other_than_object Token.null other = scalar as_object depth (Token.null ∷ ts) _ (ap (converted of_json) (value_is depth (Token.null ∷ ts))) refl
-  other_than_object Token.bad other = scalar as_object depth (Token.bad ∷ ts) _ (ap (converted of_json) (value_is depth (Token.bad ∷ ts))) refl
+  other_than_object t other =
+      other_than as_object refl (λ b. refl) (λ n. refl) (λ s. refl) t (λ is. scalar as_object depth (Token.begin_array ∷ ts) _ list_is (under as_object array (converted of_items (inner_items depth ts)) (λ ds. refl)))
+      (λ is. absurd (other is))
 
   passed : {A B : Type 0} (f : Data → Option A) (g : Data → B) (b : B) (r : List Token) (o : Front) → parse_map f o ≡ parse_map none_of o → parse_map g o ≡ Some (b, r) → parse_map f o ≡ Some (None, r)
   passed f g b r None same there = absurd (cc)

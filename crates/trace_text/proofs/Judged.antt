@@ -11,9 +11,9 @@ use Rattle.serde_json.specs.Find.{as_array, as_object, get_member}
 use Rattle.trace_text.proofs.Turns.{pick, whole_read, whole_and_more, whole_refused}
 use Rattle.group_task.specs.declared.node.TheConstants.{NODES}
 use Rattle.wire_msg.specs.Envelope.{Envelope}
-use Rattle.trace_check.specs.declared.trace.Deed.{Deed}
+use Rattle.trace_check.specs.declared.trace.TraceAction.{TraceAction}
 use Rattle.trace_check.specs.Claims.{Claim}
-use Rattle.trace_text.specs.declared.fault.Spot.{Spot}
+use Rattle.trace_text.specs.declared.fault.Location.{Location}
 use Rattle.trace_text.specs.declared.stream.Entries.{Entries}
 use Rattle.trace_text.specs.Drafts.{listed_by, unless_bad}
 use Rattle.trace_text.specs.Fields.{fields_in, fields_put, plain}
@@ -58,8 +58,8 @@ messages_done true ms = ap (λ (xs : List Envelope). Some xs) (append-nil ms)
 
 -- ---- an entry
 
-abbrev claim_with : Option Deed → Option (List Envelope) → Option Claim
-claim_with done sent = option_and_then (λ (d : Deed). option_map (λ (messages : List Envelope). record { deed = d; sent = messages }) sent) done
+abbrev claim_with : Option TraceAction → Option (List Envelope) → Option Claim
+claim_with done sent = option_and_then (λ (d : TraceAction). option_map (λ (messages : List Envelope). record { deed = d; sent = messages }) sent) done
 
 abbrev pub claim_drafted : Drafted → Option Claim
 claim_drafted s = claim_with (deed_in s.0) s.1
@@ -85,14 +85,14 @@ entry_read ts r new s o old is read says =
 pub no_sent : (s : Drafted) → s.1 ≡ None → claim_drafted s ≡ None
 no_sent s is = ap (claim_with (deed_in s.0)) is ∙ none (deed_in s.0)
   where
-    none : (o : Option Deed) → claim_with o None ≡ None
+    none : (o : Option TraceAction) → claim_with o None ≡ None
     none None = refl
     none (Some d) = refl
 
 pub no_deed : (s : Drafted) → deed_in s.0 ≡ None → claim_drafted s ≡ None
-no_deed s is = ap (λ (o : Option Deed). claim_with o s.1) is
+no_deed s is = ap (λ (o : Option TraceAction). claim_with o s.1) is
 
-pub claim_some : (s : Drafted) (done : Deed) (sent : List Envelope) → deed_in s.0 ≡ Some done → s.1 ≡ Some sent → claim_drafted s ≡ Some (record { deed = done; sent = sent })
+pub claim_some : (s : Drafted) (done : TraceAction) (sent : List Envelope) → deed_in s.0 ≡ Some done → s.1 ≡ Some sent → claim_drafted s ≡ Some (record { deed = done; sent = sent })
 claim_some s done sent is all = ap₂ claim_with is all
 
 -- a field more
@@ -111,21 +111,21 @@ no_object old (object ms) is = absurd (cc)
 
 -- ---- the entries of a list
 
-abbrev after_good : {A : Type 0} → List A → Result (List A) (Option Spot) → Result (List A) (Option Spot)
-after_good xs (Err spot) = Err spot
+abbrev after_good : {A : Type 0} → List A → Result (List A) (Option Location) → Result (List A) (Option Location)
+after_good xs (Err location) = Err location
 after_good xs (Ok ys) = Ok (xs ++ ys)
 
-after_none : {A : Type 0} (r : Result (List A) (Option Spot)) → r ≡ after_good [] r
+after_none : {A : Type 0} (r : Result (List A) (Option Location)) → r ≡ after_good [] r
 after_none (Ok ys) = refl
-after_none (Err spot) = refl
+after_none (Err location) = refl
 
-good_entry : (node index : ℕ) (old : List Claim) (x : Claim) (later : Result (List Claim) (Option Spot)) → after_good old (first_entry node index (Some x) later) ≡ after_good (old ++ x ∷ []) later
+good_entry : (node index : ℕ) (old : List Claim) (x : Claim) (later : Result (List Claim) (Option Location)) → after_good old (first_entry node index (Some x) later) ≡ after_good (old ++ x ∷ []) later
 good_entry node index old x (Ok cs) = ap (λ (ys : List Claim). Ok ys) (sym (append_assoc old (x ∷ []) cs))
-good_entry node index old x (Err spot) = refl
+good_entry node index old x (Err location) = refl
 
-abbrev pub entries_then : ℕ → List Claim → Option Spot → Items → Listed
+abbrev pub entries_then : ℕ → List Claim → Option Location → Items → Listed
 entries_then node h None ds = after_good h (entries_from node (length h) ds)
-entries_then node h (Some spot) ds = Err (Some spot)
+entries_then node h (Some location) ds = Err (Some location)
 
 pub entries_begun : (node : ℕ) (h : List Claim) (ds : Items) → h ≡ [] → entries_from node 0 ds ≡ entries_then node h None ds
 entries_begun node h ds is = after_none (entries_from node 0 ds) ∙ ap (λ (xs : List Claim). entries_then node xs None ds) (sym is)
@@ -134,8 +134,8 @@ one_longer : {A : Type 0} (xs : List A) (x : A) → length (xs ++ x ∷ []) ≡ 
 one_longer [] x = refl
 one_longer (y ∷ xs) x = let longer = one_longer xs x in omega (arith, longer)
 
-entry_by : (node : ℕ) (h new : List Claim) (bad : Option Spot) (o : Option Claim) (ds : Items) → option_map (λ (c : Claim). h ++ c ∷ []) o ≡ Some new
-    → (later : Result (List Claim) (Option Spot)) → later ≡ entries_from node (length h + 1) ds → after_good h (first_entry node (length h) o later) ≡ after_good new (entries_from node (length new) ds)
+entry_by : (node : ℕ) (h new : List Claim) (bad : Option Location) (o : Option Claim) (ds : Items) → option_map (λ (c : Claim). h ++ c ∷ []) o ≡ Some new
+    → (later : Result (List Claim) (Option Location)) → later ≡ entries_from node (length h + 1) ds → after_good h (first_entry node (length h) o later) ≡ after_good new (entries_from node (length new) ds)
 entry_by node h new bad None ds is later same = absurd (cc)
 entry_by node h new bad (Some c) ds is later same =
     let grown : h ++ c ∷ [] ≡ new = some_is _ _ is in
@@ -143,52 +143,52 @@ entry_by node h new bad (Some c) ds is later same =
     ∙ ap (after_good (h ++ c ∷ [])) (same ∙ ap (λ (i : ℕ). entries_from node i ds) (sym (one_longer h c)))
     ∙ ap (λ (xs : List Claim). after_good xs (entries_from node (length xs) ds)) grown
 
-pub entry_more : (node : ℕ) (h new : List Claim) (bad : Option Spot) (d : Data) (ds : Items) → added_in h d ≡ Some new → entries_then node h bad (item d ds) ≡ entries_then node new bad ds
+pub entry_more : (node : ℕ) (h new : List Claim) (bad : Option Location) (d : Data) (ds : Items) → added_in h d ≡ Some new → entries_then node h bad (item d ds) ≡ entries_then node new bad ds
 entry_more node h new None d ds is = entry_by node h new None (claim_in d) ds is (entries_from node (length h + 1) ds) refl
-entry_more node h new (Some spot) d ds is = refl
+entry_more node h new (Some location) d ds is = refl
 
-bad_by : (node : ℕ) (h new : List Claim) (o : Option Claim) (later : Result (List Claim) (Option Spot)) → option_map (λ (c : Claim). h ++ c ∷ []) o ≡ None
+bad_by : (node : ℕ) (h new : List Claim) (o : Option Claim) (later : Result (List Claim) (Option Location)) → option_map (λ (c : Claim). h ++ c ∷ []) o ≡ None
     → after_good h (first_entry node (length h) o later) ≡ Err (Some (record { node = node; index = length h }))
 bad_by node h new None later is = refl
 bad_by node h new (Some c) later is = absurd (cc)
 
-pub entry_bad : (node : ℕ) (h new : List Claim) (bad : Option Spot) (d : Data) (ds : Items) → added_in h d ≡ None
+pub entry_bad : (node : ℕ) (h new : List Claim) (bad : Option Location) (d : Data) (ds : Items) → added_in h d ≡ None
     → entries_then node h bad (item d ds) ≡ entries_then node new (option_or bad (Some (record { node = node; index = length h }))) ds
 entry_bad node h new None d ds is = bad_by node h new (claim_in d) (entries_from node (length h + 1) ds) is
-entry_bad node h new (Some spot) d ds is = refl
+entry_bad node h new (Some location) d ds is = refl
 
-pub entries_done : (node : ℕ) (h : List Claim) (bad : Option Spot) → entries_then node h bad no_items ≡ unless_bad bad h
+pub entries_done : (node : ℕ) (h : List Claim) (bad : Option Location) → entries_then node h bad no_items ≡ unless_bad bad h
 entries_done node h None = ap (λ (xs : List Claim). Ok xs) (append-nil h)
-entries_done node h (Some spot) = refl
+entries_done node h (Some location) = refl
 
 -- ---- the lists
 
-good_history : (old : List (List Claim)) (h : List Claim) (later : Result (List (List Claim)) (Option Spot)) → after_good old (first_history (Ok h) later) ≡ after_good (old ++ h ∷ []) later
+good_history : (old : List (List Claim)) (h : List Claim) (later : Result (List (List Claim)) (Option Location)) → after_good old (first_history (Ok h) later) ≡ after_good (old ++ h ∷ []) later
 good_history old h (Ok hs) = ap (λ (ys : List (List Claim)). Ok ys) (sym (append_assoc old (h ∷ []) hs))
-good_history old h (Err spot) = refl
+good_history old h (Err location) = refl
 
-abbrev histories_then : List (List Claim) → Option Spot → Items → Result (List (List Claim)) (Option Spot)
+abbrev histories_then : List (List Claim) → Option Location → Items → Result (List (List Claim)) (Option Location)
 histories_then hs None ds = after_good hs (histories_from (length hs) ds)
-histories_then hs (Some spot) ds = Err (Some spot)
+histories_then hs (Some location) ds = Err (Some location)
 
-abbrev pub lists_then : Bool → List (List Claim) → Option Spot → Items → Judged
+abbrev pub lists_then : Bool → List (List Claim) → Option Location → Items → Judged
 lists_then false hs bad ds = None
 lists_then true hs bad ds = if all_lists ds then Some (length hs + count_items ds, histories_then hs bad ds) else None
 
 pub lists_begun : (ds : Items) → judged_of ds ≡ lists_then true [] None ds
 lists_begun ds =
     let count : count_items ds ≡ 0 + count_items ds = omega arith in
-    ap₂ (λ (n : ℕ) (r : Result (List (List Claim)) (Option Spot)). if all_lists ds then Some (n, r) else None) count (after_none (histories_from 0 ds))
+    ap₂ (λ (n : ℕ) (r : Result (List (List Claim)) (Option Location)). if all_lists ds then Some (n, r) else None) count (after_none (histories_from 0 ds))
 
-history_by : (hs : List (List Claim)) (bad : Option Spot) (e : Entries) (r : Listed) (later : Result (List (List Claim)) (Option Spot)) (ds : Items) → r ≡ listed_by e → later ≡ histories_from (length hs + 1) ds
-    → (now : Option Spot) → now ≡ e.bad → after_good hs (first_history (unless_bad now e.history) later) ≡ histories_then (hs ++ e.history ∷ []) now ds
+history_by : (hs : List (List Claim)) (bad : Option Location) (e : Entries) (r : Listed) (later : Result (List (List Claim)) (Option Location)) (ds : Items) → r ≡ listed_by e → later ≡ histories_from (length hs + 1) ds
+    → (now : Option Location) → now ≡ e.bad → after_good hs (first_history (unless_bad now e.history) later) ≡ histories_then (hs ++ e.history ∷ []) now ds
 history_by hs bad e r later ds is same None now =
     good_history hs e.history later ∙ ap (after_good (hs ++ e.history ∷ [])) (same ∙ ap (λ (i : ℕ). histories_from i ds) (sym (one_longer hs e.history)))
-history_by hs bad e r later ds is same (Some spot) now = refl
+history_by hs bad e r later ds is same (Some location) now = refl
 
-histories_more : (hs : List (List Claim)) (bad : Option Spot) (e : Entries) (d : Data) (es ds : Items) → as_array d ≡ Some es → entries_from (length hs) 0 es ≡ listed_by e
+histories_more : (hs : List (List Claim)) (bad : Option Location) (e : Entries) (d : Data) (es ds : Items) → as_array d ≡ Some es → entries_from (length hs) 0 es ≡ listed_by e
     → histories_then hs bad (item d ds) ≡ histories_then (hs ++ e.history ∷ []) (option_or bad e.bad) ds
-histories_more hs (Some spot) e d es ds listed is = refl
+histories_more hs (Some location) e d es ds listed is = refl
 histories_more hs None e d es ds listed is =
     let later = histories_from (length hs + 1) ds in
     ap (λ (o : Option Items). after_good hs (first_history (history_in (length hs) o) later)) listed
@@ -196,11 +196,11 @@ histories_more hs None e d es ds listed is =
     ∙ history_by hs None e (entries_from (length hs) 0 es) later ds is refl e.bad refl
     ∙ none_or e.bad
   where
-    none_or : (now : Option Spot) → histories_then (hs ++ e.history ∷ []) now ds ≡ histories_then (hs ++ e.history ∷ []) (option_or None now) ds
+    none_or : (now : Option Location) → histories_then (hs ++ e.history ∷ []) now ds ≡ histories_then (hs ++ e.history ∷ []) (option_or None now) ds
     none_or None = refl
-    none_or (Some spot) = refl
+    none_or (Some location) = refl
 
-list_by : (all : Bool) (hs : List (List Claim)) (bad : Option Spot) (e : Entries) (d : Data) (ds : Items) (o : Option Items) → as_array d ≡ o → option_map (entries_from (length hs) 0) o ≡ Some (listed_by e)
+list_by : (all : Bool) (hs : List (List Claim)) (bad : Option Location) (e : Entries) (d : Data) (ds : Items) (o : Option Items) → as_array d ≡ o → option_map (entries_from (length hs) 0) o ≡ Some (listed_by e)
     → lists_then all hs bad (item d ds) ≡ lists_then all (hs ++ e.history ∷ []) (option_or bad e.bad) ds
 list_by false hs bad e d ds o is read = refl
 list_by true hs bad e d ds None is read = absurd (cc)
@@ -209,14 +209,14 @@ list_by true hs bad e d ds (Some es) is read =
     let longer = one_longer hs e.history in
     let count : length hs + suc (count_items ds) ≡ length (hs ++ e.history ∷ []) + count_items ds = omega (arith, longer) in
     ap (λ (x : Option Items). if is_some x && all_lists ds then Some (length hs + suc (count_items ds), histories_then hs bad (item d ds)) else None) is
-    ∙ ap₂ (λ (n : ℕ) (r : Result (List (List Claim)) (Option Spot)). if all_lists ds then Some (n, r) else None) count more
+    ∙ ap₂ (λ (n : ℕ) (r : Result (List (List Claim)) (Option Location)). if all_lists ds then Some (n, r) else None) count more
 
-pub list_more : (all : Bool) (hs new : List (List Claim)) (bad : Option Spot) (e : Entries) (d : Data) (ds : Items) → listed_in (length hs) d ≡ Some (listed_by e) → new ≡ hs ++ e.history ∷ []
+pub list_more : (all : Bool) (hs new : List (List Claim)) (bad : Option Location) (e : Entries) (d : Data) (ds : Items) → listed_in (length hs) d ≡ Some (listed_by e) → new ≡ hs ++ e.history ∷ []
     → lists_then all hs bad (item d ds) ≡ lists_then all new (option_or bad e.bad) ds
 list_more all hs new bad e d ds read grown =
     list_by all hs bad e d ds (as_array d) refl read ∙ ap (λ (xs : List (List Claim)). lists_then all xs (option_or bad e.bad) ds) (sym grown)
 
-pub list_bad : (all : Bool) (hs new : List (List Claim)) (bad now : Option Spot) (d : Data) (ds : Items) → listed_in (length hs) d ≡ None → lists_then all hs bad (item d ds) ≡ lists_then false new now ds
+pub list_bad : (all : Bool) (hs new : List (List Claim)) (bad now : Option Location) (d : Data) (ds : Items) → listed_in (length hs) d ≡ None → lists_then all hs bad (item d ds) ≡ lists_then false new now ds
 list_bad false hs new bad now d ds none = refl
 list_bad true hs new bad now d ds none = by (as_array d) refl none
   where
@@ -224,10 +224,10 @@ list_bad true hs new bad now d ds none = by (as_array d) refl none
     by None is none = ap (λ (x : Option Items). if is_some x && all_lists ds then Some (length hs + suc (count_items ds), histories_then hs bad (item d ds)) else None) is
     by (Some es) is none = absurd (cc)
 
-pub lists_done : (all : Bool) (hs : List (List Claim)) (bad : Option Spot) → lists_then all hs bad no_items ≡ (if all then Some (length hs, unless_bad bad hs) else None)
+pub lists_done : (all : Bool) (hs : List (List Claim)) (bad : Option Location) → lists_then all hs bad no_items ≡ (if all then Some (length hs, unless_bad bad hs) else None)
 lists_done false hs bad = refl
 lists_done true hs None = let same : length hs + 0 ≡ length hs = omega arith in ap₂ (λ (n : ℕ) (xs : List (List Claim)). Some (n, Ok xs)) same (append-nil hs)
-lists_done true hs (Some spot) = let same : length hs + 0 ≡ length hs = omega arith in ap (λ (n : ℕ). Some (n, Err (Some spot))) same
+lists_done true hs (Some location) = let same : length hs + 0 ≡ length hs = omega arith in ap (λ (n : ℕ). Some (n, Err (Some location))) same
 
 -- ---- the whole
 
@@ -245,7 +245,7 @@ tested true false same false ds n = refl
 tested false few same true ds n = refl
 tested false few same false ds n = refl
 
-shaped_by : (lists : Bool) (nodes count : ℕ) (r : Result (List (List Claim)) (Option Spot))
+shaped_by : (lists : Bool) (nodes count : ℕ) (r : Result (List (List Claim)) (Option Location))
     → (if lists then (if nat_lt 0 nodes && (nat_le nodes NODES && (count == nodes)) then r else Err None) else Err None) ≡ shaped (Some nodes, (if lists then Some (count, r) else None))
 shaped_by true nodes count r = refl
 shaped_by false nodes count r = refl
@@ -256,7 +256,7 @@ whole_by None lists = refl
 whole_by (Some n) None = refl
 whole_by (Some n) (Some ds) = tested (nat_lt 0 n) (nat_le n NODES) (count_items ds == n) (all_lists ds) ds n ∙ shaped_by (all_lists ds) n (count_items ds) (histories_from 0 ds)
 
-abbrev pub trace_in : Data → Result (List (List Claim)) (Option Spot)
+abbrev pub trace_in : Data → Result (List (List Claim)) (Option Location)
 trace_in d = in_shape (shape_in d)
 
 pub whole_law : (ms : Members) → trace_in (object ms) ≡ shaped (parted_in ms)
@@ -276,12 +276,12 @@ no_whole (object ms) is = absurd (cc)
 -- ---- the text
 
 module _ (text : List ℕ) (ts : List Token) (front : ts ≡ tokens text) where
-  pub text_read : (r : Result (List (List Claim)) (Option Spot)) → IsUtf8 text → parse_map trace_in (data_at 127 ts) ≡ Some (r, []) → trace_of text ≡ r
+  pub text_read : (r : Result (List (List Claim)) (Option Location)) → IsUtf8 text → parse_map trace_in (data_at 127 ts) ≡ Some (r, []) → trace_of text ≡ r
   text_read r utf8 e =
       let d = mapped_some trace_in (data_at 127 ts) r [] e in
       good_text text d.0 utf8 (whole_read (value 127 (tokens text)) d.0 (ap (data_at 127) (sym front) ∙ d.1)) ∙ d.2
 
-  pub text_longer : (r : Result (List (List Claim)) (Option Spot)) (t : Token) (more : List Token) → parse_map trace_in (data_at 127 ts) ≡ Some (r, t ∷ more) → trace_of text ≡ Err None
+  pub text_longer : (r : Result (List (List Claim)) (Option Location)) (t : Token) (more : List Token) → parse_map trace_in (data_at 127 ts) ≡ Some (r, t ∷ more) → trace_of text ≡ Err None
   text_longer r t more e =
       let d = mapped_some trace_in (data_at 127 ts) r (t ∷ more) e in
       bad_text text (λ utf8. whole_and_more (value 127 (tokens text)) d.0 t more (ap (data_at 127) (sym front) ∙ d.1))

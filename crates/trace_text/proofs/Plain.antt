@@ -5,8 +5,8 @@ use Rattle.std.specs.Str.{bytes_eq}
 use Rattle.serde_json.specs.Data.{Data, null, boolean, number, unsigned, negative, float, string, array, object}
 use Rattle.serde_json.specs.Find.{as_str, as_bool}
 use Rattle.node_core.specs.declared.event.Event.{Event}
-use Rattle.trace_check.specs.declared.trace.Deed.{Deed}
-use Rattle.trace_check.specs.declared.trace.Deed.TheVariants as deed
+use Rattle.trace_check.specs.declared.trace.TraceAction.{TraceAction}
+use Rattle.trace_check.specs.declared.trace.TraceAction.TheVariants as deed
 use Rattle.trace_text.specs.Fields.{FieldData, plain, plain_fields}
 use Rattle.trace_text.specs.Entries.{message_in, spelled_in, number_in, priority_in, submit_in, finish_in, deliver_in, event_in, device_in, done_in, recovered_in, recover_in, deed_named, deed_in}
 
@@ -87,7 +87,7 @@ module _ (f : FieldData) where
   event_same : (name : List ℕ) → event_in (plain_fields f) name ≡ event_in f name
   event_same name = rw (deliver_same, submit_same, finish_same) refl
 
-  abbrev named : Option Deed → Option Event → Option Bool → List ℕ → Option Deed
+  abbrev named : Option TraceAction → Option Event → Option Bool → List ℕ → Option TraceAction
   named recovery event device name =
       if bytes_eq name (codes "none") then Some deed.Nothing else
       if bytes_eq name (codes "crash") then Some deed.Crashed else
@@ -95,7 +95,7 @@ module _ (f : FieldData) where
 
   named_same : (name : List ℕ) → deed_named (plain_fields f) name ≡ deed_named f name
   named_same name =
-      ap (λ (o : Option Deed). named o (event_in (plain_fields f) name) (device_in (option_map plain f.fault)) name) recover_same
+      ap (λ (o : Option TraceAction). named o (event_in (plain_fields f) name) (device_in (option_map plain f.fault)) name) recover_same
       ∙ ap (λ (o : Option Event). named (recover_in f) o (device_in (option_map plain f.fault)) name) (event_same name) ∙ ap (λ (o : Option Bool). named (recover_in f) (event_in f name) o name) (device_same f.fault)
 
   pub deed_same : deed_in (plain_fields f) ≡ deed_in f

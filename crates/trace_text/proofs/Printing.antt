@@ -20,8 +20,8 @@ use Rattle.wire_msg.specs.Envelope.{Envelope}
 use Rattle.wire_msg.specs.Spelling.{spelling}
 use Rattle.node_core.specs.declared.event.Event.{Event}
 use Rattle.node_core.specs.declared.event.Event.TheVariants as on
-use Rattle.trace_check.specs.declared.trace.Deed.{Deed}
-use Rattle.trace_check.specs.declared.trace.Deed.TheVariants as deed
+use Rattle.trace_check.specs.declared.trace.TraceAction.{TraceAction}
+use Rattle.trace_check.specs.declared.trace.TraceAction.TheVariants as deed
 use Rattle.trace_check.specs.Claims.{Claim}
 use Rattle.trace_text.specs.Written.{message_data, event_members, priority_members, deed_name, deed_members, entry_data, history_data, trace_data}
 use Rattle.trace_text.specs.Tokens.{Adds, priority_tokens, event_tokens, deed_tokens, message_tokens, entry_tokens, entries_tokens, history_tokens, histories_tokens, trace_tokens}
@@ -47,7 +47,7 @@ event_of (on.Submit work) rest =
 event_of (on.Finish origin id) rest = refl
 event_of on.Recover rest = refl
 
-deed_of : (d : Deed) (rest : Members) → members_tokens (members_outline (deed_members d rest)) ≡ deed_tokens d ++ members_tokens (members_outline rest)
+deed_of : (d : TraceAction) (rest : Members) → members_tokens (members_outline (deed_members d rest)) ≡ deed_tokens d ++ members_tokens (members_outline rest)
 deed_of deed.Nothing rest = refl
 deed_of (deed.Done event) rest = event_of event rest
 deed_of (deed.Faulted event) rest = ap (λ (ts : List Token). token.key (codes "fault") ∷ token.string (codes "device") ∷ ts) (event_of event rest)

@@ -20,8 +20,8 @@ use Rattle.wire_msg.specs.Envelope.{Envelope}
 use Rattle.node_core.specs.declared.event.Event.{Event}
 use Rattle.node_core.specs.declared.event.Event.TheVariants as on
 use Rattle.histories.specs.Lists.{Each}
-use Rattle.trace_check.specs.declared.trace.Deed.{Deed}
-use Rattle.trace_check.specs.declared.trace.Deed.TheVariants as deed
+use Rattle.trace_check.specs.declared.trace.TraceAction.{TraceAction}
+use Rattle.trace_check.specs.declared.trace.TraceAction.TheVariants as deed
 use Rattle.trace_check.specs.Claims.{Claim}
 use Rattle.trace_text.specs.Fits.{WorkFits, DeedFits, ClaimFits, TraceFits, IsWritable}
 use Rattle.trace_text.specs.Tokens.{Adds, trace_tokens}
@@ -50,7 +50,7 @@ work_read false false w ms fits =
     let priority : w.priority < 2 ^ 64 = omega (arith, fits.priority) in
     rw (number_of-decimal w.priority priority, number_of-decimal w.queue queue, sent_read ms) refl
 
-entry_read : (d : Deed) (ms : List Envelope) → DeedFits d → of_json (outline (entry_data (claim_with d ms))) ≡ Some (entry_data (claim_with d ms))
+entry_read : (d : TraceAction) (ms : List Envelope) → DeedFits d → of_json (outline (entry_data (claim_with d ms))) ≡ Some (entry_data (claim_with d ms))
 entry_read deed.Nothing ms fits = rw (sent_read ms) refl
 entry_read (deed.Done (on.Timer timer)) ms fits = rw (sent_read ms) refl
 entry_read (deed.Done (on.Deliver m)) ms fits = rw (sent_read ms) refl
@@ -98,7 +98,7 @@ event_flat (on.Submit w) rest = let ranked = priority_flat (w.priority == 0) w.p
 event_flat (on.Finish origin id) rest = omega arith
 event_flat on.Recover rest = omega arith
 
-deed_flat : (d : Deed) (rest : Members) → tree.members_depth (members_outline (deed_members d rest)) ≤ tree.members_depth (members_outline rest)
+deed_flat : (d : TraceAction) (rest : Members) → tree.members_depth (members_outline (deed_members d rest)) ≤ tree.members_depth (members_outline rest)
 deed_flat deed.Nothing rest = omega arith
 deed_flat (deed.Done event) rest = event_flat event rest
 deed_flat (deed.Faulted event) rest = let flat = event_flat event rest in omega (arith, flat)

@@ -1,9 +1,9 @@
 -- The front of a reader's tokens, a turn at a time.
-use Rattle.std.proofs.Common.{◌≡◌, ℕ, ◌-◌, ◌<◌, ◌≤◌, Bool, true, false, MatchBool, List, ◌∷◌, length, Option, Some, None, refl, ap, ◌∙◌}
+use Rattle.std.proofs.Common.{◌≡◌, ℕ, ◌-◌, ◌<◌, ◌≤◌, Bool, true, false, MatchBool, List, ◌∷◌, length, Option, Some, None, refl, ap, ◌∙◌, arith}
 use Rattle.json.specs.Token.{Token}
 use Rattle.json.specs.Json as json
 use Rattle.json.specs.Json.{parse_map, after_end_array, read_key, items, members, value}
-use Rattle.json.proofs.Grammar.{value-begin_array, value-begin_object}
+use Rattle.json.proofs.Grammar.{read_key-shorter, value-begin_array, value-begin_object}
 use Rattle.serde_json.specs.Data.{Data, array, object, Items, no_items, item, Members, put}
 use Rattle.serde_json.specs.Read.{of_json, of_items, of_members, converted}
 use Rattle.trace_text.proofs.Turns.{pick, converted_array, converted_object, item_read, item_refused, items_over, member_read, member_refused, key_refused, members_over}
@@ -119,3 +119,29 @@ module _ (depth n : ℕ) (ts : List Token) (before : Members) where
 
   pub no_member : (k : List ℕ) (s : List Token) (all : Option (Members × List Token)) → all ≡ members_from depth before n ts → read_key ts ≡ Some (Some k, s) → data_at depth s ≡ None → all ≡ None
   no_member k s all same key none = same ∙ member_refused (value depth) before n k ts s key none
+
+-- ---- a walk over the members of an object
+
+-- the members so far were read as this, of the tokens from `start` on; these are left
+abbrev pub Walked : {S : Type 0} → ℕ → (Members → S) → S → List Token → List Token → Type 0
+Walked depth seen now start left =
+    (n : ℕ) × (length left ≤ n) × (ms : Members) × (seen ms ≡ now) × (members_at depth start ≡ members_from depth ms n left) × (length left ≤ length start)
+
+module _ {S : Type 0} (depth : ℕ) (seen : Members → S) (start left : List Token) where
+  pub walk_on : (step : S → List ℕ → Data → S) (law : (k : List ℕ) (d : Data) (ms : Members) → seen (put k d ms) ≡ step (seen ms) k d) (k : List ℕ) (s r : List Token) (old new : S)
+      → Walked depth seen old start left → read_key left ≡ Some (Some k, s) → parse_map (step old k) (data_at depth s) ≡ Some (new, r) → length r < length s → Walked depth seen new start r
+  walk_on step law k s r old new walked key there lesser =
+      let less = read_key-shorter left (Some k) s key in
+      let within = walked.1 in
+      let before = walked.5 in
+      let more = member_turn depth walked.0 left walked.2 seen step law k s r old new (omega (arith, within, less)) key walked.3 there in
+      (walked.0 - 1, omega (arith, within, less, lesser), more.0, more.1, walked.4 ∙ more.2, omega (arith, before, less, lesser))
+
+  pub walk_done : (r : List Token) (now : S) → Walked depth seen now start left → read_key left ≡ Some (None, r) → parse_map seen (members_at depth start) ≡ Some (now, r)
+  walk_done r now walked over = members_done depth walked.0 left walked.2 seen r now (members_at depth start) walked.1 over walked.3 walked.4
+
+  pub walk_without_key : (now : S) → Walked depth seen now start left → read_key left ≡ None → members_at depth start ≡ None
+  walk_without_key now walked none = no_key depth walked.0 left walked.2 (members_at depth start) walked.4 none
+
+  pub walk_refused : (now : S) (k : List ℕ) (s : List Token) → Walked depth seen now start left → read_key left ≡ Some (Some k, s) → data_at depth s ≡ None → members_at depth start ≡ None
+  walk_refused now k s walked key none = no_member depth walked.0 left walked.2 k s (members_at depth start) walked.4 key none

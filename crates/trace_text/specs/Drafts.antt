@@ -1,6 +1,6 @@
 -- What was read so far of an entry, of a list of entries and of the whole, wherever it lies in memory.
 use Rattle.std.specs.Prelude.{List, length, Option, Some, None, option_and_then, if◌then◌else◌, Result, Ok, Err}
-use Rattle.trace_text.specs.declared.fault.Spot.{Spot}
+use Rattle.trace_text.specs.declared.fault.Location.{Location}
 use Rattle.trace_text.specs.declared.stream.Draft.{Draft}
 use Rattle.trace_text.specs.declared.stream.Entries.{Entries}
 use Rattle.trace_text.specs.declared.stream.Histories.{Histories}
@@ -12,9 +12,9 @@ abbrev pub drafted_by : Draft → Drafted
 drafted_by d = (fields_by d.fields, if d.has_sent then Some d.sent.items else None)
 
 -- what was read, unless an entry was bad
-abbrev pub unless_bad : {A : Type 0} → Option Spot → List A → Result (List A) (Option Spot)
+abbrev pub unless_bad : {A : Type 0} → Option Location → List A → Result (List A) (Option Location)
 unless_bad None read = Ok read
-unless_bad (Some spot) read = Err (Some spot)
+unless_bad (Some location) read = Err (Some location)
 
 abbrev pub listed_by : Entries → Listed
 listed_by e = unless_bad e.bad e.history

@@ -15,8 +15,8 @@ use Rattle.node_core.specs.declared.event.Event.{Event}
 use Rattle.node_core.specs.declared.event.Event.TheVariants as on
 use Rattle.node_core.specs.declared.timer.Timer.{Timer}
 use Rattle.node_core.specs.TimerWords.{timer_named}
-use Rattle.trace_check.specs.declared.trace.Deed.{Deed}
-use Rattle.trace_check.specs.declared.trace.Deed.TheVariants as deed
+use Rattle.trace_check.specs.declared.trace.TraceAction.{TraceAction}
+use Rattle.trace_check.specs.declared.trace.TraceAction.TheVariants as deed
 use Rattle.trace_check.specs.declared.trace.RecoverFault.TheVariants as recover
 use Rattle.trace_check.specs.Claims.{Claim}
 
@@ -92,35 +92,35 @@ abbrev pub device_in : Option Data → Option Bool
 device_in None = Some false
 device_in (Some d) = option_and_then (λ (text : List ℕ). if bytes_eq text (codes "device") then Some true else None) (as_str d)
 
-abbrev pub done_in : Event → Bool → Deed
+abbrev pub done_in : Event → Bool → TraceAction
 done_in event true = deed.Faulted event
 done_in event false = deed.Done event
 
-abbrev pub failed_in : Bool → Option (List ℕ) → Option Deed
+abbrev pub failed_in : Bool → Option (List ℕ) → Option TraceAction
 failed_in kept None = None
 failed_in kept (Some text) =
     if bytes_eq text (codes "mount") then Some (deed.NotRecovered kept recover.Mount) else
     if bytes_eq text (codes "raise") then Some (deed.NotRecovered kept recover.Raise) else None
 
-abbrev pub recovered_in : Bool → Option Data → Option Deed
+abbrev pub recovered_in : Bool → Option Data → Option TraceAction
 recovered_in kept None = Some (deed.Recovered kept)
 recovered_in kept (Some d) = failed_in kept (as_str d)
 
-abbrev pub recover_in : FieldData → Option Deed
+abbrev pub recover_in : FieldData → Option TraceAction
 recover_in f = option_and_then (λ (kept : Bool). recovered_in kept f.fault) (option_and_then as_bool f.kept)
 
-abbrev pub deed_named : FieldData → List ℕ → Option Deed
+abbrev pub deed_named : FieldData → List ℕ → Option TraceAction
 deed_named f name =
     if bytes_eq name (codes "none") then Some deed.Nothing else
     if bytes_eq name (codes "crash") then Some deed.Crashed else
     if bytes_eq name (codes "recover") then recover_in f else
     option_and_then (λ (event : Event). option_map (λ (failed : Bool). done_in event failed) (device_in f.fault)) (event_in f name)
 
-abbrev pub deed_in : FieldData → Option Deed
+abbrev pub deed_in : FieldData → Option TraceAction
 deed_in f = option_and_then (deed_named f) (option_and_then as_str f.name)
 
 -- the entry; None where a field is missing or wrong
 abbrev pub claim_in : Data → Option Claim
 claim_in d =
-    option_and_then (λ (done : Deed). option_map (λ (sent : List Envelope). record { deed = done; sent = sent }) (option_and_then messages_in (option_and_then as_array (get (codes "sent") d))))
+    option_and_then (λ (done : TraceAction). option_map (λ (sent : List Envelope). record { deed = done; sent = sent }) (option_and_then messages_in (option_and_then as_array (get (codes "sent") d))))
     (deed_in (fields_in d))

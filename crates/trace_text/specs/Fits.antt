@@ -8,8 +8,8 @@ use Rattle.wire_msg.specs.Spelling.{AreBytes, IsMessage}
 use Rattle.node_core.specs.declared.event.Event.{Event}
 use Rattle.node_core.specs.declared.event.Event.TheVariants as on
 use Rattle.histories.specs.Lists.{Each}
-use Rattle.trace_check.specs.declared.trace.Deed.{Deed}
-use Rattle.trace_check.specs.declared.trace.Deed.TheVariants as deed
+use Rattle.trace_check.specs.declared.trace.TraceAction.{TraceAction}
+use Rattle.trace_check.specs.declared.trace.TraceAction.TheVariants as deed
 use Rattle.trace_check.specs.Claims.{Claim}
 use Rattle.trace_text.specs.declared.fault.WriteFault.{WriteFault}
 use Rattle.trace_text.specs.declared.fault.WriteFault.TheVariants.{NoMemory, Unwritable}
@@ -29,7 +29,7 @@ EventFits (on.Submit work) = WorkFits work
 EventFits (on.Finish origin id) = (origin < NODES) × (id < 2 ^ 64)
 EventFits on.Recover = ⊤
 
-abbrev pub DeedFits : Deed → Type 0
+abbrev pub DeedFits : TraceAction → Type 0
 DeedFits deed.Nothing = ⊤
 DeedFits (deed.Done event) = EventFits event
 DeedFits (deed.Faulted event) = EventFits event
@@ -49,7 +49,7 @@ abbrev pub IsNamed : Event → Type 0
 IsNamed on.Recover = ⊥
 IsNamed event = ⊤
 
-abbrev pub HasName : Deed → Type 0
+abbrev pub HasName : TraceAction → Type 0
 HasName (deed.Done event) = IsNamed event
 HasName (deed.Faulted event) = IsNamed event
 HasName d = ⊤

@@ -3,8 +3,8 @@ use Rattle.std.specs.Prelude.{◌≡◌, Bool, true, false, Option, Some, None, 
 use Rattle.node_core.specs.declared.event.Event.{Event}
 use Rattle.trace_text.specs.Fields.{FieldData}
 use Rattle.trace_text.specs.Entries.{done_in, device_in}
-use Rattle.trace_check.specs.declared.trace.Deed.{Deed}
-use Rattle.trace_check.specs.declared.trace.Deed.TheVariants as deed
+use Rattle.trace_check.specs.declared.trace.TraceAction.{TraceAction}
+use Rattle.trace_check.specs.declared.trace.TraceAction.TheVariants as deed
 use Rattle.trace_check.specs.declared.trace.RecoverFault.{RecoverFault}
 
 -- what is to be read is there now, or there is nothing to be read
@@ -13,13 +13,13 @@ IsRead true new is = is ≡ Some new
 IsRead false new is = is ≡ None
 
 -- whether the command in doubt was kept, and how the recovery failed
-abbrev pub recovery_said : Bool × Option RecoverFault → Deed
+abbrev pub recovery_said : Bool × Option RecoverFault → TraceAction
 recovery_said r = said r.0 r.1
   where
-    said : Bool → Option RecoverFault → Deed
+    said : Bool → Option RecoverFault → TraceAction
     said kept None = deed.Recovered kept
     said kept (Some fault) = deed.NotRecovered kept fault
 
 -- the event was handled, or the device failed in it
-abbrev pub with_device : FieldData → Option Event → Option Deed
+abbrev pub with_device : FieldData → Option Event → Option TraceAction
 with_device f event = option_and_then (λ (e : Event). option_map (λ (failed : Bool). done_in e failed) (device_in f.fault)) event

@@ -9,7 +9,7 @@ use Rattle.serde_json.specs.Read.{of_json, of_items, of_members, converted}
 use Rattle.group_task.specs.declared.node.TheConstants.{NODES}
 use Rattle.wire_msg.specs.Envelope.{Envelope}
 use Rattle.trace_check.specs.Claims.{Claim}
-use Rattle.trace_text.specs.declared.fault.Spot.{Spot}
+use Rattle.trace_text.specs.declared.fault.Location.{Location}
 use Rattle.trace_text.specs.Fields.{FieldData, fields_in, fields_put, plain, plain_fields}
 use Rattle.trace_text.specs.Entries.{number_in, messages_in}
 use Rattle.trace_text.specs.Wholes.{all_lists, count_items, entries_from, histories_from}
@@ -48,13 +48,13 @@ drafted_put s key d = if bytes_eq key (codes "sent") then (s.0, sent_in d) else 
 -- ---- the whole: the number of nodes, and the lists, where all are lists
 
 abbrev pub Listed : Type 0
-Listed = Result (List Claim) (Option Spot)
+Listed = Result (List Claim) (Option Location)
 
 abbrev pub listed_in : ℕ → Data → Option Listed
 listed_in node d = option_map (entries_from node 0) (as_array d)
 
 abbrev pub Judged : Type 0
-Judged = Option (ℕ × Result (List (List Claim)) (Option Spot))
+Judged = Option (ℕ × Result (List (List Claim)) (Option Location))
 
 abbrev pub judged_of : Items → Judged
 judged_of ds = if all_lists ds then Some (count_items ds, histories_from 0 ds) else None
@@ -75,7 +75,7 @@ parted_put s key d =
     if bytes_eq key (codes "histories") then (s.0, judged_in d) else s
 
 -- the trace, or its first bad entry, if there is a list for each node
-abbrev pub shaped : Parted → Result (List (List Claim)) (Option Spot)
+abbrev pub shaped : Parted → Result (List (List Claim)) (Option Location)
 shaped (None, lists) = Err None
 shaped (Some nodes, None) = Err None
 shaped (Some nodes, Some (count, read)) = if nat_lt 0 nodes && (nat_le nodes NODES && (count == nodes)) then read else Err None

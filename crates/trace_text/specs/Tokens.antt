@@ -9,8 +9,8 @@ use Rattle.wire_msg.specs.Envelope.{Envelope}
 use Rattle.wire_msg.specs.Spelling.{spelling}
 use Rattle.node_core.specs.declared.event.Event.{Event}
 use Rattle.node_core.specs.declared.event.Event.TheVariants as on
-use Rattle.trace_check.specs.declared.trace.Deed.{Deed}
-use Rattle.trace_check.specs.declared.trace.Deed.TheVariants as deed
+use Rattle.trace_check.specs.declared.trace.TraceAction.{TraceAction}
+use Rattle.trace_check.specs.declared.trace.TraceAction.TheVariants as deed
 use Rattle.trace_check.specs.Claims.{Claim}
 use Rattle.trace_text.specs.Written.{fault_name, deed_name}
 
@@ -37,7 +37,7 @@ event_tokens (on.Submit work) = work_tokens work
 event_tokens (on.Finish origin id) = token.key (codes "id") ∷ token.number (decimal id) ∷ token.key (codes "origin") ∷ token.number (decimal origin) ∷ []
 event_tokens on.Recover = []
 
-abbrev pub deed_tokens : Deed → List Token
+abbrev pub deed_tokens : TraceAction → List Token
 deed_tokens deed.Nothing = []
 deed_tokens (deed.Done event) = event_tokens event
 deed_tokens (deed.Faulted event) = token.key (codes "fault") ∷ token.string (codes "device") ∷ event_tokens event
@@ -50,7 +50,7 @@ message_tokens [] = []
 message_tokens (m ∷ ms) = token.string (encode_lower (spelling m)) ∷ message_tokens ms
 
 -- an entry up to the messages that it sent, and behind them
-abbrev pub head_tokens : Deed → List Token
+abbrev pub head_tokens : TraceAction → List Token
 head_tokens d = token.begin_object ∷ token.key (codes "do") ∷ token.string (deed_name d) ∷ (deed_tokens d ++ token.key (codes "sent") ∷ token.begin_array ∷ [])
 
 abbrev pub end_tokens : List Token

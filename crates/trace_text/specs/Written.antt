@@ -8,8 +8,8 @@ use Rattle.wire_msg.specs.Spelling.{spelling}
 use Rattle.node_core.specs.declared.event.Event.{Event}
 use Rattle.node_core.specs.declared.event.Event.TheVariants as on
 use Rattle.node_core.specs.TimerWords.{word_of}
-use Rattle.trace_check.specs.declared.trace.Deed.{Deed}
-use Rattle.trace_check.specs.declared.trace.Deed.TheVariants as deed
+use Rattle.trace_check.specs.declared.trace.TraceAction.{TraceAction}
+use Rattle.trace_check.specs.declared.trace.TraceAction.TheVariants as deed
 use Rattle.trace_check.specs.declared.trace.RecoverFault.{RecoverFault}
 use Rattle.trace_check.specs.declared.trace.RecoverFault.TheVariants as recover
 use Rattle.trace_check.specs.Claims.{Claim}
@@ -40,7 +40,7 @@ abbrev pub fault_name : RecoverFault → List ℕ
 fault_name recover.Mount = codes "mount"
 fault_name recover.Raise = codes "raise"
 
-abbrev pub deed_name : Deed → List ℕ
+abbrev pub deed_name : TraceAction → List ℕ
 deed_name deed.Nothing = codes "none"
 deed_name (deed.Done event) = event_name event
 deed_name (deed.Faulted event) = event_name event
@@ -49,7 +49,7 @@ deed_name (deed.Recovered kept) = codes "recover"
 deed_name (deed.NotRecovered kept fault) = codes "recover"
 
 -- the members of a deed but for its name, in front of others
-abbrev pub deed_members : Deed → Members → Members
+abbrev pub deed_members : TraceAction → Members → Members
 deed_members deed.Nothing rest = rest
 deed_members (deed.Done event) rest = event_members event rest
 deed_members (deed.Faulted event) rest = member (codes "fault") (string (codes "device")) (event_members event rest)

@@ -15,7 +15,7 @@ mod values;
 mod writable;
 mod writing;
 
-pub use fault::{Spot, TraceFault, WriteFault};
+pub use fault::{Location, TraceFault, WriteFault};
 pub use ordered::{read_order, write_ordered};
 pub use parts::{begin_items, begin_trace, end_items, end_trace, push_item};
 pub use stream::read;

@@ -14,7 +14,7 @@ use job_model::{Payload, QUEUES, Queue, Work};
 use line_words::is_word;
 use node_core::{Event, Timer};
 use std::alloc::AllocError;
-use trace_check::{Deed, RecoverFault};
+use trace_check::{RecoverFault, TraceAction};
 use wire_msg::{Message, decode_into};
 
 /// The text of a field.
@@ -81,7 +81,7 @@ pub(crate) fn read_deed(
     room: &mut Vec<u8>,
     message: &mut Message,
     fields: &Fields<'_>,
-    deed: &mut Deed,
+    deed: &mut TraceAction,
 ) -> Result<bool, AllocError>
     ensures { IfOk result (λ some. IsRead some deed.new (deed_in (fields_by fields.now))) }
 {
@@ -98,7 +98,7 @@ fn read_named(
     message: &mut Message,
     fields: &Fields<'_>,
     name: &[u8],
-    deed: &mut Deed,
+    deed: &mut TraceAction,
 ) -> Result<bool, AllocError>
     ensures { IfOk result (λ some. IsRead some deed.new (deed_named (fields_by fields.now) name.now)) }
 {
@@ -113,17 +113,17 @@ fn read_other(
     room: &mut Vec<u8>,
     fields: &Fields<'_>,
     name: &[u8],
-    deed: &mut Deed,
+    deed: &mut TraceAction,
 ) -> Result<bool, AllocError>
     requires { bytes_eq name.now (codes "deliver") ≡ false }
     ensures { IfOk result (λ some. IsRead some deed.new (deed_named (fields_by fields.now) name.now)) }
 {
     if is_word(name, "none") {
-        *deed = Deed::Nothing;
+        *deed = TraceAction::Nothing;
         return Ok(true);
     }
     if is_word(name, "crash") {
-        *deed = Deed::Crashed;
+        *deed = TraceAction::Crashed;
         return Ok(true);
     }
     if is_word(name, "recover") {
@@ -139,7 +139,7 @@ fn read_done(
     room: &mut Vec<u8>,
     fields: &Fields<'_>,
     name: &[u8],
-    deed: &mut Deed,
+    deed: &mut TraceAction,
 ) -> Result<bool, AllocError>
     requires { bytes_eq name.now (codes "deliver") ≡ false }
     ensures { IfOk result (λ some. IsRead some deed.new (with_device (fields_by fields.now) (event_in (fields_by fields.now) name.now))) }
@@ -149,8 +149,8 @@ fn read_done(
         return Ok(false);
     }
     match read_device(fields.fault) {
-        Some(true) => *deed = Deed::Faulted(event),
-        Some(false) => *deed = Deed::Done(event),
+        Some(true) => *deed = TraceAction::Faulted(event),
+        Some(false) => *deed = TraceAction::Done(event),
         None => return Ok(false),
     }
     Ok(true)
@@ -171,15 +171,15 @@ fn read_device(fault: Option<Field<'_>>) -> Option<bool>
 }
 
 /// A recovery, in place of another deed.
-fn read_recover(fields: &Fields<'_>, deed: &mut Deed) -> bool
+fn read_recover(fields: &Fields<'_>, deed: &mut TraceAction) -> bool
     ensures { IsRead result deed.new (recover_in (fields_by fields.now)) }
 {
     let Some((kept, fault)) = recovery_of(fields) else {
         return false;
     };
     *deed = match fault {
-        None => Deed::Recovered(kept),
-        Some(fault) => Deed::NotRecovered(kept, fault),
+        None => TraceAction::Recovered(kept),
+        Some(fault) => TraceAction::NotRecovered(kept, fault),
     };
     true
 }
@@ -224,12 +224,13 @@ fn read_event(
     Ok(true)
 }
 
-/// A delivery, in place of another deed: its message is read in the place of another first. False where the fields say none.
+/// A delivery, in place of another deed: its message is read where the last one was delivered, or in the place of another first. False
+/// where the fields say none.
 fn read_deliver(
     room: &mut Vec<u8>,
     message: &mut Message,
     fields: &Fields<'_>,
-    deed: &mut Deed,
+    deed: &mut TraceAction,
 ) -> Result<bool, AllocError>
     ensures { IfOk result (λ some. IsRead some deed.new (with_device (fields_by fields.now) (deliver_in (fields_by fields.now)))) }
 {
@@ -239,13 +240,18 @@ fn read_deliver(
     let Some(field) = fields.message else {
         return Ok(false);
     };
+    if !failed {
+        if let TraceAction::Done(Event::Deliver(delivered)) = deed {
+            return read_message(room, field, delivered);
+        }
+    }
     if !read_message(room, field, message)? {
         return Ok(false);
     }
     *deed = if failed {
-        Deed::Faulted(Event::Deliver(*message))
+        TraceAction::Faulted(Event::Deliver(*message))
     } else {
-        Deed::Done(Event::Deliver(*message))
+        TraceAction::Done(Event::Deliver(*message))
     };
     Ok(true)
 }

@@ -14,7 +14,7 @@ ghost use Rattle.trace_text.specs.Drafts.{drafted_by, judged_by, listed_by, part
 ghost use Rattle.trace_text.specs.Streams.{data_at, drafted_in, drafted_put, items_at, judged_in, judged_of, listed_in, members_at, parted_in, parted_put, sent_in, shaped};
 ghost use Rattle.trace_text.specs.Wholes.{IsFaultOf, entries_from, in_shape, shape_in, trace_of};
 
-use crate::fault::{Spot, TraceFault};
+use crate::fault::{Location, TraceFault};
 use crate::fields::Fields;
 use crate::reading::{read_deed, read_message};
 use crate::values::{open_list, open_object, read_field};
@@ -23,7 +23,7 @@ use json::{Invalid, Reader, Scratch};
 use line_words::is_word;
 use std::alloc::{AllocError, Global};
 use std::str;
-use trace_check::{Deed, History, Trace};
+use trace_check::{History, Trace, TraceAction};
 use wire_msg::Message;
 
 /// Why the reading stopped.
@@ -66,7 +66,7 @@ pub struct Draft<'a> {
     /// The bytes of a text of hex digits, and the message that they spell.
     pub room: Vec<u8>,
     pub message: Message,
-    pub deed: Deed,
+    pub deed: TraceAction,
 }
 
 /// The entries of a list, as far as they were read.
@@ -74,7 +74,7 @@ pub struct Draft<'a> {
 pub struct Entries {
     pub history: History,
     /// The first bad one: behind it the history counts for nothing.
-    pub bad: Option<Spot>,
+    pub bad: Option<Location>,
 }
 
 /// The lists of entries, as far as they were read.
@@ -84,7 +84,7 @@ pub struct Histories {
     pub all_lists: bool,
     pub histories: Vec<History>,
     /// The first bad entry.
-    pub bad: Option<Spot>,
+    pub bad: Option<Location>,
 }
 
 /// The whole, as far as it was read.
@@ -98,7 +98,7 @@ pub struct Parts {
 pub fn read(alloc: Global, text: &[u8]) -> Result<Trace, TraceFault>
     // Promise: A text is read as the trace that the definitions see in it, and refused exactly where they see none, with the place.
     // Refuses: always_empty_trace, last_bad_entry_named, other_fault_passed_over, raise_read_as_mount, nodes_not_counted,
-    // messages_of_the_entry_before.
+    // messages_of_the_entry_before, delivery_read_as_failed.
     ensures ok { IfOk result (λ trace. trace_of text.now ≡ Ok trace) }
     ensures err { IfErr result (IsFaultOf (trace_of text.now)) }
 {
@@ -137,7 +137,7 @@ fn judge(parts: Parts) -> Result<Trace, TraceFault>
         return Err(TraceFault::BadTrace(None));
     }
     match read.bad {
-        Some(spot) => Err(TraceFault::BadTrace(Some(spot))),
+        Some(location) => Err(TraceFault::BadTrace(Some(location))),
         None => Ok(Trace::new(read.histories)),
     }
 }
@@ -221,7 +221,7 @@ fn read_lists(alloc: Global, reader: &mut Reader<'_>) -> Result<Histories, Halt>
         sent: Vec::new(alloc),
         room: Vec::new(alloc),
         message: Message::blank(),
-        deed: Deed::Nothing,
+        deed: TraceAction::Nothing,
     };
     let mut all_lists = true;
     let mut histories = Vec::new(alloc);
@@ -244,7 +244,7 @@ fn read_lists(alloc: Global, reader: &mut Reader<'_>) -> Result<Histories, Halt>
 }
 
 /// The first of two places, if there is one.
-fn first(place: Option<Spot>, later: Option<Spot>) -> Option<Spot>
+fn first(place: Option<Location>, later: Option<Location>) -> Option<Location>
     ensures { result ≡ option_or place later }
 {
     match place {
@@ -287,7 +287,7 @@ fn read_entries<'a>(
     'entries: while !reader.take_end_array() {
         let index = history.len();
         if !read_entry(reader, draft, &mut history)? {
-            bad = first(bad, Some(Spot { node, index }));
+            bad = first(bad, Some(Location { node, index }));
         }
     }
     Ok(Entries { history, bad })

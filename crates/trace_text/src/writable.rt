@@ -5,7 +5,7 @@ ghost use Rattle.trace_check.specs.Claims.{Claim};
 ghost use Rattle.trace_text.specs.Fits.{AreNamed, HasName, IsWritable};
 
 use node_core::Event;
-use trace_check::{Deed, History, Trace};
+use trace_check::{History, Trace, TraceAction};
 
 /// Whether a trace has a node, and a name for each of its entries.
 pub(crate) fn is_writable(trace: &Trace) -> bool
@@ -39,11 +39,11 @@ fn is_named(history: &History) -> bool
     true
 }
 
-fn has_name(deed: &Deed) -> bool
+fn has_name(deed: &TraceAction) -> bool
     ensures { IsTrue result ↔ HasName deed.now }
 {
     match deed {
-        Deed::Done(Event::Recover) | Deed::Faulted(Event::Recover) => false,
+        TraceAction::Done(Event::Recover) | TraceAction::Faulted(Event::Recover) => false,
         _ => true,
     }
 }

@@ -18,7 +18,7 @@ use job_model::Work;
 use json::Writer;
 use node_core::Event;
 use std::alloc::{AllocError, Global};
-use trace_check::{Deed, EntryView, History, RecoverFault, Sent, Trace};
+use trace_check::{EntryView, History, RecoverFault, Sent, Trace, TraceAction};
 use wire_msg::{Message, encode};
 
 /// The text of a trace: the compact text of its JSON value, in which the members of an object stand in the order of their keys.
@@ -130,7 +130,7 @@ fn write_entry(alloc: Global, out: &mut Writer, entry: &EntryView<'_>) -> Result
 }
 
 /// Begins an entry: the messages that it sent follow.
-pub fn begin_entry(alloc: Global, out: &mut Writer, deed: &Deed) -> Result<(), AllocError>
+pub fn begin_entry(alloc: Global, out: &mut Writer, deed: &TraceAction) -> Result<(), AllocError>
     ensures text { OnOk result (Adds out.old out.new (head_tokens deed.now)) }
     ensures fits { OnOk result (DeedFits deed.now) }
 {
@@ -141,9 +141,9 @@ pub fn begin_entry(alloc: Global, out: &mut Writer, deed: &Deed) -> Result<(), A
     begin_list(out, "sent")
 }
 
-/// Begins the entry of an event that was handled, as [`begin_entry`] does, without a [`Deed`] that holds it.
+/// Begins the entry of an event that was handled, as [`begin_entry`] does, without a [`TraceAction`] that holds it.
 pub fn begin_handled(alloc: Global, out: &mut Writer, event: &Event) -> Result<(), AllocError>
-    ensures text { OnOk result (Adds out.old out.new (head_tokens (Deed.Done event.now))) }
+    ensures text { OnOk result (Adds out.old out.new (head_tokens (TraceAction.Done event.now))) }
     ensures fits { OnOk result (EventFits event.now) }
 {
     out.begin_object()?;
@@ -162,16 +162,16 @@ pub fn end_entry(out: &mut Writer) -> Result<(), AllocError>
 }
 
 /// The name of a deed, as an entry has it.
-pub fn deed_name(deed: &Deed) -> &'static str
+pub fn deed_name(deed: &TraceAction) -> &'static str
     ensures { result.now ≡ deed_name deed.now }
 {
     match deed {
-        Deed::Nothing => "none",
-        Deed::Done(event) => event_name(event),
-        Deed::Faulted(event) => event_name(event),
-        Deed::Crashed => "crash",
-        Deed::Recovered(_) => "recover",
-        Deed::NotRecovered(_, _) => "recover",
+        TraceAction::Nothing => "none",
+        TraceAction::Done(event) => event_name(event),
+        TraceAction::Faulted(event) => event_name(event),
+        TraceAction::Crashed => "crash",
+        TraceAction::Recovered(_) => "recover",
+        TraceAction::NotRecovered(_, _) => "recover",
     }
 }
 
@@ -189,19 +189,19 @@ fn event_name(event: &Event) -> &'static str
 
 #[tactic(auto, using(crate::proofs::Printing::ok_then))]
 /// Writes the fields that a deed names, but for its own name.
-fn write_deed(alloc: Global, out: &mut Writer, deed: &Deed) -> Result<(), AllocError>
+fn write_deed(alloc: Global, out: &mut Writer, deed: &TraceAction) -> Result<(), AllocError>
     ensures text { OnOk result (Adds out.old out.new (deed_tokens deed.now)) }
     ensures fits { OnOk result (DeedFits deed.now) }
 {
     match deed {
-        Deed::Nothing | Deed::Crashed => Ok(()),
-        Deed::Done(event) => write_event(alloc, out, event),
-        Deed::Faulted(event) => {
+        TraceAction::Nothing | TraceAction::Crashed => Ok(()),
+        TraceAction::Done(event) => write_event(alloc, out, event),
+        TraceAction::Faulted(event) => {
             write_fault(out, "device")?;
             write_event(alloc, out, event)
         }
-        Deed::Recovered(kept) => write_kept(out, *kept),
-        Deed::NotRecovered(kept, fault) => {
+        TraceAction::Recovered(kept) => write_kept(out, *kept),
+        TraceAction::NotRecovered(kept, fault) => {
             write_fault(out, fault_name(*fault))?;
             write_kept(out, *kept)
         }
@@ -225,7 +225,7 @@ fn fault_name(fault: RecoverFault) -> &'static str
 }
 
 fn write_kept(out: &mut Writer, kept: bool) -> Result<(), AllocError>
-    ensures { OnOk result (Adds out.old out.new (deed_tokens (Deed.Recovered kept))) }
+    ensures { OnOk result (Adds out.old out.new (deed_tokens (TraceAction.Recovered kept))) }
 {
     out.key("kept")?;
     out.boolean(kept)

@@ -24,11 +24,11 @@ returns-clause-came c =
     let came = c.in-Ok.came in
     let first : c.len-first.result ≡ length net.sent = c.len-first.ensures ∙ (λ i. length (c.sent.ensures i)) ∙ (λ i. length (c.reserve.ensures.network i).sent) in
     comes_by c.args.event.now c.args.node.now c.forget_written.new.node net c.send_all.new.net.network came _ c.step.ensures.counts.was_there (leaves_all c).1 refl refl refl (c.is_mounting.ensures c.args.event.now)
-    (c.outcome_of.ensures ∙ ap (λ (n : ℕ). came_outcome came.fate n came) first)
+    (c.outcome_of.ensures ∙ ap (λ (n : ℕ). came_outcome came.event_outcome n came) first)
     (c.send_all.ensures ∙ (λ i. after_all_sent (c.reserve.ensures.network i) (c.deref.ensures.value i)))
 
 pub returns-clause-counted : goal.returns-clause-counted
-returns-clause-counted c = rw c.outcome_of.ensures (came_counted c.args.node.now.disk c.forget_written.new.node.disk c.in-Ok.came c.len-first.result c.in-Ok.came.fate (leaves_all c).2)
+returns-clause-counted c = rw c.outcome_of.ensures (came_counted c.args.node.now.disk c.forget_written.new.node.disk c.in-Ok.came c.len-first.result c.in-Ok.came.event_outcome (leaves_all c).2)
 
 -- what the node says of its disk
 shows_all : (c : goal.After-drop-came) → Shows c.args.node.now
@@ -38,7 +38,7 @@ shows_all c = record {
   number = λ d area on at. c.shows_its_disk.ensures.number d area on at refl;
 }
 
-answered_all : (c : goal.After-drop-came) (s : NodeState) → Stands state_of c.args.node.now s → IsAnswered c.args.node.now c.args.event.now (came_outcome c.in-Ok.came.fate c.len-first.result c.in-Ok.came)
+answered_all : (c : goal.After-drop-came) (s : NodeState) → Stands state_of c.args.node.now s → IsAnswered c.args.node.now c.args.event.now (came_outcome c.in-Ok.came.event_outcome c.len-first.result c.in-Ok.came)
 answered_all c s stands =
     answered_so c.args.node.now c.forget_written.new.node c.args.event.now c.in-Ok.came c.len-first.result s (some_of c.args.node.now.disk c.step.ensures.counts.was_there) (leaves_all c).1 c.in-Ok.ensures.answers
     c.shows_its_disk.ensures.down c.ids_fit.ensures stands

@@ -1,15 +1,10 @@
-use Rattle.std.proofs.Common.{◌≡◌, sym, ◌∙◌, refl, rules}
+use Rattle.std.proofs.Common.{◌≡◌, sym, ◌∙◌, refl, rules, arith}
 use Rattle.durable_node.specs.declared.node_disk.NodeDisk.TheVariants.{Mounted}
 use Rattle.durable_node.specs.Faults.{answered}
 use Rattle.durable_node.proofs.AreaLaws.{area_goes_on}
 use Rattle.durable_node.proofs.Nodes.{counts_of, node_over, over, served, served_stuck}
 use Rattle.durable_node.proofs.Serves.{serves}
 use Rattle.durable_node.proofs.advance.advance.Goals as goal
-
-pub returns-in_default-clause-mounted : goal.returns-in_default-clause-mounted
-returns-in_default-clause-mounted g c = λ _ on.
-    let same : c.in_default.disk ≡ c.args.disk.now = search rules in
-    rw same at (c.while_down.ensures.mounted on)
 
 pub handle-requires : goal.handle-requires
 handle-requires g c =
@@ -24,42 +19,27 @@ returns-in-Mounted-clause-node g c =
     node_over g.D.SectorDisk.state c.args.id c.args.nodes c.args.core.now c.handle.new.core (Mounted store) node e.core store c.handle.new.store _ (node.slots store refl) e.store
     (served c.args.id c.args.nodes c.args.core.now c.handle.new.core store c.handle.new.store c.args.doubt.now c.handle.new.doubt c.args.event.now c.handle.result up (node.up up) e.what e.stuck)
 
-pub returns-in-Mounted-clause-step : goal.returns-in-Mounted-clause-step
-returns-in-Mounted-clause-step g c =
+pub returns-in_default-clause-call : goal.returns-in_default-clause-call
+returns-in_default-clause-call g c =
+    let same : c.in_default.disk ≡ c.args.disk.now = search rules in
+    rw same at c.while_down.ensures.call
+
+pub returns-in-Mounted-clause-call : goal.returns-in-Mounted-clause-call
+returns-in-Mounted-clause-call g c =
     let e = c.handle.ensures in
     let store = c.in-Mounted.store in
     let up = sym c.is_down.ensures ∙ c.if-not-is_down.true in
     let node = rw c.in-Mounted.is at c.requires.node in
-    rw c.in-Mounted.is (serves g.D.SectorDisk.state c.args.id c.args.nodes c.args.core.now c.handle.new.core store c.handle.new.store c.args.doubt.now c.handle.new.doubt c.args.event.now
-    up (node.slots store refl) _ e.store c.args.mounted.now c.handle.result e.what e.tried e.disk)
-
-pub returns-in-Mounted-clause-stuck : goal.returns-in-Mounted-clause-stuck
-returns-in-Mounted-clause-stuck g c =
-    let e = c.handle.ensures in
-    rw c.in-Mounted.is (served_stuck c.args.id c.args.nodes c.args.core.now c.handle.new.core c.in-Mounted.store c.handle.new.store c.args.doubt.now c.handle.new.doubt g.D.SectorDisk.state c.args.mounted.now
-    c.args.event.now c.handle.result e.stuck (sym c.is_down.ensures ∙ c.if-not-is_down.true) e.spares)
-
-pub returns-in_default-clause-area : goal.returns-in_default-clause-area
-returns-in_default-clause-area g c =
-    let same : c.in_default.disk ≡ c.args.disk.now = search rules in
-    rw same at c.while_down.ensures.area
-
-pub returns-in_default-clause-counts : goal.returns-in_default-clause-counts
-returns-in_default-clause-counts g c =
-    let same : c.in_default.disk ≡ c.args.disk.now = search rules in
-    rw same at c.while_down.ensures.counts
-
-pub returns-in-Mounted-clause-counts : goal.returns-in-Mounted-clause-counts
-returns-in-Mounted-clause-counts g c =
-    let e = c.handle.ensures.store in
-    let up = sym c.is_down.ensures ∙ c.if-not-is_down.true in
-    let node = rw c.in-Mounted.is at c.requires.node in
-    rw c.in-Mounted.is (counts_of g.D.SectorDisk.state c.in-Mounted.store.disk c.handle.new.store.disk (answered c.handle.result) e.counts (e.rises (node.up up)))
-
-pub returns-in-Mounted-clause-area : goal.returns-in-Mounted-clause-area
-returns-in-Mounted-clause-area g c =
-    let e = c.handle.ensures in
-    let store = c.in-Mounted.store in
-    let up = sym c.is_down.ensures ∙ c.if-not-is_down.true in
-    rw c.in-Mounted.is (area_goes_on c.args.id c.args.nodes c.args.core.now c.handle.new.core store c.handle.new.store c.args.doubt.now c.handle.new.doubt c.args.mounted.now c.args.event.now up
-    g.D.SectorDisk.state c.handle.result e.what e.stuck e.area e.disk)
+    record {
+      step = rw c.in-Mounted.is (serves g.D.SectorDisk.state c.args.id c.args.nodes c.args.core.now c.handle.new.core store c.handle.new.store c.args.doubt.now c.handle.new.doubt c.args.event.now
+          up (node.slots store refl) _ e.store c.args.mounted.now c.handle.result e.what e.tried e.disk);
+      stuck = rw c.in-Mounted.is (served_stuck c.args.id c.args.nodes c.args.core.now c.handle.new.core store c.handle.new.store c.args.doubt.now c.handle.new.doubt g.D.SectorDisk.state c.args.mounted.now
+          c.args.event.now c.handle.result e.stuck up e.spares);
+      answers = grind arith;
+      counts = rw c.in-Mounted.is (counts_of g.D.SectorDisk.state store.disk c.handle.new.store.disk (answered c.handle.result) e.store.counts (e.store.rises (node.up up)));
+      area = rw c.in-Mounted.is (area_goes_on c.args.id c.args.nodes c.args.core.now c.handle.new.core store c.handle.new.store c.args.doubt.now c.handle.new.doubt c.args.mounted.now c.args.event.now up
+          g.D.SectorDisk.state c.handle.result e.what e.stuck e.area e.disk);
+      mounting = grind arith;
+      mounted = grind arith;
+      few = grind arith;
+    }

@@ -7,7 +7,7 @@ use Rattle.durable_node.proofs.Turned.{same_fault, turned_as, wanted_so}
 use Rattle.durable_node.proofs.handle.handle.Goals as goal
 
 pub returns-in-Err-clause-disk : goal.returns-in-Err-clause-disk
-returns-in-Err-clause-disk g c = unwritten g.D.SectorDisk.state c.args.store.now _ _ (g.met.D.SectorDisk.laws c.args.store.now.disk) (λ ok. (let failed = rw c.silent.ensures.fate at ok in absurd cc))
+returns-in-Err-clause-disk g c = unwritten g.D.SectorDisk.state c.args.store.now _ _ (g.met.D.SectorDisk.laws c.args.store.now.disk) (λ ok. (let failed = rw c.silent.ensures.event_outcome at ok in absurd cc))
 
 pub returns-in-Err-NoMemory-clause-disk : goal.returns-in-Err-NoMemory-clause-disk
 returns-in-Err-NoMemory-clause-disk g c = unwritten g.D.SectorDisk.state c.args.store.now _ _ (g.met.D.SectorDisk.laws c.args.store.now.disk) (λ ok. absurd cc)
@@ -21,7 +21,7 @@ returns-then-not-is_device-clause-what g c =
     let cant = rw wants at carried.1 in
     let turned = turned_as a.store.now.journal.slots a.nodes a.id a.core.now.state (durable_of a.store.now) a.event.now c.in-Err-carry.fault c.refusal.result
     (rw (of.nodes, of.id) at c.in-Ok.ensures.done) cant ((rw (carried.0, wants) at c.refusal.ensures) _ cant) in
-    rw c.silent-then-not-is_device.ensures.fate
+    rw c.silent-then-not-is_device.ensures.event_outcome
     (turned, c.silent-then-not-is_device.ensures.silent, record { same_state = ap (λ (k : Core). k.state) c.planned.ensures.kept; same_store = carried.0; same_doubt = refl })
 
 pub returns-then-not-is_device-clause-answers : goal.returns-then-not-is_device-clause-answers
@@ -31,4 +31,4 @@ returns-then-not-is_device-clause-answers g c =
     let wants = wanted_so _ _ a.core.now c.planned.new.core a.id a.event.now c.table.result.now a.store.now.journal.table c.wanted-wants.ensures c.in-Ok.ensures.plan.wants_is c.planned.ensures.kept of.id c.table.ensures in
     let carried = c.in-Err-carry.ensures.refused (λ e. clash c.is_device.result (c.is_device.ensures.1 e) c.if-not-is_device.true) in
     let so = (rw carried.0 at c.refusal.ensures) _ carried.1 in
-    rw (c.silent-then-not-is_device.ensures.fate, so, ← carried.1.is_shown, rw (of.nodes, of.id) at c.in-Ok.ensures.done, ← wants) (inr (same_fault _ _ _ c.in-Err-carry.fault c.in-Err-carry.ensures.answers))
+    rw (c.silent-then-not-is_device.ensures.event_outcome, so, ← carried.1.is_shown, rw (of.nodes, of.id) at c.in-Ok.ensures.done, ← wants) (inr (same_fault _ _ _ c.in-Err-carry.fault c.in-Err-carry.ensures.answers))

@@ -13,9 +13,9 @@ returns-clause-fresh c =
     let ok = c.is_err.ensures.negation ∙ ap not c.if-is_err.false in
     let blank : length c.in_ok-disk.disk.contents ≡ 8 + 4 * c.args.slots = ap (λ (m : Memory). length m.contents) c.in_ok-disk.ensures ∙ length-replicate _ _ ∙ c.sectors_for.ensures in
     rw (c.shrink_to_fit.ensures, c.forget.ensures) (record {
-      enough = omega (arith, e.counts.sectors, blank, c.requires.least);
-      unfailed = e.counts.unchanged (ok_not c.format.result _ ok) ∙ ap (λ (m : Memory). m.failures) c.in_ok-disk.ensures;
-      formatted = rw e.counts.sectors (e.formatted refl ok);
+      enough = omega (arith, e.makes.counts.sectors, blank, c.requires.least);
+      unfailed = e.makes.counts.unchanged (ok_not c.format.result _ ok) ∙ ap (λ (m : Memory). m.failures) c.in_ok-disk.ensures;
+      formatted = rw e.makes.counts.sectors (e.formatted refl ok);
       number = λ image number is at. (let one : number ≡ 1 = cc (at, (e.journal refl ok image is).area) in omega (arith, one));
-      sound = rw e.counts.sectors (e.sound refl ok);
+      sound = rw e.makes.counts.sectors (e.sound refl ok);
     })

@@ -2,9 +2,11 @@ use Rattle.std.proofs.Common.{Some, Ok, ℕ, ◌+◌, ◌<◌, ◌≤◌, arith,
 use Rattle.node_store.specs.Store.{slots_for, durable_of}
 use Rattle.durable_node.specs.declared.node_disk.NodeDisk.TheVariants.{Mounted}
 use Rattle.durable_node.specs.Reading.{IsRead}
-use Rattle.durable_node.specs.Node.{node_with}
+use Rattle.node_core.specs.State.{is_down}
+use Rattle.durable_node.specs.Node.{node_with, store_in}
 use Rattle.durable_node.specs.Faults.{answered}
 use Rattle.durable_node.proofs.AnyDisk.{unmounted_at, remounted_at}
+use Rattle.durable_node.proofs.AreaLaws.{area_hidden}
 use Rattle.durable_node.proofs.Mounts.{quiet_rises, rises_behind}
 use Rattle.durable_node.proofs.Nodes.{counts_of, node_bare, node_over, risen}
 use Rattle.durable_node.proofs.Parts.{at_both}
@@ -22,33 +24,28 @@ returns-in-Err-clause-node g c =
     node_bare g.D.SectorDisk.state c.args.id c.args.nodes c.args.core.now c.args.core.now c.args.disk.now node (record { id = node.core_id; nodes = node.core_nodes }) c.in-Err.refused.disk
     (node.fallen c.requires.down) (rw e.counts.sectors (e.sound (node.sound c.take.result c.take.ensures.disk)))
 
-pub returns-in-Err-clause-step : goal.returns-in-Err-clause-step
-returns-in-Err-clause-step g c =
-    let e = c.unmounted.ensures in
-    mount_fails g.D.SectorDisk.state c.args.id c.args.nodes c.args.core.now c.args.disk.now c.take.result c.in-Err.refused.disk c.args.doubt.now c.args.mounted.now c.take.ensures.disk
-    (c.requires.node.fallen c.requires.down) _ _ c.in-Err.ensures.counts c.in-Err.ensures.run c.node_fault.result c.unmounted.result e.what e.quiet e.tried
-
-pub returns-in-Err-clause-stuck : goal.returns-in-Err-clause-stuck
-returns-in-Err-clause-stuck g c =
+pub returns-in-Err-clause-call : goal.returns-in-Err-clause-call
+returns-in-Err-clause-call g c =
+    let state = g.D.SectorDisk.state in
+    let a = c.args in
+    let disk = c.in-Err.refused.disk in
+    let fallen = c.requires.node.fallen c.requires.down in
     let e = c.in-Err.ensures in
-    stuck g.D.SectorDisk.state c.args.id c.args.nodes c.args.core.now c.args.disk.now c.take.result c.in-Err.refused.disk c.args.doubt.now c.args.mounted.now c.take.ensures.disk
-    (c.requires.node.fallen c.requires.down) c.in-Err.refused.fault e.no_other e.mounts e.untouched c.node_fault.result c.node_fault.ensures c.unmounted.result c.unmounted.ensures.stuck
-
-pub returns-in-Err-clause-mounting : goal.returns-in-Err-clause-mounting
-returns-in-Err-clause-mounting g c = rw (c.unmounted.ensures.answered, c.node_fault.ensures)
-    (unmounted_at c.args.id c.args.nodes c.args.core.now c.args.disk.now c.in-Err.refused.disk c.args.doubt.now c.args.mounted.now c.in-Err.refused.fault c.in-Err.ensures.no_other)
-
-pub returns-in-Err-clause-counts : goal.returns-in-Err-clause-counts
-returns-in-Err-clause-counts g c =
-    let e = c.in-Err.ensures in
-    rw c.take.ensures.disk (counts_of g.D.SectorDisk.state c.take.result c.in-Err.refused.disk (answered c.unmounted.result) (search rules)
-    (quiet_rises (g.D.SectorDisk.state c.take.result) (g.D.SectorDisk.state c.in-Err.refused.disk) e.run))
-
-pub returns-in-Err-clause-reads : goal.returns-in-Err-clause-reads
-returns-in-Err-clause-reads g c =
-    let e = c.in-Err.ensures in
-    rw (c.take.ensures.disk, c.unmounted.ensures.answered, c.node_fault.ensures) (at_both (λ was now. IsRead g.D.SectorDisk.state was now _ _) c.take.result c.in-Err.refused.disk
-    (unread_at g.D.SectorDisk.state c.take.result c.in-Err.refused.disk c.in-Err.refused.fault e.too_small e.untouched e.answers_for e.run))
+    let m = c.unmounted.ensures in
+    record {
+      step = mount_fails state a.id a.nodes a.core.now a.disk.now c.take.result disk a.doubt.now a.mounted.now c.take.ensures.disk fallen _ _ e.counts e.run c.node_fault.result c.unmounted.result m.what m.quiet m.tried;
+      stuck = stuck state a.id a.nodes a.core.now a.disk.now c.take.result disk a.doubt.now a.mounted.now c.take.ensures.disk
+          fallen c.in-Err.refused.fault e.no_other e.mounts e.untouched c.node_fault.result c.node_fault.ensures c.unmounted.result m.stuck;
+      answers = λ d area kept at. absurd (area_hidden (is_down a.core.now.state.phase) (store_in a.disk.now) area c.requires.down at);
+      counts = rw c.take.ensures.disk (counts_of state c.take.result disk (answered c.unmounted.result) (search rules) (quiet_rises (state c.take.result) (state disk) e.run));
+      area = λ d area kept at. absurd (area_hidden (is_down a.core.now.state.phase) (store_in a.disk.now) area c.requires.down at);
+      mounting = λ _ _. rw (m.answered, c.node_fault.ensures) (unmounted_at a.id a.nodes a.core.now a.disk.now disk a.doubt.now a.mounted.now c.in-Err.refused.fault e.no_other);
+      mounted = λ _ _. (
+        grind arith,
+        rw (c.take.ensures.disk, m.answered, c.node_fault.ensures) (at_both (λ was now. IsRead state was now _ _) c.take.result disk (unread_at state c.take.result disk c.in-Err.refused.fault e.too_small e.untouched e.answers_for e.run)),
+      );
+      few = grind arith;
+    }
 
 pub rise-came-requires : goal.rise-came-requires
 rise-came-requires g c =
@@ -76,21 +73,27 @@ returns g c =
     let e = c.rise-came.ensures in
     let fallen = c.requires.node.fallen c.requires.down in
     let kept = c.is_in-kept.result in
-    let shown = shows a.id kept a.core.now core mid end a.doubt.now doubt came came.fate e.what in
-    let remounted = remounted_at a.id a.nodes a.core.now core a.disk.now mid end a.doubt.now doubt a.mounted.now kept came came.fate e.what in
+    let shown = shows a.id kept a.core.now core mid end a.doubt.now doubt came came.event_outcome e.what in
+    let remounted = remounted_at a.id a.nodes a.core.now core a.disk.now mid end a.doubt.now doubt a.mounted.now kept came came.event_outcome e.what in
     let was = node_with a.id a.nodes a.core.now a.disk.now a.doubt.now a.mounted.now in
     let now = node_with a.id a.nodes core (Mounted end) doubt (Some (durable_of mid).counter) in
     rw c.counter.ensures (record {
       node = node_over state a.id a.nodes a.core.now core a.disk.now c.requires.node e.core mid end _ (mount.whole.1 ∙ ap (λ (n : ℕ). slots_for n) (sym mount.counts.sectors)) e.store
-          (risen a.id a.nodes a.core.now core mid end a.doubt.now doubt kept came came.fate fallen e.what);
-      step = rises state a.id a.nodes a.core.now core mid end a.doubt.now doubt fallen _ e.store came a.disk.now c.take.result a.mounted.now c.take.ensures.disk mount.whole.1 _ _ mount.counts mount.run
-          (λ honest. (mount.remains honest).stands) kept c.is_in-kept.ensures.kept e.what e.tried e.disk;
-      stuck = search rules;
-      counts = rw c.take.ensures.disk (counts_of state c.take.result end.disk (answered (Ok came)) (search rules)
-          (rises_behind (state c.take.result) (state mid.disk) (state end.disk) mount.counts.honest mount.run (e.store.rises mount.whole.0)));
-      mounting = rw shown.0 remounted;
-      kept = rw shown.0 (shown.2 c.is_in-kept.ensures.kept);
-      reads = rw (c.take.ensures.disk, shown.0) (at_both (λ was now. IsRead state was now _ _) c.take.result end.disk
-          (read_at state c.take.result end.disk was now (durable_of mid) (answered (Ok came)) remounted (not_below 24 (state c.take.result).sectors mount.too_small.1) mount.answers_for));
-      quiet = shown.1;
+          (risen a.id a.nodes a.core.now core mid end a.doubt.now doubt kept came came.event_outcome fallen e.what);
+      call = record {
+        step = rises state a.id a.nodes a.core.now core mid end a.doubt.now doubt fallen _ e.store came a.disk.now c.take.result a.mounted.now c.take.ensures.disk mount.whole.1 _ _ mount.counts mount.run
+            (λ honest. (mount.remains honest).stands) kept c.is_in-kept.ensures.kept e.what e.tried e.disk;
+        stuck = tt;
+        answers = λ d area kept at. absurd (area_hidden (is_down a.core.now.state.phase) (store_in a.disk.now) area c.requires.down at);
+        counts = rw c.take.ensures.disk (counts_of state c.take.result end.disk (answered (Ok came)) (search rules)
+            (rises_behind (state c.take.result) (state mid.disk) (state end.disk) mount.counts.honest mount.run (e.store.rises mount.whole.0)));
+        area = λ d area kept at. absurd (area_hidden (is_down a.core.now.state.phase) (store_in a.disk.now) area c.requires.down at);
+        mounting = λ _ _. rw shown.0 remounted;
+        mounted = λ _ _. (
+          rw shown.0 (shown.2 c.is_in-kept.ensures.kept),
+          rw (c.take.ensures.disk, shown.0) (at_both (λ was now. IsRead state was now _ _) c.take.result end.disk
+              (read_at state c.take.result end.disk was now (durable_of mid) (answered (Ok came)) remounted (not_below 24 (state c.take.result).sectors mount.too_small.1) mount.answers_for)),
+        );
+        few = rw shown.1 (omega arith);
+      };
     })

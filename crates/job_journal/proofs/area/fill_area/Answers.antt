@@ -7,14 +7,14 @@ use Rattle.job_journal.proofs.area.fill_area.Goals as goal
 pub loop-filled-init : goal.loop-filled-init
 loop-filled-init g c = writing_start _ _ _ _ (λ honest. g.met.D.SectorDisk.laws c.args.disk.now honest)
 
-pub returns-in_default-clause-run : goal.returns-in_default-clause-run
-returns-in_default-clause-run g c =
-    let calls = c.loop-filled.invariant.calls in run_on _ (λ k is. (omega (arith, is), omega (arith, is))) calls.honest calls.run c.fill.ensures.run
+pub returns-in_default-clause-writes : goal.returns-in_default-clause-writes
+returns-in_default-clause-writes g c =
+    let calls = c.loop-filled.invariant.calls in record { answers = grind arith; counts = grind arith; run = run_on _ (λ k is. (omega (arith, is), omega (arith, is))) calls.honest calls.run c.fill.ensures.writes.run }
 
 pub loop-filled-preserved : goal.loop-filled-preserved
 loop-filled-preserved g c =
-    writing_more _ _ refl (λ k is. (omega (arith, is), omega (arith, is))) c.loop-filled.invariant c.in-Ok.ensures.counts c.fill.ensures.run
-    (λ honest so_far. written_fill _ _ _ c.loop-filled.filled _ _ (c.fill.ensures.run honest).contents
+    writing_more _ _ refl (λ k is. (omega (arith, is), omega (arith, is))) c.loop-filled.invariant c.in-Ok.ensures.writes.counts c.fill.ensures.writes.run
+    (λ honest so_far. written_fill _ _ _ c.loop-filled.filled _ _ (c.fill.ensures.writes.run honest).contents
     (ap record_of (c.in-Ok.ensures.written honest refl) ∙ c.to_sector-body.ensures.read_back ∙ sym c.record_at.ensures)
     (ap (λ s. Some s) (c.in-Ok.ensures.written honest refl ∙ c.to_sector-body.ensures.bytes) ∙ sym (slice_get-map bytes_of (records_for (jobs_of c.args.table.now)) c.loop-filled.filled ∙ ap (λ o. option_map bytes_of o) c.record_at.ensures)) so_far)
     (λ honest. c.in-Ok.ensures.synced honest refl)

@@ -1,4 +1,4 @@
-use Rattle.message_list.proofs.Letters.{bodies_if}
+use Rattle.message_list.proofs.PackedMessages.{bodies_if}
 use Rattle.message_list.proofs.opened.is_same_body.Goals as goal
 
 pub returns : goal.returns

@@ -19,10 +19,10 @@ pub returns-clause-few : goal.returns-clause-few
 returns-clause-few c =
     let one_more : length c.with_other-with_creator.result ≡ suc (length c.passed_on-members.result) =
     length_with c.passed_on-members.result _ c.creator-creator.result c.args.group.creator c.with_other-with_creator.ensures.value c.creator-creator.ensures c.passed_on-members.ensures.absent in
-    let few : length c.with_other-with_creator.result < c.args.seat.now.nodes =
-    few_others c.args.seat.now.nodes c.args.seat.now.id c.with_other-with_creator.result c.args.seat.now.consistent.within c.len.ensures.set c.with_other-with_creator.ensures.others in
+    let few : length c.with_other-with_creator.result < c.args.node_view.now.nodes =
+    few_others c.args.node_view.now.nodes c.args.node_view.now.id c.with_other-with_creator.result c.args.node_view.now.consistent.within c.len.ensures.set c.with_other-with_creator.ensures.others in
     let written : length c.write_to_each.new.messages.items ≡ length c.passed_on-members.result =
-    length_written c.args.seat.now.id c.passed_on-members.result _ _ _ c.write_to_each.ensures.value c.in_ok-messages.ensures.items in
+    length_written c.args.node_view.now.id c.passed_on-members.result _ _ _ c.write_to_each.ensures.value c.in_ok-messages.ensures.items in
     let sent : length c.push_reserved.new.self.items ≡ length c.write_to_each.new.messages.items + 1 =
     ap length c.push_reserved.ensures.items ∙ length-append c.write_to_each.new.messages.items (c.between.result ∷ []) in
     omega (arith, one_more, few, written, sent)

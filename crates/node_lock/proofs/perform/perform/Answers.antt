@@ -1,6 +1,6 @@
 use Rattle.std.proofs.Common.{refl, subst, Result, IfOk}
 use Rattle.sector_disk.specs.Memory.{state_of}
-use Rattle.durable_node.specs.declared.came.Came.{Came}
+use Rattle.durable_node.specs.declared.step_report.StepReport.{StepReport}
 use Rattle.durable_node.specs.declared.fault.NodeFault.{NodeFault}
 use Rattle.durable_node.specs.Faults.{answered}
 use Rattle.durable_node.specs.Reading.{ReadsDisk}
@@ -18,12 +18,12 @@ returns-in-Ok-clause-did c =
       came = c.in-Ok.came;
       left = left;
       steps = c.in-Ok.ensures.step;
-      answers = subst (λ (r : Result Came NodeFault). Answers old c.args.event.now (answered r)) c.in-Ok.is c.step.ensures.answers;
-      counts = subst (λ (r : Result Came NodeFault). CountsOf state_of old.disk left.disk (answered r)) c.in-Ok.is c.step.ensures.counts;
-      area = subst (λ (r : Result Came NodeFault). AreaGoesOn state_of old left c.args.event.now (answered r)) c.in-Ok.is c.step.ensures.area;
-      mounting = λ down is. subst (λ (r : Result Came NodeFault). Remounted old left (answered r) left.mounted) c.in-Ok.is (c.step.ensures.mounting down is);
-      kept = λ down is. subst (λ (r : Result Came NodeFault). IfOk r (λ came. IsMountedBy old.doubt came.fate left.mounted)) c.in-Ok.is (c.step.ensures.mounted down is).0;
-      reads = λ down is. subst (λ (r : Result Came NodeFault). ReadsDisk state_of old.disk left.disk (answered r) left.mounted) c.in-Ok.is (c.step.ensures.mounted down is).1;
+      answers = subst (λ (r : Result StepReport NodeFault). Answers old c.args.event.now (answered r)) c.in-Ok.is c.step.ensures.answers;
+      counts = subst (λ (r : Result StepReport NodeFault). CountsOf state_of old.disk left.disk (answered r)) c.in-Ok.is c.step.ensures.counts;
+      area = subst (λ (r : Result StepReport NodeFault). AreaGoesOn state_of old left c.args.event.now (answered r)) c.in-Ok.is c.step.ensures.area;
+      mounting = λ down is. subst (λ (r : Result StepReport NodeFault). Remounted old left (answered r) left.mounted) c.in-Ok.is (c.step.ensures.mounting down is);
+      kept = λ down is. subst (λ (r : Result StepReport NodeFault). IfOk r (λ came. IsMountedBy old.doubt came.event_outcome left.mounted)) c.in-Ok.is (c.step.ensures.mounted down is).0;
+      reads = λ down is. subst (λ (r : Result StepReport NodeFault). ReadsDisk state_of old.disk left.disk (answered r) left.mounted) c.in-Ok.is (c.step.ensures.mounted down is).1;
       few = c.in-Ok.ensures.few;
       forgot = c.forget.ensures.forgot;
       written = refl;
@@ -31,4 +31,4 @@ returns-in-Ok-clause-did c =
     }
 
 pub returns-in-Ok-clause-each : goal.returns-in-Ok-clause-each
-returns-in-Ok-clause-each c = sends_few _ c.forget.new.self c.args.event.now c.in-Ok.came.fate c.in-Ok.came.sent.items c.requires.stands (returns-in-Ok-clause-did c) c.in-Ok.ensures.few c.note_sets.ensures
+returns-in-Ok-clause-each c = sends_few _ c.forget.new.self c.args.event.now c.in-Ok.came.event_outcome c.in-Ok.came.sent.items c.requires.stands (returns-in-Ok-clause-did c) c.in-Ok.ensures.few c.note_sets.ensures

@@ -1,7 +1,7 @@
 use Rattle.std.proofs.Common.{List, [], ◌∷◌, ◌++◌, ◌∙◌, subst}
 use Rattle.wire_msg.specs.Envelope.{Envelope}
-use Rattle.histories.specs.What.{Entry}
-use Rattle.histories.specs.Fates.{what_of}
+use Rattle.histories.specs.HistoryEvent.{Entry}
+use Rattle.histories.specs.EventOutcomes.{what_of}
 use Rattle.node_lock.specs.Sending.{SentOn}
 use Rattle.node_lock.specs.Taking.{turn_of}
 use Rattle.node_lock.proofs.Keeping.{sent_since}
@@ -10,14 +10,14 @@ use Rattle.node_lock.proofs.turn.hand.Goals as goal
 
 pub returns-clause-taken : goal.returns-clause-taken
 returns-clause-taken c =
-    let what = what_of c.args.event.now c.in_ok-fate.fate in
-    let e : Entry = record { what = what; sent = c.in_ok-fate.sent.items } in (
+    let what = what_of c.args.event.now c.in_ok-event_outcome.event_outcome in
+    let e : Entry = record { what = what; sent = c.in_ok-event_outcome.sent.items } in (
       e,
       record {
-        did = c.in_ok-fate.ensures.did;
-        id = c.in_ok-fate.ensures.id;
-        nodes = c.in_ok-fate.ensures.nodes;
-        sent = sent_since c.in_ok-fate.sent.items c.args.puts.now.items c.make_room.new.puts.items c.send_all.new.puts.items c.make_room.ensures.same (subst (λ (l : List Envelope). SentOn l c.make_room.new.puts.items c.send_all.new.puts.items) c.deref.ensures.value c.send_all.ensures);
+        did = c.in_ok-event_outcome.ensures.did;
+        id = c.in_ok-event_outcome.ensures.id;
+        nodes = c.in_ok-event_outcome.ensures.nodes;
+        sent = sent_since c.in_ok-event_outcome.sent.items c.args.puts.now.items c.make_room.new.puts.items c.send_all.new.puts.items c.make_room.ensures.same (subst (λ (l : List Envelope). SentOn l c.make_room.new.puts.items c.send_all.new.puts.items) c.deref.ensures.value c.send_all.ensures);
         turns = c.push.ensures ∙ (λ i. c.make_room.ensures.turns i ++ turn_of c.args.worker c.args.index (record { what = what; sent = c.deref-2.ensures.value i }) ∷ []);
       },
     )

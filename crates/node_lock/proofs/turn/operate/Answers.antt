@@ -1,8 +1,8 @@
 use Rattle.std.proofs.Common.{ℕ, List, [], ◌∷◌, ◌++◌, refl, ap, sym, ◌∙◌, subst}
 use Rattle.sector_disk.specs.Memory.{Memory}
-use Rattle.histories.specs.declared.what.What.TheVariants.{Crashed}
+use Rattle.histories.specs.declared.history_event.HistoryEvent.TheVariants.{Crashed}
 use Rattle.durable_node.specs.Node.{Node}
-use Rattle.node_lock.specs.declared.order.Order.{Order}
+use Rattle.node_lock.specs.declared.order.OperatorOrder.{OperatorOrder}
 use Rattle.node_lock.specs.declared.worker.Worker.TheVariants.{Operator}
 use Rattle.node_lock.specs.Asking.{asked_in}
 use Rattle.node_lock.specs.Doing.{TurnDid, WasCrashed}
@@ -18,7 +18,7 @@ returns-in-Crash-clause-taken c =
     let new = c.crash.new.self in
     let crashed : WasCrashed c.as_slice.result.now old new = record { there = c.crash.ensures.there; down = c.crash.ensures.down; disk = c.crash.ensures.disk; stands = c.crash.ensures.stands } in
     let did : TurnDid old (asked_in c.args.order.now) Crashed [] new =
-    subst (λ (o : Order). TurnDid old (asked_in o) Crashed [] new) (sym c.in-Crash.is) (subst (λ (f : List ℕ). WasCrashed f old new) c.as_slice.ensures crashed, refl, refl) in (
+    subst (λ (o : OperatorOrder). TurnDid old (asked_in o) Crashed [] new) (sym c.in-Crash.is) (subst (λ (f : List ℕ). WasCrashed f old new) c.as_slice.ensures crashed, refl, refl) in (
       record { what = Crashed; sent = [] },
       record {
         did = did;

@@ -13,4 +13,4 @@ returns-clause-value g c = λ honest second ok.
     let state = g.D.SectorDisk.state in
     let done : IsOk c.store.result = grind arith in
     begun c.args.at c.args.value (state c.args.disk.now) (state c.store.new.disk) c.body_for.result c.body_for.ensures (omega (arith, c.ranges)) second
-    (c.store.ensures.run honest) (c.store.ensures.synced honest done) (c.store.ensures.sealed honest done)
+    (c.store.ensures.writes.run honest) (c.store.ensures.synced honest done) (c.store.ensures.sealed honest done)

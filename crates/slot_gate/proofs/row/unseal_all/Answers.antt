@@ -5,12 +5,15 @@ use Rattle.slot_gate.proofs.Slots.{slot_unsealed}
 use Rattle.slot_gate.proofs.Rows.{erased_run, erased_more}
 use Rattle.slot_gate.proofs.row.unseal_all.Goals as goal
 
-pub returns-in_err-write-clause-run : goal.returns-in_err-write-clause-run
-returns-in_err-write-clause-run g c =
-    let now = c.loop-unsealed in
-    erased_run c.args.first c.args.slots now.unsealed _ _ _ c.loop-unsealed-test.true now.invariant
-    (write_call g.D.SectorDisk.state g.met.D.SectorDisk.laws now.disk c.write.new.self (c.args.first + 2 * now.unsealed + 1) c.write.ensures.counts.honest
-    (omega (arith, now.invariant.sectors, c.requires.on_disk, c.loop-unsealed-test.true)) c.write.ensures.touches)
+pub returns-in_err-write-clause-writes : goal.returns-in_err-write-clause-writes
+returns-in_err-write-clause-writes g c =
+    let now = c.loop-unsealed in record {
+      answers = grind arith;
+      counts = grind arith;
+      run = erased_run c.args.first c.args.slots now.unsealed _ _ _ c.loop-unsealed-test.true now.invariant
+          (write_call g.D.SectorDisk.state g.met.D.SectorDisk.laws now.disk c.write.new.self (c.args.first + 2 * now.unsealed + 1) c.write.ensures.counts.honest
+          (omega (arith, now.invariant.sectors, c.requires.on_disk, c.loop-unsealed-test.true)) c.write.ensures.touches);
+    }
 
 pub loop-unsealed-preserved : goal.loop-unsealed-preserved
 unfolding unsealed_gate
@@ -23,7 +26,10 @@ loop-unsealed-preserved g c =
     (omega (arith, now.invariant.sectors, c.requires.on_disk, c.loop-unsealed-test.true)) c.write.ensures.touches)
     (λ honest. slot_unsealed (state c.write.new.self).contents (c.args.first + 2 * now.unsealed) (c.in_ok-write.ensures.gives honest refl))
 
-pub returns-clause-run : goal.returns-clause-run
-returns-clause-run g c =
-    run_on (InSlots c.args.first c.args.slots) (λ k no. absurd no) c.loop-unsealed.invariant.honest c.loop-unsealed.invariant.run
-    (quiet_call g.D.SectorDisk.state g.met.D.SectorDisk.laws _ _ c.sync.ensures.counts.honest c.sync.ensures.touches)
+pub returns-clause-writes : goal.returns-clause-writes
+returns-clause-writes g c = record {
+  answers = grind arith;
+  counts = grind arith;
+  run = run_on (InSlots c.args.first c.args.slots) (λ k no. absurd no) c.loop-unsealed.invariant.honest c.loop-unsealed.invariant.run
+      (quiet_call g.D.SectorDisk.state g.met.D.SectorDisk.laws _ _ c.sync.ensures.counts.honest c.sync.ensures.touches);
+}

@@ -7,9 +7,9 @@ use Rattle.threads_console.proofs.reading.read_turns.Given as goal
 
 abbrev pub invariant-loop-number : goal.invariant-loop-number
 invariant-loop-number l = record {
-  count : length l.drafts.items ≡ l.nodes;
-  rest_read : filled l.drafts.items (turns_of l.nodes l.lines.lines) ≡ filled (replicate l.nodes no_plans) (turns_of l.nodes l.fn.lines.lines);
-  polls : PollOthers l.drafts.items;
+  count : length l.plans.items ≡ l.nodes;
+  rest_read : filled l.plans.items (turns_of l.nodes l.lines.lines) ≡ filled (replicate l.nodes no_plans) (turns_of l.nodes l.fn.lines.lines);
+  polls : PollOthers l.plans.items;
 }
 
 abbrev pub decreases-loop-number : goal.decreases-loop-number

@@ -1,5 +1,5 @@
 use Rattle.std.proofs.Common.{◌∙◌}
-use Rattle.run_trace.specs.Traced.{done}
+use Rattle.cluster_sim.specs.Traced.{done}
 use Rattle.trace_text.proofs.PublicLaws.{entry_written}
 use Rattle.threads_console.proofs.Texts.{handled_text}
 use Rattle.threads_console.proofs.writing.entry_text.Goals as goal

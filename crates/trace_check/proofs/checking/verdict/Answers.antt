@@ -18,7 +18,7 @@ some_there (Some a) h k f is at = slice_get_within h k (f a) at
 pub loop-number-preserved : goal.loop-number-preserved
 loop-number-preserved c = λ n less.
     let hs = c.args.trace.now in
-    let past = reverse c.args.desk.order.items in
+    let past = reverse c.args.search.order.items in
     let number = c.loop-number.number in
     elim (cases_lt n number) [
       | inl before ↦ c.loop-number.invariant n before
@@ -28,7 +28,7 @@ loop-number-preserved c = λ n less.
           let size = c.nodes-number-end.ensures.value in
           let test = c.loop-number-test.true in
           let from = c.from.ensures in
-          let at = seat_at c.args.desk.seats.items c.from.result number c.index.result.now from (omega (arith, from, count, size, test)) c.index.ensures in
+          let at = seat_at c.args.search.seats.items c.from.result number c.index.result.now from (omega (arith, from, count, size, test)) c.index.ensures in
           let none : slice_get (history hs number) c.index.result.now.place ≡ None =
           subst (λ (k : ℕ). slice_get (history hs k) c.index.result.now.place ≡ None) c.numbered-id.ensures (c.entry.ensures.none (is_none c.entry.result (sym c.if-is_some.false ∙ c.is_some.ensures))) in
           subst (λ (k : ℕ). taken k past ≡ length (history hs k)) (sym here) (all_taken hs past number c.index.result.now.place c.requires.fits.legal (c.requires.fits.fits number c.index.result.now at).place none)
@@ -38,7 +38,7 @@ loop-number-preserved c = λ n less.
 pub returns-clause-verdict : goal.returns-clause-verdict
 returns-clause-verdict c =
     let hs = c.args.trace.now in
-    let past = reverse c.args.desk.order.items in (
+    let past = reverse c.args.search.order.items in (
       c.requires.fits.legal,
       c.requires.fits.least,
       λ n. elim (cases_lt n c.loop-number.number) [
@@ -50,7 +50,7 @@ returns-clause-verdict c =
 pub returns-then-is_some-clause-verdict : goal.returns-then-is_some-clause-verdict
 returns-then-is_some-clause-verdict c =
     let hs = c.args.trace.now in
-    let d = c.args.desk in
+    let d = c.args.search in
     let past = reverse d.order.items in
     let number = c.loop-number.number in
     let count = c.requires.fits.count in

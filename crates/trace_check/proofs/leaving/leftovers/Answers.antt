@@ -11,7 +11,7 @@ use Rattle.trace_check.proofs.leaving.leftovers.Goals.{in-Some+in_ok-push, in_de
 pub next_holdup-requires-clause-before : goal.next_holdup-requires-clause-before
 next_holdup-requires-clause-before c =
     let hs = c.args.trace.now in
-    let d = c.args.desk.now in
+    let d = c.args.search.now in
     let number = c.loop-number.number in
     let count = c.requires.fits.count in
     let size = c.nodes-number-end.ensures.value in
@@ -25,7 +25,7 @@ next_holdup-requires-clause-before c =
 pub loop-number-preserved : goal.loop-number-preserved
 loop-number-preserved c =
     let hs = c.args.trace.now in
-    let d = c.args.desk.now in
+    let d = c.args.search.now in
     let past = reverse d.order.items in
     let number = c.loop-number.number in
     let count = c.requires.fits.count in

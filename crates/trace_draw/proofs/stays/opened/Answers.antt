@@ -18,7 +18,7 @@ loop-number-preserved c =
       count = ap (λ (xs : List Pose). length xs) pushed ∙ length-append ps (p ∷ []) ∙ ap (λ (k : ℕ). k + 1) len;
       begun = subst (λ (xs : List Pose). AreOpen xs) (sym pushed)
           (each_more (λ n q. q ≡ record { since = 0; stand = stand_of (opening n).state }) ps p c.loop-number.invariant.begun
-          (ap (λ (s : Option Stand). record { since = 0; stand = s }) (c.stand_of.ensures ∙ ap (λ (t : Twin). stand_of t.node.state) c.in_ok-replica.ensures ∙ ap (λ (k : ℕ). stand_of (opening k).state) here)));
+          (ap (λ (s : Option Stand). record { since = 0; stand = s }) (c.stand_of.ensures ∙ ap (λ (t : Twin). stand_of t.node.state) c.in_ok-node_model.ensures ∙ ap (λ (k : ℕ). stand_of (opening k).state) here)));
     }
 
 pub returns : goal.returns

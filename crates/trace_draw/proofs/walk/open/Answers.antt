@@ -1,8 +1,8 @@
 use Rattle.std.proofs.Common.{◌≡◌, ℕ, ◌+◌, List, [], ◌∷◌, ◌++◌, length, sym, ap, ◌∙◌, subst, length-append}
 use Rattle.histories.specs.NodeState.{opening}
 use Rattle.trace_check.specs.Twins.{Twin}
-use Rattle.trace_draw.specs.declared.walk.Seat.{Seat}
-use Rattle.trace_draw.proofs.Seats.{AreOpen, open_more}
+use Rattle.trace_draw.specs.declared.walk.NodeView.{NodeView}
+use Rattle.trace_draw.proofs.NodeViews.{AreOpen, open_more}
 use Rattle.trace_draw.proofs.walk.open.Goals as goal
 
 pub loop-number-preserved : goal.loop-number-preserved
@@ -12,10 +12,10 @@ loop-number-preserved c =
     let len = c.loop-number.invariant.0 in
     let pushed = c.in_ok-push.ensures.items in
     let here : c.numbered.result ≡ length seats = c.numbered.ensures ∙ sym len in
-    let seat : Seat = record { replica = c.in_ok-replica.replica; index = 0 } in
-    let many : length (seats ++ seat ∷ []) ≡ length seats + 1 = length-append seats (seat ∷ []) in (
-      ap (λ (ss : List Seat). length ss) pushed ∙ many ∙ ap (λ (k : ℕ). k + 1) len,
-      subst (λ (ss : List Seat). AreOpen nodes ss) (sym pushed)
-          (open_more nodes seats seat c.loop-number.invariant.1
-          (ap (λ (t : Twin). record { replica = t; index = 0 }) (c.in_ok-replica.ensures ∙ ap (λ (k : ℕ). record { id = k; nodes = nodes; node = opening k }) here))),
+    let node_view : NodeView = record { node_model = c.in_ok-node_model.node_model; index = 0 } in
+    let many : length (seats ++ node_view ∷ []) ≡ length seats + 1 = length-append seats (node_view ∷ []) in (
+      ap (λ (ss : List NodeView). length ss) pushed ∙ many ∙ ap (λ (k : ℕ). k + 1) len,
+      subst (λ (ss : List NodeView). AreOpen nodes ss) (sym pushed)
+          (open_more nodes seats node_view c.loop-number.invariant.1
+          (ap (λ (t : Twin). record { node_model = t; index = 0 }) (c.in_ok-node_model.ensures ∙ ap (λ (k : ℕ). record { id = k; nodes = nodes; node = opening k }) here))),
     )

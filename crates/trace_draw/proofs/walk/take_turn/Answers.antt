@@ -9,7 +9,7 @@ use Rattle.trace_check.specs.Twins.{Taken}
 use Rattle.group_task.specs.Group.{Group}
 use Rattle.histories.specs.NodeState.{NodeState}
 use Rattle.trace_draw.specs.declared.turn.Point.{Point}
-use Rattle.trace_draw.specs.declared.walk.Seat.{Seat}
+use Rattle.trace_draw.specs.declared.walk.NodeView.{NodeView}
 use Rattle.trace_check.specs.Followed.{before}
 use Rattle.trace_draw.specs.Stays.{stand_of}
 use Rattle.trace_draw.specs.declared.turn.Stand.{Stand}
@@ -17,11 +17,11 @@ use Rattle.trace_draw.specs.declared.step.Step.{Step}
 use Rattle.trace_draw.specs.Walks.{AreFirst, AreSeats, IsStep}
 use Rattle.trace_draw.proofs.Lists.{each_more}
 use Rattle.trace_check.proofs.PublicLaws.{before_more, may_take}
-use Rattle.trace_draw.proofs.Seats.{node_within, seat_after, seat_here, seats_more}
+use Rattle.trace_draw.proofs.NodeViews.{node_within, seat_after, seat_here, seats_more}
 use Rattle.trace_draw.proofs.walk.take_turn.Goals as goal
 
-pub index_mut-seat-requires : goal.index_mut-seat-requires
-index_mut-seat-requires c =
+pub index_mut-node_view-requires : goal.index_mut-node_view-requires
+index_mut-node_view-requires c =
     let order = c.args.order.now in
     let number = c.args.turn in
     let node = c.index-order-turn.result in
@@ -38,15 +38,15 @@ unreachable-requires c =
     let order = c.args.order.now in
     let number = c.args.turn in
     let node = c.index-order-turn.result in
-    let s = c.index_mut-seat.result.now in
+    let s = c.index_mut-node_view.result.now in
     let may = may_take hs order number node c.requires.legal (slice_get_read order (length order) number node refl c.requires.more c.index-order-turn.is) in
     let within = node_within hs (before order number) node may in
     let count = c.requires.seats.0 in
     let here : c.from.result ≡ node = c.from.ensures ∙ c.number.ensures.value in
     let inside : c.from.result < length c.args.seats.now.items = omega (arith, within, count, here) in
-    let is = c.requires.seats.1 node s (seat_here c.args.seats.now.items c.from.result node s here inside c.index_mut-seat.ensures.value) in
+    let is = c.requires.seats.1 node s (seat_here c.args.seats.now.items c.from.result node s here inside c.index_mut-node_view.ensures.value) in
     let none : slice_get (history hs node) s.index ≡ None = c.in_default.ensures.none refl in
-    let clash : None ≡ Some may.claim = sym none ∙ ap (λ (x : Seat). slice_get (history hs node) x.index) is ∙ may.next in cc
+    let clash : None ≡ Some may.claim = sym none ∙ ap (λ (x : NodeView). slice_get (history hs node) x.index) is ∙ may.next in cc
 
 pub unreachable-requires-then-not-branch : goal.unreachable-requires-then-not-branch
 unreachable-requires-then-not-branch c =
@@ -54,18 +54,18 @@ unreachable-requires-then-not-branch c =
     let order = c.args.order.now in
     let number = c.args.turn in
     let node = c.index-order-turn.result in
-    let s = c.index_mut-seat.result.now in
+    let s = c.index_mut-node_view.result.now in
     let may = may_take hs order number node c.requires.legal (slice_get_read order (length order) number node refl c.requires.more c.index-order-turn.is) in
     let within = node_within hs (before order number) node may in
     let count = c.requires.seats.0 in
     let here : c.from.result ≡ node = c.from.ensures ∙ c.number.ensures.value in
     let inside : c.from.result < length c.args.seats.now.items = omega (arith, within, count, here) in
-    let is = c.requires.seats.1 node s (seat_here c.args.seats.now.items c.from.result node s here inside c.index_mut-seat.ensures.value) in
+    let is = c.requires.seats.1 node s (seat_here c.args.seats.now.items c.from.result node s here inside c.index_mut-node_view.ensures.value) in
     let entry = claim_seen c.in-Some.entry in
-    let same : may.claim ≡ entry = same_Some _ _ (sym (ap (λ (x : Seat). slice_get (history hs node) x.index) is ∙ may.next) ∙ c.in-Some.ensures.some) in
-    let possible : MayCome s.replica.id s.replica.nodes s.replica.node entry =
-    subst (λ (x : Seat). MayCome x.replica.id x.replica.nodes x.replica.node entry) (sym is) (subst (λ (d : Claim). MayCome node (length hs) (state_of hs node (taken node (before order number))) d) same may.possible) in
-    subst (λ (b : Bool). Taken s.replica c.take.new.self entry b) c.if-not-branch.true c.in_ok-take.ensures.taken possible
+    let same : may.claim ≡ entry = same_Some _ _ (sym (ap (λ (x : NodeView). slice_get (history hs node) x.index) is ∙ may.next) ∙ c.in-Some.ensures.some) in
+    let possible : MayCome s.node_model.id s.node_model.nodes s.node_model.node entry =
+    subst (λ (x : NodeView). MayCome x.node_model.id x.node_model.nodes x.node_model.node entry) (sym is) (subst (λ (d : Claim). MayCome node (length hs) (state_of hs node (taken node (before order number))) d) same may.possible) in
+    subst (λ (b : Bool). Taken s.node_model c.take.new.self entry b) c.if-not-branch.true c.in_ok-take.ensures.taken possible
 
 pub returns-clause-steps : goal.returns-clause-steps
 returns-clause-steps c =
@@ -74,24 +74,24 @@ returns-clause-steps c =
     let number = c.args.turn in
     let node = c.index-order-turn.result in
     let past = before order number in
-    let s = c.index_mut-seat.result.now in
+    let s = c.index_mut-node_view.result.now in
     let now = slice_get_read order (length order) number node refl c.requires.more c.index-order-turn.is in
     let within = node_within hs past node (may_take hs order number node c.requires.legal now) in
     let count = c.requires.seats.0 in
     let here : c.from.result ≡ node = c.from.ensures ∙ c.number.ensures.value in
     let inside : c.from.result < length c.args.seats.now.items = omega (arith, within, count, here) in
-    let is = c.requires.seats.1 node s (seat_here c.args.seats.now.items c.from.result node s here inside c.index_mut-seat.ensures.value) in
+    let is = c.requires.seats.1 node s (seat_here c.args.seats.now.items c.from.result node s here inside c.index_mut-node_view.ensures.value) in
     let entry = claim_seen c.in-Some.entry in
-    let taken_is = subst (λ (b : Bool). Taken s.replica c.take.new.self entry b) c.if-not-branch.false c.in_ok-take.ensures.taken in
+    let taken_is = subst (λ (b : Bool). Taken s.node_model c.take.new.self entry b) c.if-not-branch.false c.in_ok-take.ensures.taken in
     let new = seat_after hs past node entry s c.take.new.self is c.in-Some.ensures.some c.in_ok-take.ensures.id c.in_ok-take.ensures.nodes taken_is.1 in
-    let step : Step = record { index = c.index_mut-seat.result.now.index; stand = c.stand_of-stand.result } in
+    let step : Step = record { index = c.index_mut-node_view.result.now.index; stand = c.stand_of-stand.result } in
     let is : IsStep hs order number step = (
       node,
       entry,
       record {
-        takes = record { node = now; entry = ap (λ (x : Seat). slice_get (history hs node) x.index) (sym is) ∙ c.in-Some.ensures.some };
-        index = ap (λ (x : Seat). x.index) is;
-        stand = c.stand_of-stand.ensures ∙ ap (λ (x : Seat). stand_of x.replica.node.state) new ∙ ap (λ (p : List ℕ). stand_of (state_of hs node (taken node p)).state) (sym (before_more order number node now) ∙ ap (λ (k : ℕ). before order k) (let more : suc number ≡ number + 1 = omega arith in more));
+        takes = record { node = now; entry = ap (λ (x : NodeView). slice_get (history hs node) x.index) (sym is) ∙ c.in-Some.ensures.some };
+        index = ap (λ (x : NodeView). x.index) is;
+        stand = c.stand_of-stand.ensures ∙ ap (λ (x : NodeView). stand_of x.node_model.node.state) new ∙ ap (λ (p : List ℕ). stand_of (state_of hs node (taken node p)).state) (sym (before_more order number node now) ∙ ap (λ (k : ℕ). before order k) (let more : suc number ≡ number + 1 = omega arith in more));
       },
     ) in
     subst (λ (xs : List Step). AreFirst hs order xs) (sym c.in_ok-push.ensures.items)
@@ -104,17 +104,17 @@ returns-clause-seats c =
     let number = c.args.turn in
     let node = c.index-order-turn.result in
     let past = before order number in
-    let s = c.index_mut-seat.result.now in
+    let s = c.index_mut-node_view.result.now in
     let now = slice_get_read order (length order) number node refl c.requires.more c.index-order-turn.is in
     let within = node_within hs past node (may_take hs order number node c.requires.legal now) in
     let count = c.requires.seats.0 in
     let here : c.from.result ≡ node = c.from.ensures ∙ c.number.ensures.value in
     let inside : c.from.result < length c.args.seats.now.items = omega (arith, within, count, here) in
-    let is = c.requires.seats.1 node s (seat_here c.args.seats.now.items c.from.result node s here inside c.index_mut-seat.ensures.value) in
+    let is = c.requires.seats.1 node s (seat_here c.args.seats.now.items c.from.result node s here inside c.index_mut-node_view.ensures.value) in
     let entry = claim_seen c.in-Some.entry in
-    let taken_is = subst (λ (b : Bool). Taken s.replica c.take.new.self entry b) c.if-not-branch.false c.in_ok-take.ensures.taken in
+    let taken_is = subst (λ (b : Bool). Taken s.node_model c.take.new.self entry b) c.if-not-branch.false c.in_ok-take.ensures.taken in
     let new = seat_after hs past node entry s c.take.new.self is c.in-Some.ensures.some c.in_ok-take.ensures.id c.in_ok-take.ensures.nodes taken_is.1 in
-    let seat : Seat = record { replica = c.take.new.self; index = s.index + 1 } in
+    let node_view : NodeView = record { node_model = c.take.new.self; index = s.index + 1 } in
     let more : suc number ≡ number + 1 = omega arith in
-    subst (λ (p : List ℕ). AreSeats hs p (slice_set c.args.seats.now.items c.from.result seat)) (sym (before_more order number node now) ∙ ap (λ (k : ℕ). before order k) more)
-    (subst (λ (k : ℕ). AreSeats hs (node ∷ past) (slice_set c.args.seats.now.items k seat)) (sym here) (seats_more hs past node c.args.seats.now.items seat c.requires.seats new))
+    subst (λ (p : List ℕ). AreSeats hs p (slice_set c.args.seats.now.items c.from.result node_view)) (sym (before_more order number node now) ∙ ap (λ (k : ℕ). before order k) more)
+    (subst (λ (k : ℕ). AreSeats hs (node ∷ past) (slice_set c.args.seats.now.items k node_view)) (sym here) (seats_more hs past node c.args.seats.now.items node_view c.requires.seats new))

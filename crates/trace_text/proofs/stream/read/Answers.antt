@@ -2,7 +2,7 @@ use Rattle.std.proofs.Common.{◌≡◌, List, [], Option, Result, Ok, Some, sym
 use Rattle.std.specs.Prelude.{IfOk, IfErr}
 use Rattle.json.specs.Token.{Token}
 use Rattle.trace_check.specs.Claims.{Claim}
-use Rattle.trace_text.specs.declared.fault.Spot.{Spot}
+use Rattle.trace_text.specs.declared.fault.Location.{Location}
 use Rattle.trace_text.specs.Drafts.{parted_by}
 use Rattle.trace_text.specs.Streams.{shaped}
 use Rattle.trace_text.specs.Wholes.{IsFaultOf, trace_of}
@@ -10,7 +10,7 @@ use Rattle.trace_text.proofs.Judged.{text_none, text_read}
 use Rattle.trace_text.proofs.stream.read.Goals as goal
 
 abbrev Judgement : Type 0
-Judgement = Result (List (List Claim)) (Option Spot)
+Judgement = Result (List (List Claim)) (Option Location)
 
 pub returns-in_default-clause-err : goal.returns-in_default-clause-err
 returns-in_default-clause-err c = text_none c.args.text.now c.in_default.ensures.cases.0

@@ -3,7 +3,7 @@ use Rattle.std.specs.Option.{option_or}
 use Rattle.std.specs.Prelude.{if◌then◌else◌}
 use Rattle.json.specs.Json.{items, parse_map, after_end_array, value}
 use Rattle.serde_json.specs.Read.{converted, of_items}
-use Rattle.trace_text.specs.declared.fault.Spot.{Spot}
+use Rattle.trace_text.specs.declared.fault.Location.{Location}
 use Rattle.trace_text.specs.Streams.{data_at, items_at}
 use Rattle.trace_text.specs.Wholes.{entries_from}
 use Rattle.trace_text.proofs.Judged.{added_in, entries_done, entries_then, entry_bad, entry_more}
@@ -34,7 +34,7 @@ entries-preserved-then-not-branch c =
       n - 1,
       omega (arith, l.invariant.1),
       l.invariant.2 ∙ item_turn 124 n l.reader r d.0 (entries_then node h l.bad) (entries_then node new (place (length h))) (omega (arith, l.invariant.1)) going.0 d.1 (λ ds. entry_bad node h new l.bad d.0 ds d.2)
-          ∙ ap (λ (spot : Option Spot). parse_map (entries_then node new spot) (converted of_items (items (value 124) (n - 1) r))) (sym bad),
+          ∙ ap (λ (location : Option Location). parse_map (entries_then node new location) (converted of_items (items (value 124) (n - 1) r))) (sym bad),
       omega (arith, l.invariant.3),
     )
 

@@ -2,7 +2,7 @@ use Rattle.std.proofs.Common.{◌≡◌, ℕ, ◌-◌, ◌<◌, ◌++◌, ◌∷
 use Rattle.std.specs.Option.{option_or}
 use Rattle.json.specs.Json.{items, parse_map, after_end_array, value}
 use Rattle.serde_json.specs.Read.{converted, of_items}
-use Rattle.trace_text.specs.declared.fault.Spot.{Spot}
+use Rattle.trace_text.specs.declared.fault.Location.{Location}
 use Rattle.trace_text.specs.declared.stream.Entries.{Entries}
 use Rattle.trace_text.specs.Drafts.{listed_by}
 use Rattle.trace_text.specs.Streams.{data_at, items_at, judged_of, listed_in}
@@ -33,7 +33,7 @@ lists-preserved-in-Some c =
       n - 1,
       omega (arith, l.invariant.1),
       l.invariant.2 ∙ item_turn 125 n l.reader r d.0 (lists_then l.all_lists hs l.bad) (lists_then l.all_lists new (option_or l.bad e.bad)) (omega (arith, l.invariant.1)) going.0 d.1 (λ ds. list_more l.all_lists hs new l.bad e d.0 ds d.2 pushed)
-          ∙ ap (λ (spot : Option Spot). parse_map (lists_then l.all_lists new spot) (converted of_items (items (value 125) (n - 1) r))) (sym c.first-bad.ensures),
+          ∙ ap (λ (location : Option Location). parse_map (lists_then l.all_lists new location) (converted of_items (items (value 125) (n - 1) r))) (sym c.first-bad.ensures),
       omega (arith, l.invariant.3),
     )
 

@@ -2,7 +2,7 @@ use Rattle.std.proofs.Common.{◌≡◌, ℕ, ◌≤◌, length, slice_get, refl
 use Rattle.std.proofs.lemmas.Option.{slice_get_past, slice_get_read, slice_get_within}
 use Rattle.runs.proofs.PublicLaws.{at_place}
 use Rattle.cluster_sim.proofs.Answering.{answers_if, areas_if, idle_areas}
-use Rattle.histories.specs.What.{AreAddressed, brought, IsOf}
+use Rattle.histories.specs.HistoryEvent.{AreAddressed, brought, IsOf}
 use Rattle.cluster_sim.proofs.Members.{denied_at, still_cluster, takes, rests_if, untouched_if, faults_if}
 use Rattle.cluster_sim.specs.World.{StandsFor}
 use Rattle.cluster_sim.proofs.Doings.{brought_came}

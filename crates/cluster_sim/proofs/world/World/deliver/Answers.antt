@@ -5,7 +5,7 @@ use Rattle.runs.specs.declared.outcome.Refusal.TheVariants.{Net}
 use Rattle.schedule.specs.declared.act.Act.TheVariants as act
 use Rattle.node_core.specs.declared.event.Event.TheVariants as on
 use Rattle.cluster_sim.specs.Answering.{IsAnsweredBy, delivered as delivered_event, event_by}
-use Rattle.cluster_sim.specs.declared.deed.Deed.{Deed}
+use Rattle.cluster_sim.specs.declared.act_report.ActReport.{ActReport}
 use Rattle.cluster_sim.specs.World.{StandsFor, WorldView}
 use Rattle.cluster_sim.proofs.Answering.{event_answered, idle_areas}
 use Rattle.cluster_sim.proofs.Doings.{delivered, denies}
@@ -30,7 +30,7 @@ returns-in-Ok-clause-answers c = λ w stands.
     let before : StandsFor c.self.inside.nodes w = rw c.self.view_is stands in
     let comes = c.in-Ok.ensures.comes in
     let there : event_by c.self.inside.nodes.net (act.Deliver c.args.number) ≡ Some (comes.message.receiver, on.Deliver comes.message) = ap delivered_event (ap (λ (n : Network). delivery n c.args.number) (sym c.net.ensures) ∙ comes.is) in
-    subst (λ (v : WorldView). IfOk c.take.result (λ (d : Deed). IsAnsweredBy (act.Deliver c.args.number) v d.outcome)) c.self.view_is (event_answered c.self.inside.nodes.net c.self.inside.nodes.nodes (act.Deliver c.args.number) comes.message.receiver (on.Deliver comes.message) c.take.result there
+    subst (λ (v : WorldView). IfOk c.take.result (λ (d : ActReport). IsAnsweredBy (act.Deliver c.args.number) v d.outcome)) c.self.view_is (event_answered c.self.inside.nodes.net c.self.inside.nodes.nodes (act.Deliver c.args.number) comes.message.receiver (on.Deliver comes.message) c.take.result there
     (rw (comes.at, comes.event_is) at (c.take.ensures.answers w before)))
 
 pub returns-in-Ok-clause-areas : goal.returns-in-Ok-clause-areas

@@ -5,8 +5,8 @@ use Rattle.job_journal.proofs.Frames.{first_between, synced_image}
 use Rattle.job_journal.proofs.Numbers.{slot_numbered}
 use Rattle.job_journal.proofs.journal.JobJournal.write.Goals as goal
 
-pub returns-clause-run : goal.returns-clause-run
-returns-clause-run g c = λ honest. append_run c.args.self.now c.next_slot-slot.ensures.slot c.requires.admitted.free (c.store-stored.ensures.run honest)
+pub returns-clause-writes : goal.returns-clause-writes
+returns-clause-writes g c = record { answers = grind arith; counts = grind arith; run = λ honest. append_run c.args.self.now c.next_slot-slot.ensures.slot c.requires.admitted.free (c.store-stored.ensures.writes.run honest) }
 
 pub returns-clause-images : goal.returns-clause-images
 returns-clause-images g c = λ honest sound all.
@@ -25,13 +25,13 @@ returns-clause-after g c = λ honest ok.
           (ap (λ d. slot_at d c.next_slot-slot.result) (synced_image (g.D.SectorDisk.state c.store-stored.new.disk) i synced image) ∙ c.store-stored.ensures.sealed honest stored ∙ ap (λ s. Some s) c.body_for-body.ensures.bytes)));
       holds = λ known. subst (λ w. AllHold w (g.D.SectorDisk.state c.store-stored.new.disk)) (sym done)
           (append_after honest c.next_slot-slot.ensures.kept c.requires.admitted c.body_for-body.ensures.reads c.next_slot-slot.ensures.slot known.0 known.1
-          (c.store-stored.ensures.run honest) synced (c.store-stored.ensures.sealed honest stored));
+          (c.store-stored.ensures.writes.run honest) synced (c.store-stored.ensures.sealed honest stored));
     }
 
 pub returns-clause-numbered : goal.returns-clause-numbered
 returns-clause-numbered g c = λ honest all.
-    slot_numbered c.args.self.now (omega (arith, c.next_slot-slot.ensures.slot, (first_between c.args.self.now.slots c.args.self.now.area.value).0)) all (c.store-stored.ensures.run honest)
+    slot_numbered c.args.self.now (omega (arith, c.next_slot-slot.ensures.slot, (first_between c.args.self.now.slots c.args.self.now.area.value).0)) all (c.store-stored.ensures.writes.run honest)
 
 pub returns-clause-others : goal.returns-clause-others
 returns-clause-others g c = λ honest.
-    subst (λ s. SameBut (InSlot s) (g.D.SectorDisk.state c.args.disk.now).contents (g.D.SectorDisk.state c.store-stored.new.disk).contents) c.next_slot-slot.ensures.slot (c.store-stored.ensures.run honest).contents
+    subst (λ s. SameBut (InSlot s) (g.D.SectorDisk.state c.args.disk.now).contents (g.D.SectorDisk.state c.store-stored.new.disk).contents) c.next_slot-slot.ensures.slot (c.store-stored.ensures.writes.run honest).contents

@@ -1,20 +1,15 @@
-use Rattle.std.proofs.Common.{◌≡◌, [], ◌∷◌, ◌++◌, length, refl, ap, ◌∙◌, arith}
-use Rattle.trace_check.specs.declared.kept.KeptEvent.{KeptEvent}
-use Rattle.trace_check.specs.Kept.{kept_event}
+use Rattle.std.proofs.Common.{[], ◌∷◌, ◌++◌, refl, ap, ◌∙◌, arith}
+use Rattle.trace_check.specs.declared.kept.PackedEvent.{PackedEvent}
 use Rattle.node_lock.proofs.Events.{events_more, all_read_more}
 use Rattle.node_lock.proofs.event_list.EventList.push.Goals as goal
 
 pub invariant_of-self : goal.invariant_of-self
 invariant_of-self c =
     let was = c.self.inside in
-    let e = c.args.event.now in
-    let ms = was.messages.messages in
-    let p = was.payloads.items in
     let kept = c.keep_event-kept.ensures in
-    let events : c.push_reserved.new.self.items ≡ was.kept.items ++ kept_event (length ms) (length p) e ∷ [] =
-    c.push_reserved.ensures.items ∙ ap (λ (k : KeptEvent). was.kept.items ++ k ∷ []) kept.value in
+    let events = c.push_reserved.ensures.items ∙ ap (λ (k : PackedEvent). was.kept.items ++ k ∷ []) kept.value in
     record {
-      read = rw (events, kept.messages, kept.payloads) (all_read_more was.kept.items ms p e kept.few c.self.invariant.read);
+      read = rw (events, kept.messages, kept.payloads) (all_read_more was.kept.items was.messages.messages was.payloads.items c.args.event.now kept.few c.self.invariant.read);
       events = omega (arith, c.self.invariant.events, c.push_reserved.ensures.len, c.push_reserved.ensures.capacity, c.requires);
       messages = omega (arith, c.self.invariant.messages, kept.left, c.requires);
       payloads = omega (arith, c.self.invariant.payloads, kept.long, kept.capacity, c.requires);
@@ -23,10 +18,6 @@ invariant_of-self c =
 pub returns : goal.returns
 returns c =
     let was = c.self.inside in
-    let e = c.args.event.now in
-    let ms = was.messages.messages in
-    let p = was.payloads.items in
     let kept = c.keep_event-kept.ensures in
-    let events : c.push_reserved.new.self.items ≡ was.kept.items ++ kept_event (length ms) (length p) e ∷ [] =
-    c.push_reserved.ensures.items ∙ ap (λ (k : KeptEvent). was.kept.items ++ k ∷ []) kept.value in
-    rw (events, kept.messages, kept.payloads, events_more was.kept.items ms p e c.self.invariant.read, ← c.self.view_is) refl
+    let events = c.push_reserved.ensures.items ∙ ap (λ (k : PackedEvent). was.kept.items ++ k ∷ []) kept.value in
+    rw (events, kept.messages, kept.payloads, events_more was.kept.items was.messages.messages was.payloads.items c.args.event.now c.self.invariant.read, ← c.self.view_is) refl

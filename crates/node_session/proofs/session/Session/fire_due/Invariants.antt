@@ -1,5 +1,5 @@
 use Rattle.std.proofs.Common.{◌≡◌, None}
-use Rattle.node_session.specs.declared.ended.Ended.TheVariants as end
+use Rattle.node_session.specs.declared.call_outcome.CallOutcome.TheVariants as end
 use Rattle.node_session.specs.Chains.{AreTimely}
 use Rattle.node_session.specs.Serving.{Calls}
 use Rattle.node_session.specs.Text.{fired_news}

@@ -17,4 +17,4 @@ returns-clause-images g c = λ at honest.
 pub returns-clause-after : goal.returns-clause-after
 returns-clause-after g c = λ at honest. rw (← c.self.view_is) (λ way all ok.
     let done = c.is_err.ensures.negation ∙ ap not c.if-is_err.false in
-    raise_after at _ (g.D.SectorDisk.state c.args.disk.now) _ c.body_for.result c.body_for.ensures (omega (arith, c.if-self-2.false, c.self.ranges)) way all (c.store.ensures.run honest) (c.store.ensures.synced honest done) (c.store.ensures.sealed honest done))
+    raise_after at _ (g.D.SectorDisk.state c.args.disk.now) _ c.body_for.result c.body_for.ensures (omega (arith, c.if-self-2.false, c.self.ranges)) way all (c.store.ensures.writes.run honest) (c.store.ensures.synced honest done) (c.store.ensures.sealed honest done))

@@ -1,6 +1,0 @@
-use Rattle.std.proofs.Common.{◌≡◌, drop}
-use Rattle.pace.specs.Waiting.{asks}
-use Rattle.pace.proofs.waiting.asks.Given as goal
-
-abbrev pub invariant-loop-message : goal.invariant-loop-message
-invariant-loop-message l = asks (drop l.message-index l.messages) ≡ asks l.fn.messages

@@ -1,0 +1,410 @@
+ghost use Rattle.std.specs.Prelude.{◌≡◌, ◌≢◌, ◌↔◌, ◌<◌, ◌≤◌, ◌^◌, ◌-◌, ℕ, if◌then◌else◌, IfSome, IsNone, IsTrue, is_some, true, Some, None};
+ghost use Rattle.node_core.specs.declared.event.Event.TheVariants as on;
+ghost use Rattle.node_core.specs.declared.timer.Timer.TheVariants as timer;
+ghost use Rattle.node_core.specs.declared.event.Event.{Event};
+ghost use Rattle.pace.specs.declared.deadline.Deadline.{Deadline};
+ghost use Rattle.pace.specs.declared.wait.Wait.{Wait};
+ghost use Rattle.pace.specs.Timers.{wait_of, lasts, raise_of, IsSet};
+ghost use Rattle.pace.specs.Policy.{aged, all_answered, asked_by, fresh, heard_from, in_new_group, is_silent, has_silent, event_at, looked_at, may_dispatch, passed, rests, since, spent, work_left, Runs, HasCome, IsDue, IsWorkDue, MayFire, Counts, Dispatches};
+
+use crate::deadline::Deadline;
+use crate::snapshot::NodeSnapshot;
+use crate::timer_settings::TimerSettings;
+use crate::wait::Wait;
+use group_task::{GroupNo, Members, NODES, NodeId};
+use node_core::{Event, Phase, Timer};
+use rand_core::utils::NextWord;
+use rand_pcg::Pcg32;
+use std::marker::Model;
+
+/// When the timers of one node fire. It is given a snapshot of the node and the time, in milliseconds of any clock: what it waits for is counted from
+/// one time that is told to the next.
+#[derive(Drop)]
+pub struct TimerPolicy {
+    id: NodeId,
+    setting: TimerSettings,
+    random: Pcg32,
+    // the time that was told last, and how many milliseconds from there on aren't waited for
+    told: Option<u64>,
+    skip: u64,
+    deadline: Option<Deadline>,
+    // whether a check was made or heard of in the node's group
+    settled: bool,
+    // how many checks were fired, and how many of them before each node was last heard
+    checks: u64,
+    heard: [u64; NODES as usize],
+    // the oldest job that was seen, how long work rests, and for how long it has to before it is dispatched; at once where that is 0
+    oldest: Option<u64>,
+    rested: u64,
+    pause: u64,
+    // how long the node's last raise took
+    raise: u32,
+}
+
+impl Model for TimerPolicy {
+    ghost use Rattle.pace.specs.Policy.{Policy};
+
+    ghost Value = { Policy };
+
+    ghost view = { λ a. record {
+      id = a.id;
+      setting = a.setting;
+      told = a.told;
+      skip = a.skip;
+      deadline = a.deadline;
+      settled = a.settled;
+      checks = a.checks;
+      heard = a.heard;
+      oldest = a.oldest;
+      rested = a.rested;
+      pause = a.pause;
+      raise = a.raise;
+    } };
+}
+
+impl TimerPolicy {
+    /// A policy with no deadline set. The seed and the node's identifier decide the jitter.
+    pub fn new(setting: TimerSettings, id: NodeId, seed: u64) -> TimerPolicy
+        ensures { result ≡ fresh setting id }
+    {
+        TimerPolicy {
+            id,
+            setting,
+            random: Pcg32::new(seed, u64::from(id.number())),
+            told: None,
+            skip: 0,
+            deadline: None,
+            settled: false,
+            checks: 0,
+            heard: [0; NODES as usize],
+            oldest: None,
+            rested: 0,
+            pause: 0,
+            raise: 0,
+        }
+    }
+
+    /// A message came from this node, whatever it says.
+    pub fn heard(&mut self, from: NodeId)
+        // Promise: A message from a node ends that node's silence, and moves no deadline.
+        // Refuses: probe_put_off_by_hearing.
+        ensures { self.new ≡ heard_from from self.old }
+    {
+        self.heard[usize::from(from.number())] = self.checks;
+    }
+
+    /// This node looks for other coordinators. A member whose coordinator it is asks it at once. Where it is greater, it is to merge first: a
+    /// merge that waits for its turn waits twice as long.
+    pub fn asked(&mut self, from: NodeId)
+        // Promise: A member's question is due at once behind a check of its coordinator that it hears, and of nobody else; from then on its
+        // group is settled.
+        // Refuses: question_behind_anyones_check, check_heard_for_nothing.
+        ensures { self.new ≡ asked_by from self.old }
+    {
+        let Some(deadline) = self.deadline else {
+            return;
+        };
+        if deadline.is_led_by(from) {
+            self.deadline = Some(deadline.at_once());
+            self.settled = true;
+        } else if from.number() > self.id.number() {
+            self.deadline = Some(deadline.put_off());
+        }
+    }
+
+    /// All whom the node asked whether they lead have answered, and none of them does: its check is over.
+    pub fn answered(&mut self)
+        // Promise: A check is over at once where all have answered and none of them leads.
+        // Refuses: answers_end_no_check.
+        ensures { self.new ≡ all_answered self.old }
+    {
+        if let Some(deadline) = self.deadline {
+            self.deadline = Some(deadline.answered());
+        }
+    }
+
+    /// The node is in another group than before: the jobs that it keeps are due at once, and no check was made in it.
+    pub fn regrouped(&mut self)
+        // Promise: In a new group the jobs that the node keeps are due at once, and its first check or question comes sooner.
+        // Refuses: new_group_waits_for_work, new_group_is_settled.
+        ensures { self.new ≡ in_new_group self.old }
+    {
+        self.settled = false;
+        self.rested = 0;
+        self.pause = 0;
+    }
+
+    /// It is so late now. What is waited for is nearer by the time that went by since it was told last, less what the node spent itself; where
+    /// the clock fell back, by nothing.
+    pub fn pass(&mut self, now: u64)
+        // Promise: A wait advances by the time between two times that are told, less what the node spent itself; by nothing where
+        // the clock fell back. It stops at 2^64 - 1.
+        // Also: TimerPolicy::spend.
+        // Refuses: own_sync_waited_for.
+        ensures { self.new ≡ passed now self.old }
+    {
+        let since = self.since(now);
+        self.age(since.saturating_sub(self.skip));
+        self.skip = self.skip.saturating_sub(since);
+        self.told = Some(now);
+    }
+
+    /// The node spent so many milliseconds in a command: they aren't waited for.
+    pub fn spend(&mut self, ms: u64)
+        ensures { self.new ≡ spent ms self.old }
+    {
+        self.skip = self.skip.saturating_add(ms);
+    }
+
+    /// A raise of the node took so many milliseconds. Who is asked may be in one, so an answer is waited for so much longer.
+    pub fn raised(&mut self, ms: u64)
+        ensures { self.new ≡ record self.old { raise = raise_of self.old.setting ms } }
+    {
+        self.raise = self.setting.raise_of(ms);
+    }
+
+    /// What is due now. It is one event at most: the caller makes it, looks at the node again, and asks again until nothing
+    /// is due.
+    pub fn tick(&mut self, snapshot: &NodeSnapshot) -> Option<Event>
+        // Promise: Where the wait is over, its timer is fired, before any work.
+        // Refuses: tick_fires_nothing, silent_for_one_check_more.
+        ensures timer { (d : Deadline) → HasCome self.old snapshot.now d → result ≡ Some (event_at self.old snapshot.now d.wait) }
+        ensures work { IsWorkDue self.old snapshot.now → is_some result ≡ true }
+        // Promise: Nothing else is fired but work, at a Normal node and when its time has come; where it has come something is
+        // fired.
+        // Also: work.
+        // Refuses: early, merge_after_one_turn, work_dispatched_in_an_election.
+        ensures not_early { IfSome result (MayFire self.old snapshot.now) }
+        // Promise: At a node that is Down nothing is fired and nothing changes.
+        ensures down { wait_of snapshot.now ≡ None → (result ≡ None) × (self.new ≡ self.old) }
+        // Promise: A deadline that has come is removed, any other stays. Where none is set, one is, for its wait's length, at most
+        // its jitter more, and a raise more where others may be in one.
+        // Also: runs_on, set.
+        // Refuses: fires_twice, jitter_above_its_bound, another_groups_deadline_taken, raise_of_others_not_waited_for.
+        ensures spent { (d : Deadline) → HasCome self.old snapshot.now d → self.new.deadline ≡ None }
+        ensures runs_on { (d : Deadline) → Runs self.old snapshot.now d → d.waited < lasts self.old.setting self.old.raise snapshot.now.merge_wait d
+            → self.new.deadline ≡ Some d }
+        ensures set { ((d : Deadline) → Runs self.old snapshot.now d → ⊥) → (wait : Wait) → wait_of snapshot.now ≡ Some wait
+            → (d : Deadline) × (self.new.deadline ≡ Some d) × IsSet self.old.setting self.old.settled self.old.raise wait snapshot.now.group d }
+        // Promise: Each check is counted and settles the group; behind a dispatch work rests anew, the longer the longer it did; where the oldest job is
+        // another one than was seen, it begins to; nothing else changes.
+        // Also: dispatches, kept.
+        // Refuses: work_that_moves_dispatched, check_settles_nothing.
+        ensures checks { Counts result self.old self.new }
+        ensures dispatches { Dispatches result snapshot.now self.old self.new }
+        ensures kept { self.new ≡ record self.old {
+          deadline = self.new.deadline;
+          settled = self.new.settled;
+          checks = self.new.checks;
+          oldest = self.new.oldest;
+          rested = self.new.rested;
+          pause = self.new.pause;
+        } }
+    {
+        let wait = Wait::of(snapshot)?;
+        let Some(deadline) = self.running(wait, snapshot.group) else {
+            self.set(wait, snapshot.group);
+            return self.dispatch(snapshot);
+        };
+        if deadline.has_come(&self.setting, self.raise, snapshot.merge_wait) {
+            let event = self.fire(wait, snapshot);
+            self.deadline = None;
+            return Some(event);
+        }
+        self.dispatch(snapshot)
+    }
+
+    /// When something is due next, where the node stays as it is seen and spends no time itself. None where nothing will be: at a node
+    /// that is Down, or past the clock's end.
+    pub fn due_at(&self, snapshot: &NodeSnapshot) -> Option<u64>
+        // Promise: Before the time that is given as the next, nothing may be fired, whatever time is told; at it something is. It
+        // is 0 where no deadline runs yet, and none at a node that is Down.
+        // Also: fires, at_once, never.
+        // Refuses: due_too_late, due_too_early.
+        ensures quiet { IfSome result (λ next. (now : ℕ) → now < next → (event : Event) → MayFire (passed now self.now) snapshot.now event → ⊥) }
+        ensures fires { IfSome result (λ next. (d : Deadline) → Runs self.now snapshot.now d → is_some self.now.told ≡ true → IsDue (passed next self.now) snapshot.now) }
+        ensures at_once { ((d : Deadline) → Runs self.now snapshot.now d → ⊥) → result ≡ (if is_some (wait_of snapshot.now) then Some 0 else None) }
+        ensures never { IsNone result → (now : ℕ) → now < 2 ^ 64 → (event : Event) → MayFire (passed now self.now) snapshot.now event → ⊥ }
+    {
+        let wait = Wait::of(snapshot)?;
+        let Some(deadline) = self.running(wait, snapshot.group) else {
+            return Some(0);
+        };
+        let timer = deadline.left(&self.setting, self.raise, snapshot.merge_wait);
+        let left = match snapshot.phase {
+            Phase::Normal => timer.min(self.work_left(snapshot)),
+            _ => timer,
+        };
+        self.time_in(left)
+    }
+
+    /// The time at which so many milliseconds more will have been waited for; 0 where none are left.
+    fn time_in(&self, left: u64) -> Option<u64>
+        ensures early { IfSome result (λ next. (now : ℕ) → now < next → since now self.now.told - self.now.skip < left) }
+        ensures come { IfSome result (λ next. is_some self.now.told ≡ true → left ≤ since next self.now.told - self.now.skip) }
+        ensures none { IsNone result → (now : ℕ) → now < 2 ^ 64 → since now self.now.told - self.now.skip < left }
+    {
+        if left == 0 {
+            return Some(0);
+        }
+        let told = u128::from(self.told.unwrap_or(0));
+        u64::try_from(told + u128::from(self.skip) + u128::from(left)).ok()
+    }
+
+    /// How long it is until the work of a Normal node is dispatched; the greatest number where it isn't.
+    fn work_left(&self, snapshot: &NodeSnapshot) -> u64
+        ensures value { result ≡ work_left self.now snapshot.now }
+        ensures fits { self.now.pause < 2 ^ 64 }
+    {
+        let pause = self.pause;
+        if self.may_dispatch(snapshot) {
+            pause.saturating_sub(self.rested)
+        } else {
+            u64::MAX
+        }
+    }
+
+    /// Whether jobs are dispatched once they rested for long enough, or at once.
+    fn may_dispatch(&self, snapshot: &NodeSnapshot) -> bool
+        ensures { result ≡ may_dispatch self.now snapshot.now }
+    {
+        snapshot.oldest.is_some() && (self.pause == 0 || self.rests(snapshot))
+    }
+
+    /// Whether the oldest job is the one that was seen: nothing came or went.
+    fn rests(&self, snapshot: &NodeSnapshot) -> bool
+        ensures { result ≡ rests snapshot.now.oldest self.now.oldest }
+    {
+        match (snapshot.oldest, self.oldest) {
+            (Some(oldest), Some(seen)) => oldest == seen,
+            _ => false,
+        }
+    }
+
+    /// How long ago a time was told, where it is so late now.
+    fn since(&self, now: u64) -> u64
+        ensures { result ≡ since now self.now.told }
+    {
+        match self.told {
+            Some(told) => now.saturating_sub(told),
+            None => 0,
+        }
+    }
+
+    /// So much more was waited for.
+    fn age(&mut self, waited: u64)
+        ensures { self.new ≡ aged waited self.old }
+    {
+        self.rested = self.rested.saturating_add(waited);
+        if let Some(deadline) = self.deadline {
+            self.deadline = Some(deadline.later(waited));
+        }
+    }
+
+    /// The deadline that is set, where it is the one of this wait, in this group.
+    fn running(&self, wait: Wait, group: GroupNo) -> Option<Deadline>
+        ensures some { IfSome result (λ d. (self.now.deadline ≡ Some d) × (d.wait ≡ wait) × (d.group ≡ group)) }
+        ensures none { IsNone result → (d : Deadline) → self.now.deadline ≡ Some d → d.wait ≡ wait → d.group ≢ group }
+    {
+        if let Some(deadline) = &self.deadline {
+            if deadline.is_of(wait, group) {
+                return self.deadline;
+            }
+        }
+        None
+    }
+
+    /// What is fired when a wait is over: its timer, but a coordinator whose member fell silent, and that found no other coordinator, gives
+    /// its group up at the end of a check.
+    fn fire(&mut self, wait: Wait, snapshot: &NodeSnapshot) -> Event
+        ensures value { result ≡ event_at self.old snapshot.now wait }
+        ensures checks { Counts (Some result) self.old self.new }
+        ensures kept { self.new ≡ record self.old { checks = self.new.checks; settled = self.new.settled } }
+    {
+        match wait {
+            Wait::Check => {
+                self.checks = self.checks.saturating_add(1);
+                self.settled = true;
+            }
+            Wait::Merge if snapshot.merge_wait.is_none() && self.has_silent(snapshot.members) => {
+                return Event::Recover;
+            }
+            _ => {}
+        }
+        Event::Timer(wait.timer())
+    }
+
+    /// Whether one of the members, other than the node itself, answered none of the last checks.
+    fn has_silent(&self, members: Members) -> bool
+        ensures { result ≡ has_silent self.now members }
+    {
+        for id in members.iter() {
+            if self.is_silent(id) {
+                return true;
+            }
+        }
+        false
+    }
+
+    fn is_silent(&self, id: NodeId) -> bool
+        ensures { result ≡ is_silent self.now id }
+    {
+        let heard = self.heard[usize::from(id.number())];
+        !id.is(self.id)
+            && u64::from(self.setting.silent_checks) <= self.checks.saturating_sub(heard)
+    }
+
+    /// Sets the deadline of this wait, with its jitter.
+    fn set(&mut self, wait: Wait, group: GroupNo)
+        ensures deadline { (d : Deadline) × (self.new.deadline ≡ Some d) × IsSet self.old.setting self.old.settled self.old.raise wait group d }
+        ensures kept { self.new ≡ record self.old { deadline = self.new.deadline } }
+    {
+        let range = u64::from(wait.jitter(&self.setting, self.settled)) + 1;
+        let jitter = u64::from(self.random.next_word()) % range;
+        self.deadline = Some(Deadline {
+            wait,
+            group,
+            length: u64::from(wait.least(&self.setting, self.settled))
+                + jitter
+                + u64::from(wait.patience(self.raise)),
+            waited: 0,
+            put_off: false,
+        });
+    }
+
+    /// The work of a Normal node is dispatched, the rarer the longer it rests. Where it doesn't rest, it begins to.
+    fn dispatch(&mut self, snapshot: &NodeSnapshot) -> Option<Event>
+        ensures value { IsTrue (is_some result) ↔ IsWorkDue self.old snapshot.now }
+        ensures event { IfSome result (λ e. e ≡ on.Timer timer.Dispatch) }
+        ensures dispatches { Dispatches result snapshot.now self.old self.new }
+        ensures kept { self.new ≡ record self.old { oldest = self.new.oldest; rested = self.new.rested; pause = self.new.pause } }
+    {
+        if !matches!(snapshot.phase, Phase::Normal) {
+            return None;
+        }
+        if self.work_left(snapshot) > 0 {
+            self.look(snapshot);
+            return None;
+        }
+        self.pause = if self.pause == 0 {
+            self.setting.first_pause(snapshot.pending)
+        } else {
+            self.setting.longer_pause(self.pause)
+        };
+        self.oldest = snapshot.oldest;
+        self.rested = 0;
+        Some(Event::Timer(Timer::Dispatch))
+    }
+
+    /// Where work doesn't rest, it has to from now on.
+    fn look(&mut self, snapshot: &NodeSnapshot)
+        ensures { self.new ≡ looked_at snapshot.now self.old }
+    {
+        if self.rests(snapshot) {
+            return;
+        }
+        self.oldest = snapshot.oldest;
+        self.rested = 0;
+        self.pause = self.setting.first_pause(snapshot.pending);
+    }
+}

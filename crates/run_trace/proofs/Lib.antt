@@ -1,2 +1,0 @@
-mod Tracings
-mod Judgings

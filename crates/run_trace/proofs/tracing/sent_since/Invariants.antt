@@ -1,5 +1,0 @@
-use Rattle.std.proofs.Common.{◌≡◌, ◌++◌, drop}
-use Rattle.run_trace.proofs.tracing.sent_since.Given as goal
-
-abbrev pub invariant-loop-at : goal.invariant-loop-at
-invariant-loop-at l = l.sent.items ++ drop l.at l.messages.messages ≡ drop l.place l.messages.messages

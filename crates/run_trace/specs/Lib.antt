@@ -1,3 +1,0 @@
-pub mod Bringing
-pub mod Deeds
-pub mod Traced

@@ -1,0 +1,123 @@
+ghost use Rattle.std.specs.Prelude.{◌≡◌, ◌≢◌, ◌<◌, ◌-◌, ◌^◌, ◌↔◌, ℕ, [], length, IfOk, OnOk, OnErr, IsTrue};
+ghost use Rattle.job_model.specs.Answer.{answer_to};
+ghost use Rattle.job_model.specs.declared.node_command.NodeCommand.TheVariants.{Put, Done};
+ghost use Rattle.job_model.specs.Fold.{after_wanted, after_command};
+ghost use Rattle.job_model.specs.Table.{durable_of};
+ghost use Rattle.node_core.specs.NodeStep.{IsSpent};
+ghost use Rattle.node_core.specs.Planned.{lent_by};
+
+use job_model::{Command, JobTable, Work};
+use node_core::WantedRef;
+use std::alloc::{AllocError, Global};
+use std::marker::Model;
+
+/// What a node's disk keeps: the counter of groups and the pending jobs. It takes room as it is needed.
+#[derive(Drop)]
+pub(crate) struct DurableState {
+    alloc: Global,
+    counter: u64,
+    table: JobTable,
+}
+
+impl Model for DurableState {
+    ghost use Rattle.job_model.specs.Durable.{Durable};
+    ghost use Rattle.job_model.specs.Table.{durable_of};
+
+    ghost Value = { Durable };
+
+    ghost view = { λ a. durable_of a.counter a.table };
+}
+
+impl DurableState {
+    /// What the disk of a node keeps that was just opened.
+    pub(crate) fn new(alloc: Global) -> Result<DurableState, AllocError>
+        ensures { IfOk result (λ durable_state. durable_state ≡ record { counter = 1; next = 0; pending = [] }) }
+    {
+        Ok(DurableState {
+            alloc,
+            counter: 1,
+            table: JobTable::with_room(alloc, 0)?,
+        })
+    }
+
+    /// The pending jobs.
+    pub(crate) fn table(&self) -> &JobTable
+        ensures { result.now.pending ≡ self.now.pending }
+    {
+        &self.table
+    }
+
+    /// Whether the numbers that the command takes are used up.
+    pub(crate) fn is_spent(&self, wants: &WantedRef<'_>) -> bool
+        ensures spent { IsTrue result ↔ IsSpent self.now (lent_by wants.now) }
+        ensures fits { self.now.counter < 2 ^ 64 }
+    {
+        let counter = self.counter;
+        match wants {
+            WantedRef::Raise => counter == u64::MAX,
+            WantedRef::Put(_) => self.table.next() == u64::MAX,
+            WantedRef::None | WantedRef::Done(_) => false,
+        }
+    }
+
+    /// Takes the command, and gives its answer.
+    pub(crate) fn take(&mut self, wants: &WantedRef<'_>) -> Result<u64, AllocError>
+        requires { IsSpent self.old (lent_by wants.now) → ⊥ }
+        ensures step { OnOk result (self.new ≡ after_wanted self.old (lent_by wants.now)) }
+        ensures answer { IfOk result (λ answer. answer ≡ answer_to self.old (lent_by wants.now)) }
+        ensures refused { OnErr result (self.new ≡ self.old) }
+    {
+        match wants {
+            WantedRef::None => Ok(0),
+            WantedRef::Raise => {
+                self.counter += 1;
+                Ok(self.counter)
+            }
+            WantedRef::Put(work) => put(self.alloc, &mut self.table, work),
+            WantedRef::Done(id) => {
+                done(&mut self.table, *id);
+                Ok(*id)
+            }
+        }
+    }
+}
+
+/// Makes a job pending, and gives its id.
+fn put(alloc: Global, table: &mut JobTable, work: &Work) -> Result<u64, AllocError>
+    requires { table.old.next ≢ 2 ^ 64 - 1 }
+    ensures id { IfOk result (λ id. id ≡ table.old.next) }
+    ensures step { OnOk result ((counter : ℕ) → durable_of counter table.new ≡ after_command (durable_of counter table.old) (Put work.now)) }
+    ensures refused { OnErr result (table.new ≡ table.old) }
+{
+    let id = table.next();
+    let command = Command::Put(*work);
+    if !table.can_apply(&command) {
+        *table = grown(alloc, table)?;
+    }
+    table.apply(command);
+    Ok(id)
+}
+
+/// Takes the job of this id out, if it is there.
+fn done(table: &mut JobTable, id: u64)
+    ensures { (counter : ℕ) → durable_of counter table.new ≡ after_command (durable_of counter table.old) (Done id) }
+{
+    if table.contains(id) {
+        table.apply(Command::Done(id));
+    }
+}
+
+/// The same jobs in a table with more room.
+fn grown(alloc: Global, table: &JobTable) -> Result<JobTable, AllocError>
+    ensures next { IfOk result (λ new. new.next ≡ table.now.next) }
+    ensures pending { IfOk result (λ new. new.pending ≡ table.now.pending) }
+    ensures room { IfOk result (λ new. length new.pending < new.room) }
+{
+    let jobs = table.pending();
+    let mut new = JobTable::with_room(alloc, jobs.len() * 2 + 4)?;
+    new.restart(table.next());
+    for job in jobs {
+        new.keep(*job);
+    }
+    Ok(new)
+}

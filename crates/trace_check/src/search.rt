@@ -1,0 +1,110 @@
+ghost use Rattle.std.specs.Prelude.{◌≡◌, ◌≤◌, ◌<◌, ◌+◌, ◌∷◌, [], ℕ, length, slice_get, Some, cond, IfOk, OnOk, IfSome, IsNone, IsTrue, true, false};
+ghost use Rattle.group_task.specs.Ids.{has, with_id, without_id};
+ghost use Rattle.wire_msg.specs.Envelope.{Envelope};
+ghost use Rattle.trace_check.specs.Searches.{Fits, Judges, PostsAll};
+
+use crate::history::Sent;
+use crate::node_model::NodeModel;
+use crate::sent_messages::SentMessages;
+use crate::trace::Trace;
+use group_task::{Members, NodeId};
+use std::alloc::AllocError;
+use wire_msg::Message;
+
+/// A node of the trace: its node model, and the index of its next entry.
+#[derive(Drop)]
+pub(crate) struct NodeView {
+    pub(crate) node_model: NodeModel,
+    pub(crate) place: usize,
+}
+
+/// A check that is under way.
+#[derive(Drop)]
+pub(crate) struct Search<'a> {
+    pub(crate) seats: Vec<NodeView>,
+    /// The nodes whose next entry may be possible: the others' isn't, before more is sent.
+    pub(crate) ready: Members,
+    /// The nodes whose next entry isn't possible, whatever is sent. Their node models are spoiled.
+    pub(crate) stopped: Members,
+    pub(crate) posted: SentMessages<'a>,
+    /// The message that was delivered last, in whose place the next one is read, since a message is long.
+    pub(crate) message: Message,
+    /// The nodes in the order in which their entries were taken.
+    pub(crate) order: Vec<NodeId>,
+}
+
+/// What can be said of a node's next entry.
+pub(crate) enum Judgement {
+    /// It isn't possible, or there is none.
+    Stops,
+    /// What it was brought isn't sent yet.
+    Waits,
+    Takes,
+}
+
+/// What can be said of the node's next entry. If it can be taken, it is.
+pub(crate) fn judge<'a>(
+    trace: &'a Trace,
+    posted: &SentMessages<'a>,
+    message: &mut Message,
+    node_view: &mut NodeView,
+    id: NodeId,
+) -> Result<Judgement, AllocError>
+    ensures { IfOk result (Judges trace.now posted.now id node_view.old node_view.new) }
+{
+    let Some(brought) = trace.brought(id, node_view.place) else {
+        return Ok(Judgement::Stops);
+    };
+    if let Some(receiver) = brought.receiver(0) {
+        if receiver != id {
+            return Ok(Judgement::Stops);
+        }
+        if !posted.contains(&brought, 0) {
+            return Ok(Judgement::Waits);
+        }
+    }
+    let Some(kept) = trace.kept(id, node_view.place) else {
+        unreachable!()
+    };
+    if !node_view.node_model.take_kept(&kept, message)? {
+        return Ok(Judgement::Stops);
+    }
+    node_view.place += 1;
+    Ok(Judgement::Takes)
+}
+
+/// The messages are sent: who waits for one of them may go on.
+pub(crate) fn post_all<'a>(
+    posted: &mut SentMessages<'a>,
+    ready: &mut Members,
+    stopped: &Members,
+    sent: &Sent<'a>,
+) -> Result<(), AllocError>
+    ensures { OnOk result (PostsAll stopped.now posted.old posted.new ready.old ready.new sent.now) }
+{
+    for place in 0..sent.len() {
+        post(posted, ready, stopped, sent, place)?;
+    }
+    Ok(())
+}
+
+/// The message at a place of these is sent.
+fn post<'a>(
+    posted: &mut SentMessages<'a>,
+    ready: &mut Members,
+    stopped: &Members,
+    sent: &Sent<'a>,
+    place: usize,
+) -> Result<(), AllocError>
+    requires { place < length sent.now }
+    ensures { (m : Envelope) → slice_get sent.now place ≡ Some m → OnOk result (PostsAll stopped.now posted.old posted.new ready.old ready.new (m ∷ [])) }
+{
+    let Some(receiver) = sent.receiver(place) else {
+        unreachable!()
+    };
+    posted.add(sent, place)?;
+    if !stopped.contains(receiver) {
+        ready.insert(receiver);
+    }
+    Ok(())
+}
