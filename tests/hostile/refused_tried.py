@@ -5,7 +5,7 @@ import shim
 
 TOP = os.path.abspath(os.path.join(os.path.dirname(os.path.abspath(__file__)), "..", ".."))
 # Of each crate its test. `rt ci`, as `rt test` in its folder, leaves the program of its tests in out/.
-CRATES = [("core_tests", "refused::refused_feed"), ("thread_tests", "refused::refused_step"), ("thread_tests", "turns::refused_next")]
+CRATES = [("core_tests", "tests::refused::refused_feed"), ("thread_tests", "tests::refused::refused_step"), ("thread_tests", "tests::turns::refused_next")]
 SECONDS = 600
 
 

@@ -20,7 +20,7 @@ use Rattle.node_core.specs.declared.fault.Refusal.TheVariants.{AreaExhausted}
 use Rattle.runs.specs.declared.outcome.Outcome.{Outcome}
 use Rattle.runs.specs.declared.outcome.Outcome.TheVariants.{Refused}
 use Rattle.runs.specs.declared.outcome.Refusal.TheVariants.{Node as OfNode}
-use Rattle.runs.specs.Acts.{IsStepOf, act_outcome}
+use Rattle.runs.specs.Acts.{IsStepOf}
 use Rattle.runs.specs.Reporting.{Moment, Report, own_commands, node_of, moment_of, grown}
 use Rattle.runs.specs.declared.attempt_at.AttemptAt.{AttemptAt}
 use Rattle.cluster_sim.specs.Names.{node_named}
@@ -38,7 +38,7 @@ use Rattle.histories.specs.declared.command_kind.CommandKind.{CommandKind}
 use Rattle.histories.specs.EventOutcomes.{attempt_of}
 use Rattle.histories.specs.Possible.{IsPossible}
 use Rattle.runs.specs.Run.{IsAllowed}
-use Rattle.runs.proofs.PublicLaws.{runs_grow, step_length, counts_more, hands_grow, mounted_few, left_few, left_numbered, step_adds, step_numbered, all_more, at_place, node_there}
+use Rattle.runs.proofs.PublicLaws.{runs_grow, step_length, counts_more, hands_grow, mounted_few, left_few, left_numbered, step_adds, step_numbered, at_place, node_there}
 use Rattle.cluster_sim.proofs.Reporting.{AddsNothing, StepReported, quiet_reported, takes_reported}
 
 -- the room for pending jobs is enough

@@ -1,8 +1,8 @@
 -- What an event at a node is answered, and what an act does to the number of its area.
-use Rattle.std.proofs.Common.{◌≡◌, ◌≢◌, ◌⊎◌, inl, inr, ⊎_elim, ℕ, ◌+◌, ◌-◌, ◌^◌, ◌<◌, ◌≤◌, ◌==◌, Bool, true, false, List, length, slice_get, refl, sym, ◌∙◌, ap, subst, arith, Option, Some, None, Result, Ok, Err, IsOk, IsErrOf, IfOk, OnErr, if◌then◌else◌, ◌&&◌}
+use Rattle.std.proofs.Common.{◌≡◌, ◌≢◌, ◌⊎◌, inl, inr, ⊎_elim, ℕ, ◌+◌, ◌-◌, ◌^◌, ◌<◌, ◌≤◌, ◌==◌, Bool, true, false, List, length, slice_get, refl, sym, ◌∙◌, ap, subst, arith, Option, Some, None, Result, Ok, Err, IsOk, IsErrOf, IfOk, if◌then◌else◌, ◌&&◌}
 use Rattle.std.specs.Prelude.{nat_le, nat_lt}
 use Rattle.std.proofs.lemmas.Bool.Decides.{nat_tests}
-use Rattle.job_journal.specs.Journal.{AllWithin, AllNumbered, RisesByOne}
+use Rattle.job_journal.specs.Journal.{AllWithin, AllNumbered}
 use Rattle.job_model.specs.declared.node_command.NodeCommand.{NodeCommand as Command}
 use Rattle.job_model.specs.declared.node_command.NodeCommand.TheVariants.{Raise, Put, Done as JobDone}
 use Rattle.job_model.specs.Durable.{Durable}
@@ -17,7 +17,7 @@ use Rattle.node_core.specs.declared.fault.Refusal.TheVariants.{Core, Full, Exhau
 use Rattle.node_core.specs.NodeStep.{IsAppended, IsSpent}
 use Rattle.node_core.specs.Refusals.{refusal_of}
 use Rattle.node_core.specs.Start.{down}
-use Rattle.node_core.specs.State.{State, is_down}
+use Rattle.node_core.specs.State.{is_down}
 use Rattle.node_core.specs.Wants.{wants_of}
 use Rattle.histories.specs.NodeState.{NodeState, wants_at}
 use Rattle.histories.specs.declared.event_outcome.EventOutcome.{EventOutcome}
@@ -37,7 +37,7 @@ use Rattle.durable_node.specs.declared.fault.NodeFault.TheVariants as node
 use Rattle.durable_node.specs.Faults.{answered, answered_as, fault_of, shown}
 use Rattle.durable_node.specs.Node.{Area, Node, Stands}
 use Rattle.durable_node.specs.Refusing.{Answers, AnswersEvent, compaction_refusal, disk_refusal, area_refusal, is_last}
-use Rattle.durable_node.specs.Stepping.{CountsOf, Does, IsMounting, Steps, Stuck}
+use Rattle.durable_node.specs.Stepping.{CountsOf, Does, Steps, Stuck}
 use Rattle.durable_node.proofs.PublicLaws.{is_some}
 use Rattle.runs.specs.declared.outcome.Outcome.{Outcome}
 use Rattle.runs.specs.declared.outcome.Outcome.TheVariants as outcome
@@ -339,9 +339,6 @@ pub no_event : (view : WorldView) (a : Act) (o : Outcome) → event_at a ≡ Non
 no_event view a o none other n event at = absurd (let both : None ≡ Some (n, event) = sym (none_by view.net a none other) ∙ at in cc)
 
 -- ---- want of memory
-
-pub still_untouched : (at : ℕ) (view : WorldView) → IsUntouched at view view
-still_untouched at view = record { count = refl; net = refl; here = λ was now on_was on_now. inl (is_some now was (sym on_now ∙ on_was)); elsewhere = λ k other. refl }
 
 untouched_disk : (bound : ℕ) (was now : Node Memory) → IsUntouchedNode was now → AreaWithin bound was.disk → AreaWithin bound now.disk
 untouched_disk bound was now (inl same) within = subst (λ (n : Node Memory). AreaWithin bound n.disk) (sym same) within

@@ -1,5 +1,5 @@
 -- What was told of an act that came to a node is what came of it, and the trace so far goes on by it.
-use Rattle.std.proofs.Common.{◌≡◌, ◌≢◌, ℕ, Bool, true, false, [], ◌∷◌, slice_get, Option, Some, None, Result, Ok, Err, refl, sym, subst, ne_eqb, eq-eqb, arith, ◌⊎◌, inl, inr, ◌∙◌, ◌≤◌, zero, suc, ◌+◌, List, ◌++◌, map, length, slice_set, drop, replicate, ap, append_assoc}
+use Rattle.std.proofs.Common.{◌≡◌, ◌≢◌, ℕ, Bool, true, false, [], ◌∷◌, slice_get, Option, Some, None, Result, Ok, Err, refl, sym, subst, ne_eqb, eq-eqb, arith, ◌∙◌, ◌≤◌, zero, suc, ◌+◌, List, ◌++◌, map, length, slice_set, drop, replicate, ap, append_assoc}
 use Rattle.std.specs.Prelude.{nat_lt, if◌then◌else◌, option_and_then, OnOk}
 use Rattle.std.proofs.lemmas.List.{append-nil, drop_all, drop_more, map-append, replicate-append-replicate, length-map}
 use Rattle.std.proofs.lemmas.Option.{get_or_from_slice_get, slice_get_within}

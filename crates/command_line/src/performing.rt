@@ -32,24 +32,7 @@ pub fn perform<T: Threads + Wait + Sync, R: Read, W: Write>(
     ensures status { result.status ≡ status_of result.ended.ending }
     ensures reads { input.old.left ≤ input.new.left + 16777216 }
 {
-    let ended = carry_out(rt, threads, alloc, batch, input, output);
-    let status = ended.ending.status();
-    Performed { ended, status }
-}
-
-fn carry_out<T: Threads + Wait + Sync, R: Read, W: Write>(
-    rt: &impl Files<File = File>,
-    threads: &T,
-    alloc: Global,
-    batch: &Batch,
-    input: &mut Source<R>,
-    output: &mut W,
-) -> Ended
-    ensures prints { Prints (IsOutcomeOf batch.now) (R.remaining input.old.reader) (W.contents output.old) (W.contents output.new) result.ending }
-    ensures why { IsWhyOf batch.now (R.remaining input.old.reader) result.ending result.why.items }
-    ensures reads { input.old.left ≤ input.new.left + 16777216 }
-{
-    match batch {
+    let ended = match batch {
         Batch::Answer(place) => {
             invite_console::answer(alloc, place.id, place.nodes, input, output)
         }
@@ -60,5 +43,7 @@ fn carry_out<T: Threads + Wait + Sync, R: Read, W: Write>(
         Batch::Record => invite_console::record(alloc, input, output),
         Batch::Threads => threads_console::threads(threads, alloc, input, output),
         Batch::Draw(form) => trace_draw::draw(alloc, *form, input, output),
-    }
+    };
+    let status = ended.ending.status();
+    Performed { ended, status }
 }

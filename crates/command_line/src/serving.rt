@@ -1,5 +1,5 @@
 // A node that is fed with lines and writes lines.
-ghost use Rattle.std.specs.Prelude.{◌<◌, ◌≤◌, ◌≡◌};
+ghost use Rattle.std.specs.Prelude.{◌<◌, ◌≤◌};
 ghost use Rattle.group_task.specs.declared.node.TheConstants.{NODES};
 
 use crate::keys::{Keys, read_seal};

@@ -4,28 +4,4 @@
 #![tactic(auto)]
 
 #[cfg(test)]
-mod cells;
-#[cfg(test)]
-mod files;
-#[cfg(test)]
-mod gates;
-#[cfg(test)]
-mod groups;
-#[cfg(test)]
-mod journals;
-#[cfg(test)]
-mod messages;
-#[cfg(test)]
-mod records;
-#[cfg(test)]
-mod refused;
-#[cfg(test)]
-mod rows;
-#[cfg(test)]
-mod seals;
-#[cfg(test)]
-mod sectors;
-#[cfg(test)]
-mod stores;
-#[cfg(test)]
-mod texts;
+mod tests;

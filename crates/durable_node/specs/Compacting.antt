@@ -45,7 +45,8 @@ CompactionAnswers (RaiseRefused kept) result = ⊥
 abbrev pub Compacts : {Disk A : Type 0} → (Disk → DiskState) → Node Disk → Node Disk → Result A NodeFault → Type 0
 Compacts {Disk} disks old new result =
     (disk : Disk) (s : NodeState) → old.disk ≡ Some disk → Stands disks old s →
-    (what : HistoryEvent) × CompactionAnswers what result × IsPossible old.id old.nodes s what × Stands disks new (after old.id old.nodes s what)
+    (what : HistoryEvent) × CompactionAnswers what result × IsPossible old.id old.nodes s what
+    × Stands disks new (after old.id old.nodes s what)
 
 -- in each image since the compaction began the disk of a node that was up stands for what it kept
 abbrev pub StaysKept : {Disk : Type 0} → (Disk → DiskState) → Node Disk → Node Disk → Type 0

@@ -1,4 +1,4 @@
-ghost use Rattle.std.specs.Prelude.{◌≡◌, true};
+ghost use Rattle.std.specs.Prelude.{◌≡◌};
 ghost use Rattle.node_core.specs.State.{is_down};
 ghost use Rattle.durable_node.specs.Calls.{IsCall};
 ghost use Rattle.durable_node.specs.Node.{IsNode, node_with};
@@ -8,58 +8,36 @@ use crate::handle::handle;
 use crate::ignore::ignore;
 use crate::node_disk::NodeDisk;
 use crate::remount::remount;
+use crate::setting::NodeSetting;
 use crate::step_report::StepReport;
-use group_task::NodeId;
 use node_core::{Event, NodeCore, Phase, Wanted};
 use sector_disk::SectorDisk;
-use std::alloc::Global;
 
 /// One event, over the parts of a node: where it is up, where it is down, and where it mounts its disk.
 pub(crate) fn advance<D: SectorDisk + Drop>(
-    alloc: Global,
-    id: NodeId,
-    nodes: u8,
+    setting: NodeSetting,
     core: &mut NodeCore,
     disk: &mut NodeDisk<D>,
     doubt: &mut Option<(Wanted, u64)>,
     mounted: &mut Option<u64>,
     event: &Event,
 ) -> Result<StepReport, NodeFault>
-    requires node { IsNode D.state id nodes core.old disk.old }
-    ensures node { IsNode D.state id nodes core.new disk.new }
-    ensures call { IsCall D.state (node_with id nodes core.old disk.old doubt.old mounted.old) (node_with id nodes core.new disk.new doubt.new mounted.new) event.now result }
+    requires node { IsNode D.state setting.id setting.nodes core.old disk.old }
+    ensures node { IsNode D.state setting.id setting.nodes core.new disk.new }
+    ensures call { IsCall D.state (node_with setting.id setting.nodes core.old disk.old doubt.old mounted.old) (node_with setting.id setting.nodes core.new disk.new doubt.new mounted.new) event.now result }
 {
     match disk {
         NodeDisk::Mounted(store) if !is_down(core) => {
             *mounted = None;
-            handle(alloc, id, nodes, core, store, doubt, event)
+            handle(setting, core, store, doubt, event)
         }
-        _ => while_down(alloc, id, nodes, core, disk, doubt, mounted, event),
-    }
-}
-
-/// One event, over the parts of a node that is down.
-fn while_down<D: SectorDisk + Drop>(
-    alloc: Global,
-    id: NodeId,
-    nodes: u8,
-    core: &mut NodeCore,
-    disk: &mut NodeDisk<D>,
-    doubt: &mut Option<(Wanted, u64)>,
-    mounted: &mut Option<u64>,
-    event: &Event,
-) -> Result<StepReport, NodeFault>
-    requires node { IsNode D.state id nodes core.old disk.old }
-    requires down { is_down core.old.state.phase ≡ true }
-    ensures node { IsNode D.state id nodes core.new disk.new }
-    ensures call { IsCall D.state (node_with id nodes core.old disk.old doubt.old mounted.old) (node_with id nodes core.new disk.new doubt.new mounted.new) event.now result }
-{
-    match event {
-        Event::Recover => remount(alloc, id, nodes, core, disk, doubt, mounted),
-        _ => {
-            *mounted = None;
-            Ok(ignore(alloc, core, disk, event))
-        }
+        _ => match event {
+            Event::Recover => remount(setting, core, disk, doubt, mounted),
+            _ => {
+                *mounted = None;
+                Ok(ignore(setting.alloc, core, disk, event))
+            }
+        },
     }
 }
 

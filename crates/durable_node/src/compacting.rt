@@ -14,51 +14,46 @@ ghost use Rattle.durable_node.specs.Stepping.{CountsOf};
 use crate::advance::is_down;
 use crate::fault::{NodeFault, node_fault};
 use crate::node_disk::NodeDisk;
-use group_task::NodeId;
+use crate::setting::NodeSetting;
 use node_core::{CoreFault, NodeCore, Wanted};
 use node_store::NodeStore;
 use sector_disk::SectorDisk;
-use std::alloc::Global;
 
 /// Compacts the journal, over the parts of a node.
 pub(crate) fn compact<D: SectorDisk>(
-    alloc: Global,
-    id: NodeId,
-    nodes: u8,
+    setting: NodeSetting,
     core: &mut NodeCore,
     disk: &mut NodeDisk<D>,
     doubt: &Option<(Wanted, u64)>,
     mounted: &mut Option<u64>,
 ) -> Result<(), NodeFault>
-    requires node { IsNode D.state id nodes core.old disk.old }
-    ensures node { IsNode D.state id nodes core.new disk.new }
+    requires node { IsNode D.state setting.id setting.nodes core.old disk.old }
+    ensures node { IsNode D.state setting.id setting.nodes core.new disk.new }
     ensures answers { AnswersTo (compaction_refusal (area_in (is_down core.old.state.phase) (store_in disk.old))) result }
-    ensures step { Compacts D.state (node_with id nodes core.old disk.old doubt.now mounted.old) (node_with id nodes core.new disk.new doubt.now mounted.new) result }
-    ensures moved { IsOk result → IsMovedNode (node_with id nodes core.old disk.old doubt.now mounted.old) (node_with id nodes core.new disk.new doubt.now mounted.new) }
-    ensures spelled { IsMovedInto D.state (node_with id nodes core.old disk.old doubt.now mounted.old) (node_with id nodes core.new disk.new doubt.now mounted.new) result }
-    ensures fallen { IsErrOf result NodeFault.Device → IsFallenNode (node_with id nodes core.old disk.old doubt.now mounted.old) (node_with id nodes core.new disk.new doubt.now mounted.new) }
+    ensures step { Compacts D.state (node_with setting.id setting.nodes core.old disk.old doubt.now mounted.old) (node_with setting.id setting.nodes core.new disk.new doubt.now mounted.new) result }
+    ensures moved { IsOk result → IsMovedNode (node_with setting.id setting.nodes core.old disk.old doubt.now mounted.old) (node_with setting.id setting.nodes core.new disk.new doubt.now mounted.new) }
+    ensures spelled { IsMovedInto D.state (node_with setting.id setting.nodes core.old disk.old doubt.now mounted.old) (node_with setting.id setting.nodes core.new disk.new doubt.now mounted.new) result }
+    ensures fallen { IsErrOf result NodeFault.Device → IsFallenNode (node_with setting.id setting.nodes core.old disk.old doubt.now mounted.old) (node_with setting.id setting.nodes core.new disk.new doubt.now mounted.new) }
     ensures refused { IfErr result (λ fault. fault ≢ NodeFault.Device
-        → node_with id nodes core.new disk.new doubt.now mounted.new ≡ node_with id nodes core.old disk.old doubt.now None) }
-    ensures images { StaysKept D.state (node_with id nodes core.old disk.old doubt.now mounted.old) (node_with id nodes core.new disk.new doubt.now mounted.new) }
+        → node_with setting.id setting.nodes core.new disk.new doubt.now mounted.new ≡ node_with setting.id setting.nodes core.old disk.old doubt.now None) }
+    ensures images { StaysKept D.state (node_with setting.id setting.nodes core.old disk.old doubt.now mounted.old) (node_with setting.id setting.nodes core.new disk.new doubt.now mounted.new) }
     ensures counts { CountsOf D.state (disk_in disk.old) (disk_in disk.new) result }
 {
     *mounted = None;
     match disk {
-        NodeDisk::Mounted(store) if !is_down(core) => rewrite(alloc, id, nodes, core, store),
+        NodeDisk::Mounted(store) if !is_down(core) => rewrite(setting, core, store),
         _ => Err(NodeFault::Core(CoreFault::Down)),
     }
 }
 
 /// Compacts the journal of a node that is up. After `Device` the core is down.
 fn rewrite<D: SectorDisk>(
-    alloc: Global,
-    id: NodeId,
-    nodes: u8,
+    setting: NodeSetting,
     core: &mut NodeCore,
     store: &mut NodeStore<D>,
 ) -> Result<(), NodeFault>
-    requires over { IsOver D.state id nodes core.old store.old }
-    ensures core { IsRewrittenCore id nodes core.old core.new result }
+    requires over { IsOver D.state setting.id setting.nodes core.old store.old }
+    ensures core { IsRewrittenCore setting.id setting.nodes core.old core.new result }
     ensures answers { AnswersTo (compaction_refusal (Some (area_of store.old))) result }
     ensures done { IsOk result → IsFalse store.new.broken × (area_of store.new ≡ moved (durable_of store.old) (area_of store.old)) }
     ensures spelled { IsTrue (D.state store.old.disk).honest → IsOk result
@@ -73,7 +68,7 @@ fn rewrite<D: SectorDisk>(
         Err(fault) => {
             let fault = node_fault(fault);
             if fault.is_device() {
-                *core = NodeCore::down(alloc, id, nodes);
+                *core = NodeCore::down(setting.alloc, setting.id, setting.nodes);
             }
             Err(fault)
         }

@@ -18,8 +18,8 @@ ghost use Rattle.durable_node.specs.Stepping.{IsAsBefore, IsServed, command_by};
 
 use crate::carry::carry;
 use crate::fault::NodeFault;
+use crate::setting::NodeSetting;
 use crate::step_report::{StepReport, attempt_in};
-use group_task::NodeId;
 use histories::{EventOutcome, Refusal};
 use job_model::JobTable;
 use node_core::{CoreFault, Event, NodeCore, Plan, Wanted, WantedRef};
@@ -31,34 +31,32 @@ use std::alloc::Global;
 /// down.
 #[tactic(auto, using(histories::proofs::PublicLaws::wanted_pending))]
 pub(crate) fn handle<D: SectorDisk>(
-    alloc: Global,
-    id: NodeId,
-    nodes: u8,
+    setting: NodeSetting,
     core: &mut NodeCore,
     store: &mut NodeStore<D>,
     doubt: &mut Option<(Wanted, u64)>,
     event: &Event,
 ) -> Result<StepReport, NodeFault>
-    requires over { IsOver D.state id nodes core.old store.old }
-    ensures core { IsCoreOf id nodes core.new }
+    requires over { IsOver D.state setting.id setting.nodes core.old store.old }
+    ensures core { IsCoreOf setting.id setting.nodes core.new }
     // What came of the event, and which command it wanted, if it was tried.
-    ensures what { IfOk result (λ came. IsServed nodes id core.old core.new store.old store.new doubt.old doubt.new event.now came came.event_outcome) }
-    ensures tried { IfOk result (λ came. came.tried ≡ option_map attempt_of (command_by (wants_of id (durable_of store.old).pending event.now core.old.state) came.event_outcome)) }
-    ensures few { IfOk result (λ came. length came.sent.items ≤ most_of nodes (durable_of store.old).pending) }
+    ensures what { IfOk result (λ came. IsServed setting.nodes setting.id core.old core.new store.old store.new doubt.old doubt.new event.now came came.event_outcome) }
+    ensures tried { IfOk result (λ came. came.tried ≡ option_map attempt_of (command_by (wants_of setting.id (durable_of store.old).pending event.now core.old.state) came.event_outcome)) }
+    ensures few { IfOk result (λ came. length came.sent.items ≤ most_of setting.nodes (durable_of store.old).pending) }
     ensures stuck { IfErr result (λ fault. (fault ≡ NodeFault.Core NoMemory) × IsAsBefore core.old core.new store.old store.new doubt.old doubt.new) }
-    ensures spares { IfErr result (λ _. takes_memory id event.now core.old.state ≡ true) }
-    ensures answers { AnswersEvent (refusal_of nodes id event.now core.old.state)
-        (disk_refusal (durable_of store.old) (area_of store.old) (wants_of id (durable_of store.old).pending event.now core.old.state)) (answered result) }
-    ensures area { LeavesArea (durable_of store.old) (area_of store.old) (wants_of id (durable_of store.old).pending event.now core.old.state) (answered result) (Some (area_of store.new)) }
+    ensures spares { IfErr result (λ _. takes_memory setting.id event.now core.old.state ≡ true) }
+    ensures answers { AnswersEvent (refusal_of setting.nodes setting.id event.now core.old.state)
+        (disk_refusal (durable_of store.old) (area_of store.old) (wants_of setting.id (durable_of store.old).pending event.now core.old.state)) (answered result) }
+    ensures area { LeavesArea (durable_of store.old) (area_of store.old) (wants_of setting.id (durable_of store.old).pending event.now core.old.state) (answered result) (Some (area_of store.new)) }
     ensures store { KeepsSound D.state store.old store.new (IsErrOf (answered result) NodeFault.Device) }
-    ensures disk { Writes D.state store.old store.new (wants_of id (durable_of store.old).pending event.now core.old.state) (IsOk (answered result)) }
+    ensures disk { Writes D.state store.old store.new (wants_of setting.id (durable_of store.old).pending event.now core.old.state) (IsOk (answered result)) }
 {
-    let plan = match planned(alloc, core, event, store.table()) {
+    let plan = match planned(setting.alloc, core, event, store.table()) {
         Ok(plan) => plan,
         Err(CoreFault::NoMemory) => return Err(NodeFault::Core(CoreFault::NoMemory)),
         Err(fault) => {
             let event_outcome = EventOutcome::Refused(Refusal::Core(fault));
-            return Ok(StepReport::silent(alloc, event_outcome, None));
+            return Ok(StepReport::silent(setting.alloc, event_outcome, None));
         }
     };
     let wants = plan.wanted();
@@ -68,11 +66,11 @@ pub(crate) fn handle<D: SectorDisk>(
         Err(fault) => {
             if !fault.is_device() {
                 let event_outcome = EventOutcome::Refused(refusal(store, &wants, fault));
-                return Ok(StepReport::silent(alloc, event_outcome, None));
+                return Ok(StepReport::silent(setting.alloc, event_outcome, None));
             }
             put_in_doubt(store, &wants, doubt);
-            *core = NodeCore::down(alloc, id, nodes);
-            return Ok(StepReport::silent(alloc, EventOutcome::Faulted, tried));
+            *core = NodeCore::down(setting.alloc, setting.id, setting.nodes);
+            return Ok(StepReport::silent(setting.alloc, EventOutcome::Faulted, tried));
         }
     };
     let sent = core.commit_step(plan, answer.unwrap_or(0));

@@ -22,6 +22,7 @@ mod memory;
 mod node;
 mod node_disk;
 mod remount;
+mod setting;
 mod step_report;
 
 pub use fault::NodeFault;

@@ -162,7 +162,7 @@ impl DurableNode<MemDisk> {
         let mut disk = self.disk.take();
         disk.crash(fill);
         self.disk = NodeDisk::Bare(disk);
-        self.core = NodeCore::down(self.alloc, self.id, self.nodes);
+        self.core = NodeCore::down(self.setting.alloc, self.setting.id, self.setting.nodes);
         self.mounted = None;
     }
 }

@@ -19,6 +19,7 @@ use crate::advance::{advance, is_down};
 use crate::compacting::compact;
 use crate::fault::NodeFault;
 use crate::node_disk::NodeDisk;
+use crate::setting::NodeSetting;
 use crate::step_report::StepReport;
 use group_task::NodeId;
 use job_model::JobTable;
@@ -39,9 +40,7 @@ use std::marker::Model;
 /// in doubt, until a recovery mounts the disk.
 #[derive(Drop)]
 pub struct DurableNode<D: SectorDisk> {
-    pub(crate) alloc: Global,
-    pub(crate) id: NodeId,
-    pub(crate) nodes: u8,
+    pub(crate) setting: NodeSetting,
     pub(crate) core: NodeCore,
     pub(crate) disk: NodeDisk<D>,
     pub(crate) doubt: Option<(Wanted, u64)>,
@@ -54,9 +53,9 @@ impl<D: SectorDisk> Model for DurableNode<D> {
 
     ghost Value = { Node D };
 
-    ghost view = { λ a. node_with a.id a.nodes a.core a.disk a.doubt a.mounted };
+    ghost view = { λ a. node_with a.setting.id a.setting.nodes a.core a.disk a.doubt a.mounted };
 
-    ghost invariant = { λ a. IsNode D.state a.id a.nodes a.core a.disk };
+    ghost invariant = { λ a. IsNode D.state a.setting.id a.setting.nodes a.core a.disk };
 }
 
 impl<D: SectorDisk> DurableNode<D> {
@@ -71,9 +70,7 @@ impl<D: SectorDisk> DurableNode<D> {
         ensures { result ≡ record { id = id; nodes = nodes; state = down id; disk = Some disk; kept = None; area = None; doubt = None; mounted = None } }
     {
         DurableNode {
-            alloc,
-            id,
-            nodes,
+            setting: NodeSetting { alloc, id, nodes },
             core: NodeCore::down(alloc, id, nodes),
             disk: NodeDisk::Bare(disk),
             doubt: None,
@@ -251,9 +248,7 @@ impl<D: SectorDisk + Drop> DurableNode<D> {
         ensures few { IfOk result (λ came. length came.sent.items ≤ most_by self.old.nodes self.old.kept) }
     {
         advance(
-            self.alloc,
-            self.id,
-            self.nodes,
+            self.setting,
             &mut self.core,
             &mut self.disk,
             &mut self.doubt,
@@ -300,9 +295,7 @@ impl<D: SectorDisk + Drop> DurableNode<D> {
         ensures counts { CountsOf D.state self.old.disk self.new.disk result }
     {
         compact(
-            self.alloc,
-            self.id,
-            self.nodes,
+            self.setting,
             &mut self.core,
             &mut self.disk,
             &self.doubt,

@@ -14,8 +14,8 @@ ghost use Rattle.durable_node.specs.Stepping.{IsSilent};
 use crate::carry::carry;
 use crate::fault::{NodeFault, node_fault};
 use crate::node_disk::NodeDisk;
+use crate::setting::NodeSetting;
 use crate::step_report::StepReport;
-use group_task::NodeId;
 use histories::{CommandKind, EventOutcome};
 use node_core::{NodeCore, Wanted, WantedRef};
 use node_store::NodeStore;
@@ -24,30 +24,28 @@ use std::alloc::Global;
 
 /// Mounts the disk of a node that is down, and raises the counter: the node is then alone in the group of the new count.
 pub(crate) fn remount<D: SectorDisk + Drop>(
-    alloc: Global,
-    id: NodeId,
-    nodes: u8,
+    setting: NodeSetting,
     core: &mut NodeCore,
     disk: &mut NodeDisk<D>,
     doubt: &mut Option<(Wanted, u64)>,
     mounted: &mut Option<u64>,
 ) -> Result<StepReport, NodeFault>
-    requires node { IsNode D.state id nodes core.old disk.old }
+    requires node { IsNode D.state setting.id setting.nodes core.old disk.old }
     requires down { is_down core.old.state.phase ≡ true }
-    ensures node { IsNode D.state id nodes core.new disk.new }
-    ensures call { IsCall D.state (node_with id nodes core.old disk.old doubt.old mounted.old) (node_with id nodes core.new disk.new doubt.new mounted.new) Recover result }
+    ensures node { IsNode D.state setting.id setting.nodes core.new disk.new }
+    ensures call { IsCall D.state (node_with setting.id setting.nodes core.old disk.old doubt.old mounted.old) (node_with setting.id setting.nodes core.new disk.new doubt.new mounted.new) Recover result }
 {
-    let mut store = match NodeStore::mount(alloc, disk.take()) {
+    let mut store = match NodeStore::mount(setting.alloc, disk.take()) {
         Ok(store) => store,
         Err(refused) => {
             *disk = NodeDisk::Bare(refused.disk);
             *mounted = None;
-            return unmounted(alloc, node_fault(refused.fault));
+            return unmounted(setting.alloc, node_fault(refused.fault));
         }
     };
     *mounted = Some(store.counter());
     let kept = is_in(doubt, &store);
-    let came = rise(alloc, id, nodes, core, &mut store, doubt, kept);
+    let came = rise(setting, core, &mut store, doubt, kept);
     *disk = NodeDisk::Mounted(store);
     Ok(came)
 }
@@ -85,17 +83,15 @@ fn is_in<D: SectorDisk>(doubt: &Option<(Wanted, u64)>, store: &NodeStore<D>) -> 
 
 /// Raises the counter that was mounted.
 fn rise<D: SectorDisk>(
-    alloc: Global,
-    id: NodeId,
-    nodes: u8,
+    setting: NodeSetting,
     core: &mut NodeCore,
     store: &mut NodeStore<D>,
     doubt: &mut Option<(Wanted, u64)>,
     kept: bool,
 ) -> StepReport
-    requires over { IsOver D.state id nodes core.old store.old }
-    ensures core { IsCoreOf id nodes core.new }
-    ensures what { HasRisen id kept core.old core.new store.old store.new doubt.old doubt.new result result.event_outcome }
+    requires over { IsOver D.state setting.id setting.nodes core.old store.old }
+    ensures core { IsCoreOf setting.id setting.nodes core.new }
+    ensures what { HasRisen setting.id kept core.old core.new store.old store.new doubt.old doubt.new result result.event_outcome }
     ensures tried { result.tried ≡ option_map attempt_of (raise_by result.event_outcome) }
     ensures store { KeepsSound D.state store.old store.new (IsErrOf (answered (Ok result)) NodeFault.Device) }
     ensures disk { Writes D.state store.old store.new (Some Raise) (IsOk (answered (Ok result))) }
@@ -103,13 +99,13 @@ fn rise<D: SectorDisk>(
     let count = store.counter();
     match carry(store, &WantedRef::Raise) {
         Ok(answer) => {
-            *core = NodeCore::new(alloc, id, nodes, store.counter());
+            *core = NodeCore::new(setting.alloc, setting.id, setting.nodes, store.counter());
             *doubt = None;
             StepReport {
                 event_outcome: EventOutcome::Recovered(kept),
                 tried: Some(CommandKind::Raise),
                 answer,
-                sent: Vec::new(alloc),
+                sent: Vec::new(setting.alloc),
             }
         }
         Err(NodeFault::Device) => {
@@ -118,14 +114,14 @@ fn rise<D: SectorDisk>(
                 event_outcome: EventOutcome::RaiseFailed(kept),
                 tried: Some(CommandKind::Raise),
                 answer: None,
-                sent: Vec::new(alloc),
+                sent: Vec::new(setting.alloc),
             }
         }
         Err(_) => StepReport {
             event_outcome: EventOutcome::RaiseRefused(kept),
             tried: None,
             answer: None,
-            sent: Vec::new(alloc),
+            sent: Vec::new(setting.alloc),
         },
     }
 }

@@ -1,5 +1,5 @@
 // A disk of sectors over a file.
-ghost use Rattle.std.specs.Prelude.{◌≡◌, ◌≤◌, ◌<◌, ◌↔◌, ◌*◌, ◌/◌, ◌^◌, IsOk, IsErrOf, IsErrAnd, IfOk, IsOkUnless, IsTrue, false, true};
+ghost use Rattle.std.specs.Prelude.{◌≡◌, ◌≤◌, ◌<◌, ◌↔◌, ◌*◌, ◌/◌, ◌^◌, IsOk, IsErrOf, IsErrAnd, IfOk, IfErr, IsOkUnless, IsTrue, false, true};
 ghost use Rattle.sector_disk.specs.Disk.{Counts, Touches, AllSynced, nothing, sector_at};
 ghost use Rattle.sector_disk.specs.Memory.{risen};
 ghost use Rattle.sector_disk.specs.declared.fault.DiskFault.TheVariants.{Device, OutOfRange};
@@ -75,7 +75,9 @@ impl FileDisk {
         // Refuses: length_wraps, long_file_tried.
         ensures too_long { 2 ^ 63 ≤ sectors * 512 → IsErrAnd result IsNoRoom }
     {
-        make(rt, path, sectors, Stride::Packed, Existing::Replaced)
+        let length = length_of(sectors, Stride::Packed)?;
+        let file = made(rt, path, length, Existing::Replaced)?;
+        Ok(over(file, length, Stride::Packed))
     }
 
     /// As [`FileDisk::create`], with sectors so far apart, and only where there is nothing of this name: else `Exists`, and what is there is left
@@ -89,7 +91,9 @@ impl FileDisk {
         ensures ok { IfOk result (λ disk. disk ≡ unfailed sectors stride) }
         ensures too_long { 2 ^ 63 ≤ sectors * bytes_of stride → IsErrAnd result IsNoRoom }
     {
-        make(rt, path, sectors, stride, Existing::Refused)
+        let length = length_of(sectors, stride)?;
+        let file = made(rt, path, length, Existing::Refused)?;
+        Ok(over(file, length, stride))
     }
 
     /// Opens a file as a disk of the whole sectors that it has: 512 bytes each, and what is left at its end belongs to none. Refused where the
@@ -283,21 +287,15 @@ impl SectorDisk for FileDisk {
     }
 }
 
-fn make<P: AsPath>(
-    rt: &impl Files<File = File>,
-    path: P,
-    sectors: u64,
-    stride: Stride,
-    existing: Existing,
-) -> Result<FileDisk, OpenFault>
-    ensures ok { IfOk result (λ disk. disk ≡ unfailed sectors stride) }
-    ensures too_long { 2 ^ 63 ≤ sectors * bytes_of stride → IsErrAnd result IsNoRoom }
+// How many bytes so many sectors take, so far apart.
+fn length_of(sectors: u64, stride: Stride) -> Result<u64, OpenFault>
+    ensures ok { IfOk result (λ length. length ≡ sectors * bytes_of stride) }
+    ensures err { IfErr result IsNoRoom }
 {
     let Some(length) = sectors.checked_mul(stride.bytes()) else {
         return Err(too_long());
     };
-    let file = made(rt, path, length, existing)?;
-    Ok(over(file, length, stride))
+    Ok(length)
 }
 
 // The disk over an open file of this length.

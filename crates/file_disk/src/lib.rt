@@ -1,4 +1,10 @@
 //! A disk of sectors over a real file.
+//!
+//! ```
+//! let mut disk = FileDisk::create(rt, "node.disk", 24)?;          // locked for as long as it is open
+//! disk.write(3, &sector)?;
+//! disk.sync()?;                                                   // the file's bytes are on the device
+//! ```
 #![tactic(auto)]
 
 mod disk;

@@ -7,9 +7,6 @@ use Rattle.group_task.specs.declared.node.TheConstants.{NODES}
 use Rattle.group_task.specs.Others.{AreOthers}
 use Rattle.group_task.proofs.Words.{has-with_id, has-without_id, has-either_of, RisesWithin-with_id, length-rising}
 
-pub none_has : (id : ℕ) → has [] id ≡ false
-none_has id = refl
-
 pub with_has_same : (ids : List ℕ) (id : ℕ) → has (with_id ids id) id ≡ true
 with_has_same ids id = grind (arith, nat_tests, has-with_id id id ids)
 

@@ -3,6 +3,12 @@
 //! A group is named by its number, its members are a set of nodes, and each queue of jobs belongs
 //! to one of them. The names follow Garcia-Molina, "Elections in a distributed computing system"
 //! (1982).
+//!
+//! ```
+//! let group = GroupNo::new(leader, 3).unwrap();
+//! let task = share(group, Members::below(4));                     // nodes 0 to 3 share the queues
+//! let owner = owner(&task, queue);                                // the one of them that works on the jobs of this queue
+//! ```
 #![tactic(auto)]
 
 mod group;

@@ -4,16 +4,13 @@ use Rattle.job_model.specs.declared.work.Work.{Work}
 use Rattle.group_task.specs.Group.{Group}
 use Rattle.group_task.specs.Assignment.{Assignment}
 use Rattle.job_model.specs.declared.job.Job.{Job}
-use Rattle.job_model.specs.declared.node_command.NodeCommand.{NodeCommand as Command}
-use Rattle.job_model.specs.Durable.{Durable}
-use Rattle.job_model.specs.Fold.{after_wanted}
 use Rattle.wire_msg.specs.Envelope.{Envelope}
 use Rattle.wire_msg.specs.declared.body.Body.{Body}
 use Rattle.wire_msg.specs.declared.body.Body.TheVariants.{Work as WorkMessage}
 use Rattle.node_core.specs.State.{State}
 use Rattle.wire_msg.specs.Kinds.{group_in}
 use Rattle.histories.specs.Named.{AllHold}
-use Rattle.histories.proofs.Moves.{WorkIn, AllWork, JobsHold, GivenHold, Knows, KnowsJobs}
+use Rattle.histories.proofs.Moves.{WorkIn, AllWork, JobsHold, GivenHold, Knows}
 
 abbrev pub AnyGroup : Group → Type 0
 AnyGroup group = Unit {0}
@@ -51,6 +48,3 @@ any_pending self (job ∷ jobs) = (tt, any_pending self jobs)
 
 pub knows_any : (self : ℕ) (s : State) (given : List ℕ) (came : List Envelope) → Knows AnyGroup self s given came
 knows_any self s given came = record { place = λ up. (tt, any_task s.task); fresh = any_given self given; heard = any_came came }
-
-pub knows_any_jobs : (self : ℕ) (d : Durable) (wants : Option Command) → KnowsJobs AnyWork self d wants
-knows_any_jobs self d wants = record { before = any_pending self d.pending; after = any_pending self (after_wanted d wants).pending }

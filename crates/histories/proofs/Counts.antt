@@ -24,13 +24,13 @@ rises_lower : (rest : List ℕ) (low high : ℕ) → low ≤ high → Rises high
 rises_lower [] low high le h = tt
 rises_lower (k ∷ ks) low high le h = (omega (arith, h.0), h.1)
 
-wanted_grows : (d : Durable) (wants : Option Command) → d.counter ≤ (after_wanted d wants).counter
+pub wanted_grows : (d : Durable) (wants : Option Command) → d.counter ≤ (after_wanted d wants).counter
 wanted_grows d None = omega arith
 wanted_grows d (Some Raise) = omega arith
 wanted_grows d (Some (Put work)) = omega arith
 wanted_grows d (Some (Done id)) = omega arith
 
-settled_grows : (kept : Bool) (s : NodeState) → s.durable.counter ≤ (settled kept s).counter
+pub settled_grows : (kept : Bool) (s : NodeState) → s.durable.counter ≤ (settled kept s).counter
 settled_grows true s = wanted_grows s.durable s.doubt
 settled_grows false s = omega arith
 

@@ -1,5 +1,5 @@
 -- Messages are sent to nodes of the cluster alone: a vector names no other node.
-use Rattle.std.proofs.Common.{◌≡◌, ℕ, zero, suc, ◌<◌, ◌≤◌, Bool, true, false, ◌&&◌, ◌||◌, List, [], ◌∷◌, refl, sym, subst, arith, None}
+use Rattle.std.proofs.Common.{◌≡◌, ℕ, zero, suc, ◌+◌, ◌<◌, ◌≤◌, Bool, true, false, ◌&&◌, ◌||◌, List, [], ◌∷◌, refl, sym, subst, arith, None}
 use Rattle.std.specs.Prelude.{◌==◌, nat_lt}
 use Rattle.std.specs.List.{list_all}
 use Rattle.std.proofs.lemmas.Bool.{ltb-true}
@@ -18,7 +18,7 @@ use Rattle.node_core.specs.Words.{holds}
 use Rattle.node_core.specs.Effects.{effect_of}
 use Rattle.node_core.specs.Refusals.{ids_in, is_known, refusal_of}
 use Rattle.histories.specs.Lists.{Each}
-use Rattle.histories.specs.NodeState.{NodeState, opening, wants_at}
+use Rattle.histories.specs.NodeState.{NodeState, opening, settled, wants_at}
 use Rattle.histories.specs.declared.history_event.HistoryEvent.{HistoryEvent}
 use Rattle.histories.specs.declared.history_event.HistoryEvent.TheVariants.{Did, Faulted, Crashed, Recovered, RaiseFailed}
 use Rattle.histories.specs.HistoryEvent.{Entry}
@@ -105,7 +105,7 @@ after_inside nodes self s (Did event) may h =
     (event_inside nodes self s.state h.node h.names s.durable.pending event (answer_to s.durable (wants_at self nodes s event)) may.1.by_core).state
 after_inside nodes self s (Faulted event) may h = down_inside nodes self h.node
 after_inside nodes self s Crashed may h = down_inside nodes self h.node
-after_inside nodes self s (Recovered kept) may h = alone_inside nodes self _ h.node
+after_inside nodes self s (Recovered kept) may h = alone_inside nodes self ((settled kept s).counter + 1) h.node
 after_inside nodes self s (RaiseFailed kept) may h = down_inside nodes self h.node
 after_inside nodes self s what may h = h.names
 

@@ -170,7 +170,7 @@ one_coordinator hs bundle rises n m v w at_v at_w in_v in_w same =
     (agrees n v at_v).0 in_v ∙ (ap (λ (g : Group). g.creator) same ∙ sym ((agrees m w at_w).0 in_w))
 
 -- two tasks of one group in one book
-pub same_task : (book : List Assignment) (n m : ℕ) (group : Group) (t u : Option Assignment) → IsTaskOf book n group t → IsTaskOf book m group u → t ≡ u
+same_task : (book : List Assignment) (n m : ℕ) (group : Group) (t u : Option Assignment) → IsTaskOf book n group t → IsTaskOf book m group u → t ≡ u
 same_task book n m group None u h k = absurd h
 same_task book n m group (Some t) None h k = absurd k
 same_task book n m group (Some t) (Some u) h k =

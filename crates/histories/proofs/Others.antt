@@ -1,6 +1,6 @@
 -- No node of a bundle writes to itself. A bundle has no order of time, so this is shown kind by kind: first of the messages whose
 -- receiver doesn't hang on what was brought, then of the answers to these, and then of all.
-use Rattle.std.proofs.Common.{◌≡◌, ◌≢◌, ◌<◌, ℕ, List, [], ◌∷◌, slice_get, length, Some, sym, subst, ◌∙◌}
+use Rattle.std.proofs.Common.{◌≡◌, ◌≢◌, ◌+◌, ◌<◌, ℕ, List, [], ◌∷◌, slice_get, length, Some, sym, subst, ◌∙◌}
 use Rattle.std.proofs.lemmas.Option.{slice_get_within}
 use Rattle.group_task.specs.Ids.{ids_below}
 use Rattle.job_model.specs.declared.job.Job.{Job}
@@ -15,7 +15,7 @@ use Rattle.node_core.specs.Start.{alone, down}
 use Rattle.node_core.specs.Effects.{effect_of}
 use Rattle.node_core.specs.Refusals.{ids_in}
 use Rattle.histories.specs.Lists.{IsAmong, Each}
-use Rattle.histories.specs.NodeState.{NodeState, opening, wants_at}
+use Rattle.histories.specs.NodeState.{NodeState, opening, settled, wants_at}
 use Rattle.histories.specs.declared.history_event.HistoryEvent.{HistoryEvent}
 use Rattle.histories.specs.declared.history_event.HistoryEvent.TheVariants.{Did, Faulted, Crashed, Recovered, RaiseFailed}
 use Rattle.histories.specs.HistoryEvent.{Entry, event_of, brought}
@@ -95,7 +95,7 @@ after_out : (A B : Type 0) (self nodes : ℕ) (s : NodeState) (what : HistoryEve
 after_out A B self nodes s (Did event) came h = (event_out A B self nodes s.state h s.durable.pending event (answer_to s.durable (wants_at self nodes s event)) came).state
 after_out A B self nodes s (Faulted event) came h = down_out B self
 after_out A B self nodes s Crashed came h = down_out B self
-after_out A B self nodes s (Recovered kept) came h = alone_out B self _
+after_out A B self nodes s (Recovered kept) came h = alone_out B self ((settled kept s).counter + 1)
 after_out A B self nodes s (RaiseFailed kept) came h = down_out B self
 after_out A B self nodes s what came h = h
 

@@ -9,12 +9,11 @@ use Rattle.wire_msg.specs.Envelope.{Envelope}
 use Rattle.wire_msg.specs.declared.body.Body.{Body}
 use Rattle.wire_msg.specs.declared.body.Body.TheVariants.{Done as DoneMessage}
 use Rattle.node_core.specs.declared.phase.Phase.{Phase}
-use Rattle.node_core.specs.declared.phase.Phase.TheVariants.{Normal}
 use Rattle.node_core.specs.declared.in_hand.InHand.{InHand}
 use Rattle.node_core.specs.declared.event.Event.{Event}
 use Rattle.node_core.specs.declared.event.Event.TheVariants.{Deliver, Finish}
 use Rattle.node_core.specs.State.{State}
-use Rattle.node_core.specs.Words.{members_of, owner, holds}
+use Rattle.node_core.specs.Words.{members_of, holds}
 use Rattle.histories.specs.Lists.{IsAmong, Each}
 use Rattle.histories.specs.NodeState.{NodeState, opening, wants_at}
 use Rattle.histories.specs.declared.history_event.HistoryEvent.{HistoryEvent}
@@ -25,7 +24,7 @@ use Rattle.histories.specs.Possible.{Takes, IsPossible}
 use Rattle.histories.specs.History.{Follows, brought_in, sent_in, vectors}
 use Rattle.histories.specs.declared.attempt.Attempt.{Attempt}
 use Rattle.histories.specs.Marks.{Mark, Acknowledged, Unanswered, Mounted, commands_of, tried_marks, failed_marks, marks_at, marks_from}
-use Rattle.histories.specs.Owners.{acted, acted_in, FinishedBy, OwnerFinishes, OneWorker}
+use Rattle.histories.specs.Owners.{acted, acted_in, HasWork, FinishedBy, OwnerFinishes, OneWorker}
 use Rattle.histories.proofs.Tests.{eq_nat, and_left, and_right}
 use Rattle.histories.proofs.Among.{among_left, among_right, among_either, sent_by_one, each_at}
 use Rattle.histories.proofs.Anything.{AnyGroup, AnyWork, knows_any, any_pending, all_any_work}
@@ -46,15 +45,6 @@ pub owned_after : (self nodes : ℕ) (s : NodeState) (what : HistoryEvent) → I
 owned_after self nodes s what may h =
     (entry_does AnyGroup AnyWork AnyWork self nodes s what may).holds (any_pending self s.durable.pending) (any_pending self (after self nodes s what).durable.pending) (all_any_work (brought (event_of what))) h
 
--- a work in hand, Normal and owned
-pub record HasWork (self : ℕ) (v : State) (origin id : ℕ) : Type 0 where
-  pub is_normal : v.phase ≡ Normal
-  pub job : InHand
-  pub held : IsAmong job v.hand
-  pub of_origin : job.origin ≡ origin
-  pub of_id : job.id ≡ id
-  pub owned : owner v job.work.queue ≡ self
-
 -- in one history: the work in hand at a moment, and its Finish
 record FinishedIn (self nodes : ℕ) (s : NodeState) (es : List Entry) (origin id : ℕ) : Type 0 where
   finished : IsAmong (Finish origin id) (acted_in es)
@@ -63,41 +53,24 @@ record FinishedIn (self nodes : ℕ) (s : NodeState) (es : List Entry) (origin i
   has_work : HasWork self moment origin id
 
 -- work of this origin and id, by cases on the hand
-record Found (self : ℕ) (phase : Phase) (task : Option Assignment) (hand : List InHand) (origin id : ℕ) : Type 0 where
-  job : InHand
-  held : IsAmong job hand
-  of_origin : job.origin ≡ origin
-  of_id : job.id ≡ id
-  is_normal : phase ≡ Normal
-  owned : owner_of (members_of task) job.work.queue ≡ self
-
-find_work : (self : ℕ) (phase : Phase) (task : Option Assignment) (hand : List InHand) (origin id : ℕ) → Each (IsHeld self phase task) hand → holds hand origin id ≡ true → Found self phase task hand origin id
-find_work self phase task [] origin id owned is = absurd cc
-find_work self phase task (w ∷ ws) origin id owned is = by_head (w.origin == origin && w.id == id) refl is (λ k. find_work self phase task ws origin id owned.1 k)
+find_work : (self : ℕ) (v : State) (hand : List InHand) (origin id : ℕ) → Each (IsHeld self v.phase v.task) hand → holds hand origin id ≡ true → HasWork self (record v { hand = hand }) origin id
+find_work self v [] origin id owned is = absurd cc
+find_work self v (w ∷ ws) origin id owned is = by_head (w.origin == origin && w.id == id) refl is (λ k. find_work self v ws origin id owned.1 k)
   where
     by_head : (b : Bool) → (w.origin == origin && w.id == id) ≡ b → (b || holds ws origin id) ≡ true
-        → (holds ws origin id ≡ true → Found self phase task ws origin id) → Found self phase task (w ∷ ws) origin id
+        → (holds ws origin id ≡ true → HasWork self (record v { hand = ws }) origin id) → HasWork self (record v { hand = w ∷ ws }) origin id
     by_head true e k rest = record {
+      is_normal = owned.0.0;
       job = w;
       held = inl refl;
       of_origin = eq_nat w.origin origin (and_left (w.origin == origin) (w.id == id) e);
       of_id = eq_nat w.id id (and_right (w.origin == origin) (w.id == id) e);
-      is_normal = owned.0.0;
       owned = owned.0.1;
     }
-    by_head false e k rest = (let it = rest k in record {
-      job = it.job;
-      held = inr it.held;
-      of_origin = it.of_origin;
-      of_id = it.of_id;
-      is_normal = it.is_normal;
-      owned = it.owned;
-    })
+    by_head false e k rest = (let it = rest k in record { is_normal = it.is_normal; job = it.job; held = inr it.held; of_origin = it.of_origin; of_id = it.of_id; owned = it.owned })
 
 pub has_work : (self : ℕ) (s : NodeState) (origin id : ℕ) → OwnedAt self s → holds s.state.hand origin id ≡ true → HasWork self s.state origin id
-has_work self s origin id owned is =
-    let it = find_work self s.state.phase s.state.task s.state.hand origin id owned is in
-    record { is_normal = it.is_normal; job = it.job; held = it.held; of_origin = it.of_origin; of_id = it.of_id; owned = it.owned }
+has_work self s origin id owned is = find_work self s.state s.state.hand origin id owned is
 
 -- the entry itself is the Finish
 finished_now : (self nodes : ℕ) (s : NodeState) (what : HistoryEvent) (sent : List Envelope) (es : List Entry) (event : Event) (origin id : ℕ) → OwnedAt self s → event ≡ Finish origin id
@@ -227,12 +200,7 @@ finished_by hs n h origin id at it = record {
   finished = it.finished;
   moment = it.moment;
   is_moment = (h, at, it.is_moment);
-  is_normal = it.has_work.is_normal;
-  job = it.has_work.job;
-  in_hand = it.has_work.held;
-  of_origin = it.has_work.of_origin;
-  of_id = it.has_work.of_id;
-  owned = it.has_work.owned;
+  has_work = it.has_work;
 }
 
 pub owner_finishes : OwnerFinishes

@@ -1,6 +1,6 @@
 -- Passes over the table: which nodes each row names, whom it writes to and in whose name; that a node that is up stays up; that
 -- nothing happens at one that is down.
-use Rattle.std.proofs.Common.{◌≡◌, ◌≢◌, ℕ, zero, suc, ◌%◌, Bool, true, false, not, ◌&&◌, List, [], ◌∷◌, length, get_or, filter, refl, None}
+use Rattle.std.proofs.Common.{◌≡◌, ◌≢◌, ℕ, zero, suc, ◌%◌, Bool, true, false, not, ◌&&◌, List, [], ◌∷◌, ◌++◌, length, get_or, filter, refl, None}
 use Rattle.std.specs.Prelude.{if◌then◌else◌, ◌==◌, nat_lt}
 use Rattle.group_task.specs.Group.{Group, same_group}
 use Rattle.group_task.specs.Assignment.{Assignment}
@@ -32,12 +32,15 @@ use Rattle.histories.proofs.Among.{each_append, each_chosen, each_left, each_map
 -- ---- what is known of nodes
 
 -- C holds of each node that a state names, and U of those that the node calls together
-pub record Names (C U : ℕ → Type 0) (s : State) : Type 0 where
-  pub coordinator : C s.coordinator
-  pub up : Each U s.up
-  pub found : Each U s.found
-  pub members : Each C (members_of s.task)
-  pub hand : Each (λ (job : InHand). C job.origin) s.hand
+pub record NamesOf (C U : ℕ → Type 0) (leader : ℕ) (joined others all : List ℕ) (jobs : List InHand) : Type 0 where
+  pub coordinator : C leader
+  pub up : Each U joined
+  pub found : Each U others
+  pub members : Each C all
+  pub hand : Each (λ (job : InHand). C job.origin) jobs
+
+abbrev pub Names : (ℕ → Type 0) → (ℕ → Type 0) → State → Type 0
+Names C U s = NamesOf C U s.coordinator s.up s.found (members_of s.task) s.hand
 
 -- R holds of each receiver and what is said to it, where it is another node, or one that is called together
 pub record Writes (C U : ℕ → Type 0) (R : ℕ → Body → Type 0) (nodes self : ℕ) : Type 0 where
@@ -138,6 +141,13 @@ module _ (C U : ℕ → Type 0) (R : ℕ → Body → Type 0) (nodes self : ℕ)
   tells : (from : ℕ) (task : Assignment) → C from → is_told self from task s ≡ true → Each (Goes R self) (letter self from (says.ReadyAck s.group) ∷ [])
   tells from task known t = (goes from (says.ReadyAck s.group) known (not_true _ (and_right _ _ (and_left _ _ (and_left _ _ t)))), tt)
 
+  -- with other work in hand
+  with_hand : (hand : List InHand) → Each (λ (job : InHand). C job.origin) hand → Names C U (record s { hand = hand })
+  with_hand hand from = record { coordinator = h.coordinator; up = h.up; found = h.found; members = h.members; hand = from }
+
+  with_more : (jobs : List InHand) → Each (λ (job : InHand). C job.origin) jobs → Names C U (record s { hand = s.hand ++ jobs })
+  with_more jobs from = with_hand (s.hand ++ jobs) (each_append (λ (job : InHand). C job.origin) s.hand jobs h.hand from)
+
   body_reaches : (from : ℕ) (body : Body) (answer : ℕ) → Comes C U R from body → Reaches C U R self s (delivered self from body answer s)
   unfolding delivered
   body_reaches from says.AreYouCoordinator answer c = by (is_down s.phase) _ _ (λ t. same) (λ f. record { up = λ u. u; state = h; sent = ((refl, c.asks (leads_in Normal self s)), tt) })
@@ -149,7 +159,7 @@ module _ (C U : ℕ → Type 0) (R : ℕ → Body → Type 0) (nodes self : ℕ)
   body_reaches from (says.AreYouThere group) answer c = by (is_down s.phase) _ _ (λ t. same)
       (λ f. record { up = λ u. u; state = h; sent = ((refl, c.asks (same_group group s.group && s.coordinator == self && has s.up from)), tt) })
   body_reaches from (says.Here group agreed) answer c = when (was_probed from group s) _ (λ t. by agreed _ _
-      (λ a. record { up = λ u. u; state = record { coordinator = h.coordinator; up = h.up; found = h.found; members = h.members; hand = h.hand }; sent = tt })
+      (λ a. record { up = λ u. u; state = h; sent = tt })
       (λ f. recovers answer))
   body_reaches from (says.Invitation group) answer c = when (takes_invitation self group s) _ (λ t. record {
     up = λ u. refl;
@@ -169,21 +179,11 @@ module _ (C U : ℕ → Type 0) (R : ℕ → Body → Type 0) (nodes self : ℕ)
         sent = tells from task c.known (and_left _ _ t);
       })
       (λ f. when (is_told self from task s && in_phase Normal s.phase) _ (λ t. record { up = λ u. u; state = h; sent = tells from task c.known (and_left _ _ t) }))
-  body_reaches from (says.ReadyAck group) answer c = when (leads_in Reorganization self s && same_group group s.group) _ (λ t. record {
-    up = λ u. either_up (is_empty (without_id s.unready from));
-    state = record { coordinator = h.coordinator; up = h.up; found = h.found; members = h.members; hand = h.hand };
-    sent = tt;
-  })
+  body_reaches from (says.ReadyAck group) answer c = when (leads_in Reorganization self s && same_group group s.group) _ (λ t. record { up = λ u. either_up (is_empty (without_id s.unready from)); state = h; sent = tt })
   body_reaches from (says.Work group id work) answer c =
       when (in_phase Normal s.phase && same_group group s.group && has (members_of s.task) from && owner s work.queue == self && not (holds s.hand from id)) _ (λ t. record {
         up = λ u. u;
-        state = record {
-          coordinator = h.coordinator;
-          up = h.up;
-          found = h.found;
-          members = h.members;
-          hand = each_append (λ (job : InHand). C job.origin) s.hand (record { origin = from; id = id; work = work } ∷ []) h.hand (c.known, tt);
-        };
+        state = with_more (record { origin = from; id = id; work = work } ∷ []) (c.known, tt);
         sent = tt;
       })
   body_reaches from (says.Done id) answer c = same
@@ -197,7 +197,7 @@ module _ (C U : ℕ → Type 0) (R : ℕ → Body → Type 0) (nodes self : ℕ)
         (λ id is known. goes id says.AreYouCoordinator known (not_true _ is)) w.all;
   })
   timer_reaches pending timer.Merge answer = when (merges self s) _ (λ t. by (is_empty s.found) _ _
-      (λ e. record { up = λ u. u; state = record { coordinator = h.coordinator; up = h.up; found = h.found; members = h.members; hand = h.hand }; sent = tt })
+      (λ e. record { up = λ u. u; state = h; sent = tt })
       (λ f. record {
         up = λ u. refl;
         state = record { coordinator = w.own; up = tt; found = tt; members = tt; hand = tt };
@@ -211,19 +211,13 @@ module _ (C U : ℕ → Type 0) (R : ℕ → Body → Type 0) (nodes self : ℕ)
   timer_reaches pending timer.Ready answer = when (leads_in Reorganization self s) _ (λ t. recovers answer)
   timer_reaches pending timer.Coord answer = when (follows self s) _ (λ t. by s.probing _ _ (λ p. recovers answer) (λ f. record {
     up = λ u. u;
-    state = record { coordinator = h.coordinator; up = h.up; found = h.found; members = h.members; hand = h.hand };
+    state = h;
     sent = (goes s.coordinator (says.AreYouThere s.group) h.coordinator (not_true _ (and_right _ _ t)), tt);
   }))
   timer_reaches pending timer.Dispatch answer = when (in_phase Normal s.phase) _ (λ t. record {
     up = λ u. u;
-    state = record {
-      coordinator = h.coordinator;
-      up = h.up;
-      found = h.found;
-      members = h.members;
-      hand = each_append (λ (job : InHand). C job.origin) s.hand _ h.hand
-          (each_map (λ (job : InHand). C job.origin) (λ (job : Job). record { origin = self; id = job.id; work = job.work }) (filter (λ job. owner s job.work.queue == self && not (holds s.hand self job.id)) (by_priority pending)) (λ job. w.own));
-    };
+    state = with_more _
+        (each_map (λ (job : InHand). C job.origin) (λ (job : Job). record { origin = self; id = job.id; work = job.work }) (filter (λ job. owner s job.work.queue == self && not (holds s.hand self job.id)) (by_priority pending)) (λ job. w.own));
     sent = each_chosen (λ (job : Job). Unit {0}) (Goes R self) (λ (job : Job). letter self (owner s job.work.queue) (says.Work s.group job.id job.work)) (λ (job : Job). not (owner s job.work.queue == self)) (by_priority pending)
         (λ job is u. goes (owner s job.work.queue) (says.Work s.group job.id job.work) (owner_known job.work.queue) (not_true _ is))
         (each_of (λ (job : Job). Unit {0}) (by_priority pending) (λ job i. tt));
@@ -239,25 +233,13 @@ module _ (C U : ℕ → Type 0) (R : ℕ → Body → Type 0) (nodes self : ℕ)
   event_reaches pending (on.Submit work) answer c = by (owner s work.queue == self) _ _
       (λ t. record {
         up = λ u. u;
-        state = record {
-          coordinator = h.coordinator;
-          up = h.up;
-          found = h.found;
-          members = h.members;
-          hand = each_append (λ (job : InHand). C job.origin) s.hand (record { origin = self; id = answer; work = work } ∷ []) h.hand (w.own, tt);
-        };
+        state = with_more (record { origin = self; id = answer; work = work } ∷ []) (w.own, tt);
         sent = tt;
       })
       (λ f. record { up = λ u. u; state = h; sent = (goes (owner s work.queue) (says.Work s.group answer work) (owner_known work.queue) f, tt) })
   event_reaches pending (on.Finish origin id) answer c = record {
     up = λ u. u;
-    state = record {
-      coordinator = h.coordinator;
-      up = h.up;
-      found = h.found;
-      members = h.members;
-      hand = each_left (λ (job : InHand). C job.origin) (λ job. not (job.origin == origin && job.id == id)) s.hand h.hand;
-    };
+    state = with_hand _ (each_left (λ (job : InHand). C job.origin) (λ job. not (job.origin == origin && job.id == id)) s.hand h.hand);
     sent = ends origin id c (origin == self) refl;
   }
   event_reaches pending on.Recover answer c = recovers answer

@@ -27,8 +27,16 @@ abbrev pub acted_in : List Entry → List Event
 acted_in [] = []
 acted_in (e ∷ es) = acted e.what ++ acted_in es
 
--- some node had the job of this origin and id in hand at a moment in Normal at which it owned the job's queue, and it
--- was told that the job is finished
+-- the node is Normal, and has the job of this origin and id in hand, whose queue it owns
+pub record HasWork (self : ℕ) (v : State) (origin id : ℕ) : Type 0 where
+  pub is_normal : v.phase ≡ Normal
+  pub job : InHand
+  pub held : IsAmong job v.hand
+  pub of_origin : job.origin ≡ origin
+  pub of_id : job.id ≡ id
+  pub owned : owner v job.work.queue ≡ self
+
+-- some node had the work at a moment, and was told that the job is finished
 pub record FinishedBy (histories : List (List Entry)) (origin id : ℕ) : Type 0 where
   pub worker : ℕ
   pub history : List Entry
@@ -36,12 +44,7 @@ pub record FinishedBy (histories : List (List Entry)) (origin id : ℕ) : Type 0
   pub finished : IsAmong (Finish origin id) (acted_in history)
   pub moment : State
   pub is_moment : IsMoment histories worker moment
-  pub is_normal : moment.phase ≡ Normal
-  pub job : InHand
-  pub in_hand : IsAmong job moment.hand
-  pub of_origin : job.origin ≡ origin
-  pub of_id : job.id ≡ id
-  pub owned : owner moment job.work.queue ≡ worker
+  pub has_work : HasWork worker moment origin id
 
 -- each job that a node takes out of its journal was finished by an owner of its queue
 abbrev pub OwnerFinishes : Type 0

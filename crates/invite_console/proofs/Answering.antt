@@ -1,5 +1,5 @@
 -- The outcome of `answer`, from what is left of the stream.
-use Rattle.std.proofs.Common.{◌≡◌, ℕ, List, [], ◌∷◌, ◌++◌, Bool, true, false, Option, Some, None, codes, sym, ap, ◌∙◌, append-nil}
+use Rattle.std.proofs.Common.{◌≡◌, ℕ, List, [], ◌∷◌, ◌++◌, Bool, true, false, Option, Some, None, codes, ap, ◌∙◌, append-nil}
 use Rattle.std.specs.Prelude.{is_none}
 use Rattle.wire_msg.specs.Envelope.{Envelope}
 use Rattle.wire_msg.specs.Framing.{Begins, Breaks, IsPartial}
@@ -7,7 +7,7 @@ use Rattle.wire_msg.specs.Contents.{messages_in, unfinished_in, is_malformed}
 use Rattle.wire_msg.proofs.PublicLaws.{read_behind, partial_alone, broken_at_once}
 use Rattle.node_core.specs.Start.{alone}
 use Rattle.console_text.specs.Ends.{Outcome, line}
-use Rattle.invite_console.specs.Answer.{answers_to, end_of_answers, first_count}
+use Rattle.invite_console.specs.Answer.{end_of_answers, first_count}
 use Rattle.invite_console.specs.Session.{Progress, onward, onward_if, TakesNext}
 use Rattle.invite_console.proofs.Sessions.{onward_end}
 
@@ -18,9 +18,6 @@ beginning id nodes = record { id = id; nodes = nodes; state = alone id first_cou
 -- the whole outcome, where this is left of the stream
 abbrev pub onward_over : Progress → List ℕ → Outcome
 onward_over p left = onward p (end_of_answers (is_malformed left)) (messages_in left)
-
-pub all_is_left : (id nodes : ℕ) (bytes : List ℕ) (now : Progress) → now ≡ beginning id nodes → answers_to id nodes bytes ≡ onward_over now bytes
-all_is_left id nodes bytes now same = ap (λ p. onward_over p bytes) (sym same)
 
 -- a stream with these messages and this end is left
 over : (p : Progress) (left : List ℕ) (messages : List Envelope) (unfinished : Option (List ℕ)) → (messages_in left ≡ messages) × (unfinished_in left ≡ unfinished)

@@ -1,5 +1,5 @@
 -- The lines of a run, printed one after another.
-use Rattle.std.proofs.Common.{◌≡◌, ℕ, ◌+◌, ◌<◌, ◌≤◌, Bool, List, ◌++◌, length, Option, Some, refl, sym, subst, add-one, zero-le, get_or}
+use Rattle.std.proofs.Common.{◌≡◌, ℕ, ◌+◌, ◌<◌, ◌≤◌, Bool, List, ◌++◌, length, Option, Some, refl, subst, add-one, zero-le, get_or}
 use Rattle.std.specs.Prelude.{codes, slice_get}
 use Rattle.std.proofs.lemmas.Option.{slice_get_read}
 use Rattle.wire_msg.specs.Envelope.{Envelope}
@@ -7,16 +7,10 @@ use Rattle.console_text.specs.Pages.{Hands}
 use Rattle.console_text.proofs.PublicLaws.{hands_more, page_grows, page_stays}
 use Rattle.invite_console.specs.declared.running.Kept.{Kept}
 use Rattle.invite_console.specs.Acts.{sent_text}
-use Rattle.invite_console.specs.Kept.{AreKept, IsKept, between, lines, run_text, sent_at, written_at}
+use Rattle.invite_console.specs.Kept.{AreKept, between, lines, run_text, sent_at, written_at}
 
 there_is : (xs : List Kept) (i : ℕ) (x : Kept) → i < length xs → x ≡ get_or xs i x → slice_get xs i ≡ Some x
 there_is xs i x within read = slice_get_read xs (length xs) i x refl within read
-
--- what is kept of an act
-pub kept_there : (kept : List Kept) (messages text n sent written : ℕ) (k : Kept) → AreKept kept messages text → n < length kept → k ≡ get_or kept n k
-    → sent ≡ sent_at kept n → written ≡ written_at kept n → IsKept sent written messages text k
-kept_there kept messages text n sent written k are on read is_sent is_written =
-    subst (λ (x : ℕ). IsKept x written messages text k) (sym is_sent) (subst (λ (x : ℕ). IsKept (sent_at kept n) x messages text k) (sym is_written) (are n k (there_is kept n k on read)))
 
 lines_more : (names : Bool) (kept : List Kept) (text : List ℕ) (messages : List Envelope) (n sent written : ℕ) (k : Kept) → slice_get kept n ≡ Some k → sent ≡ sent_at kept n → written ≡ written_at kept n
     → lines names kept text messages n ++ (between written k.written text ++ (sent_text names sent (between sent k.sent messages) ++ codes "\n")) ≡ lines names kept text messages (n + 1)

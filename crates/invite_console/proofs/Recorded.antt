@@ -1,11 +1,10 @@
 -- The trace of a run that was recorded can be written, and so can the order of its turns.
-use Rattle.std.proofs.Common.{◌≡◌, ◌<◌, ◌≤◌, ℕ, zero, suc, ◌+◌, List, [], ◌∷◌, length, map, refl, sym, ap, ◌∙◌, subst, arith}
-use Rattle.wire_msg.specs.Envelope.{Envelope}
+use Rattle.std.proofs.Common.{◌≡◌, ◌≤◌, ℕ, zero, suc, ◌+◌, List, [], ◌∷◌, length, map, refl, sym, ap, ◌∙◌, subst, arith}
 use Rattle.node_core.specs.declared.event.Event.{Event}
 use Rattle.node_core.specs.declared.event.Event.TheVariants as on
 use Rattle.histories.specs.Lists.{Each}
 use Rattle.histories.specs.declared.history_event.HistoryEvent.{HistoryEvent}
-use Rattle.histories.specs.declared.history_event.HistoryEvent.TheVariants.{Did, Refused, Faulted, NoOp, Crashed, Recovered, MountFailed, RaiseFailed, RaiseRefused}
+use Rattle.histories.specs.declared.history_event.HistoryEvent.TheVariants.{Did, Faulted}
 use Rattle.histories.specs.HistoryEvent.{Entry}
 use Rattle.schedule.specs.declared.act.Act.{Act}
 use Rattle.runs.specs.Step.{Step, Takes, Changes, Denies}
@@ -17,29 +16,17 @@ use Rattle.trace_text.specs.Ordered.{IsEven, ordered_by}
 use Rattle.cluster_sim.specs.Traced.{IsRecordOf, claim_of, deed_of, done, failed, messages_in, nodes_in, trace_in}
 
 done_named : (e : Event) → HasName (done e)
-done_named (on.Timer timer) = tt
-done_named (on.Deliver m) = tt
-done_named (on.Submit work) = tt
-done_named (on.Finish origin id) = tt
 done_named on.Recover = tt
+done_named _ = tt
 
 failed_named : (e : Event) → HasName (failed e)
-failed_named (on.Timer timer) = tt
-failed_named (on.Deliver m) = tt
-failed_named (on.Submit work) = tt
-failed_named (on.Finish origin id) = tt
 failed_named on.Recover = tt
+failed_named _ = tt
 
 deed_named : (what : HistoryEvent) → HasName (deed_of what)
 deed_named (Did event) = done_named event
-deed_named (Refused event fault) = tt
 deed_named (Faulted event) = failed_named event
-deed_named (NoOp rest) = tt
-deed_named Crashed = tt
-deed_named (Recovered kept) = tt
-deed_named MountFailed = tt
-deed_named (RaiseFailed kept) = tt
-deed_named (RaiseRefused kept) = tt
+deed_named _ = tt
 
 history_named : (h : List Entry) → AreNamed (map claim_of h)
 history_named [] = tt

@@ -3,7 +3,7 @@ use Rattle.std.proofs.Common.{◌≡◌, ℕ, zero, suc, ◌+◌, ◌-◌, ◌<�
 use Rattle.std.specs.Prelude.{Bool, slice_get, IfSome}
 use Rattle.wire_msg.specs.Envelope.{Envelope}
 use Rattle.console_text.specs.Pages.{Hands}
-use Rattle.console_text.proofs.PublicLaws.{hands_more, page_grows, page_stays}
+use Rattle.console_text.proofs.PublicLaws.{hands_more, page_grows}
 use Rattle.invite_console.specs.Acts.{message_text, sent_text}
 use Rattle.invite_console.specs.Kept.{between}
 
@@ -48,9 +48,3 @@ message_out names at to ms a b c p added q r on within adds full rest = by_cases
     by_cases : (o : Option Envelope) → slice_get ms at ≡ o → IfSome o (λ (m : Envelope). added ≡ p ++ message_text names at m) → Hands a p c r (sent_text names at (between at to ms))
     by_cases None here adds = absurd (none_there at ms (omega (arith, on, within)) here)
     by_cases (Some m) here adds = one_out names at to ms m a b c p added q r on here adds full rest
-
--- no message is left
-pub no_more : (names : Bool) (at to : ℕ) (ms : List Envelope) (a : Option (List ℕ)) (p : List ℕ) → to ≤ at → Hands a p a p (sent_text names at (between at to ms))
-no_more names at to ms a p past =
-    let none : to - at ≡ 0 = omega arith in
-    subst (λ (k : ℕ). Hands a p a p (sent_text names at (take k (drop at ms)))) (sym none) (page_stays a p)

@@ -1,6 +1,6 @@
 -- A run printed one act further.
-use Rattle.std.proofs.Common.{◌≡◌, ◌≢◌, ◌^◌, ℕ, zero, suc, ◌+◌, Bool, true, false, List, [], ◌∷◌, ◌++◌, ◌<◌, length, map, drop, Option, Some, None, codes, decimal, slice_get, refl, sym, ap, subst, ◌∙◌, append_assoc, add-one, arith}
-use Rattle.std.proofs.lemmas.List.{drop_all, length-append, map-append, length-map}
+use Rattle.std.proofs.Common.{◌≡◌, ◌≢◌, ◌^◌, ℕ, zero, suc, ◌+◌, Bool, List, [], ◌∷◌, ◌++◌, ◌<◌, length, map, drop, Some, codes, decimal, slice_get, refl, sym, ap, subst, ◌∙◌, append_assoc, add-one, arith}
+use Rattle.std.proofs.lemmas.List.{length-append, map-append, length-map}
 use Rattle.std.proofs.Math.Seq.{drop-append_seam}
 use Rattle.wire_msg.specs.Envelope.{Envelope}
 use Rattle.sim_net.specs.Network.{Network}
@@ -198,9 +198,3 @@ row_more w view k node first text behind end stands within headed row before res
     let here = one_there w.states k (omega (arith, stands.count)) in
     let left : drop k w.states ≡ here.0 ∷ drop (k + 1) w.states = here.2 ∙ ap (λ (m : ℕ). here.0 ∷ drop m w.states) (sym (add-one k)) in
     before end (subst (λ (states : List NodeState). AddsRows k states text end) (sym left) (behind, row here.0 (stands.each k node here.0 headed here.1), rest))
-
--- the last line
-pub rows_end : (w : World) (view : WorldView) (k : ℕ) (first text : List ℕ) → StandsFor view w → k ≡ length view.nodes
-    → ((e : List ℕ) → AddsRows k (drop k w.states) text e → AddsRows 0 w.states first e) → AddsRows 0 w.states first text
-rows_end w view k first text stands all before =
-    before text (subst (λ (states : List NodeState). AddsRows k states text text) (sym (drop_all k w.states (omega (arith, stands.count, all)))) refl)

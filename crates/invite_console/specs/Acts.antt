@@ -1,11 +1,10 @@
 -- The lines of a simulation: one for each act.
-use Rattle.std.specs.Prelude.{ℕ, ◌+◌, List, [], ◌∷◌, ◌++◌, codes, decimal, Bool, true, false, Option, Some, None}
+use Rattle.std.specs.Prelude.{ℕ, ◌+◌, List, [], ◌∷◌, ◌++◌, codes, decimal, Bool, true, false, Option}
 use Rattle.hex.specs.Hex.{encode_lower}
 use Rattle.wire_msg.specs.Envelope.{Envelope}
 use Rattle.wire_msg.specs.Spelling.{spelling}
 use Rattle.node_core.specs.declared.fault.Refusal.{Refusal as NodeRefusal}
 use Rattle.node_core.specs.declared.fault.Refusal.TheVariants as node
-use Rattle.sim_net.specs.declared.fault.NetFault.{NetFault}
 use Rattle.sim_net.specs.declared.fault.NetFault.TheVariants as net
 use Rattle.schedule.specs.declared.act.Act.{Act}
 use Rattle.schedule.specs.declared.act.Act.TheVariants as act
@@ -34,15 +33,12 @@ fault_name node.Full = codes "Full"
 fault_name node.Exhausted = codes "Exhausted"
 fault_name node.AreaExhausted = codes "Exhausted"
 
-abbrev pub net_name : NetFault → List ℕ
-net_name net.NoSuch = codes "NoSuch"
-net_name net.Lost = codes "Lost"
-net_name net.Cut = codes "Cut"
-net_name net.NoMemory = codes "NoMemory"
-
 abbrev pub refusal_name : Refusal → List ℕ
 refusal_name (Node fault) = fault_name fault
-refusal_name (Net fault) = net_name fault
+refusal_name (Net net.NoSuch) = codes "NoSuch"
+refusal_name (Net net.Lost) = codes "Lost"
+refusal_name (Net net.Cut) = codes "Cut"
+refusal_name (Net net.NoMemory) = codes "NoMemory"
 refusal_name Stranger = codes "Stranger"
 
 -- the id of a submitted job, which no other act has

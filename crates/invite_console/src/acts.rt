@@ -1,12 +1,12 @@
 //! The words of the lines of a simulation, of which each act has one.
 
-ghost use Rattle.std.specs.Prelude.{◌≡◌, ◌++◌, ◌<◌, IfSome, OnOk, codes, decimal, length, slice_get, true};
-ghost use Rattle.invite_console.specs.Acts.{answer_text, fault_name, message_text, net_name, refusal_name};
+ghost use Rattle.std.specs.Prelude.{◌≡◌, ◌++◌, ◌<◌, IfSome, OnOk, length, slice_get, true};
+ghost use Rattle.invite_console.specs.Acts.{answer_text, fault_name, message_text, refusal_name};
 ghost use Rattle.invite_console.specs.Kept.{act_head, outcome_head};
 
 use crate::showing::push_shown;
 use cluster_sim::{Outcome, Refusal};
-use console_text::{push_hex, push_number, push_text};
+use console_text::{push_hex, push_named_number, push_number, push_text};
 use message_list::MessageList;
 use node_core::Refusal as NodeRefusal;
 use node_words::{push_core_fault, push_id};
@@ -59,7 +59,10 @@ fn push_refusal(text: &mut Vec<u8>, why: Refusal) -> Result<(), AllocError>
 {
     match why {
         Refusal::Node(why) => push_fault(text, why),
-        Refusal::Net(fault) => push_text(text, net_word(fault)),
+        Refusal::Net(NetFault::NoSuch) => push_text(text, "NoSuch"),
+        Refusal::Net(NetFault::Lost) => push_text(text, "Lost"),
+        Refusal::Net(NetFault::Cut) => push_text(text, "Cut"),
+        Refusal::Net(NetFault::NoMemory) => push_text(text, "NoMemory"),
         Refusal::Stranger => push_text(text, "Stranger"),
     }
 }
@@ -71,17 +74,6 @@ fn push_fault(text: &mut Vec<u8>, why: NodeRefusal) -> Result<(), AllocError>
         NodeRefusal::Core(fault) => push_core_fault(text, fault),
         NodeRefusal::Full => push_text(text, "Full"),
         NodeRefusal::Exhausted | NodeRefusal::AreaExhausted => push_text(text, "Exhausted"),
-    }
-}
-
-fn net_word(fault: NetFault) -> &'static str
-    ensures { result.now ≡ net_name fault }
-{
-    match fault {
-        NetFault::NoSuch => "NoSuch",
-        NetFault::Lost => "Lost",
-        NetFault::Cut => "Cut",
-        NetFault::NoMemory => "NoMemory",
     }
 }
 
@@ -99,8 +91,7 @@ pub(crate) fn push_message(
     if names {
         return push_named(text, messages, place);
     }
-    push_text(text, " ")?;
-    push_number(text, place as u64)?;
+    push_named_number(text, " ", place as u64)?;
     push_text(text, ":")?;
     messages.spell(place, bytes)?;
     push_hex(text, bytes)
@@ -113,9 +104,7 @@ fn push_named(text: &mut Vec<u8>, messages: &MessageList, place: usize) -> Resul
     let Some(message) = messages.get(place) else {
         return Ok(());
     };
-    let number = place as u64;
-    push_text(text, "\n    ")?;
-    push_number(text, number)?;
+    push_named_number(text, "\n    ", place as u64)?;
     push_text(text, ": ")?;
     push_shown(text, &message)
 }

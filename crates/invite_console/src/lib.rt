@@ -3,6 +3,10 @@
 //! A command reads its whole input first, then works out what to print, and then prints it in one go: what is written is a
 //! stated function of what was read, and an input that can't be read, or for which memory runs out, prints nothing else.
 //! A further command is one file with two functions, as [`answer`] and [`show`] are, and one file of `specs/` with its text.
+//!
+//! ```
+//! let ended = sim(alloc, details, &mut input, &mut output);       // a schedule in, a line for each act and the nodes out
+//! ```
 #![tactic(auto)]
 
 mod acts;

@@ -1,9 +1,9 @@
-ghost use Rattle.std.specs.Prelude.{◌≡◌, ◌++◌, IfOk, IfErr, OnOk, MatchOption, Some, Ok, false, true, option_map};
-ghost use Rattle.line_words.specs.Lines.{bytes_of, IsFaultAt, IsLineFault};
+ghost use Rattle.std.specs.Prelude.{◌≡◌, ◌++◌, IfOk, IfErr, OnOk, Some, Ok, option_map};
+ghost use Rattle.line_words.specs.Lines.{IsFaultAt, IsLineFault};
 ghost use Rattle.invite_console.specs.Lines.{line_bytes, hex_lines_of};
 
 use line_words::{LineFault, cut_line, push_bytes};
-use std::alloc::{AllocError, Global};
+use std::alloc::Global;
 
 /// Adds the bytes of the line of this number, which is passed over where it is empty.
 fn push_line(bytes: &mut Vec<u8>, number: u64, line: &[u8]) -> Result<(), LineFault>

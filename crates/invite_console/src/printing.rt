@@ -1,6 +1,6 @@
 //! A run, printed page by page: it may have far more text than the run itself takes.
 
-ghost use Rattle.std.specs.Prelude.{◌≡◌, ◌≤◌, ◌<◌, ◌++◌, OnOk, length};
+ghost use Rattle.std.specs.Prelude.{◌≡◌, ◌≤◌, ◌<◌, OnOk, length};
 ghost use Rattle.console_text.specs.Pages.{Hands};
 ghost use Rattle.invite_console.specs.Acts.{sent_text};
 ghost use Rattle.invite_console.specs.Kept.{between, run_text, AreKept};

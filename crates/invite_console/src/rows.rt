@@ -1,6 +1,6 @@
 //! The lines of the table that ends a simulation: one for each node.
 
-ghost use Rattle.std.specs.Prelude.{◌≡◌, ◌++◌, OnOk, IfOk, codes, map, decimal};
+ghost use Rattle.std.specs.Prelude.{◌≡◌, ◌++◌, OnOk, IfOk};
 ghost use Rattle.job_model.specs.Table.{durable_of};
 ghost use Rattle.node_core.specs.State.{state_of};
 ghost use Rattle.sector_disk.specs.Memory.{state_of as disk_state};
@@ -11,9 +11,9 @@ ghost use Rattle.console_text.specs.Ends.{line};
 ghost use Rattle.node_words.specs.Words.{ids_text};
 ghost use Rattle.invite_console.specs.Rows.{down_row, head_text, job_ids, jobs_part, pair_text, pairs_text, sets_part, up_row, AreHeld, HasRow};
 
-use console_text::{push_number, push_text};
+use console_text::{push_named_number, push_number, push_text};
 use durable_node::DurableNode;
-use group_task::{Members, NodeId};
+use group_task::NodeId;
 use job_model::{Job, JobTable};
 use node_core::{InHand, Phase, Vector};
 use node_words::{phase_word, push_group_part, push_ids};
@@ -77,8 +77,7 @@ fn push_row_of(
 fn push_down_row(text: &mut Vec<u8>, id: NodeId) -> Result<(), AllocError>
     ensures { OnOk result (text.new.items ≡ text.old.items ++ line (down_row id)) }
 {
-    push_text(text, "node ")?;
-    push_number(text, u64::from(id.number()))?;
+    push_named_number(text, "node ", u64::from(id.number()))?;
     push_text(text, " Down\n")
 }
 
@@ -97,8 +96,7 @@ fn held_in(alloc: Global, hand: &[InHand]) -> Result<Vec<(u8, u64)>, AllocError>
 fn push_head(text: &mut Vec<u8>, id: NodeId, vector: &Vector) -> Result<(), AllocError>
     ensures { OnOk result (text.new.items ≡ text.old.items ++ head_text id (state_of vector.now)) }
 {
-    push_text(text, "node ")?;
-    push_number(text, u64::from(id.number()))?;
+    push_named_number(text, "node ", u64::from(id.number()))?;
     push_text(text, " ")?;
     push_text(text, phase_word(vector.group_state.phase))
 }
@@ -106,21 +104,16 @@ fn push_head(text: &mut Vec<u8>, id: NodeId, vector: &Vector) -> Result<(), Allo
 fn push_sets(text: &mut Vec<u8>, vector: &Vector) -> Result<(), AllocError>
     ensures { OnOk result (text.new.items ≡ text.old.items ++ sets_part (state_of vector.now)) }
 {
-    let members = match &vector.group_state.task {
-        Some(task) => task.members(),
-        None => Members::new(),
-    };
     push_text(text, " up ")?;
     push_ids(text, vector.group_state.up)?;
     push_text(text, " members ")?;
-    push_ids(text, members)
+    push_ids(text, vector.members())
 }
 
 fn push_jobs(text: &mut Vec<u8>, count: u64, table: &JobTable) -> Result<(), AllocError>
     ensures { OnOk result (text.new.items ≡ text.old.items ++ jobs_part (durable_of count table.now)) }
 {
-    push_text(text, " count ")?;
-    push_number(text, count)?;
+    push_named_number(text, " count ", count)?;
     push_text(text, " pending ")?;
     push_job_ids(text, table.pending())
 }
@@ -134,8 +127,7 @@ fn push_job_ids(text: &mut Vec<u8>, jobs: &[Job]) -> Result<(), AllocError>
     };
     push_number(text, first.id)?;
     for job in rest {
-        push_text(text, ",")?;
-        push_number(text, job.id)?;
+        push_named_number(text, ",", job.id)?;
     }
     Ok(())
 }
@@ -159,6 +151,5 @@ fn push_pair(text: &mut Vec<u8>, pair: (u8, u64)) -> Result<(), AllocError>
     ensures { OnOk result (text.new.items ≡ text.old.items ++ pair_text pair) }
 {
     push_number(text, u64::from(pair.0))?;
-    push_text(text, ":")?;
-    push_number(text, pair.1)
+    push_named_number(text, ":", pair.1)
 }

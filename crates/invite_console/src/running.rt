@@ -1,7 +1,7 @@
 //! A schedule on a simulated cluster, and what is kept of each act until it is printed.
 
-ghost use Rattle.std.specs.Prelude.{◌≡◌, ◌≤◌, ◌++◌, [], ◌∷◌, ℕ, List, IfOk, OnOk, length};
-ghost use Rattle.group_task.specs.declared.node.TheConstants.{NODES};
+ghost use Rattle.std.specs.Prelude.{◌≡◌, ◌++◌, [], ◌∷◌, ℕ, List, IfOk, OnOk, length};
+ghost use Rattle.schedule.specs.Limits.{IsWithinLimits};
 ghost use Rattle.schedule.specs.declared.act.Act.{Act as ActValue};
 ghost use Rattle.cluster_sim.specs.World.{StandsFor};
 ghost use Rattle.runs.specs.World.{World as RunWorld};
@@ -45,10 +45,7 @@ pub(crate) fn run_schedule(
     details: Details,
     schedule: &Schedule,
 ) -> Result<Run, AllocError>
-    requires least { 1 ≤ schedule.now.size.nodes }
-    requires most { schedule.now.size.nodes ≤ NODES }
-    requires least_slots { 4 ≤ schedule.now.size.slots }
-    requires most_slots { schedule.now.size.slots ≤ 4096 }
+    requires { IsWithinLimits schedule.now.size schedule.now.acts.items }
     ensures { IfOk result (λ run. IsRun details schedule.now.size.nodes schedule.now.size.slots schedule.now.acts.items run.kept.items run.text.items run.world.net.sent) }
 {
     left_by_a_run();

@@ -7,8 +7,8 @@ ghost use Rattle.node_words.specs.Words.{group_text, truth_text};
 use crate::lines::hex_lines;
 use crate::reasons::{bad_hex, with_reason};
 use console_text::{
-    CommandError, Ended, IoTrouble, Output, Source, print_explained, push_number, push_text,
-    read_source,
+    CommandError, Ended, IoTrouble, Output, Source, print_explained, push_named_number,
+    push_number, push_text, read_source,
 };
 use group_task::{GroupNo, Task};
 use job_model::Work;
@@ -83,8 +83,7 @@ fn push_rest(text: &mut Vec<u8>, rest: u64) -> Result<(), AllocError>
     if rest == 0 {
         return Ok(());
     }
-    push_text(text, "rest ")?;
-    push_number(text, rest)?;
+    push_named_number(text, "rest ", rest)?;
     push_text(text, "\n")
 }
 
@@ -101,8 +100,7 @@ pub(crate) fn push_shown(text: &mut Vec<u8>, message: &Message) -> Result<(), Al
     ensures { OnOk result (text.new.items ≡ text.old.items ++ message_text message.now) }
 {
     push_number(text, u64::from(message.sender().number()))?;
-    push_text(text, ">")?;
-    push_number(text, u64::from(message.receiver().number()))?;
+    push_named_number(text, ">", u64::from(message.receiver().number()))?;
     push_text(text, " ")?;
     push_body(text, message.body())
 }
@@ -124,10 +122,7 @@ fn push_body(text: &mut Vec<u8>, body: &Body) -> Result<(), AllocError>
         Body::Ready(task) => push_task(text, task),
         Body::ReadyAck(group) => push_named(text, "ReadyAck ", *group),
         Body::Work { group, id, work } => push_order(text, *group, *id, work),
-        Body::Done(id) => {
-            push_text(text, "Done ")?;
-            push_number(text, *id)
-        }
+        Body::Done(id) => push_named_number(text, "Done ", *id),
     }
 }
 
@@ -158,8 +153,7 @@ fn push_order(text: &mut Vec<u8>, group: GroupNo, id: u64, work: &Work) -> Resul
     ensures { OnOk result (text.new.items ≡ text.old.items ++ order_text group id work.now) }
 {
     push_named(text, "Work ", group)?;
-    push_text(text, " ")?;
-    push_number(text, id)?;
+    push_named_number(text, " ", id)?;
     push_text(text, " ")?;
     push_work_of(text, work)
 }

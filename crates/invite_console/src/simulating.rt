@@ -1,7 +1,7 @@
 //! The command `sim`: a schedule in, what each act did and the nodes at its end out.
 
 ghost use Rattle.std.specs.Prelude.{◌≡◌, ◌≤◌, ◌+◌, length, true, Some, None, Ok};
-ghost use Rattle.group_task.specs.declared.node.TheConstants.{NODES};
+ghost use Rattle.schedule.specs.Limits.{IsWithinLimits};
 ghost use Rattle.schedule.specs.Text.{plan};
 ghost use Rattle.console_text.specs.Ends.{IsWhy, Prints};
 ghost use Rattle.invite_console.specs.Kept.{run_text, AreKept};
@@ -17,7 +17,7 @@ use console_text::{
 };
 use line_words::LineFault;
 use schedule::{Schedule, read_schedule};
-use std::alloc::{AllocError, Global};
+use std::alloc::Global;
 use std::io::{Read, Write};
 use wire_msg::BODY_CAPACITY;
 
@@ -76,10 +76,7 @@ fn simulate<W: Write>(
     schedule: &Schedule,
     output: &mut W,
 ) -> ExitKind
-    requires least { 1 ≤ schedule.now.size.nodes }
-    requires most { schedule.now.size.nodes ≤ NODES }
-    requires least_slots { 4 ≤ schedule.now.size.slots }
-    requires most_slots { schedule.now.size.slots ≤ 4096 }
+    requires { IsWithinLimits schedule.now.size schedule.now.acts.items }
     ensures { Prints (λ _ outcome. PrintsPlan details (Ok (plan schedule.now.size schedule.now.acts.items)) outcome) None (W.contents output.old) (W.contents output.new) result }
 {
     match run_schedule(alloc, details, schedule) {

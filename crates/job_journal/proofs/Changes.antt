@@ -143,6 +143,11 @@ pub writing_start : (first slots : ℕ) (Said : ℕ → Image → Type 0) (disk 
 writing_start first slots Said disk laws =
     record { calls = erased_start first slots disk laws; said = λ honest was. was; synced = λ honest less. absurd (omega (arith, less)) }
 
+-- they and one more touch nothing but the area
+pub writing_run : {first slots : ℕ} {Said : ℕ → Image → Type 0} {here : ℕ → Type 0} {old mid new : DiskState} {done : ℕ} → ((k : ℕ) → here k → InSlots first slots k)
+    → Writing first slots Said old mid done → (IsTrue mid.honest → Run here mid new) → IsTrue old.honest → Run (InSlots first slots) old new
+writing_run {first = first} {slots = slots} into so_far = run_on (InSlots first slots) into so_far.calls.honest so_far.calls.run
+
 pub writing_more : (first slots : ℕ) {Said : ℕ → Image → Type 0} {here : ℕ → Type 0} {old mid new : DiskState} {done : ℕ} {failed ok : Type 0} → ok → ((k : ℕ) → here k → InSlots first slots k)
     → Writing first slots Said old mid done → Counts mid new failed ok → (IsTrue mid.honest → Run here mid new)
     → (IsTrue mid.honest → Said done mid.contents → Said (done + 1) new.contents) → (IsTrue mid.honest → AllSynced new) → Writing first slots Said old new (done + 1)
@@ -151,7 +156,7 @@ writing_more first slots {old = old} {mid = mid} was_ok into so_far counts run s
     sectors = counts.sectors ∙ so_far.calls.sectors;
     honest = counts.honest ∙ so_far.calls.honest;
     failures = counts.unchanged was_ok ∙ so_far.calls.failures;
-    run = run_on (InSlots first slots) into so_far.calls.honest so_far.calls.run run;
+    run = writing_run into so_far run;
     unsealed = λ honest k less. absurd (omega (arith, less));
   };
   said = λ honest was. said (so_far.calls.honest ∙ honest) (so_far.said honest was);

@@ -1,15 +1,14 @@
 // An area written anew: unsealed, then filled with the records of some jobs, and then sealed.
-ghost use Rattle.std.specs.Prelude.{◌≡◌, ◌<◌, ◌≤◌, ◌+◌, ◌*◌, ◌^◌, ℕ, length, slice_get, IsTrue, IsOk, IsErrOf, Some, None};
+ghost use Rattle.std.specs.Prelude.{◌≡◌, ◌<◌, ◌≤◌, ◌+◌, ◌*◌, ◌^◌, ℕ, length, slice_get, IsTrue, IsOk, Some, None};
 ghost use Rattle.sector_disk.specs.Disk.{AllSynced};
 ghost use Rattle.slot_gate.specs.Slot.{slot_at, InSlots};
-ghost use Rattle.slot_gate.specs.Writing.{WritesOnly};
+ghost use Rattle.slot_gate.specs.Writing.{CallWrites};
 ghost use Rattle.job_journal.specs.Compacting.{records_for, IsWritten};
 ghost use Rattle.job_journal.specs.Jobs.{jobs_of};
 ghost use Rattle.job_model.specs.Order.{IsInOrder};
 
-use crate::fault::JournalFault;
 use job_model::{JobTable, Record};
-use sector_disk::SectorDisk;
+use sector_disk::{DiskFault, SectorDisk};
 use slot_gate::{fill, seal, unseal};
 
 // Writes the jobs of a table into an area that is present in no image, in `2 * slots` device calls and four for each
@@ -19,56 +18,70 @@ pub(crate) fn write_area<D: SectorDisk>(
     first: u64,
     slots: u64,
     table: &JobTable,
-) -> Result<(), JournalFault>
+) -> Result<(), DiskFault>
     requires on_disk { first + 2 * slots ≤ (D.state disk.old).sectors }
     requires fits { first + 2 * slots < 2 ^ 64 }
     requires room { length table.now.pending + 2 ≤ slots }
-    ensures writes { WritesOnly (InSlots first slots) (D.state disk.old) (D.state disk.new)
-        (IsErrOf result JournalFault.Device) (IsOk result) }
+    ensures writes { CallWrites (InSlots first slots) D.state disk.old disk.new DiskFault.Device result }
     ensures written { IsTrue (D.state disk.old).honest → IsOk result
         → IsWritten first slots (records_for (jobs_of table.now)) (length table.now.pending + 1)
         (length table.now.pending + 1) (D.state disk.new).contents }
     ensures synced { IsTrue (D.state disk.old).honest → IsOk result
         → AllSynced (D.state disk.new) }
 {
-    let Ok(()) = erase(disk, first, slots) else {
-        return Err(JournalFault::Device);
-    };
-    let Ok(()) = fill_area(disk, first, slots, table) else {
-        return Err(JournalFault::Device);
-    };
-    seal_area(disk, first, slots, table)
+    erase(disk, first, slots)?;
+    write_records(disk, first, slots, table)
 }
 
 // Unseals so many slots from this sector on, each by itself.
-fn erase<D: SectorDisk>(disk: &mut D, first: u64, slots: u64) -> Result<(), JournalFault>
+fn erase<D: SectorDisk>(disk: &mut D, first: u64, slots: u64) -> Result<(), DiskFault>
     requires on_disk { first + 2 * slots ≤ (D.state disk.old).sectors }
     requires fits { first + 2 * slots < 2 ^ 64 }
-    ensures writes { WritesOnly (InSlots first slots) (D.state disk.old) (D.state disk.new)
-        (IsErrOf result JournalFault.Device) (IsOk result) }
+    ensures writes { CallWrites (InSlots first slots) D.state disk.old disk.new DiskFault.Device result }
     ensures unsealed { IsTrue (D.state disk.old).honest → IsOk result
         → (k : ℕ) → k < slots → slot_at (D.state disk.new).contents (first + 2 * k) ≡ None }
 {
     for erased in 0..slots {
-        let Ok(()) = unseal(disk, first + 2 * erased) else {
-            return Err(JournalFault::Device);
-        };
+        unseal(disk, first + 2 * erased)?;
     }
     Ok(())
 }
 
-// Fills the records of the jobs into slots that are unsealed.
-pub(crate) fn fill_area<D: SectorDisk>(
+// Writes the records of the jobs into an area of which no slot is sealed: their bodies first, and then the seals.
+pub(crate) fn write_records<D: SectorDisk>(
     disk: &mut D,
     first: u64,
     slots: u64,
     table: &JobTable,
-) -> Result<(), JournalFault>
+) -> Result<(), DiskFault>
     requires on_disk { first + 2 * slots ≤ (D.state disk.old).sectors }
     requires fits { first + 2 * slots < 2 ^ 64 }
     requires room { length table.now.pending + 2 ≤ slots }
-    ensures writes { WritesOnly (InSlots first slots) (D.state disk.old) (D.state disk.new)
-        (IsErrOf result JournalFault.Device) (IsOk result) }
+    ensures writes { CallWrites (InSlots first slots) D.state disk.old disk.new DiskFault.Device result }
+    ensures written { IsTrue (D.state disk.old).honest → IsOk result
+        → IsWritten first slots (records_for (jobs_of table.now)) 0 0 (D.state disk.old).contents
+        → IsWritten first slots (records_for (jobs_of table.now)) (length table.now.pending + 1)
+        (length table.now.pending + 1) (D.state disk.new).contents }
+    ensures synced { IsTrue (D.state disk.old).honest → IsOk result
+        → AllSynced (D.state disk.new) }
+    ensures in_order { IsOk result → IsInOrder table.now.pending table.now.next }
+{
+    fill_area(disk, first, slots, table)?;
+    seal_area(disk, first, slots, table)
+}
+
+// Fills the records of the jobs into slots that are unsealed.
+#[tactic(auto, using(crate::proofs::Changes::writing_start))]
+fn fill_area<D: SectorDisk>(
+    disk: &mut D,
+    first: u64,
+    slots: u64,
+    table: &JobTable,
+) -> Result<(), DiskFault>
+    requires on_disk { first + 2 * slots ≤ (D.state disk.old).sectors }
+    requires fits { first + 2 * slots < 2 ^ 64 }
+    requires room { length table.now.pending + 2 ≤ slots }
+    ensures writes { CallWrites (InSlots first slots) D.state disk.old disk.new DiskFault.Device result }
     ensures filled { IsTrue (D.state disk.old).honest → IsOk result
         → IsWritten first slots (records_for (jobs_of table.now)) 0 0 (D.state disk.old).contents
         → IsWritten first slots (records_for (jobs_of table.now)) (length table.now.pending + 1)
@@ -81,26 +94,24 @@ pub(crate) fn fill_area<D: SectorDisk>(
 {
     for filled in 0..record_count(table) {
         let body = record_at(table, filled).to_sector();
-        let Ok(()) = fill(disk, first + 2 * filled, &body) else {
-            return Err(JournalFault::Device);
-        };
+        fill(disk, first + 2 * filled, &body)?;
     }
     Ok(())
 }
 
 // Seals the slots that were filled, over bodies that are synced.
-pub(crate) fn seal_area<D: SectorDisk>(
+#[tactic(auto, using(crate::proofs::Changes::writing_start))]
+fn seal_area<D: SectorDisk>(
     disk: &mut D,
     first: u64,
     slots: u64,
     table: &JobTable,
-) -> Result<(), JournalFault>
+) -> Result<(), DiskFault>
     requires on_disk { first + 2 * slots ≤ (D.state disk.old).sectors }
     requires fits { first + 2 * slots < 2 ^ 64 }
     requires room { length table.now.pending + 2 ≤ slots }
     requires synced { IsTrue (D.state disk.old).honest → AllSynced (D.state disk.old) }
-    ensures writes { WritesOnly (InSlots first slots) (D.state disk.old) (D.state disk.new)
-        (IsErrOf result JournalFault.Device) (IsOk result) }
+    ensures writes { CallWrites (InSlots first slots) D.state disk.old disk.new DiskFault.Device result }
     ensures sealed { IsTrue (D.state disk.old).honest → IsOk result
         → IsWritten first slots (records_for (jobs_of table.now)) (length table.now.pending + 1)
         0 (D.state disk.old).contents
@@ -111,9 +122,7 @@ pub(crate) fn seal_area<D: SectorDisk>(
     ensures in_order { IsInOrder table.now.pending table.now.next }
 {
     for sealed in 0..record_count(table) {
-        let Ok(()) = seal(disk, first + 2 * sealed) else {
-            return Err(JournalFault::Device);
-        };
+        seal(disk, first + 2 * sealed)?;
     }
     Ok(())
 }

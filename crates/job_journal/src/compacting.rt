@@ -4,7 +4,7 @@ ghost use Rattle.disk_sector.specs.Layout.{sectors_for};
 ghost use Rattle.disk_sector.specs.declared.layout.TheConstants.{MOST_SLOTS};
 ghost use Rattle.sector_disk.specs.Disk.{Counts};
 ghost use Rattle.sector_disk.specs.Run.{Run, Each};
-ghost use Rattle.slot_gate.specs.Writing.{WritesOnly};
+ghost use Rattle.slot_gate.specs.Writing.{CallWrites};
 ghost use Rattle.job_journal.specs.Appending.{Answers};
 ghost use Rattle.job_journal.specs.Areas.{first_of, EndsIn};
 ghost use Rattle.job_journal.specs.Compacting.{compaction_refusal, compacted, records_for, with_slot, KeepsJobs, IsGivenUp};
@@ -89,8 +89,7 @@ impl JobJournal {
     pub(crate) fn make_room<D: SectorDisk>(&mut self, disk: &mut D) -> Result<(), JournalFault>
         requires on_disk { sectors_for self.old.slots ≤ (D.state disk.old).sectors }
         requires can { self.old.used ≡ self.old.slots → compaction_refusal self.old ≡ None }
-        ensures writes { WritesOnly (InJournal self.old.slots) (D.state disk.old) (D.state disk.new)
-            (IsErrOf result JournalFault.Device) (IsOk result) }
+        ensures writes { CallWrites (InJournal self.old.slots) D.state disk.old disk.new JournalFault.Device result }
         ensures device { IsErrOf result JournalFault.Device → IsGivenUp self.old self.new }
         ensures ok { IsOk result → self.new ≡ with_slot self.old }
         ensures kept { KeepsJobs self.old self.new }

@@ -1,9 +1,9 @@
 // A journal made on its disk.
-ghost use Rattle.std.specs.Prelude.{◌≡◌, ◌<◌, ◌≤◌, ◌+◌, ◌*◌, IsTrue, IsOk, IsErrOf, Some};
+ghost use Rattle.std.specs.Prelude.{◌≡◌, ◌<◌, ◌≤◌, ◌+◌, ◌*◌, IsTrue, IsOk, Some};
 ghost use Rattle.disk_sector.specs.Layout.{sectors_for};
 ghost use Rattle.disk_sector.specs.declared.layout.TheConstants.{MOST_SLOTS};
 ghost use Rattle.sector_disk.specs.Disk.{Image, IsImage, AllSynced};
-ghost use Rattle.slot_gate.specs.Writing.{WritesOnly};
+ghost use Rattle.slot_gate.specs.Writing.{CallWrites};
 ghost use Rattle.job_journal.specs.Jobs.{no_jobs};
 ghost use Rattle.job_journal.specs.Journal.{jobs_in, IsFormatted, IsSound, InJournal};
 
@@ -18,8 +18,7 @@ pub fn format<D: SectorDisk>(disk: &mut D, slots: u64) -> Result<(), JournalFaul
     requires on_disk { sectors_for slots ≤ (D.state disk.old).sectors }
     requires most { slots ≤ MOST_SLOTS }
 
-    ensures writes { WritesOnly (InJournal slots) (D.state disk.old) (D.state disk.new)
-        (IsErrOf result JournalFault.Device) (IsOk result) }
+    ensures writes { CallWrites (InJournal slots) D.state disk.old disk.new JournalFault.Device result }
 
     // After `Ok` each image has the area cell's 1 and no sealed slot in either area, so it stands for no jobs; the disk
     // is sound, and nothing is unsynced.
@@ -31,13 +30,9 @@ pub fn format<D: SectorDisk>(disk: &mut D, slots: u64) -> Result<(), JournalFaul
         → (image : Image) → IsImage (D.state disk.new) image → IsFormatted slots image }
     ensures empty { IsTrue (D.state disk.old).honest → IsOk result
         → (image : Image) → IsImage (D.state disk.new) image → jobs_in slots image ≡ Some no_jobs }
-    ensures sound { IsTrue (D.state disk.old).honest → IsOk result
-        → IsSound slots (D.state disk.new) }
-    ensures synced { IsTrue (D.state disk.old).honest → IsOk result
-        → AllSynced (D.state disk.new) }
+    ensures sound { IsTrue (D.state disk.old).honest → IsOk result → IsSound slots (D.state disk.new) }
+    ensures synced { IsTrue (D.state disk.old).honest → IsOk result → AllSynced (D.state disk.new) }
 {
-    let Ok(()) = unseal_all(disk, 8, 2 * slots) else {
-        return Err(JournalFault::Device);
-    };
+    unseal_all(disk, 8, 2 * slots).or(Err(JournalFault::Device))?;
     safe_cell::format(disk, 4, 1).or(Err(JournalFault::Device))
 }

@@ -2,3 +2,4 @@ mod OrderLaws
 mod Places
 mod RecordBytes
 mod RecordSectors
+pub mod PublicLaws

@@ -3,10 +3,7 @@ use Rattle.std.proofs.Common.{◌≡◌, ℕ, zero, suc, ◌+◌, ◌<◌, ◌�
 use Rattle.std.proofs.lemmas.Bool.{ltb-true, lt-ltb}
 use Rattle.std.specs.Prelude.{Some, slice_get, IsTrue, nat_lt, ◌↔◌}
 use Rattle.job_model.specs.declared.job.Job.{Job}
-use Rattle.job_model.specs.declared.node_command.NodeCommand.{NodeCommand as Command}
-use Rattle.job_model.specs.declared.node_command.NodeCommand.TheVariants.{Raise, Put, Done}
-use Rattle.job_model.specs.Durable.{Durable}
-use Rattle.job_model.specs.Fold.{after_command, without_job}
+use Rattle.job_model.specs.Fold.{without_job}
 use Rattle.job_model.specs.Order.{IdsRise, IsInOrder}
 
 IdsRise-lower : (low high limit : ℕ) (jobs : List Job) → low ≤ high → IdsRise high limit jobs → IdsRise low limit jobs
@@ -29,12 +26,6 @@ IdsRise-without_job low limit (job ∷ jobs) id r =
     one_of low limit (not (eqb job.id id)) (job ∷ without_job jobs id) (without_job jobs id)
     (r.0, r.1, rest)
     (IdsRise-lower low (job.id + 1) limit (without_job jobs id) (omega (arith, r.0)) rest)
-
--- each command keeps the order
-pub IsInOrder-after_command : (d : Durable) (command : Command) → IsInOrder d.pending d.next → IsInOrder (after_command d command).pending (after_command d command).next
-IsInOrder-after_command d Raise r = r
-IsInOrder-after_command d (Put work) r = IdsRise-append 0 (d.next + 1) d.pending (record { id = d.next; work = work }) (omega arith) (omega arith) r
-IsInOrder-after_command d (Done id) r = IdsRise-without_job 0 d.next d.pending id r
 
 -- ---- the last job tells how far the ids go
 

@@ -1,12 +1,10 @@
 -- Where a job stands among jobs whose ids rise, and what is left without it.
-use Rattle.std.proofs.Common.{◌≡◌, ◌+◌, ◌*◌, ◌<◌, ◌≤◌, ⊎_elim, ℕ, zero, suc, Bool, true, false, not, cond, eqb, ltb, List, [], ◌∷◌, ◌++◌, length, take, drop, ◌∙◌, sym, subst, ap, refl, arith}
+use Rattle.std.proofs.Common.{◌≡◌, ◌+◌, ◌*◌, ◌<◌, ◌≤◌, ⊎_elim, ℕ, zero, suc, true, false, not, cond, eqb, ltb, List, [], ◌∷◌, ◌++◌, length, take, drop, ◌∙◌, sym, subst, ap, refl, arith}
 use Rattle.std.proofs.lemmas.Bool.Decides.{nat_tests, leb_tells}
 use Rattle.std.specs.Prelude.{slice_index_or, ◌||◌}
 use Rattle.std.specs.List.Sorted.{IsNonDecreasingBy, IsPartitionPoint}
-use lib.Seq.{paste}
 use Rattle.std.proofs.lemmas.Bool.{ltb-true}
-use Rattle.std.proofs.lemmas.List.{get_or_default, drop-append-le, drop-take, drop-drop, append_assoc, length-append, length-take-le}
-use Rattle.std.proofs.Math.Seq.{drop-append_seam}
+use Rattle.std.proofs.lemmas.List.{get_or_default, drop-append-le, drop-take, drop-drop, length-append, length-take-le}
 use Rattle.job_model.specs.declared.job.Job.{Job}
 use Rattle.job_model.specs.Fold.{without_job, is_pending}
 use Rattle.job_model.specs.Order.{IdsRise, IsInOrder}
@@ -49,16 +47,6 @@ pending_other (x ∷ xs) id other =
     ap (λ b. b || is_pending xs id) (other_id x.id id (other zero x (omega arith)))
     ∙ pending_other xs id (λ k d less. other (suc k) d (omega (arith, less)))
 
--- the job in this place has the id: it is pending, and without it the others are left
-pub pending_at : (jobs : List Job) (id at : ℕ) (d : Job) → at < length jobs → (slice_index_or jobs at d).id ≡ id → is_pending jobs id ≡ true
-pending_at [] id at d less is = absurd (omega (arith, less))
-pending_at (x ∷ xs) id zero d less is = ap (λ b. b || is_pending xs id) (same_id x.id id is)
-pending_at (x ∷ xs) id (suc at) d less is = by_first (eqb x.id id) (is_pending xs id) (pending_at xs id at d (omega (arith, less)) is)
-  where
-    by_first : (a b : Bool) → b ≡ true → (a || b) ≡ true
-    by_first true b h = refl
-    by_first false b h = h
-
 pub without_at : (low limit : ℕ) (jobs : List Job) (id at : ℕ) (d : Job) → IdsRise low limit jobs → at < length jobs → (slice_index_or jobs at d).id ≡ id
     → without_job jobs id ≡ take at jobs ++ drop (at + 1) jobs
 without_at low limit [] id at d r less is = absurd (omega (arith, less))
@@ -88,20 +76,8 @@ other_around low limit jobs id at r below above differs k d less is =
 pub ids_rise : (low limit : ℕ) (jobs : List Job) → IdsRise low limit jobs → IsNonDecreasingBy (λ (job : Job). job.id) jobs
 ids_rise low limit jobs r = λ i j d le less. rises low limit jobs i j d r le less
 
--- the jobs before a place are moved up by one, over the job in it
-pub moved_up : (xs : List Job) (s at : ℕ) → s + at < length xs → drop (s + 1) (paste xs (s + 1) (drop s xs) at) ≡ take at (drop s xs) ++ drop (at + 1) (drop s xs)
-moved_up xs s at within =
-    let front = take (s + 1) xs in
-    let long : length front ≡ s + 1 = length-take-le (s + 1) xs (omega (arith, within)) in
-    let on : s + 1 + at ≡ s + (at + 1) = omega arith in
-    ap (λ l. drop (s + 1) l) (append_assoc front (take at (drop s xs)) (drop (s + 1 + at) xs))
-    ∙ ap (λ n. drop n (front ++ (take at (drop s xs) ++ drop (s + 1 + at) xs))) (sym long)
-    ∙ drop-append_seam front (take at (drop s xs) ++ drop (s + 1 + at) xs)
-    ∙ ap (λ n. take at (drop s xs) ++ drop n xs) on
-    ∙ ap (λ l. take at (drop s xs) ++ l) (sym (drop-drop (at + 1) s xs))
-
--- the jobs behind a place are moved down by one, over the job in it
-pub moved_down : (xs : List Job) (s at : ℕ) → s + at < length xs → drop s (take (s + at) xs ++ drop (s + at + 1) xs) ≡ take at (drop s xs) ++ drop (at + 1) (drop s xs)
+-- the elements behind a place are moved down by one, over the element in it
+pub moved_down : {A : Type 0} (xs : List A) (s at : ℕ) → s + at < length xs → drop s (take (s + at) xs ++ drop (s + at + 1) xs) ≡ take at (drop s xs) ++ drop (at + 1) (drop s xs)
 moved_down xs s at within =
     let long : length (take (s + at) xs) ≡ s + at = length-take-le (s + at) xs (omega (arith, within)) in
     let on : s + at + 1 ≡ s + (at + 1) = omega arith in

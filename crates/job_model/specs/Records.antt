@@ -1,10 +1,11 @@
 -- The records of a journal, each the bytes of one sector.
-use Rattle.std.specs.Prelude.{ℕ, ◌≡◌, ◌+◌, ◌^◌, ◌<◌, ◌≤◌, ◌==◌, ◌&&◌, ◌⊎◌, nat_lt, nat_le, List, ◌∷◌, ◌++◌, take, drop, length, replicate, get_or, Option, Some, None, if◌then◌else◌}
+use Rattle.std.specs.Prelude.{ℕ, ◌≡◌, ◌+◌, ◌^◌, ◌<◌, ◌≤◌, ◌==◌, ◌&&◌, ◌⊎◌, nat_lt, nat_le, List, ◌∷◌, ◌++◌, take, drop, length, replicate, get_or, Option, Some, None, option_map, if◌then◌else◌}
 use Rattle.std.specs.Int.{from_be_bytes, to_be_bytes, w64, w16}
 use Rattle.disk_sector.specs.Blank.{is_blank}
 use Rattle.job_model.specs.declared.job.Job.{Job}
 use Rattle.job_model.specs.declared.payload.TheConstants.{PAYLOAD_CAPACITY}
 use Rattle.job_model.specs.declared.queue.TheConstants.{QUEUES}
+use Rattle.job_model.specs.declared.work.Work.{Work}
 use Rattle.job_model.specs.declared.record.Record.{Record}
 use Rattle.job_model.specs.declared.record.Record.TheVariants.{Put, Done, Base, Keep}
 
@@ -23,8 +24,9 @@ number_of body = if is_blank (drop 9 body) then Some (id_in body) else None
 -- the id, the queue and the payload, whose length stands at a place, if there are such and all behind them is zero
 unfoldable pub job_at : ℕ → ℕ → List ℕ → Option Job
 job_at at priority body =
+    let work : Work = record { queue = get_or body 9 0; priority = priority; payload = take (length_in at body) (drop (at + 2) body) } in
     if nat_lt (get_or body 9 0) QUEUES && nat_le (length_in at body) PAYLOAD_CAPACITY && is_blank (drop (at + 2 + length_in at body) body)
-    then Some (record { id = id_in body; work = record { queue = get_or body 9 0; priority = priority; payload = take (length_in at body) (drop (at + 2) body) } })
+    then Some (record { id = id_in body; work = work })
     else None
 
 -- the job whose priority stands behind its queue
@@ -35,28 +37,19 @@ job_of body = job_at 11 (get_or body 10 0) body
 abbrev pub old_job_of : List ℕ → Option Job
 old_job_of body = job_at 10 0 body
 
--- a job's record, where there is a job
-abbrev pub with_job : (Job → Record) → Option Job → Option Record
-with_job kind None = None
-with_job kind (Some job) = Some (kind job)
-
--- a number's record, where there is a number alone
-abbrev pub with_number : (ℕ → Record) → Option ℕ → Option Record
-with_number kind None = None
-with_number kind (Some number) = Some (kind number)
-
 -- the record of a kind
 abbrev pub record_by : ℕ → Option Job → Option Job → Option ℕ → Option Record
 record_by kind old job number =
-    if kind == 1 then with_job Put old
-    else (if kind == 2 then with_number Done number
-    else (if kind == 3 then with_number Base number
-    else (if kind == 4 then with_job Keep old
-    else (if kind == 5 then with_job Put job
-    else (if kind == 6 then with_job Keep job
+    if kind == 1 then option_map Put old
+    else (if kind == 2 then option_map Done number
+    else (if kind == 3 then option_map Base number
+    else (if kind == 4 then option_map Keep old
+    else (if kind == 5 then option_map Put job
+    else (if kind == 6 then option_map Keep job
     else None)))))
 
--- the record that a body stands for: of a Put, a Done, a Base and a Keep the first byte is 5, 2, 3 and 6; of an old Put and an old Keep it is 1 and 4
+-- the record that a body stands for: of a Put, a Done, a Base and a Keep the first byte is 5, 2, 3 and 6; of an old Put and an old
+-- Keep it is 1 and 4
 unfoldable pub record_of : List ℕ → Option Record
 record_of body = record_by (get_or body 0 0) (old_job_of body) (job_of body) (number_of body)
 

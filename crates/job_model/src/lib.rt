@@ -2,6 +2,12 @@
 //!
 //! What a node keeps where failures don't erase it is the fold of its commands: `specs/` has that
 //! definition, and [`JobTable::apply`] is one step of it.
+//!
+//! ```
+//! let mut table = JobTable::with_room(alloc, 4)?;
+//! let id = table.apply(Command::Put(work));                       // 0, and pending
+//! table.apply(Command::Done(id));                                 // pending no more; no later job gets its id
+//! ```
 #![tactic(auto)]
 
 mod command;

@@ -7,16 +7,16 @@ use Rattle.job_model.specs.declared.payload.TheConstants.{PAYLOAD_CAPACITY}
 use Rattle.group_task.specs.Assignment.{Assignment}
 use Rattle.wire_msg.specs.Envelope.{Envelope}
 use Rattle.wire_msg.specs.declared.body.Body.{Body}
-use Rattle.wire_msg.specs.Kinds.{Shape, Brief, Tells, Gives, shape_of, body_of, no_group, IsShort}
+use Rattle.wire_msg.specs.Kinds.{Shape, Brief, Tells, Gives, shape_of, body_of, no_group}
 use Rattle.wire_msg.proofs.PublicLaws.{shaped}
 use Rattle.message_list.specs.declared.packed_message.PackedKind.{PackedKind}
 use Rattle.message_list.specs.declared.packed_message.PackedKind.TheVariants as kind
 use Rattle.message_list.specs.declared.opened.Opened.{Opened}
 use Rattle.message_list.specs.declared.packed_message.PackedMessage.{PackedMessage}
 use Rattle.message_list.specs.declared.packed_message.PackedWork.{PackedWork}
-use Rattle.message_list.specs.PackedMessages.{letter_by, letter_of, task_kept, work_kept, payload_kept, work_at, payload_of, work_said, short_kept, shape_by, shape_kept, message_of, HasBody, CanBeRead, HasPayload, AreRead}
+use Rattle.message_list.specs.PackedMessages.{letter_by, letter_of, task_kept, work_kept, payload_kept, work_at, payload_of, work_said, shape_by, shape_kept, message_of, HasBody, CanBeRead, HasPayload, AreRead}
 use Rattle.message_list.specs.Lent.{shape_opened, IsOpened}
-use Rattle.std.specs.Prelude.{IsTrue, IfSome, ◌↔◌}
+use Rattle.std.specs.Prelude.{IsTrue, ◌↔◌}
 
 -- ---- more is kept, and a packed message says what it said
 
@@ -175,8 +175,3 @@ bodies_if one other same h k is =
       λ yes. ap body_of (is.0 yes),
       λ equal. is.1 (sym (shape_back one.tasks.now one.works.now one.payloads.now a.kind a h.body) ∙ ap shape_of equal ∙ shape_back other.tasks.now other.works.now other.payloads.now b.kind b k.body),
     )
-
-pub short_can : (tasks works : ℕ) (k : PackedKind) (l : PackedMessage) → HasBody tasks works k l → IfSome (short_kept k l) IsShort
-short_can tasks works (kind.Short k) l h = h
-short_can tasks works kind.Ready l h = tt
-short_can tasks works kind.Work l h = tt

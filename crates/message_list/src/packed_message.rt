@@ -208,6 +208,7 @@ fn work_said(payloads: &[u8], work: &PackedWork) -> Body
 }
 
 /// Whether a packed message's message is this one. None is made for it.
+#[tactic(auto, using(crate::proofs::PackedMessages::body_if))]
 pub fn is_message(
     tasks: &[Task],
     works: &[PackedWork],
@@ -221,22 +222,7 @@ pub fn is_message(
 {
     packed_message.sender == message.sender()
         && packed_message.receiver == message.receiver()
-        && is_body(tasks, works, payloads, packed_message, message.body())
-}
-
-/// Whether a packed message's body is this one.
-fn is_body(
-    tasks: &[Task],
-    works: &[PackedWork],
-    payloads: &[u8],
-    packed_message: &PackedMessage,
-    body: &Body,
-) -> bool
-    requires body { HasBody (length tasks.now) (length works.now) packed_message.now.kind packed_message.now }
-    requires payloads { All (HasPayload (length payloads.now)) works.now }
-    ensures { IsTrue result ↔ (body_of (shape_kept tasks.now works.now payloads.now packed_message.now) ≡ body.now) }
-{
-    has_shape(tasks, works, payloads, packed_message, body)
+        && has_shape(tasks, works, payloads, packed_message, message.body())
 }
 
 /// Whether a packed message says what this body does.

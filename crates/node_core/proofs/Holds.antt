@@ -1,9 +1,7 @@
 -- What is in hand once a job is taken or given up.
 use Rattle.std.proofs.Common.{◌≡◌, ℕ, zero, suc, ◌+◌, ◌<◌, ◌≤◌, Bool, true, false, not, cond, ◌&&◌, ◌||◌, List, [], ◌∷◌, ◌++◌, length, take, drop, ◌==◌, refl, sym, ap, ◌∙◌, subst, arith, slice_index_or}
 use Rattle.std.proofs.lemmas.Bool.Decides.{nat_tests}
-use lib.Seq.{paste}
-use Rattle.std.proofs.lemmas.List.{drop-append-le, drop-take, drop-drop, append_assoc, length-append, length-take-le}
-use Rattle.std.proofs.Math.Seq.{drop-append_seam}
+use Rattle.std.proofs.lemmas.List.{drop-append-le, length-append}
 use Rattle.node_core.specs.declared.in_hand.InHand.{InHand}
 use Rattle.node_core.specs.Held.{holds, without_held}
 use Rattle.node_core.specs.declared.listing.Listing.{Listing}
@@ -122,28 +120,6 @@ absent [] origin id none = refl
 absent (x ∷ xs) origin id none =
     ap (λ b. b || holds xs origin id) (none zero x (omega arith))
     ∙ absent xs origin id (λ k d less. none (suc k) d (omega (arith, less)))
-
--- the jobs before a place are moved up by one, over the job in it
-pub moved_up : (xs : List InHand) (s at : ℕ) → s + at < length xs → drop (s + 1) (paste xs (s + 1) (drop s xs) at) ≡ take at (drop s xs) ++ drop (at + 1) (drop s xs)
-moved_up xs s at within =
-    let front = take (s + 1) xs in
-    let long : length front ≡ s + 1 = length-take-le (s + 1) xs (omega (arith, within)) in
-    let on : s + 1 + at ≡ s + (at + 1) = omega arith in
-    ap (λ l. drop (s + 1) l) (append_assoc front (take at (drop s xs)) (drop (s + 1 + at) xs))
-    ∙ ap (λ n. drop n (front ++ (take at (drop s xs) ++ drop (s + 1 + at) xs))) (sym long)
-    ∙ drop-append_seam front (take at (drop s xs) ++ drop (s + 1 + at) xs)
-    ∙ ap (λ n. take at (drop s xs) ++ drop n xs) on
-    ∙ ap (λ l. take at (drop s xs) ++ l) (sym (drop-drop (at + 1) s xs))
-
--- the jobs behind a place are moved down by one, over the job in it
-pub moved_down : (xs : List InHand) (s at : ℕ) → s + at < length xs → drop s (take (s + at) xs ++ drop (s + at + 1) xs) ≡ take at (drop s xs) ++ drop (at + 1) (drop s xs)
-moved_down xs s at within =
-    let long : length (take (s + at) xs) ≡ s + at = length-take-le (s + at) xs (omega (arith, within)) in
-    let on : s + at + 1 ≡ s + (at + 1) = omega arith in
-    drop-append-le s (take (s + at) xs) (drop (s + at + 1) xs) (omega (arith, long))
-    ∙ ap (λ l. l ++ drop (s + at + 1) xs) (drop-take s at xs)
-    ∙ ap (λ n. take at (drop s xs) ++ drop n xs) on
-    ∙ ap (λ l. take at (drop s xs) ++ l) (sym (drop-drop (at + 1) s xs))
 
 -- one job more behind those that are listed
 pub placed : (before after jobs : List InHand) (job : InHand) (start : ℕ) (listing : Listing) → after ≡ before ++ job ∷ [] → start ≤ length before → drop start before ≡ jobs

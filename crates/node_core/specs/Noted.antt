@@ -1,5 +1,5 @@
 -- What the changes make that are told in a few words.
-use Rattle.std.specs.Prelude.{ℕ, List, [], true, if◌then◌else◌, Some}
+use Rattle.std.specs.Prelude.{ℕ, List, true, if◌then◌else◌, Some}
 use Rattle.node_core.specs.declared.state_update.StateUpdate.{StateUpdate}
 use Rattle.node_core.specs.declared.state_update.StateUpdate.TheVariants.{Found, Accepted, Joined, Shared, Told, Awaited}
 use Rattle.node_core.specs.declared.phase.Phase.{Phase}

@@ -175,30 +175,21 @@ pub fn told_ready(
     ensures memory { Spares (delivered_takes node_view.now.id from (says.Ready task) (state_at node_view.now)) result }
 {
     let group_state = &node_view.vector.group_state;
-    let told = is_told(node_view, from, task);
-    if told && matches!(group_state.phase, Phase::Reorganization) {
-        let messages = with_room(room)?;
-        let answer = Message::between(
-            node_view.id,
-            from,
-            Body::ReadyAck(copied(group_state.group)),
-        );
-        return Ok(reply(
-            PlannedEffect::Mark(StateUpdate::Told(task)),
-            messages,
-            answer,
-        ));
+    if !is_told(node_view, from, task) {
+        return Ok(nothing(room));
     }
-    if told && matches!(group_state.phase, Phase::Normal) {
-        let messages = with_room(room)?;
-        let answer = Message::between(
-            node_view.id,
-            from,
-            Body::ReadyAck(copied(group_state.group)),
-        );
-        return Ok(reply(PlannedEffect::Stay(None), messages, answer));
-    }
-    Ok(nothing(room))
+    let act = match group_state.phase {
+        Phase::Reorganization => PlannedEffect::Mark(StateUpdate::Told(task)),
+        Phase::Normal => PlannedEffect::Stay(None),
+        _ => return Ok(nothing(room)),
+    };
+    let messages = with_room(room)?;
+    let answer = Message::between(
+        node_view.id,
+        from,
+        Body::ReadyAck(copied(group_state.group)),
+    );
+    Ok(reply(act, messages, answer))
 }
 
 /// The same group, made of its parts: a message that is made of it is then written once, and isn't copied.

@@ -3,20 +3,16 @@ use Rattle.std.proofs.Common.{◌≡◌, ◌≤◌, ◌<◌, ◌⊎◌, ◌+◌,
 use Rattle.std.specs.Prelude.{nat_lt}
 use Rattle.std.proofs.lemmas.Bool.{cases_lt, eq-eqb, lt-ltb}
 use Rattle.std.proofs.Math.Bool.{or-true}
-use Rattle.job_model.specs.declared.node_command.NodeCommand.{NodeCommand as Command}
-use Rattle.job_model.specs.declared.node_command.NodeCommand.TheVariants.{Raise, Put, Done}
-use Rattle.job_model.specs.Durable.{Durable}
-use Rattle.job_model.specs.Fold.{after_wanted}
 use Rattle.job_model.specs.Answer.{answer_to}
 use Rattle.node_core.specs.State.{State, is_down}
 use Rattle.node_core.specs.Start.{down}
 use Rattle.node_core.specs.declared.event.Event.{Event}
-use Rattle.histories.specs.NodeState.{NodeState, settled, wants_at}
+use Rattle.histories.specs.NodeState.{NodeState, wants_at}
 use Rattle.histories.specs.declared.history_event.HistoryEvent.{HistoryEvent}
 use Rattle.histories.specs.declared.history_event.HistoryEvent.TheVariants.{Did, Refused, Faulted, NoOp, Crashed, Recovered, MountFailed, RaiseFailed, RaiseRefused}
 use Rattle.histories.specs.After.{after}
 use Rattle.histories.specs.Possible.{IsPossible, Takes}
-use Rattle.histories.proofs.PublicLaws.{at_down, stays_up}
+use Rattle.histories.proofs.PublicLaws.{at_down, settled_grows, stays_up, wanted_grows}
 use Rattle.sealed_msg.specs.declared.stamp.Stamp.{Stamp}
 use Rattle.sealed_msg.specs.Stamps.{is_above}
 use Rattle.line_words.specs.Lines.{lines_of}
@@ -30,16 +26,6 @@ use Rattle.node_session.specs.Stamping.{Climbs, Life, AreLives, NoStampTwice, li
 use Rattle.node_session.proofs.Histories.{ArePossible, asked_possible}
 
 -- ---- the counter
-
-wanted_grows : (d : Durable) (wanted : Option Command) → d.counter ≤ (after_wanted d wanted).counter
-wanted_grows d None = omega arith
-wanted_grows d (Some Raise) = omega arith
-wanted_grows d (Some (Put work)) = omega arith
-wanted_grows d (Some (Done id)) = omega arith
-
-settled_grows : (kept : Bool) (s : NodeState) → s.durable.counter ≤ (settled kept s).counter
-settled_grows true s = wanted_grows s.durable s.doubt
-settled_grows false s = omega arith
 
 -- from one state to a later one
 record Moves (s t : NodeState) : Type 0 where

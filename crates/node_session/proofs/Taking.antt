@@ -3,6 +3,7 @@ use Rattle.std.proofs.Common.{◌≡◌, ◌<◌, ◌++◌, ◌==◌, ◌&&◌, 
 use Rattle.std.specs.Prelude.{bytes_eq, codes, if◌then◌else◌}
 use Rattle.std.proofs.lemmas.Bool.{eqb-true, eqb-false}
 use Rattle.std.proofs.lemmas.List.{get_or-set_same, get_or-set_other, length-set}
+use Rattle.job_model.specs.declared.work.Work.{Work}
 use Rattle.wire_msg.specs.Envelope.{Envelope}
 use Rattle.wire_msg.specs.Reading.{message_of}
 use Rattle.wire_msg.proofs.PublicLaws.{message_is_spelled}
@@ -12,13 +13,14 @@ use Rattle.node_core.specs.declared.timer.Timer.{Timer}
 use Rattle.node_core.specs.TimerWords.{timer_named}
 use Rattle.line_words.specs.Words.{words_of, number_of}
 use Rattle.line_words.specs.Lines.{bytes_of}
-use Rattle.schedule.specs.Fields.{node_of, queue_of, priority_of, payload_of}
+use Rattle.schedule.specs.Acts.{of_two, work_of}
+use Rattle.schedule.specs.Fields.{node_of, priority_of}
 use Rattle.histories.specs.NodeState.{NodeState}
 use Rattle.sealed_msg.specs.declared.stamp.Stamp.{Stamp}
 use Rattle.sealed_msg.specs.Stamps.{is_above}
 use Rattle.node_session.specs.declared.asked.Asked.{Asked}
 use Rattle.node_session.specs.declared.asked.Asked.TheVariants as ask
-use Rattle.node_session.specs.Asked.{asked_of, asked_words, completed, delivery, loss, lost, submitted, ticked, ticking, timed, timing}
+use Rattle.node_session.specs.Asked.{asked_of, asked_with, asked_words, delivery, loss, ticking, timing}
 use Rattle.histories.specs.HistoryEvent.{event_of}
 use Rattle.histories.specs.declared.history_event.HistoryEvent.TheVariants.{NoOp, Crashed}
 use Rattle.node_session.specs.Turns.{Turn, Goes, Unmounted, Begins, IsFired, MayCompact, after_turn}
@@ -39,25 +41,17 @@ either : (b : Bool) (x y : Asked) → is_delivery x ≡ false → is_delivery y 
 either true x y first second = first
 either false x y first second = second
 
-timed_no : (o : Option Timer) → is_delivery (timed o) ≡ false
-timed_no None = refl
-timed_no (Some timer) = refl
+read_no : {A : Type 0} (asked : A → Asked) (o : Option A) → ((x : A) → is_delivery (asked x) ≡ false) → is_delivery (asked_with asked o) ≡ false
+read_no asked None other = refl
+read_no asked (Some x) other = other x
 
-ticked_no : (o : Option ℕ) → is_delivery (ticked o) ≡ false
-ticked_no None = refl
-ticked_no (Some now) = refl
-
-lost_no : (o : Option ℕ) → is_delivery (lost o) ≡ false
-lost_no None = refl
-lost_no (Some node) = refl
-
-submitted_no : (queue : Option ℕ) (payload : Option (List ℕ)) (priority : Option ℕ) → is_delivery (submitted queue payload priority) ≡ false
-submitted_no (Some queue) (Some payload) (Some priority) = refl
-submitted_no queue payload priority = refl
-
-completed_no : (origin id : Option ℕ) → is_delivery (completed origin id) ≡ false
+completed_no : (origin id : Option ℕ) → is_delivery (asked_with ask.Event (of_two on.Finish origin id)) ≡ false
+completed_no None id = refl
+completed_no (Some origin) None = refl
 completed_no (Some origin) (Some id) = refl
-completed_no origin id = refl
+
+submitted_no : (work : Option Work) → is_delivery (asked_with (λ work. ask.Event (on.Submit work)) work) ≡ false
+submitted_no work = read_no (λ (work : Work). ask.Event (on.Submit work)) work (λ work. refl)
 
 one_no : (b : Bool) (a : List ℕ) (other : Asked) → (if b then Some a else None) ≡ None → is_delivery other ≡ false → is_delivery (if b then delivery a else other) ≡ false
 one_no true a other none rest = absurd cc
@@ -67,13 +61,13 @@ words_no : (words : List (List ℕ)) → brought_word words ≡ None → is_deli
 words_no [] none = refl
 words_no (name ∷ []) none =
     either (bytes_eq name (codes "state")) ask.State _ refl (either (bytes_eq name (codes "jobs")) ask.Jobs _ refl
-    (either (bytes_eq name (codes "compact")) ask.Compact _ refl (either (bytes_eq name (event_word on.Recover)) (ask.Event on.Recover) (timing name) refl (timed_no (timer_named name)))))
+    (either (bytes_eq name (codes "compact")) ask.Compact _ refl (either (bytes_eq name (event_word on.Recover)) (ask.Event on.Recover) (timing name) refl (read_no (λ (timer : Timer). ask.Event (on.Timer timer)) (timer_named name) (λ timer. refl)))))
 words_no (name ∷ a ∷ []) none =
-    one_no (bytes_eq name (codes "deliver")) a _ none (either (bytes_eq name (codes "tick")) (ticking a) _ (ticked_no (number_of a))
-    (either (bytes_eq name (codes "lost")) (loss a) ask.Bad (lost_no (node_of a)) refl))
+    one_no (bytes_eq name (codes "deliver")) a _ none (either (bytes_eq name (codes "tick")) (ticking a) _ (read_no ask.Tick (number_of a) (λ now. refl))
+    (either (bytes_eq name (codes "lost")) (loss a) ask.Bad (read_no ask.Lost (node_of a) (λ node. refl)) refl))
 words_no (name ∷ a ∷ b ∷ []) none =
-    either (bytes_eq name (codes "submit")) _ _ (submitted_no (queue_of a) (payload_of b) (Some 0)) (either (bytes_eq name (codes "finish")) _ ask.Bad (completed_no (node_of a) (number_of b)) refl)
-words_no (name ∷ a ∷ b ∷ c ∷ []) none = either (bytes_eq name (codes "submit")) _ ask.Bad (submitted_no (queue_of a) (payload_of b) (priority_of c)) refl
+    either (bytes_eq name (codes "submit")) _ _ (submitted_no (work_of a b (Some 0))) (either (bytes_eq name (codes "finish")) _ ask.Bad (completed_no (node_of a) (number_of b)) refl)
+words_no (name ∷ a ∷ b ∷ c ∷ []) none = either (bytes_eq name (codes "submit")) _ ask.Bad (submitted_no (work_of a b (priority_of c))) refl
 words_no (name ∷ a ∷ b ∷ c ∷ d ∷ rest) none = refl
 
 line_no : (line : List ℕ) → brought_word (words_of line) ≡ None → is_delivery (asked_of line) ≡ false

@@ -3,21 +3,22 @@ use Rattle.std.specs.Prelude.{ℕ, List, [], ◌∷◌, bytes_eq, codes, if◌th
 use Rattle.wire_msg.specs.Envelope.{Envelope}
 use Rattle.wire_msg.specs.Reading.{message_of}
 use Rattle.node_core.specs.declared.event.Event.TheVariants as on
-use Rattle.node_core.specs.declared.timer.Timer.{Timer}
 use Rattle.node_core.specs.TimerWords.{timer_named}
 use Rattle.line_words.specs.Words.{number_of, words_of}
 use Rattle.line_words.specs.Lines.{bytes_of}
-use Rattle.schedule.specs.Fields.{node_of, queue_of, priority_of, payload_of}
+use Rattle.schedule.specs.Acts.{of_two, work_of}
+use Rattle.schedule.specs.Fields.{node_of, priority_of}
 use Rattle.node_words.specs.Words.{event_word}
 use Rattle.node_session.specs.declared.asked.Asked.{Asked}
 use Rattle.node_session.specs.declared.asked.Asked.TheVariants as ask
 
-abbrev pub timed : Option Timer → Asked
-timed None = ask.Bad
-timed (Some timer) = ask.Event (on.Timer timer)
+-- what is asked with what was read, if it could be read
+abbrev pub asked_with : {A : Type 0} → (A → Asked) → Option A → Asked
+asked_with asked None = ask.Bad
+asked_with asked (Some x) = asked x
 
 abbrev pub timing : List ℕ → Asked
-timing word = timed (timer_named word)
+timing word = asked_with (λ timer. ask.Event (on.Timer timer)) (timer_named word)
 
 -- a word by itself
 abbrev pub alone_asked : List ℕ → Asked
@@ -28,41 +29,24 @@ alone_asked word =
     if bytes_eq word (event_word on.Recover) then ask.Event on.Recover else timing word
 
 abbrev pub delivered : Option Envelope → Asked
-delivered None = ask.Bad
-delivered (Some m) = ask.Event (on.Deliver m)
+delivered m = asked_with (λ m. ask.Event (on.Deliver m)) m
 
 -- the message that the bytes of a word spell
 abbrev pub delivery : List ℕ → Asked
 delivery word = delivered (option_and_then message_of (bytes_of word))
 
-abbrev pub ticked : Option ℕ → Asked
-ticked None = ask.Bad
-ticked (Some now) = ask.Tick now
-
 abbrev pub ticking : List ℕ → Asked
-ticking word = ticked (number_of word)
-
-abbrev pub lost : Option ℕ → Asked
-lost None = ask.Bad
-lost (Some node) = ask.Lost node
+ticking word = asked_with ask.Tick (number_of word)
 
 abbrev pub loss : List ℕ → Asked
-loss word = lost (node_of word)
-
-abbrev pub submitted : Option ℕ → Option (List ℕ) → Option ℕ → Asked
-submitted (Some queue) (Some payload) (Some priority) = ask.Event (on.Submit (record { queue = queue; priority = priority; payload = payload }))
-submitted queue payload priority = ask.Bad
+loss word = asked_with ask.Lost (node_of word)
 
 -- a job that is submitted with this priority, if it is one
 abbrev pub submission : List ℕ → List ℕ → Option ℕ → Asked
-submission queue payload priority = submitted (queue_of queue) (payload_of payload) priority
-
-abbrev pub completed : Option ℕ → Option ℕ → Asked
-completed (Some origin) (Some id) = ask.Event (on.Finish origin id)
-completed origin id = ask.Bad
+submission queue payload priority = asked_with (λ work. ask.Event (on.Submit work)) (work_of queue payload priority)
 
 abbrev pub completion : List ℕ → List ℕ → Asked
-completion origin id = completed (node_of origin) (number_of id)
+completion origin id = asked_with ask.Event (of_two on.Finish (node_of origin) (number_of id))
 
 abbrev pub one_field : List ℕ → List ℕ → Asked
 one_field name a =

@@ -1,12 +1,11 @@
 // What a line asks for.
-ghost use Rattle.std.specs.Prelude.{◌≡◌, IfOk, bytes_eq};
+ghost use Rattle.std.specs.Prelude.{◌≡◌, IfOk};
 ghost use Rattle.line_words.specs.Words.{words_of};
 ghost use Rattle.wire_msg.specs.Reading.{message_of};
 ghost use Rattle.node_session.specs.Asked.{alone_asked, asked_of, asked_words, completion, delivered, delivery, loss, one_field, submission, three_fields, ticking, timing, two_fields};
 
 use group_task::NodeId;
-use job_model::Work;
-use line_words::{bytes, cut_word, number};
+use line_words::{bytes, cut_word, is_word, number};
 use node_core::{Event, Timer};
 use schedule::fields;
 use std::alloc::{AllocError, Global};
@@ -78,23 +77,16 @@ fn words(alloc: Global, line: &[u8]) -> Result<Asked, AllocError>
     }
 }
 
-/// Whether a word is this name.
-pub(crate) fn is(word: &[u8], name: &str) -> bool
-    ensures { result ≡ bytes_eq word.now name.now }
-{
-    word == name.as_bytes()
-}
-
 fn alone(word: &[u8]) -> Asked
     ensures { result ≡ alone_asked word.now }
 {
-    if is(word, "state") {
+    if is_word(word, "state") {
         Asked::State
-    } else if is(word, "jobs") {
+    } else if is_word(word, "jobs") {
         Asked::Jobs
-    } else if is(word, "compact") {
+    } else if is_word(word, "compact") {
         Asked::Compact
-    } else if is(word, "recover") {
+    } else if is_word(word, "recover") {
         Asked::Event(Event::Recover)
     } else {
         timing(word)
@@ -113,11 +105,11 @@ fn timing(word: &[u8]) -> Asked
 fn one_field(alloc: Global, name: &[u8], field: &[u8]) -> Result<Asked, AllocError>
     ensures { IfOk result (λ asked. asked ≡ one_field name.now field.now) }
 {
-    if is(name, "deliver") {
+    if is_word(name, "deliver") {
         delivery(alloc, field)
-    } else if is(name, "tick") {
+    } else if is_word(name, "tick") {
         Ok(ticking(field))
-    } else if is(name, "lost") {
+    } else if is_word(name, "lost") {
         Ok(loss(field))
     } else {
         Ok(Asked::Bad)
@@ -127,9 +119,9 @@ fn one_field(alloc: Global, name: &[u8], field: &[u8]) -> Result<Asked, AllocErr
 fn two_fields(alloc: Global, name: &[u8], first: &[u8], second: &[u8]) -> Result<Asked, AllocError>
     ensures { IfOk result (λ asked. asked ≡ two_fields name.now first.now second.now) }
 {
-    if is(name, "submit") {
+    if is_word(name, "submit") {
         submission(alloc, first, second, Some(0))
-    } else if is(name, "finish") {
+    } else if is_word(name, "finish") {
         Ok(completion(first, second))
     } else {
         Ok(Asked::Bad)
@@ -145,7 +137,7 @@ fn three_fields(
 ) -> Result<Asked, AllocError>
     ensures { IfOk result (λ asked. asked ≡ three_fields name.now first.now second.now third.now) }
 {
-    if is(name, "submit") {
+    if is_word(name, "submit") {
         submission(alloc, first, second, fields::priority(third))
     } else {
         Ok(Asked::Bad)
@@ -196,21 +188,10 @@ fn submission(
 ) -> Result<Asked, AllocError>
     ensures { IfOk result (λ asked. asked ≡ submission queue.now payload.now priority) }
 {
-    let Some(queue) = fields::queue(queue) else {
-        return Ok(Asked::Bad);
-    };
-    let Some(payload) = fields::payload(alloc, payload)? else {
-        return Ok(Asked::Bad);
-    };
-    let Some(priority) = priority else {
-        return Ok(Asked::Bad);
-    };
-    let work = Work {
-        queue,
-        priority,
-        payload,
-    };
-    Ok(Asked::Event(Event::Submit(work)))
+    match fields::new_job(alloc, queue, payload, priority)? {
+        Some(job) => Ok(Asked::Event(Event::Submit(job.work()))),
+        None => Ok(Asked::Bad),
+    }
 }
 
 fn completion(origin: &[u8], id: &[u8]) -> Asked

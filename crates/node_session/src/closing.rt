@@ -4,7 +4,7 @@ ghost use Rattle.node_session.specs.Text.{answer_text, bad_line, closing, denial
 
 use crate::asked::Unsealed;
 use crate::call_outcome::CallOutcome;
-use console_text::{push_named_number, push_number, push_text};
+use console_text::{push_named_number, push_text};
 use durable_node::NodeFault;
 use node_core::Event;
 use node_words::{push_core_fault, push_id};
@@ -21,8 +21,7 @@ pub(crate) fn push_event_closing(
 {
     match ended {
         CallOutcome::Done(answer) => {
-            push_text(text, "ok ")?;
-            push_number(text, number)?;
+            push_named_number(text, "ok ", number)?;
             push_answer(text, event, *answer)?;
             push_text(text, "\n")
         }
@@ -48,8 +47,7 @@ pub(crate) fn push_closing(
 pub(crate) fn push_ok(text: &mut Vec<u8>, number: u64) -> Result<(), AllocError>
     ensures { OnOk result (text.new.items ≡ text.old.items ++ ok_line number []) }
 {
-    push_text(text, "ok ")?;
-    push_number(text, number)?;
+    push_named_number(text, "ok ", number)?;
     push_text(text, "\n")
 }
 
@@ -57,8 +55,7 @@ pub(crate) fn push_ok(text: &mut Vec<u8>, number: u64) -> Result<(), AllocError>
 pub(crate) fn push_bad(text: &mut Vec<u8>, number: u64) -> Result<(), AllocError>
     ensures { OnOk result (text.new.items ≡ text.old.items ++ bad_line number) }
 {
-    push_text(text, "bad ")?;
-    push_number(text, number)?;
+    push_named_number(text, "bad ", number)?;
     push_text(text, "\n")
 }
 
@@ -66,8 +63,7 @@ pub(crate) fn push_bad(text: &mut Vec<u8>, number: u64) -> Result<(), AllocError
 pub(crate) fn push_refused(text: &mut Vec<u8>, number: u64, why: Unsealed) -> Result<(), AllocError>
     ensures { OnOk result (text.new.items ≡ text.old.items ++ refused_line number why) }
 {
-    push_text(text, "refused ")?;
-    push_number(text, number)?;
+    push_named_number(text, "refused ", number)?;
     push_text(text, " ")?;
     push_text(text, unsealed_name(why))?;
     push_text(text, "\n")
@@ -95,8 +91,7 @@ fn push_answer(text: &mut Vec<u8>, event: &Event, answer: Option<u64>) -> Result
 fn push_denial(text: &mut Vec<u8>, number: u64, fault: &NodeFault) -> Result<(), AllocError>
     ensures { OnOk result (text.new.items ≡ text.old.items ++ denial_line number fault.now) }
 {
-    push_text(text, denial_word(fault))?;
-    push_number(text, number)?;
+    push_named_number(text, denial_word(fault), number)?;
     push_text(text, " ")?;
     push_fault(text, *fault)?;
     push_text(text, "\n")

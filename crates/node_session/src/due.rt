@@ -1,5 +1,5 @@
 // When something is due next at a node, and the line that tells it.
-ghost use Rattle.std.specs.Prelude.{◌≡◌, ◌<◌, ◌≤◌, ◌^◌, ◌++◌, ◌⊎◌, ◌-◌, ℕ, [], OnOk, is_some, true, None, Some};
+ghost use Rattle.std.specs.Prelude.{◌≡◌, ◌<◌, ◌≤◌, ◌^◌, ◌++◌, ◌⊎◌, ◌-◌, ℕ, [], OnOk, is_some, true, Some};
 ghost use Rattle.node_core.specs.declared.event.Event.{Event};
 ghost use Rattle.pace.specs.declared.deadline.Deadline.{Deadline};
 ghost use Rattle.pace.specs.Policy.{passed, IsDue, MayFire, Runs};

@@ -6,10 +6,10 @@ ghost use Rattle.line_words.specs.Lines.{lines_of};
 ghost use Rattle.wire_msg.specs.Reading.{message_of};
 ghost use Rattle.node_session.specs.Seals.{asked_brought, asked_fresh, asked_sealed, brought_by, brought_word, is_fresh, line_by, message_in, new_seals, number_by, numbered, opened_under, seal_of, sealed_lines, sent_word, taken_brought, taken_fresh, taken_sealed};
 
-use crate::asked::{Asked, Unsealed, is, read_line};
+use crate::asked::{Asked, Unsealed, read_line};
 use console_text::{push_hex, push_text};
 use group_task::NODES;
-use line_words::{bytes, cut_line, cut_word, push_bytes};
+use line_words::{bytes, cut_line, cut_word, is_word, push_bytes};
 use node_core::Event;
 use sealed_msg::{Key, OpenedMessage, Stamp};
 use std::alloc::{AllocError, Global};
@@ -168,7 +168,7 @@ fn sent_word(line: &[u8]) -> Option<&[u8]>
 {
     let (name, fields) = cut_word(line)?;
     let (_receiver, word) = cut_word(fields)?;
-    if !is(name, "send") {
+    if !is_word(name, "send") {
         return None;
     }
     match cut_word(word) {

@@ -5,7 +5,7 @@ ghost use Rattle.node_session.specs.Changes.{changes, drop_news, drops, gone_by,
 
 use crate::call_outcome::CallOutcome;
 use crate::showing::push_held;
-use console_text::{push_number, push_text};
+use console_text::{push_named_number, push_text};
 use group_task::{GroupNo, Members, NodeId};
 use node_core::{Event, Hand, InHand, Phase, Vector};
 use node_words::{phase_word, push_group, push_ids};
@@ -112,8 +112,7 @@ fn push_group_line(text: &mut Vec<u8>, told: &Told) -> Result<(), AllocError>
     }
     push_text(text, "group ")?;
     push_text(text, phase_word(told.phase))?;
-    push_text(text, " ")?;
-    push_number(text, u64::from(told.coordinator.number()))?;
+    push_named_number(text, " ", u64::from(told.coordinator.number()))?;
     push_text(text, " ")?;
     push_group(text, told.group)?;
     push_text(text, " ")?;
@@ -195,10 +194,8 @@ fn push_drop(text: &mut Vec<u8>, hand: &Hand, pair: (NodeId, u64)) -> Result<(),
     if hand.contains(pair.0, pair.1) {
         return Ok(());
     }
-    push_text(text, "drop ")?;
-    push_number(text, u64::from(pair.0.number()))?;
-    push_text(text, " ")?;
-    push_number(text, pair.1)?;
+    push_named_number(text, "drop ", u64::from(pair.0.number()))?;
+    push_named_number(text, " ", pair.1)?;
     push_text(text, "\n")
 }
 
@@ -240,7 +237,6 @@ fn push_gone_by(text: &mut Vec<u8>, body: &Body, id: u64) -> Result<(), AllocErr
 fn push_gone_line(text: &mut Vec<u8>, id: u64) -> Result<(), AllocError>
     ensures { OnOk result (text.new.items ≡ text.old.items ++ gone_line id) }
 {
-    push_text(text, "gone ")?;
-    push_number(text, id)?;
+    push_named_number(text, "gone ", id)?;
     push_text(text, "\n")
 }

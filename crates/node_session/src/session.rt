@@ -14,10 +14,10 @@ ghost use Rattle.node_session.specs.Serving.{opened, Calls, Fed, Replies, Serves
 ghost use Rattle.durable_node.specs.Faults.{answered};
 ghost use Rattle.durable_node.specs.Node.{Stands};
 ghost use Rattle.histories.specs.NodeState.{NodeState};
-ghost use Rattle.node_core.specs.State.{is_down, state_of};
+ghost use Rattle.node_core.specs.State.{is_down};
 ghost use Rattle.pace.specs.Retransmission.{sent_again, waits_on};
 ghost use Rattle.node_session.specs.Text.{fired_line, fired_news, send_lines};
-ghost use Rattle.node_session.specs.Turns.{compaction_end, ended_by, sent_by, IsFired, IsTimely, MayComeOf, MayCompact};
+ghost use Rattle.node_session.specs.Turns.{compaction_end, ended_by, sent_by, IsFired, MayComeOf, MayCompact};
 
 use crate::asked::{Asked, read_line};
 use crate::call_outcome::CallOutcome;

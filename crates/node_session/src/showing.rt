@@ -1,12 +1,12 @@
 // What a node shows of itself, as lines.
-ghost use Rattle.std.specs.Prelude.{◌≡◌, ◌++◌, OnOk};
+ghost use Rattle.std.specs.Prelude.{◌≡◌, ◌++◌, OnOk, codes, decimal};
 ghost use Rattle.std.specs.List.{flat_map};
 ghost use Rattle.job_model.specs.Table.{durable_of};
 ghost use Rattle.node_core.specs.State.{is_down, state_of};
 ghost use Rattle.durable_node.specs.Node.{Stands};
 ghost use Rattle.histories.specs.NodeState.{NodeState};
 ghost use Rattle.node_session.specs.Changes.{held_text};
-ghost use Rattle.node_session.specs.Text.{answer_at_once, asks_part, hand_line, jobs_lines, jobs_part, keeps_by, keeps_line, keeps_news, pending_line, sets_part, state_line, up_line};
+ghost use Rattle.node_session.specs.Text.{answer_at_once, asks_part, hand_line, jobs_lines, keeps_by, keeps_line, keeps_news, pending_line, sets_part, state_line, up_line};
 
 use crate::asked::Asked;
 use crate::call_outcome::CallOutcome;
@@ -112,8 +112,7 @@ fn push_pending(text: &mut Vec<u8>, jobs: &[Job]) -> Result<(), AllocError>
 fn push_kept(text: &mut Vec<u8>, job: &Job) -> Result<(), AllocError>
     ensures { OnOk result (text.new.items ≡ text.old.items ++ pending_line job.now) }
 {
-    push_text(text, "pending ")?;
-    push_number(text, job.id)?;
+    push_named_number(text, "pending ", job.id)?;
     push_text(text, " ")?;
     push_work_of(text, &job.work)?;
     push_text(text, "\n")
@@ -135,8 +134,7 @@ pub(crate) fn push_held(text: &mut Vec<u8>, job: &InHand) -> Result<(), AllocErr
     ensures { OnOk result (text.new.items ≡ text.old.items ++ held_text job.now) }
 {
     push_number(text, u64::from(job.origin.number()))?;
-    push_text(text, " ")?;
-    push_number(text, job.id)?;
+    push_named_number(text, " ", job.id)?;
     push_text(text, " ")?;
     push_work_of(text, &job.work)
 }
@@ -154,21 +152,17 @@ fn push_up(
     push_group_part(text, vector)?;
     push_sets(text, vector)?;
     push_asks(text, vector)?;
-    push_jobs(text, vector, count, table)?;
+    let pending = table.pending().len() as u64;
+    push_jobs(text, count, pending, vector.hand.jobs().len() as u64)?;
     push_text(text, "\n")
 }
 
-fn push_jobs(
-    text: &mut Vec<u8>,
-    vector: &Vector,
-    count: u64,
-    table: &JobTable,
-) -> Result<(), AllocError>
-    ensures { OnOk result (text.new.items ≡ text.old.items ++ jobs_part (state_of vector.now) (durable_of count table.now)) }
+fn push_jobs(text: &mut Vec<u8>, count: u64, pending: u64, hand: u64) -> Result<(), AllocError>
+    ensures { OnOk result (text.new.items ≡ text.old.items ++ (codes " count " ++ decimal count ++ codes " pending " ++ decimal pending ++ codes " hand " ++ decimal hand)) }
 {
     push_named_number(text, " count ", count)?;
-    push_named_number(text, " pending ", table.pending().len() as u64)?;
-    push_named_number(text, " hand ", vector.hand.jobs().len() as u64)
+    push_named_number(text, " pending ", pending)?;
+    push_named_number(text, " hand ", hand)
 }
 
 fn push_sets(text: &mut Vec<u8>, vector: &Vector) -> Result<(), AllocError>

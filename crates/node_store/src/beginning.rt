@@ -9,7 +9,7 @@ ghost use Rattle.node_store.specs.Store.{slots_for, AllStandFor};
 ghost use Rattle.node_store.specs.Beginning.{HasNoCounter, NothingOr};
 
 use crate::fault::StoreFault;
-use crate::formatting::slots_of;
+use crate::formatting::slots_on;
 use job_model::JobTable;
 use sector_disk::SectorDisk;
 
@@ -35,16 +35,7 @@ pub fn begin<D: SectorDisk>(disk: &mut D, count: u64, table: &JobTable) -> Resul
     ensures synced { IsTrue (D.state disk.old).honest → IsOk result
         → AllSynced (D.state disk.new) }
 {
-    let sectors = disk.sectors();
-    if sectors < 24 {
-        return Err(StoreFault::TooSmall);
-    }
-    let slots = slots_of(sectors);
-    let Ok(()) = job_journal::begin(disk, slots, table) else {
-        return Err(StoreFault::Device);
-    };
-    let Ok(()) = safe_cell::begin(disk, 0, count) else {
-        return Err(StoreFault::Device);
-    };
-    Ok(())
+    let slots = slots_on(disk)?;
+    job_journal::begin(disk, slots, table).or(Err(StoreFault::Device))?;
+    safe_cell::begin(disk, 0, count).or(Err(StoreFault::Device))
 }

@@ -1,5 +1,5 @@
 -- A job that was acknowledged as done stays done.
-use Rattle.std.proofs.Common.{◌≡◌, ℕ, List, slice_get, refl, ◌∙◌, ap, subst, Some}
+use Rattle.std.proofs.Common.{◌≡◌, List, slice_get, ◌∙◌, ap, subst, Some}
 use Rattle.job_model.specs.declared.node_command.NodeCommand.TheVariants.{Done}
 use Rattle.histories.specs.Kept.{Mounting}
 use Rattle.histories.specs.Lists.{IsAmong}

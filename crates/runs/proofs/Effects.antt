@@ -37,9 +37,8 @@ use Rattle.runs.specs.Run.{world_at}
 use Rattle.runs.specs.Acts.{At, IsCompaction, IsStepOf, IsLawful, IsRunOf, act_outcome, what_outcome}
 use Rattle.runs.proofs.Bringing.{Brings}
 use Rattle.runs.specs.Reporting.{Moment, Report, moment_of, tries, commands_at, group_of, grown, first_report, report_from}
-use Rattle.runs.specs.Uses.{report_within, last_of, last_state, all_sent, event_in, RefusedChangesNothing, DoneHasItsEffect, DownRefusesCompaction, NoneIsSpent}
+use Rattle.runs.specs.Uses.{report_within, last_of, last_state, all_sent, event_in, RefusedChangesNothing, DoneHasItsEffect, DownRefusesCompaction}
 use Rattle.runs.proofs.ExactRuns.{run_in}
-use Rattle.runs.proofs.Acknowledged.{among_of}
 use Rattle.runs.proofs.Finishing.{taken_there}
 use Rattle.runs.proofs.Fronts.{front_of}
 use Rattle.runs.proofs.Lawful.{no_change, no_delivery, sent_there}

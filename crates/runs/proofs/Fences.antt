@@ -1,12 +1,12 @@
 -- Group numbers as fences: one leader, one owner of each queue, one list of members.
-use Rattle.std.proofs.Common.{◌≡◌, ◌⊎◌, ℕ, true, List, sym, ◌∙◌, ap, subst, inl, inr, Option, Some, None}
+use Rattle.std.proofs.Common.{◌≡◌, ◌⊎◌, ℕ, true, List, sym, ◌∙◌, ap, subst, inl, inr, Option}
 use Rattle.group_task.specs.Group.{Group}
 use Rattle.group_task.specs.Assignment.{Assignment, owner_of}
 use Rattle.group_task.specs.Ids.{has}
 use Rattle.node_core.specs.declared.phase.Phase.TheVariants.{Reorganization, Normal}
 use Rattle.node_core.specs.State.{State}
 use Rattle.node_core.specs.Words.{members_of}
-use Rattle.histories.specs.Book.{IsTaskOf, IsInGroup, members_in}
+use Rattle.histories.specs.Book.{IsInGroup}
 use Rattle.runs.specs.Reporting.{Report}
 use Rattle.schedule.specs.declared.act.Act.{Act}
 use Rattle.runs.specs.Headline.{Headline, IsWorking}

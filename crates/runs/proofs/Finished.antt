@@ -118,14 +118,16 @@ finished_within nodes slots k acts steps origin id run within ended =
     let soon : worker ≢ origin → suc place < k = λ ne. omega (arith, ended.4 ne, few) in
     let at_front : slice_get (moments_from nodes (start nodes) acts steps) place ≡ Some f.moment =
     get_front k place (moments_from nodes (start nodes) acts steps) f.moment (subst (λ (ms : List Moment). slice_get ms place ≡ Some f.moment) (moments_front k nodes acts steps (start nodes)) f.at) in
-    let unrefused : (m : Moment) (why : Refusal) → slice_get (report_of nodes acts steps).moments place ≡ Some m → m.outcome ≢ outcome.Refused why =
-    λ m why at. subst (λ (x : Moment). x.outcome ≢ outcome.Refused why) (same_there (subst (λ (ms : List Moment). slice_get ms place ≡ Some m) (moments_are nodes acts steps) at) at_front) (f.not_refused why) in
+    let told : slice_get (report_of nodes acts steps).moments place ≡ Some f.moment =
+    subst (λ (ms : List Moment). slice_get ms place ≡ Some f.moment) (sym (moments_are nodes acts steps)) at_front in
     record {
       worker = worker;
       place = place;
       at = ap (λ (xs : List Act). slice_get xs place) (sym (acts_reported nodes slots (take k acts) (take k steps) (start nodes) (acts_front k nodes slots acts steps (start nodes) run)))
           ∙ slice_get-map (λ (m : Moment). m.act) (moments_from nodes (start nodes) (take k acts) (take k steps)) place ∙ ap (λ (o : Option Moment). option_map (λ (m : Moment). m.act) o) f.at ∙ ap Some f.of_act;
-      not_refused = search (rules, unrefused);
+      moment = f.moment;
+      told = told;
+      not_refused = f.not_refused;
       earlier = search (rules, soon);
       state = f.was.state;
       works = (subst (λ (x : Report). IsShown x worker f.was.state) before (report_shows nodes slots worker (take place acts) (take place steps) f.was.state front moment), f.work.is_normal);
@@ -135,9 +137,6 @@ finished_within nodes slots k acts steps origin id run within ended =
       owned = f.work.owned;
       put = search (rules, by_then);
     }
-  where
-    same_there : {m n : Moment} → slice_get (moments_from nodes (start nodes) acts steps) ended.1 ≡ Some m → slice_get (moments_from nodes (start nodes) acts steps) ended.1 ≡ Some n → n ≡ m
-    same_there at_m at_n = cc (at_m, at_n)
 
 pub finished_at : (nodes slots : ℕ) (acts : List Act) (steps : List Step) → IsRunOf nodes slots (start nodes) acts steps → (k : ℕ) (t : AttemptAt) (id : ℕ) → IsAmong t (report_of nodes (take k acts) steps).commands → t.node < nodes
     → t.tried.command ≡ Done id → IsFinished nodes acts steps k t.node id
@@ -181,6 +180,7 @@ done_was_finished nodes slots acts r h k t id i within is =
     ap (λ (xs : List Act). slice_get xs by.place) (acts_are_reported nodes slots acts r h).0 ∙ get_front k by.place acts _ by.at in
     let m = moment_at r.moments by.place (act.Finish by.worker t.node id) of_act in
     let at : slice_get (report_of nodes acts h.steps).moments by.place ≡ Some m.0 = subst (λ (x : Report). slice_get x.moments by.place ≡ Some m.0) h.reported m.1 in
+    let same : by.moment ≡ m.0 = cc (by.told, at) in
     let shows : IsShown (first_moments by.place r) by.worker by.state =
     subst (λ (x : Report). IsShown (first_moments by.place x) by.worker by.state) (sym h.reported) (front_shows nodes by.place by.worker acts h.steps by.state by.works.0) in (
       by.worker,
@@ -190,6 +190,6 @@ done_was_finished nodes slots acts r h k t id i within is =
       by.earlier,
       m.1,
       m.2,
-      λ why. by.not_refused m.0 why at,
+      subst (λ (x : Moment). (why : Refusal) → x.outcome ≢ outcome.Refused why) same by.not_refused,
       (by.state, job, (shows, by.works.1), among job by.state.hand by.in_hand, refl, refl, by.owned, (by.put.0, among by.put.0 commands by.put.1, by.put.2, by.put.3)),
     )

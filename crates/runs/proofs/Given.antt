@@ -25,7 +25,7 @@ use Rattle.histories.specs.declared.history_event.HistoryEvent.TheVariants.{Did,
 use Rattle.histories.specs.HistoryEvent.{event_of, brought}
 use Rattle.histories.specs.After.{after, sent_at, given_at, raised}
 use Rattle.histories.specs.Named.{AllHold, StateHolds}
-use Rattle.histories.proofs.PublicLaws.{eq_nat, among_left, among_right, among_either, each_append, each_at, each_of, each_more, AnyWork, any_pending, GivenHold, Knows, SaysIn, Says, entry_does}
+use Rattle.histories.proofs.PublicLaws.{eq_nat, among_left, among_right, among_either, each_append, each_at, each_of, each_more, AnyWork, any_pending, GivenHold, Knows, SaysIn, Says, entry_does, settled_grows}
 use Rattle.std.specs.List.{range_with_len}
 use Rattle.runs.specs.World.{World, start, node_in}
 use Rattle.runs.specs.Step.{Step, Takes, Changes, Denies, world_after}
@@ -139,19 +139,15 @@ wanted_raises self d (Some Raise) = one_raised self d.counter (d.counter + 1) (o
 wanted_raises self d (Some (Put work)) = none_raised self d.counter d.counter (omega arith)
 wanted_raises self d (Some (Done id)) = none_raised self d.counter d.counter (omega arith)
 
-settled_grows : (kept : Bool) (self : ℕ) (s : NodeState) → s.durable.counter ≤ (settled kept s).counter
-settled_grows true self s = (wanted_raises self s.durable s.doubt).grows
-settled_grows false self s = omega arith
-
 entry_raises : (self nodes : ℕ) (s : NodeState) (what : HistoryEvent) → Raises self s.durable.counter (after self nodes s what).durable.counter (given_at self nodes s what)
 entry_raises self nodes s (Did event) = wanted_raises self s.durable (wants_at self nodes s event)
 entry_raises self nodes s (Refused event fault) = none_raised self s.durable.counter s.durable.counter (omega arith)
 entry_raises self nodes s (NoOp why) = none_raised self s.durable.counter s.durable.counter (omega arith)
 entry_raises self nodes s (Faulted event) = none_raised self s.durable.counter s.durable.counter (omega arith)
 entry_raises self nodes s Crashed = none_raised self s.durable.counter s.durable.counter (omega arith)
-entry_raises self nodes s (Recovered kept) = one_raised self s.durable.counter ((settled kept s).counter + 1) (omega (arith, settled_grows kept self s))
+entry_raises self nodes s (Recovered kept) = one_raised self s.durable.counter ((settled kept s).counter + 1) (omega (arith, settled_grows kept s))
 entry_raises self nodes s MountFailed = none_raised self s.durable.counter s.durable.counter (omega arith)
-entry_raises self nodes s (RaiseFailed kept) = none_raised self s.durable.counter (settled kept s).counter (settled_grows kept self s)
+entry_raises self nodes s (RaiseFailed kept) = none_raised self s.durable.counter (settled kept s).counter (settled_grows kept s)
 entry_raises self nodes s (RaiseRefused kept) = none_raised self s.durable.counter s.durable.counter (omega arith)
 
 once_append : (xs ys : List Group) → IsOnceEach xs → IsOnceEach ys → ((g : Group) → IsAmong g xs → IsAmong g ys → ⊥) → IsOnceEach (xs ++ ys)

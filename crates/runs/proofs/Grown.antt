@@ -15,7 +15,6 @@ use Rattle.runs.specs.Headline.{Headline}
 use Rattle.runs.specs.Growth.{acts_in, IsNext, RunsOpen, RunsGrow, LeftKeeps}
 use Rattle.runs.proofs.ExactRuns.{exact_next, left_run}
 use Rattle.runs.proofs.Headlines.{keeps}
-use Rattle.runs.proofs.Keeping.{step_length}
 use Rattle.runs.proofs.Lawful.{lawful_of}
 
 -- ---- the run

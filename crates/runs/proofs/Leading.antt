@@ -13,12 +13,12 @@ use Rattle.node_core.specs.declared.phase.Phase.{Phase}
 use Rattle.node_core.specs.declared.phase.Phase.TheVariants.{Down, Election, Reorganization, Normal}
 use Rattle.node_core.specs.State.{State}
 use Rattle.node_core.specs.Words.{own_group}
-use Rattle.histories.specs.NodeState.{NodeState, opening, wants_at, settled}
+use Rattle.histories.specs.NodeState.{NodeState, opening, wants_at}
 use Rattle.histories.specs.declared.history_event.HistoryEvent.{HistoryEvent}
 use Rattle.histories.specs.declared.history_event.HistoryEvent.TheVariants.{Did, Refused, Faulted, NoOp, Crashed, Recovered, MountFailed, RaiseFailed, RaiseRefused}
 use Rattle.histories.specs.After.{after, raised}
 use Rattle.histories.specs.Possible.{IsPossible}
-use Rattle.histories.proofs.PublicLaws.{AnyGroup, AnyWork, GroupMove, assigns, calls, completes, entry_does, eq_nat, falls, joins, starts_alone, stays, takes}
+use Rattle.histories.proofs.PublicLaws.{AnyGroup, AnyWork, GroupMove, assigns, calls, completes, entry_does, eq_nat, falls, joins, starts_alone, settled_grows, stays, takes, wanted_grows}
 use Rattle.schedule.specs.declared.act.Act.{Act}
 use Rattle.runs.specs.World.{World, start, node_in}
 use Rattle.runs.specs.Step.{Step, Takes, Changes, Denies, world_after}
@@ -82,25 +82,15 @@ leads_after self nodes s (RaiseRefused kept) may h = h
 
 -- ---- the counter
 
-wanted_more : (d : Durable) (wants : Option Command) → d.counter ≤ (after_wanted d wants).counter
-wanted_more d None = omega arith
-wanted_more d (Some Raise) = omega arith
-wanted_more d (Some (Put work)) = omega arith
-wanted_more d (Some (Done id)) = omega arith
-
-settled_more : (kept : Bool) (s : NodeState) → s.durable.counter ≤ (settled kept s).counter
-settled_more true s = wanted_more s.durable s.doubt
-settled_more false s = omega arith
-
 counter_more : (self nodes : ℕ) (s : NodeState) (what : HistoryEvent) → s.durable.counter ≤ (after self nodes s what).durable.counter
-counter_more self nodes s (Did event) = wanted_more s.durable (wants_at self nodes s event)
+counter_more self nodes s (Did event) = wanted_grows s.durable (wants_at self nodes s event)
 counter_more self nodes s (Refused event fault) = omega arith
 counter_more self nodes s (Faulted event) = omega arith
 counter_more self nodes s (NoOp rest) = omega arith
 counter_more self nodes s Crashed = omega arith
-counter_more self nodes s (Recovered kept) = omega (arith, settled_more kept s)
+counter_more self nodes s (Recovered kept) = omega (arith, settled_grows kept s)
 counter_more self nodes s MountFailed = omega arith
-counter_more self nodes s (RaiseFailed kept) = settled_more kept s
+counter_more self nodes s (RaiseFailed kept) = settled_grows kept s
 counter_more self nodes s (RaiseRefused kept) = omega arith
 
 -- ---- a step

@@ -1,14 +1,11 @@
 -- A group's number is new when it is given.
-use Rattle.std.proofs.Common.{◌≡◌, ◌⊎◌, ℕ, zero, suc, ◌<◌, Bool, true, false, List, [], ◌∷◌, slice_get, refl, sym, ◌∙◌, ap, subst, inl, inr, arith, Some, IfSome, Option}
+use Rattle.std.proofs.Common.{◌≡◌, ◌⊎◌, ℕ, zero, suc, ◌<◌, List, [], ◌∷◌, slice_get, refl, ap, subst, inl, inr, Some, IfSome, Option}
 use Rattle.std.specs.Prelude.{Contains}
 use Rattle.std.proofs.lemmas.Option.{get_or_from_slice_get, slice_get_within}
 use Rattle.group_task.specs.Group.{Group}
-use Rattle.wire_msg.specs.Envelope.{Envelope}
 use Rattle.node_core.specs.declared.phase.Phase.{Phase}
 use Rattle.node_core.specs.declared.phase.Phase.TheVariants.{Down}
 use Rattle.node_core.specs.State.{State}
-use Rattle.wire_msg.specs.Kinds.{group_in}
-use Rattle.histories.specs.Lists.{IsAmong}
 use Rattle.histories.specs.Named.{StateHolds}
 use Rattle.runs.specs.Given.{IsOnceEach}
 use Rattle.runs.specs.Uses.{report_within, GivenAtOnePlace, LaterIsGreater, NamedWasGiven}

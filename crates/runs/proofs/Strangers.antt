@@ -1,5 +1,5 @@
 -- Nothing is sent to a node outside the cluster.
-use Rattle.std.proofs.Common.{◌≡◌, ℕ, zero, suc, ◌<◌, List, [], ◌∷◌, slice_get, sym, subst, arith, Some, map}
+use Rattle.std.proofs.Common.{◌≡◌, ℕ, ◌<◌, List, [], ◌∷◌, sym, subst, arith, map}
 use Rattle.std.proofs.lemmas.Option.{slice_get_within}
 use Rattle.wire_msg.specs.Envelope.{Envelope}
 use Rattle.histories.specs.NodeState.{NodeState, opening}
@@ -8,14 +8,10 @@ use Rattle.std.specs.List.{range_with_len}
 use Rattle.runs.specs.World.{World, start, node_in}
 use Rattle.runs.specs.Step.{Step, Takes, Changes, Denies, world_after}
 use Rattle.runs.specs.Run.{IsAllowed, RunFrom, world_at}
-use Rattle.runs.specs.Reporting.{Report}
-use Rattle.runs.specs.Growth.{IsLeft, acts_in}
 use Rattle.runs.specs.Strangers.{NoStrangers}
 use Rattle.histories.specs.Ends.{AreToNodes}
-use Rattle.runs.proofs.ExactRuns.{left_run}
 use Rattle.runs.proofs.Opened.{length_openings}
 use Rattle.runs.proofs.Runs.{node_there, opened}
-use Rattle.runs.proofs.Exact.{all_acts_run}
 use Rattle.runs.proofs.Keeping.{AllStates, states_keep}
 use Rattle.histories.specs.After.{sent_at}
 
@@ -53,15 +49,3 @@ start_inside nodes = record {
 
 pub no_strangers : NoStrangers
 no_strangers nodes steps run = (run_inside nodes steps (start nodes) run (start_inside nodes)).sent
-
--- of a cluster that a run left
-pub left_no_strangers : (nodes slots : ℕ) (w : World) (r : Report) → IsLeft nodes slots w r → AreToNodes nodes w.net.sent
-left_no_strangers nodes slots w r left =
-    subst (λ (x : World). AreToNodes nodes x.net.sent) (sym left.world)
-    (no_strangers nodes left.steps (all_acts_run nodes slots (start nodes) (acts_in r) left.steps (left_run nodes slots w r left)))
-
--- the message of a number
-pub to_node : (nodes : ℕ) (ms : List Envelope) (k : ℕ) (m : Envelope) → AreToNodes nodes ms → slice_get ms k ≡ Some m → m.receiver < nodes
-to_node nodes [] k m h at = absurd cc
-to_node nodes (x ∷ ms) zero m h at = let same : x ≡ m = cc at in subst (λ (y : Envelope). y.receiver < nodes) same h.0
-to_node nodes (x ∷ ms) (suc k) m h at = to_node nodes ms k m h.1 at

@@ -43,7 +43,9 @@ pub record IsFinished (nodes : ℕ) (acts : List Act) (steps : List Step) (count
   pub worker : ℕ
   pub place : ℕ
   pub at : slice_get (take count acts) place ≡ Some (act.Finish worker origin id)
-  pub not_refused : (m : Moment) (why : Refusal) → slice_get (report_of nodes acts steps).moments place ≡ Some m → m.outcome ≢ Refused why
+  pub moment : Moment
+  pub told : slice_get (report_of nodes acts steps).moments place ≡ Some moment
+  pub not_refused : (why : Refusal) → moment.outcome ≢ Refused why
   pub earlier : worker ≢ origin → suc place < count
   pub state : State
   pub works : IsWorking (report_of nodes (take place acts) steps) worker state

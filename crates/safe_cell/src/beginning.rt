@@ -1,10 +1,10 @@
 // A cell begun on a disk that has none.
-ghost use Rattle.std.specs.Prelude.{◌≡◌, ◌⊎◌, ◌<◌, ◌+◌, ◌^◌, IsTrue, IsOk, IsErrOf, Some, None, false};
+ghost use Rattle.std.specs.Prelude.{◌≡◌, ◌⊎◌, ◌<◌, ◌+◌, ◌^◌, IsTrue, IsOk, Some, None, false};
 ghost use Rattle.sector_disk.specs.Disk.{AllSynced};
 ghost use Rattle.sector_disk.specs.Run.{Each};
 ghost use Rattle.slot_gate.specs.Slot.{InSlot};
 ghost use Rattle.slot_gate.specs.Stored.{Knows};
-ghost use Rattle.slot_gate.specs.Writing.{WritesOnly};
+ghost use Rattle.slot_gate.specs.Writing.{CallWrites};
 ghost use Rattle.safe_cell.specs.Cell.{cell_at, AllHave};
 
 use crate::body::body_for;
@@ -18,8 +18,7 @@ pub fn begin<D: SectorDisk>(disk: &mut D, at: u64, value: u64) -> Result<(), Cel
     requires on_disk { at + 3 < (D.state disk.old).sectors }
     requires fits { at + 3 < 2 ^ 64 }
 
-    ensures writes { WritesOnly (InSlot at) (D.state disk.old) (D.state disk.new)
-        (IsErrOf result CellFault.Device) (IsOk result) }
+    ensures writes { CallWrites (InSlot at) D.state disk.old disk.new CellFault.Device result }
 
     // Each image since the start has no value or this one.
     // Promise: A cell that is begun on a disk that has none: each image since the start has no value or this one.

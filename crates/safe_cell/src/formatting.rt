@@ -1,9 +1,9 @@
 // A cell made on its disk.
-ghost use Rattle.std.specs.Prelude.{◌≡◌, ◌<◌, ◌+◌, ◌^◌, IsTrue, IsOk, IsErrOf, None};
+ghost use Rattle.std.specs.Prelude.{◌≡◌, ◌<◌, ◌+◌, ◌^◌, IsTrue, IsOk, None};
 ghost use Rattle.sector_disk.specs.Disk.{AllSynced};
 ghost use Rattle.sector_disk.specs.Run.{Each};
 ghost use Rattle.slot_gate.specs.Slot.{slot_at};
-ghost use Rattle.slot_gate.specs.Writing.{WritesOnly};
+ghost use Rattle.slot_gate.specs.Writing.{CallWrites};
 ghost use Rattle.safe_cell.specs.Cell.{InCell, AllHave};
 ghost use Rattle.safe_cell.specs.Mounted.{AllStand};
 ghost use Rattle.safe_cell.specs.Formatted.{formatted, IsGate, IsNotTorn};
@@ -24,8 +24,7 @@ pub fn format<D: SectorDisk>(disk: &mut D, at: u64, value: u64) -> Result<(), Ce
     // the count, over any disk.
     // Also: SafeCell::raise.
     // Refuses: device_fault_without_failure.
-    ensures writes { WritesOnly (InCell at) (D.state disk.old) (D.state disk.new)
-        (IsErrOf result CellFault.Device) (IsOk result) }
+    ensures writes { CallWrites (InCell at) D.state disk.old disk.new CellFault.Device result }
 
     // Where both bodies were synced, no image since the start has a slot that is sealed over a torn
     // one.
@@ -56,8 +55,7 @@ pub fn format<D: SectorDisk>(disk: &mut D, at: u64, value: u64) -> Result<(), Ce
 fn erase<D: SectorDisk>(disk: &mut D, at: u64) -> Result<(), DiskFault>
     requires on_disk { at + 3 < (D.state disk.old).sectors }
     requires fits { at + 3 < 2 ^ 64 }
-    ensures writes { WritesOnly (IsGate at) (D.state disk.old) (D.state disk.new)
-        (IsErrOf result DiskFault.Device) (IsOk result) }
+    ensures writes { CallWrites (IsGate at) D.state disk.old disk.new DiskFault.Device result }
     ensures first { IsTrue (D.state disk.old).honest → IsOk result
         → slot_at (D.state disk.new).contents at ≡ None }
     ensures second { IsTrue (D.state disk.old).honest → IsOk result

@@ -1,4 +1,3 @@
 mod Behind
-mod Fits
 mod Counts
 mod Delivered

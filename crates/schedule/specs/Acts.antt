@@ -23,9 +23,13 @@ of_three make (Some a) b c = of_two (make a) b c
 abbrev pub work : ℕ → List ℕ → ℕ → Work
 work queue payload priority = record { queue = queue; priority = priority; payload = payload }
 
+-- the work with the queue and the payload of these words, and with this priority
+abbrev pub work_of : List ℕ → List ℕ → Option ℕ → Option Work
+work_of queue payload priority = of_three work (queue_of queue) (payload_of payload) priority
+
 -- a job that is submitted with this priority, if it is one
 abbrev pub submit_act : List ℕ → List ℕ → List ℕ → Option ℕ → Option Act
-submit_act node queue payload priority = of_two act.Submit (node_of node) (of_three work (queue_of queue) (payload_of payload) priority)
+submit_act node queue payload priority = of_two act.Submit (node_of node) (work_of queue payload priority)
 
 -- a verb with one field
 abbrev pub short_act : Verb → List ℕ → Option Act

@@ -19,33 +19,20 @@ verb_of word = option_or (option_map Timer (timer_named word)) (
     if bytes_eq word (codes "recover") then Some Recover else
     if bytes_eq word (codes "compact") then Some Compact else None)
 
-abbrev pub word_of : Verb → List ℕ
-word_of (Timer timer) = timer_word timer
-word_of Deliver = codes "deliver"
-word_of Lose = codes "lose"
-word_of Cut = codes "cut"
-word_of Mend = codes "mend"
-word_of Submit = codes "submit"
-word_of Finish = codes "finish"
-word_of Arm = codes "arm"
-word_of Crash = codes "crash"
-word_of Recover = codes "recover"
-word_of Compact = codes "compact"
-
--- the fields behind the word
-abbrev pub fields_of : Verb → List ℕ
-fields_of (Timer timer) = codes " N"
-fields_of Deliver = codes " K"
-fields_of Lose = codes " K"
-fields_of Cut = codes " A B"
-fields_of Mend = codes " A B"
-fields_of Submit = codes " N QUEUE HEX [P]"
-fields_of Finish = codes " N ORIGIN ID"
-fields_of Arm = codes " N K"
-fields_of Crash = codes " N [HEX]"
-fields_of Recover = codes " N"
-fields_of Compact = codes " N"
+-- the word of a verb, and the fields behind it
+abbrev pub written : Verb → List ℕ × List ℕ
+written (Timer timer) = (timer_word timer, codes " N")
+written Deliver = (codes "deliver", codes " K")
+written Lose = (codes "lose", codes " K")
+written Cut = (codes "cut", codes " A B")
+written Mend = (codes "mend", codes " A B")
+written Submit = (codes "submit", codes " N QUEUE HEX [P]")
+written Finish = (codes "finish", codes " N ORIGIN ID")
+written Arm = (codes "arm", codes " N K")
+written Crash = (codes "crash", codes " N [HEX]")
+written Recover = (codes "recover", codes " N")
+written Compact = (codes "compact", codes " N")
 
 -- how an act is written
 abbrev pub form_of : Verb → List ℕ
-form_of verb = word_of verb ++ fields_of verb
+form_of verb = (written verb).0 ++ (written verb).1

@@ -1,6 +1,6 @@
 //! What is wrong with a line that can't be read.
 
-ghost use Rattle.std.specs.Prelude.{◌≡◌, IfOk, bytes_eq};
+ghost use Rattle.std.specs.Prelude.{◌≡◌, IfOk};
 ghost use Rattle.schedule.specs.Flaws.{flaw_of, name_flaw};
 
 use crate::parsing::act;

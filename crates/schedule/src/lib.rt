@@ -1,4 +1,10 @@
 //! Schedules as text: a line for each act.
+//!
+//! ```
+//! let schedule = read_schedule(alloc, b"cluster 3 8\ncheck 0\ndeliver 1\n")?;
+//! let size = schedule.size;                                       // 3 nodes over areas of 8 slots
+//! for act in &schedule.acts {}                                    // the timer `check` at node 0, and message 1 comes
+//! ```
 #![tactic(auto)]
 
 mod act;
@@ -14,6 +20,6 @@ pub use act::{Act, Fill, Submitted};
 pub use disk_sector::{LEAST_SLOTS, MOST_SLOTS};
 pub use flaw::{Flaw, flaw_in};
 pub use laws::limits;
-pub use reading::read_schedule;
+pub use reading::{cluster_size, read_schedule};
 pub use size::{LEAST_CAPACITY, MOST_ACTS, MOST_CAPACITY, Schedule, Size};
 pub use verb::Verb;

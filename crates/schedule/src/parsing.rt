@@ -5,9 +5,8 @@ ghost use Rattle.schedule.specs.declared.act.Act.TheVariants.{Deliver};
 ghost use Rattle.schedule.specs.declared.verb.Verb.TheVariants.{Cut, Mend, Arm, Crash, Finish};
 
 use crate::act::{Act, Fill, Submitted};
-use crate::fields::{node, priority, queue};
+use crate::fields::{new_job, node, priority};
 use crate::verb::Verb;
-use job_model::NewJob;
 use line_words::{bytes, cut_word, number};
 use node_core::Timer;
 use std::alloc::{AllocError, Global};
@@ -175,16 +174,10 @@ fn submit(
 ) -> Result<Option<Act>, AllocError>
     ensures { IfOk result (λ act. act ≡ submit_act first.now second.now third.now priority) }
 {
-    let (Some(node), Some(queue), Some(priority)) = (node(first), queue(second), priority) else {
+    let (Some(node), Some(job)) = (node(first), new_job(alloc, second, third, priority)?) else {
         return Ok(None);
     };
-    let Some(payload) = bytes(alloc, third)? else {
-        return Ok(None);
-    };
-    match NewJob::new(queue, priority, payload) {
-        Some(job) => Ok(Some(Act::Submit(node, Submitted::new(alloc, job)?))),
-        None => Ok(None),
-    }
+    Ok(Some(Act::Submit(node, Submitted::new(alloc, job)?)))
 }
 
 fn finish(first: &[u8], second: &[u8], third: &[u8]) -> Option<Act>

@@ -1,8 +1,9 @@
-ghost use Rattle.std.specs.Prelude.{◌≡◌, ◌+◌, ◌<◌, ◌^◌, IfOk, IfErr, OnOk, Ok, Err, Some, None, map, length, List, [], ◌∷◌, ◌++◌};
+ghost use Rattle.std.specs.Prelude.{◌≡◌, ◌+◌, ◌<◌, ◌^◌, ◌≤◌, IfOk, IfErr, IfSome, OnOk, Ok, Err, Some, None, length, [], ◌∷◌, ◌++◌};
 ghost use Rattle.line_words.specs.Words.{words_of};
 ghost use Rattle.line_words.specs.Lines.{lines_of, IsFaultAt, IsLineFault};
 ghost use Rattle.schedule.specs.Text.{acts_from, named_size, onto, plan, plan_of, size_of};
-ghost use Rattle.schedule.specs.Limits.{IsWithinLimits};
+ghost use Rattle.schedule.specs.declared.size.TheConstants.{MOST_ACTS};
+ghost use Rattle.schedule.specs.Limits.{IsWithinLimits, SizeFits};
 
 use crate::act::Act;
 use crate::fields::between;
@@ -10,7 +11,7 @@ use crate::parsing::{act, delivered};
 use crate::size::{MOST_ACTS, Schedule, Size};
 use disk_sector::{LEAST_SLOTS, MOST_SLOTS};
 use group_task::NODES;
-use line_words::{LineFault, cut_line, cut_word};
+use line_words::{LineFault, cut_line, cut_word, is_word};
 use std::alloc::{AllocError, Global};
 
 /// Reads a schedule: its first line that isn't empty names the cluster, each later one an act. The fault names the first line
@@ -48,9 +49,10 @@ pub fn read_schedule(alloc: Global, input: &[u8]) -> Result<Schedule, LineFault>
 /// The size that the line of this number names.
 fn read_size(number: u64, line: &[u8]) -> Result<Size, LineFault>
     ensures ok { IfOk result (λ size. size_of (words_of line.now) ≡ Some size) }
+    ensures fits { IfOk result SizeFits }
     ensures err { IfErr result (IsFaultAt number (size_of (words_of line.now))) }
 {
-    match size(line) {
+    match cluster_size(line) {
         Some(size) => Ok(size),
         None => Err(LineFault::BadLine(number)),
     }
@@ -58,8 +60,9 @@ fn read_size(number: u64, line: &[u8]) -> Result<Size, LineFault>
 
 /// The size that the words of a line name.
 #[tactic(auto, using(crate::proofs::Counts::too_long))]
-fn size(line: &[u8]) -> Option<Size>
-    ensures { result ≡ size_of (words_of line.now) }
+pub fn cluster_size(line: &[u8]) -> Option<Size>
+    ensures value { result ≡ size_of (words_of line.now) }
+    ensures fits { IfSome result SizeFits }
 {
     let (name, numbers) = cut_word(line)?;
     let (nodes, slots) = cut_word(numbers)?;
@@ -70,9 +73,10 @@ fn size(line: &[u8]) -> Option<Size>
 }
 
 fn named_size(name: &[u8], nodes: &[u8], slots: &[u8]) -> Option<Size>
-    ensures { result ≡ named_size name.now nodes.now slots.now }
+    ensures value { result ≡ named_size name.now nodes.now slots.now }
+    ensures fits { IfSome result SizeFits }
 {
-    if name != "cluster".as_bytes() {
+    if !is_word(name, "cluster") {
         return None;
     }
     Some(Size {
@@ -86,6 +90,7 @@ fn named_size(name: &[u8], nodes: &[u8], slots: &[u8]) -> Option<Size>
 fn read_acts(alloc: Global, before: u64, text: &[u8]) -> Result<Vec<Act>, LineFault>
     requires counted { before + length text.now + 1 < 2 ^ 64 }
     ensures ok { IfOk result (λ acts. acts_from before 0 (lines_of text.now) ≡ Ok acts.items) }
+    ensures few { IfOk result (λ acts. length acts.items ≤ MOST_ACTS) }
     ensures err { IfErr result (IsLineFault (acts_from before 0 (lines_of text.now))) }
 {
     let mut acts = Vec::new(alloc);
@@ -104,7 +109,9 @@ fn read_acts(alloc: Global, before: u64, text: &[u8]) -> Result<Vec<Act>, LineFa
 #[inline]
 #[tactic(auto, using(crate::proofs::Behind::onto_act))]
 fn read_act(alloc: Global, number: u64, line: &[u8], acts: &mut Vec<Act>) -> Result<(), LineFault>
+    requires { length acts.old.items ≤ MOST_ACTS }
     ensures ok { OnOk result (Some acts.new.items ≡ onto acts.old.items line.now) }
+    ensures few { OnOk result (length acts.new.items ≤ MOST_ACTS) }
     ensures err { IfErr result (IsFaultAt number (onto acts.old.items line.now)) }
 {
     if acts.len() < acts.capacity() && (acts.len() as u64) < MOST_ACTS {
@@ -119,7 +126,9 @@ fn read_act(alloc: Global, number: u64, line: &[u8], acts: &mut Vec<Act>) -> Res
 // It stands apart, so that a delivery is read quickly.
 #[inline(never)]
 fn read_any(alloc: Global, number: u64, line: &[u8], acts: &mut Vec<Act>) -> Result<(), LineFault>
+    requires { length acts.old.items ≤ MOST_ACTS }
     ensures ok { OnOk result (Some acts.new.items ≡ onto acts.old.items line.now) }
+    ensures few { OnOk result (length acts.new.items ≤ MOST_ACTS) }
     ensures err { IfErr result (IsFaultAt number (onto acts.old.items line.now)) }
 {
     if line.is_empty() {

@@ -1,5 +1,5 @@
 ghost use Rattle.std.specs.Prelude.{◌≡◌};
-ghost use Rattle.schedule.specs.Verbs.{fields_of, verb_of, word_of};
+ghost use Rattle.schedule.specs.Verbs.{verb_of, written};
 
 use line_words::is_word;
 use node_core::Timer;
@@ -54,7 +54,7 @@ impl Verb {
 
     /// The word for it.
     pub fn word(self) -> &'static str
-        ensures { result.now ≡ word_of self }
+        ensures { result.now ≡ (written self).0 }
     {
         match self {
             Verb::Timer(timer) => timer.word(),
@@ -73,7 +73,7 @@ impl Verb {
 
     /// A name for each field of its act, as they stand behind its word.
     pub fn fields(self) -> &'static str
-        ensures { result.now ≡ fields_of self }
+        ensures { result.now ≡ (written self).1 }
     {
         match self {
             Verb::Timer(_) | Verb::Recover | Verb::Compact => " N",

@@ -1,5 +1,5 @@
 -- A sector without its last zeros, and back.
-use Rattle.std.proofs.Common.{◌≡◌, ◌+◌, ◌-◌, ◌≤◌, ⊎_elim, ℕ, List, ◌++◌, length, take, drop, replicate, min, sym, ◌∙◌, ap, arith, take-append-drop}
+use Rattle.std.proofs.Common.{◌≡◌, ◌+◌, ◌-◌, ◌≤◌, ⊎_elim, ℕ, List, [], ◌++◌, length, take, drop, replicate, min, sym, ◌∙◌, ap, arith, take-append-drop}
 use Rattle.std.proofs.lemmas.List.{take_all, drop_all, drop-replicate, length-take, length-drop, replicate-append-replicate, drop-drop}
 use Rattle.std.proofs.lemmas.Bool.{cases_lt}
 use Rattle.sector_disk.specs.Undo.{whole}
@@ -26,31 +26,25 @@ trim_done s n most long rest =
     ∙ ap (λ (l : List ℕ). take n s ++ l) (sym rest)
     ∙ take-append-drop n s
 
-pub expanded : (bytes : List ℕ) (n : ℕ) → n ≡ min (length bytes) 512 → take n bytes ++ drop n (replicate 512 0) ≡ whole bytes
-expanded bytes n is =
-    let front : take n bytes ≡ take 512 bytes =
+-- the least of a size and 512 does as 512 does, where all numbers from the size on do the same
+by_least : (f : ℕ → List ℕ) (all : List ℕ) (size n : ℕ) → ((k : ℕ) → size ≤ k → f k ≡ all) → n ≡ min size 512 → f n ≡ f 512
+by_least f all size n past is =
     ⊎_elim
-    (λ big. let e : n ≡ 512 = omega (arith, is, big) in ap (λ k. take k bytes) e)
-    (λ small. take_all n bytes (omega (arith, is, small)) ∙ sym (take_all 512 bytes small))
-    (cases_lt 512 (length bytes)) in
-    let count : 512 - n ≡ 512 - length bytes = omega (arith, is) in
-    ap (λ (l : List ℕ). l ++ drop n (replicate 512 0)) front
-    ∙ ap (λ (l : List ℕ). take 512 bytes ++ l) (drop-replicate n 512 0 ∙ ap (λ k. replicate k 0) count)
+    (λ big. let e : n ≡ 512 = omega (arith, is, big) in ap f e)
+    (λ small. past n (omega (arith, is, small)) ∙ sym (past 512 small))
+    (cases_lt 512 size)
 
--- the least of a length and 512 takes as much as 512 does
 pub taken : (bytes : List ℕ) (n : ℕ) → n ≡ min (length bytes) 512 → take n bytes ≡ take 512 bytes
-taken bytes n is =
-    ⊎_elim
-    (λ big. let e : n ≡ 512 = omega (arith, is, big) in ap (λ k. take k bytes) e)
-    (λ small. take_all n bytes (omega (arith, is, small)) ∙ sym (take_all 512 bytes small))
-    (cases_lt 512 (length bytes))
+taken bytes n is = by_least (λ k. take k bytes) bytes (length bytes) n (λ k le. take_all k bytes le) is
 
 pub dropped : (bytes : List ℕ) (n : ℕ) → n ≡ min (length bytes) 512 → drop n bytes ≡ drop 512 bytes
-dropped bytes n is =
-    ⊎_elim
-    (λ big. let e : n ≡ 512 = omega (arith, is, big) in ap (λ k. drop k bytes) e)
-    (λ small. drop_all n bytes (omega (arith, is, small)) ∙ sym (drop_all 512 bytes small))
-    (cases_lt 512 (length bytes))
+dropped bytes n is = by_least (λ k. drop k bytes) [] (length bytes) n (λ k le. drop_all k bytes le) is
+
+pub expanded : (bytes : List ℕ) (n : ℕ) → n ≡ min (length bytes) 512 → take n bytes ++ drop n (replicate 512 0) ≡ whole bytes
+expanded bytes n is =
+    let count : 512 - n ≡ 512 - length bytes = omega (arith, is) in
+    ap (λ (l : List ℕ). l ++ drop n (replicate 512 0)) (taken bytes n is)
+    ∙ ap (λ (l : List ℕ). take 512 bytes ++ l) (drop-replicate n 512 0 ∙ ap (λ k. replicate k 0) count)
 
 pub torn : (fill sector : List ℕ) (n : ℕ) → n ≡ min (length fill) 512 → take n fill ++ drop n sector ≡ filled fill sector
 torn fill sector n is =

@@ -1,7 +1,7 @@
 -- The value of a disk in memory after each call.
 use Rattle.std.proofs.Common.{◌≡◌, ◌<◌, ◌+◌, ◌*◌, ⊎_elim, ℕ, List, [], ◌∷◌, ◌++◌, ◌==◌, Bool, true, false, if◌then◌else◌, IsTrue, IsFalse, Option, None, length, get_or, set, take, drop, count_by, replicate, sym, ◌∙◌, ap, subst, refl, arith}
 use Rattle.std.proofs.lemmas.List.{length-set, get_or-set_other, get_or-replicate, get_or_past, length-replicate, drop-drop}
-use Rattle.std.proofs.lemmas.List.Sums.{count_by_more_yes, count_by_more_no}
+use Rattle.std.proofs.lemmas.List.Sums.{count_by_more_yes}
 use Rattle.std.proofs.lemmas.Bool.Decides.{eqb_tells}
 use Rattle.std.proofs.lemmas.Bool.{cases_lt, false≢true, or_left}
 use Rattle.sector_disk.specs.Disk.{Image, IsImage, Touches, sector_at, nothing}
@@ -40,12 +40,6 @@ pub write_touches : (m : Memory) (at : ℕ) (bytes : List ℕ) (left : Option �
 write_touches m at bytes left on =
     writes m (record m { contents = set m.contents at bytes; unsynced = set m.unsynced at true; left = left }) at on
     (record { size = length-set m.contents at bytes; same = λ k other. get_or-set_other m.contents at k bytes [] other }) refl refl
-
-pub failed_touches : (m : Memory) (at failures : ℕ) (left : Option ℕ) → at < length m.unsynced
-    → Touches (λ k. k ≡ at) (state_of m) (state_of (record m { unsynced = set m.unsynced at true; failures = failures; left = left }))
-failed_touches m at failures left on =
-    writes m (record m { unsynced = set m.unsynced at true; failures = failures; left = left }) at on
-    (record { size = refl; same = λ k other. refl }) refl refl
 
 pub none_unsynced : (n at : ℕ) → get_or (replicate n false) at false ≡ false
 none_unsynced n at = ⊎_elim
@@ -107,10 +101,6 @@ fill_after unsynced fill at on is =
     let more : count_by (λ u. u) (take (at + 1) unsynced) ≡ count + 1 = count_by_more_yes (λ u. u) unsynced at false on is in
     let bytes : 512 * count + 512 ≡ 512 * count_by (λ u. u) (take (at + 1) unsynced) = omega (arith, more) in
     drop-drop 512 (512 * count) fill ∙ ap (λ n. drop n fill) bytes
-
-pub fill_kept : (unsynced : List Bool) (fill : List ℕ) (at : ℕ) → at < length unsynced → IsFalse (get_or unsynced at false) → fill_at unsynced at fill ≡ fill_at unsynced (at + 1) fill
-fill_kept unsynced fill at on is =
-    ap (λ n. drop (512 * n) fill) (sym (count_by_more_no (λ u. u) unsynced at false on is))
 
 pub torn_yes : (unsynced : List Bool) (fill sector : List ℕ) (at : ℕ) → IsTrue (get_or unsynced at false) → torn_at unsynced fill at sector ≡ filled (fill_at unsynced at fill) sector
 torn_yes unsynced fill sector at is = ap (λ b. if b then filled (fill_at unsynced at fill) sector else sector) is

@@ -52,7 +52,7 @@ pub record Touches (touched : ℕ → Type 0) (old new : DiskState) : Type 0 whe
   pub synced : (at : ℕ) → (touched at → ⊥) → old.synced at → new.synced at
   pub time : Elapses old new
 
--- A call that answers Ok leaves the count of failures as it is, and it answers `Device` only where it rose, or stands at its greatest value.
+-- A call that answers Ok leaves the count of failures as it is, and answers `Device` only where it rose, or stands at its greatest value.
 pub record Counts (old new : DiskState) (failed done : Type 0) : Type 0 where
   pub sectors : new.sectors ≡ old.sectors
   pub honest : new.honest ≡ old.honest

@@ -67,14 +67,8 @@ risen failures = min (failures + 1) (2 ^ 64 - 1)
 
 -- a disk on which all is synced and no time is recorded
 abbrev pub all_synced : Image → ℕ → Memory
-all_synced image failures = record {
-  contents = image;
-  synced = image;
-  unsynced = replicate (length image) false;
-  spans = [];
-  failures = failures;
-  left = None;
-}
+all_synced image failures =
+    record { contents = image; synced = image; unsynced = replicate (length image) false; spans = []; failures = failures; left = None }
 
 -- a new disk: zeros
 abbrev pub blank : ℕ → Memory

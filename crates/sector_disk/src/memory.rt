@@ -57,18 +57,8 @@ impl MemDisk {
         // Refuses: ones_for_zeros, half_the_sectors, copy_of_zeros, copy_never_failed.
         ensures { IfOk result (λ disk. disk ≡ blank sectors) }
     {
-        let count = sectors as usize;
-        let contents = Sectors::zeros(alloc, count)?;
-        let unsynced = vec![in alloc; false; count]?;
-        Ok(MemDisk {
-            alloc,
-            sectors: contents,
-            unsynced,
-            notes: Notes::new(alloc),
-            torn: false,
-            failures: 0,
-            left: None,
-        })
+        let zeros = Sectors::zeros(alloc, sectors as usize)?;
+        MemDisk::over(alloc, zeros, 0)
     }
 
     /// A disk with what this one holds, on which nothing is unsynced. It isn't armed, and has failed as
@@ -76,15 +66,22 @@ impl MemDisk {
     pub fn copy(&self, alloc: Global) -> Result<MemDisk, AllocError>
         ensures { IfOk result (λ copy. copy ≡ all_synced self.now.contents self.now.failures) }
     {
-        let contents = self.sectors.copy(alloc)?;
-        let unsynced = vec![in alloc; false; self.sectors.len()]?;
+        let copy = self.sectors.copy(alloc)?;
+        MemDisk::over(alloc, copy, self.failures)
+    }
+
+    // A disk of these sectors, on which nothing is unsynced.
+    fn over(alloc: Global, sectors: Sectors, failures: u64) -> Result<MemDisk, AllocError>
+        ensures { IfOk result (λ disk. disk ≡ all_synced sectors failures) }
+    {
+        let unsynced = vec![in alloc; false; sectors.len()]?;
         Ok(MemDisk {
             alloc,
-            sectors: contents,
+            sectors,
             unsynced,
             notes: Notes::new(alloc),
             torn: false,
-            failures: self.failures,
+            failures,
             left: None,
         })
     }

@@ -1,6 +1,6 @@
 -- A slot is a body sector and the gate sector behind it. The first byte of the gate says whether it is sealed.
-use Rattle.std.specs.Prelude.{◌≡◌, ◌⊎◌, ℕ, ◌+◌, ◌*◌, ◌<◌, ◌≤◌, List, ◌∷◌, get_or, replicate, Bool, ◌==◌, Option, Some, None, if◌then◌else◌}
-use Rattle.sector_disk.specs.Disk.{Image, sector_at}
+use Rattle.std.specs.Prelude.{◌≡◌, ◌⊎◌, ℕ, ◌+◌, ◌*◌, ◌<◌, ◌≤◌, ◌^◌, List, ◌∷◌, get_or, replicate, Bool, ◌==◌, Option, Some, None, if◌then◌else◌}
+use Rattle.sector_disk.specs.Disk.{Image, DiskState, sector_at}
 
 -- the gate's first byte is 0xA5; its other bytes aren't looked at
 abbrev pub is_gate_sealed : List ℕ → Bool
@@ -21,6 +21,10 @@ unsealed_gate = replicate 512 0
 -- the two sectors of a slot
 abbrev pub InSlot : ℕ → ℕ → Type 0
 InSlot slot at = (at ≡ slot) ⊎ (at ≡ slot + 1)
+
+-- the disk has both of them, and their numbers have 64 bits
+abbrev pub HasSlot : ℕ → DiskState → Type 0
+HasSlot slot disk = (slot + 1 < disk.sectors) × (slot + 1 < 2 ^ 64)
 
 -- the sectors of so many slots from one on
 abbrev pub InSlots : ℕ → ℕ → ℕ → Type 0

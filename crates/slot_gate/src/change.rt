@@ -1,10 +1,10 @@
 // A body put into a slot, in an order in which no crash leaves a torn one.
-ghost use Rattle.std.specs.Prelude.{◌≡◌, ◌<◌, ◌+◌, ◌^◌, IsTrue, IsOk, IsErrOf, Some, None};
+ghost use Rattle.std.specs.Prelude.{◌≡◌, ◌+◌, IsTrue, IsOk, Some, None};
 ghost use Rattle.sector_disk.specs.Disk.{Image, IsImage, AllSynced};
 ghost use Rattle.sector_disk.specs.Run.{Each};
-ghost use Rattle.slot_gate.specs.Slot.{slot_at, InSlot};
+ghost use Rattle.slot_gate.specs.Slot.{HasSlot, slot_at, InSlot};
 ghost use Rattle.slot_gate.specs.Stored.{Knows, IsStored, IsCleared, Follows};
-ghost use Rattle.slot_gate.specs.Writing.{WritesOnly};
+ghost use Rattle.slot_gate.specs.Writing.{CallWrites};
 
 use crate::slot::{fill, seal, unseal};
 use sector_disk::{DiskFault, Sector, SectorDisk};
@@ -18,14 +18,12 @@ pub fn store<D: SectorDisk>(
     sealed: bool,
     body: &Sector,
 ) -> Result<(), DiskFault>
-    requires on_disk { slot + 1 < (D.state disk.old).sectors }
-    requires fits { slot + 1 < 2 ^ 64 }
+    requires on_disk { HasSlot slot (D.state disk.old) }
 
     // Promise: Storing a body: in every image since the start the slot is as it was, unsealed, or sealed over the whole new body;
     // after `Ok` sealed over it, nothing unsynced; no sector outside the slot changes in any image.
     // Refuses: sealed_before_body_synced, unsealed_again, stored_over_a_sealed_slot.
-    ensures writes { WritesOnly (InSlot slot) (D.state disk.old) (D.state disk.new)
-        (IsErrOf result DiskFault.Device) (IsOk result) }
+    ensures writes { CallWrites (InSlot slot) D.state disk.old disk.new DiskFault.Device result }
 
     // In each image since the start the slot is as it was, unsealed, or sealed over the whole new
     // body.
@@ -46,10 +44,8 @@ pub fn store<D: SectorDisk>(
 // Unseals the slot unless it is known to be unsealed: a torn write to an unsealed gate could seal
 // any body.
 fn clear<D: SectorDisk>(disk: &mut D, slot: u64, sealed: bool) -> Result<(), DiskFault>
-    requires on_disk { slot + 1 < (D.state disk.old).sectors }
-    requires fits { slot + 1 < 2 ^ 64 }
-    ensures writes { WritesOnly (λ k. k ≡ slot + 1) (D.state disk.old) (D.state disk.new)
-        (IsErrOf result DiskFault.Device) (IsOk result) }
+    requires on_disk { HasSlot slot (D.state disk.old) }
+    ensures writes { CallWrites (λ k. k ≡ slot + 1) D.state disk.old disk.new DiskFault.Device result }
     ensures images { IsTrue (D.state disk.old).honest → Knows (D.state disk.old) slot sealed
         → Each (D.state disk.old) (D.state disk.new)
         (Follows (λ k. k ≡ slot + 1) (D.state disk.old) slot IsCleared) }

@@ -1,8 +1,8 @@
 // Slots that stand one behind another, unsealed together.
-ghost use Rattle.std.specs.Prelude.{◌≡◌, ◌<◌, ◌≤◌, ◌+◌, ◌*◌, ◌^◌, ℕ, IsTrue, IsOk, IsErrOf, None};
+ghost use Rattle.std.specs.Prelude.{◌≡◌, ◌<◌, ◌≤◌, ◌+◌, ◌*◌, ◌^◌, ℕ, IsTrue, IsOk, None};
 ghost use Rattle.sector_disk.specs.Disk.{AllSynced};
 ghost use Rattle.slot_gate.specs.Slot.{slot_at, InSlots};
-ghost use Rattle.slot_gate.specs.Writing.{WritesOnly};
+ghost use Rattle.slot_gate.specs.Writing.{CallWrites};
 
 use sector_disk::{DiskFault, SectorDisk};
 
@@ -16,8 +16,7 @@ pub fn unseal_all<D: SectorDisk>(disk: &mut D, first: u64, slots: u64) -> Result
     // Promise: After unsealing slots together answers `Ok` each is unsealed, synced; no sector outside these slots changes in any
     // image.
     // Refuses: job_journal::second_area_left_sealed.
-    ensures writes { WritesOnly (InSlots first slots) (D.state disk.old) (D.state disk.new)
-        (IsErrOf result DiskFault.Device) (IsOk result) }
+    ensures writes { CallWrites (InSlots first slots) D.state disk.old disk.new DiskFault.Device result }
     ensures unsealed { IsTrue (D.state disk.old).honest → IsOk result
         → (k : ℕ) → k < slots → slot_at (D.state disk.new).contents (first + 2 * k) ≡ None }
     ensures synced { IsTrue (D.state disk.old).honest → IsOk result

@@ -1,9 +1,11 @@
 -- The requests that lines spell.
 use Rattle.std.specs.Prelude.{ℕ, ◌+◌, List, [], ◌∷◌, ◌++◌, bytes_eq, codes, if◌then◌else◌, Option, Some, None, option_map, Result, Ok, Err}
 use Rattle.disk_sector.specs.declared.layout.TheConstants.{LEAST_SLOTS, MOST_SLOTS}
+use Rattle.job_model.specs.declared.work.Work.{Work}
 use Rattle.line_words.specs.Words.{number_of, words_of}
 use Rattle.line_words.specs.Lines.{lines_of}
-use Rattle.schedule.specs.Fields.{number_between, payload_of, priority_of, queue_of}
+use Rattle.schedule.specs.Acts.{work_of}
+use Rattle.schedule.specs.Fields.{number_between, priority_of}
 use Rattle.store_console.specs.declared.request.Request.{Request}
 use Rattle.store_console.specs.declared.request.Request.TheVariants as request
 
@@ -26,22 +28,17 @@ with_one name field =
     if bytes_eq name (codes "format") then option_map request.Format (slots_of field) else
     if bytes_eq name (codes "done") then option_map request.Done (number_of field) else None
 
-abbrev pub put_of : Option ℕ → Option (List ℕ) → Option ℕ → Option Request
-put_of None payload priority = None
-put_of (Some queue) None priority = None
-put_of (Some queue) (Some payload) priority = option_map (λ p. request.Put (record { queue = queue; priority = p; payload = payload })) priority
-
--- a name with the fields of a job, which is put with this priority
-abbrev pub put_named : List ℕ → List ℕ → List ℕ → Option ℕ → Option Request
-put_named name queue payload priority = if bytes_eq name (codes "put") then put_of (queue_of queue) (payload_of payload) priority else None
+-- a name with the fields of a job, which is put
+abbrev pub put_named : List ℕ → Option Work → Option Request
+put_named name work = if bytes_eq name (codes "put") then option_map request.Put work else None
 
 -- the request of these words
 abbrev pub request_of : List (List ℕ) → Option Request
 request_of [] = None
 request_of (name ∷ []) = alone_of name
 request_of (name ∷ a ∷ []) = with_one name a
-request_of (name ∷ a ∷ b ∷ []) = put_named name a b (Some 0)
-request_of (name ∷ a ∷ b ∷ c ∷ []) = put_named name a b (priority_of c)
+request_of (name ∷ a ∷ b ∷ []) = put_named name (work_of a b (Some 0))
+request_of (name ∷ a ∷ b ∷ c ∷ []) = put_named name (work_of a b (priority_of c))
 request_of (name ∷ a ∷ b ∷ c ∷ d ∷ rest) = None
 
 -- ---- the whole input

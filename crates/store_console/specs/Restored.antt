@@ -8,25 +8,18 @@ use Rattle.line_words.specs.Words.{number_of, words_of}
 use Rattle.line_words.specs.Lines.{lines_of}
 use Rattle.line_words.specs.declared.lines.LineFault.{LineFault}
 use Rattle.line_words.specs.declared.lines.LineFault.TheVariants.{BadLine, NoMemory}
-use Rattle.schedule.specs.Fields.{payload_of, priority_of, queue_of}
+use Rattle.schedule.specs.Acts.{of_two, work_of}
+use Rattle.schedule.specs.Fields.{priority_of}
 
 -- ---- a line
 
-abbrev pub work_by : Option ℕ → Option (List ℕ) → Option ℕ → Option Work
-work_by None payload priority = None
-work_by (Some queue) None priority = None
-work_by (Some queue) (Some payload) None = None
-work_by (Some queue) (Some payload) (Some priority) = Some (record { queue = queue; priority = priority; payload = payload })
-
-abbrev pub job_by : Option ℕ → Option Work → Option Job
-job_by None work = None
-job_by (Some id) None = None
-job_by (Some id) (Some work) = Some (record { id = id; work = work })
+abbrev pub job : ℕ → Work → Job
+job id work = record { id = id; work = work }
 
 -- a job of this id, queue, payload and priority, where its line begins so
 abbrev pub job_with : List ℕ → List ℕ → List ℕ → List ℕ → Option ℕ → Option Job
 job_with name id queue payload priority =
-    if bytes_eq name (codes "job") then job_by (number_of id) (work_by (queue_of queue) (payload_of payload) priority) else None
+    if bytes_eq name (codes "job") then of_two job (number_of id) (work_of queue payload priority) else None
 
 -- the job of these words
 abbrev pub job_of : List (List ℕ) → Option Job

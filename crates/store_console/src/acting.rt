@@ -1,6 +1,6 @@
 //! What each request does to what is mounted.
 
-ghost use Rattle.std.specs.Prelude.{◌≡◌, ◌≤◌, IfOk};
+ghost use Rattle.std.specs.Prelude.{◌≡◌, IfOk};
 ghost use Rattle.store_console.specs.declared.request.Request.TheVariants as asked;
 ghost use Rattle.store_console.specs.Replies.{IsMounted, Replies, RepliesOver, valued};
 

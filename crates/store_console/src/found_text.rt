@@ -8,7 +8,7 @@ ghost use Rattle.store_console.specs.Printed.{all_queues_text, counter_text, exp
 
 use crate::found::{Counter, Owner};
 use crate::text::push_jobs;
-use console_text::{Output, push_number, push_text};
+use console_text::{Output, push_named_number, push_text};
 use job_journal::JobJournal;
 use job_model::{Job, JobTable, QUEUES};
 use std::alloc::{AllocError, Global};
@@ -83,8 +83,7 @@ fn push_named(text: &mut Vec<u8>, name: &str, value: u64) -> Result<(), AllocErr
     ensures { OnOk result (text.new.items ≡ text.old.items ++ named name.now value) }
 {
     push_text(text, name)?;
-    push_text(text, " ")?;
-    push_number(text, value)?;
+    push_named_number(text, " ", value)?;
     push_text(text, "\n")
 }
 
@@ -147,10 +146,8 @@ fn push_queue(text: &mut Vec<u8>, queue: u8, count: u64) -> Result<(), AllocErro
     if count == 0 {
         return Ok(());
     }
-    push_text(text, "queue_")?;
-    push_number(text, u64::from(queue))?;
-    push_text(text, " ")?;
-    push_number(text, count)?;
+    push_named_number(text, "queue_", u64::from(queue))?;
+    push_named_number(text, " ", count)?;
     push_text(text, "\n")
 }
 

@@ -5,11 +5,9 @@ ghost use Rattle.disk_sector.specs.Layout.{sectors_for};
 ghost use Rattle.disk_sector.specs.declared.layout.TheConstants.{LEAST_SLOTS, MOST_SLOTS};
 ghost use Rattle.safe_cell.specs.Cell.{cell_at};
 ghost use Rattle.job_journal.specs.Areas.{first_of, sealed_prefix, slots_from};
-ghost use Rattle.node_store.specs.Store.{slots_for};
 ghost use Rattle.store_console.specs.Held.{counter_of, found_in, is_label, journal_of, label_for, labelled, owner_of, used_in};
 
 use crate::found::{Counter, Owner};
-use disk_sector::MOST_SLOTS;
 use job_journal::{JobJournal, JournalFault};
 use safe_cell::CellFault;
 use sector_disk::MemDisk;
@@ -55,17 +53,6 @@ fn label_for(id: u8, nodes: u8, apart: u8) -> [u8; 16]
     [
         b'd', b'u', b'm', b'g', b'e', b'r', b'o', b'k', 1, id, nodes, apart, 0, 0, 0, 0,
     ]
-}
-
-/// How many slots an area of a disk has.
-pub fn slots_of(sectors: u64) -> u64
-    requires { 24 ≤ sectors }
-    ensures value { result ≡ slots_for sectors }
-    ensures least { LEAST_SLOTS ≤ result }
-    ensures most { result ≤ MOST_SLOTS }
-    ensures on_disk { sectors_for result ≤ sectors }
-{
-    ((sectors - 8) / 4).min(MOST_SLOTS)
 }
 
 /// The counter.

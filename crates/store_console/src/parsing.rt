@@ -4,9 +4,9 @@ ghost use Rattle.store_console.specs.Requests.{alone_of, put_named, request_of, 
 
 use crate::request::Request;
 use disk_sector::{LEAST_SLOTS, MOST_SLOTS};
-use job_model::Work;
+use job_model::NewJob;
 use line_words::{cut_word, is_word, number};
-use schedule::fields::{between, payload, priority, queue};
+use schedule::fields::{between, new_job, priority};
 use std::alloc::{AllocError, Global};
 
 /// The request of the words of a line.
@@ -21,10 +21,10 @@ pub fn request(alloc: Global, line: &[u8]) -> Result<Option<Request>, AllocError
         return Ok(one(name, fields));
     };
     let Some((second, third)) = cut_word(more) else {
-        return put(alloc, name, first, more, Some(0));
+        return Ok(put(name, new_job(alloc, first, more, Some(0))?));
     };
     match cut_word(third) {
-        None => put(alloc, name, first, second, priority(third)),
+        None => Ok(put(name, new_job(alloc, first, second, priority(third))?)),
         Some(_) => Ok(None),
     }
 }
@@ -66,25 +66,13 @@ fn one(name: &[u8], field: &[u8]) -> Option<Request>
     }
 }
 
-/// A job that is put, where the name says so.
-fn put(
-    alloc: Global,
-    name: &[u8],
-    first: &[u8],
-    second: &[u8],
-    priority: Option<u8>,
-) -> Result<Option<Request>, AllocError>
-    ensures { IfOk result (λ request. request ≡ put_named name.now first.now second.now priority) }
+/// The job that is put, where the name says so.
+fn put(name: &[u8], job: Option<NewJob>) -> Option<Request>
+    ensures { result ≡ put_named name.now job }
 {
-    if !is_word(name, "put") {
-        return Ok(None);
-    }
-    match (queue(first), payload(alloc, second)?, priority) {
-        (Some(queue), Some(payload), Some(priority)) => Ok(Some(Request::Put(Work {
-            queue,
-            priority,
-            payload,
-        }))),
-        _ => Ok(None),
+    if is_word(name, "put") {
+        Some(Request::Put(job?.work()))
+    } else {
+        None
     }
 }

@@ -1,5 +1,5 @@
 ghost use Rattle.std.specs.Prelude.{◌≡◌, IfOk, IfErr, OnOk, Ok, Some, [], ◌∷◌, ◌++◌};
-ghost use Rattle.line_words.specs.Lines.{lines_of, IsFaultAt, IsLineFault};
+ghost use Rattle.line_words.specs.Lines.{IsFaultAt, IsLineFault};
 ghost use Rattle.store_console.specs.Requests.{onto, requests_of};
 
 use crate::parsing::request;

@@ -1,14 +1,14 @@
 //! Jobs read from lines, as `export` prints them, for a file that is made with them.
 
-ghost use Rattle.std.specs.Prelude.{◌≡◌, ◌≤◌, ◌+◌, [], length, bytes_eq, IfOk, IfErr, OnOk};
+ghost use Rattle.std.specs.Prelude.{◌≡◌, ◌≤◌, ◌+◌, [], length, IfOk, IfErr, OnOk};
 ghost use Rattle.disk_sector.specs.declared.layout.TheConstants.{LEAST_SLOTS, MOST_SLOTS};
 ghost use Rattle.job_journal.specs.Jobs.{jobs_of};
 ghost use Rattle.line_words.specs.Words.{words_of};
 ghost use Rattle.store_console.specs.Restored.{IsInputFault, IsLineNotTaken, TakesInput, TakesLine, job_of, job_with};
 
-use job_model::{Job, JobTable, Work};
-use line_words::{LineFault, cut_line, cut_word, number};
-use schedule::fields::{payload, priority, queue};
+use job_model::{Job, JobTable};
+use line_words::{LineFault, cut_line, cut_word, is_word, number};
+use schedule::fields::{new_job, priority};
 use std::alloc::{AllocError, Global};
 
 /// No jobs, and this id for the next one.
@@ -112,19 +112,12 @@ fn job_with(
 ) -> Result<Option<Job>, AllocError>
     ensures { IfOk result (λ job. job ≡ job_with name.now id.now first.now second.now priority) }
 {
-    if name != "job".as_bytes() {
+    if !is_word(name, "job") {
         return Ok(None);
     }
-    let (Some(id), Some(queue), Some(priority)) = (number(id), queue(first), priority) else {
+    let (Some(id), Some(new)) = (number(id), new_job(alloc, first, second, priority)?) else {
         return Ok(None);
     };
-    let Some(payload) = payload(alloc, second)? else {
-        return Ok(None);
-    };
-    let work = Work {
-        queue,
-        priority,
-        payload,
-    };
+    let work = new.work();
     Ok(Some(Job { id, work }))
 }

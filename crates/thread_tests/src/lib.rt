@@ -4,14 +4,4 @@
 #![tactic(auto)]
 
 #[cfg(test)]
-mod gates;
-#[cfg(test)]
-mod judged;
-#[cfg(test)]
-mod links;
-#[cfg(test)]
-mod refused;
-#[cfg(test)]
-mod threads;
-#[cfg(test)]
-mod turns;
+mod tests;

@@ -4,13 +4,13 @@ use Rattle.group_task.specs.declared.node.TheConstants.{NODES}
 use Rattle.line_words.specs.Words.{words_of}
 use Rattle.line_words.specs.Lines.{lines_of}
 use Rattle.schedule.specs.declared.size.Size.{Size}
+use Rattle.schedule.specs.declared.size.TheConstants.{LEAST_CAPACITY, MOST_CAPACITY}
 use Rattle.schedule.specs.Fields.{number_between}
 use Rattle.schedule.specs.Text.{size_of}
 use Rattle.node_lock.specs.Planned.{Planned}
 use Rattle.node_threads.specs.declared.size.RunSize.{RunSize}
 use Rattle.node_threads.specs.Nodes.{PollOthers}
 use Rattle.threads_console.specs.declared.turn.PlanTurn.{PlanTurn}
-use Rattle.threads_console.specs.declared.turn.TheConstants.{LEAST_CAPACITY, MOST_CAPACITY}
 use Rattle.threads_console.specs.Lines.{LinesLeft, all_left}
 use Rattle.threads_console.specs.Planning.{ArePlanned}
 use Rattle.threads_console.specs.Turns.{line_of}
@@ -91,7 +91,3 @@ pub record AreRead (nodes : ℕ) (lines : List (ℕ × List ℕ)) (plans : List 
   pub turns : List (ℕ × PlanTurn)
   pub reads : turns_of nodes lines ≡ Ok turns
   pub planned : ArePlanned nodes turns plans
-
--- a cluster that can be opened
-abbrev pub ClusterFits : Size → Type 0
-ClusterFits cluster = (cluster.nodes ≤ NODES) × (4 ≤ cluster.slots) × (cluster.slots ≤ 4096)

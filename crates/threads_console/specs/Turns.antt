@@ -2,8 +2,8 @@
 use Rattle.std.specs.Prelude.{ℕ, List, [], ◌∷◌, ◌==◌, not, bytes_eq, codes, if◌then◌else◌, Option, Some, None, option_map}
 use Rattle.line_words.specs.Words.{number_of}
 use Rattle.line_words.specs.Lines.{bytes_of}
-use Rattle.schedule.specs.Fields.{kept_if, node_of, number_below, payload_of, priority_of, queue_of}
-use Rattle.schedule.specs.Acts.{of_three, of_two, work}
+use Rattle.schedule.specs.Fields.{kept_if, node_of, number_below, priority_of}
+use Rattle.schedule.specs.Acts.{of_two, work_of}
 use Rattle.node_core.specs.TimerWords.{timer_named}
 use Rattle.node_lock.specs.declared.order.OperatorOrder.{OperatorOrder}
 use Rattle.node_lock.specs.declared.order.OperatorOrder.TheVariants.{Submit, Finish, Arm, Crash, Recover}
@@ -17,7 +17,7 @@ other_of nodes own word = kept_if (λ j. not (j == own)) (number_below nodes wor
 -- ---- what the operator does: a name, and its fields
 
 abbrev pub submit_order : List ℕ → List ℕ → Option ℕ → Option OperatorOrder
-submit_order queue payload priority = option_map Submit (of_three work (queue_of queue) (payload_of payload) priority)
+submit_order queue payload priority = option_map Submit (work_of queue payload priority)
 
 abbrev pub alone_order : List ℕ → Option OperatorOrder
 alone_order name = if bytes_eq name (codes "crash") then Some (Crash []) else if bytes_eq name (codes "recover") then Some Recover else None

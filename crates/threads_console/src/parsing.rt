@@ -6,16 +6,15 @@ ghost use Rattle.line_words.specs.Words.{words_of};
 ghost use Rattle.node_core.specs.TimerWords.{timer_named};
 ghost use Rattle.threads_console.specs.declared.turn.PlanTurn.TheVariants.{Poll};
 ghost use Rattle.threads_console.specs.Planning.{PollFits, TurnFits};
-ghost use Rattle.threads_console.specs.Turns.{alone_order, line_of, long_order, middle_order, of_one, order_of, other_of, short_order, submit_order, turn_of};
+ghost use Rattle.threads_console.specs.Turns.{alone_order, line_of, long_order, middle_order, of_one, order_of, other_of, short_order, turn_of};
 
 use crate::fields::{member, other};
 use crate::turn::PlanTurn;
 use group_task::NodeId;
-use job_model::NewJob;
 use line_words::{bytes, cut_word, is_word, number};
 use node_core::Timer;
 use node_lock::{CrashFill, OperatorOrder};
-use schedule::fields::{node, priority, queue};
+use schedule::fields::{new_job, node, priority};
 use std::alloc::{AllocError, Global};
 
 /// The node and the turn of a line, in a cluster of so many nodes.
@@ -161,7 +160,7 @@ fn middle(
     ensures { IfOk result (λ order. order ≡ middle_order name.now first.now second.now) }
 {
     if is_word(name, "submit") {
-        submit(alloc, first, second, Some(0))
+        Ok(new_job(alloc, first, second, Some(0))?.map(OperatorOrder::Submit))
     } else if is_word(name, "finish") {
         match (node(first), number(second)) {
             (Some(origin), Some(id)) => Ok(Some(OperatorOrder::Finish(origin, id))),
@@ -183,28 +182,8 @@ fn long(
     ensures { IfOk result (λ order. order ≡ long_order name.now first.now second.now third.now) }
 {
     if is_word(name, "submit") {
-        submit(alloc, first, second, priority(third))
+        Ok(new_job(alloc, first, second, priority(third))?.map(OperatorOrder::Submit))
     } else {
         Ok(None)
-    }
-}
-
-fn submit(
-    alloc: Global,
-    first: &[u8],
-    second: &[u8],
-    priority: Option<u8>,
-) -> Result<Option<OperatorOrder>, AllocError>
-    ensures { IfOk result (λ order. order ≡ submit_order first.now second.now priority) }
-{
-    let (Some(queue), Some(priority)) = (queue(first), priority) else {
-        return Ok(None);
-    };
-    let Some(payload) = bytes(alloc, second)? else {
-        return Ok(None);
-    };
-    match NewJob::new(queue, priority, payload) {
-        Some(job) => Ok(Some(OperatorOrder::Submit(job))),
-        None => Ok(None),
     }
 }

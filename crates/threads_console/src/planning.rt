@@ -2,7 +2,7 @@
 
 ghost use Rattle.std.specs.Prelude.{◌≡◌, ◌<◌, IfOk, OnOk, replicate, length, vec_len};
 ghost use Rattle.node_threads.specs.Nodes.{PollOthers};
-ghost use Rattle.threads_console.specs.Planning.{IsPlaced, TurnFits, no_plans, with_turn};
+ghost use Rattle.threads_console.specs.Planning.{IsPlaced, TurnFits, no_plans};
 
 use crate::turn::PlanTurn;
 use group_task::NodeId;
@@ -30,20 +30,15 @@ pub fn place(plans: &mut Vec<Plans>, node: NodeId, turn: PlanTurn) -> Result<(),
     push_at(plans, node, turn)
 }
 
+/// Adds a turn to the plan of its worker, at its node.
 fn push_at(plans: &mut Vec<Plans>, node: NodeId, turn: PlanTurn) -> Result<(), AllocError>
     requires { node < vec_len plans.old }
     ensures { OnOk result (IsPlaced (node, turn) plans.old.items plans.new.items) }
 {
-    push(&mut plans[usize::from(node.number())], turn)
-}
-
-/// Adds a turn to the plan of its worker.
-fn push(plans: &mut Plans, turn: PlanTurn) -> Result<(), AllocError>
-    ensures { OnOk result (plans.new ≡ with_turn plans.old turn) }
-{
+    let own = &mut plans[usize::from(node.number())];
     match turn {
-        PlanTurn::Poll(from) => plans.add_poll(from),
-        PlanTurn::Fire(timer) => plans.add_timer(timer),
-        PlanTurn::Do(order) => plans.add_order(order),
+        PlanTurn::Poll(from) => own.add_poll(from),
+        PlanTurn::Fire(timer) => own.add_timer(timer),
+        PlanTurn::Do(order) => own.add_order(order),
     }
 }

@@ -1,25 +1,23 @@
 //! Reads plans.
 
-ghost use Rattle.std.specs.Prelude.{◌≡◌, ◌≤◌, ◌<◌, Some, length, IfOk, IfErr, IfSome, OnOk};
+ghost use Rattle.std.specs.Prelude.{◌≡◌, ◌≤◌, ◌<◌, Some, length, IfOk, IfErr, OnOk};
 ghost use Rattle.group_task.specs.declared.node.TheConstants.{NODES};
 ghost use Rattle.line_words.specs.Lines.{IsFaultAt, IsLineFault};
 ghost use Rattle.line_words.specs.Words.{words_of};
-ghost use Rattle.schedule.specs.Text.{named_size, size_of};
+ghost use Rattle.schedule.specs.Limits.{SizeFits};
 ghost use Rattle.node_threads.specs.Nodes.{PollOthers};
 ghost use Rattle.threads_console.specs.Turns.{line_of};
 ghost use Rattle.threads_console.specs.Planning.{AddsLine};
-ghost use Rattle.threads_console.specs.Scripts.{AreRead, CanRun, ClusterFits, IsRead, capacity_of, script_left, script_of, sized, turns_of, with_links, with_turns};
+ghost use Rattle.threads_console.specs.Scripts.{AreRead, CanRun, IsRead, capacity_of, script_left, script_of, sized, turns_of, with_links, with_turns};
 
 use crate::lines::Lines;
 use crate::parsing::turn_in;
 use crate::planning::{no_plans, place};
-use crate::turn::{LEAST_CAPACITY, MOST_CAPACITY};
-use group_task::NODES;
 use line_words::{LineFault, cut_word, is_word};
 use node_lock::Plans;
 use node_threads::RunSize;
 use schedule::fields::between;
-use schedule::{LEAST_SLOTS, MOST_SLOTS, Size};
+use schedule::{LEAST_CAPACITY, MOST_CAPACITY, Size, cluster_size};
 use std::alloc::Global;
 
 /// A run that was planned.
@@ -53,11 +51,11 @@ pub fn read_plans(alloc: Global, input: &[u8]) -> Result<Setup, LineFault>
 /// The cluster that the first line names.
 fn read_cluster(lines: &mut Lines<'_>) -> Result<Size, LineFault>
     ensures ok { IfOk result (λ cluster. script_left lines.old ≡ with_links lines.new.end cluster lines.new.lines) }
-    ensures fits { IfOk result ClusterFits }
+    ensures fits { IfOk result SizeFits }
     ensures err { IfErr result (IsLineFault (script_left lines.old)) }
 {
     match lines.next() {
-        Ok((number, line)) => cluster(line).ok_or(LineFault::BadLine(number)),
+        Ok((number, line)) => cluster_size(line).ok_or(LineFault::BadLine(number)),
         Err(end) => Err(LineFault::BadLine(end)),
     }
 }
@@ -71,34 +69,6 @@ fn read_links(cluster: Size, lines: &mut Lines<'_>) -> Result<u64, LineFault>
         Ok((number, line)) => capacity(line).ok_or(LineFault::BadLine(number)),
         Err(end) => Err(LineFault::BadLine(end)),
     }
-}
-
-/// The size that the words of a line name.
-#[tactic(auto, using(crate::proofs::Counts::too_long))]
-pub(crate) fn cluster(line: &[u8]) -> Option<Size>
-    ensures value { result ≡ size_of (words_of line.now) }
-    ensures fits { IfSome result ClusterFits }
-{
-    let (name, numbers) = cut_word(line)?;
-    let (nodes, slots) = cut_word(numbers)?;
-    match cut_word(slots) {
-        None => named_cluster(name, nodes, slots),
-        Some(_) => None,
-    }
-}
-
-#[tactic(auto, using(crate::proofs::Counts::between_fits))]
-fn named_cluster(name: &[u8], nodes: &[u8], slots: &[u8]) -> Option<Size>
-    ensures value { result ≡ named_size name.now nodes.now slots.now }
-    ensures fits { IfSome result ClusterFits }
-{
-    if !is_word(name, "cluster") {
-        return None;
-    }
-    Some(Size {
-        nodes: between(1, u64::from(NODES), nodes)? as u8,
-        slots: between(LEAST_SLOTS, MOST_SLOTS, slots)?,
-    })
 }
 
 /// The room of a link that the words of a line name.

@@ -10,10 +10,11 @@ ghost use Rattle.threads_console.specs.Reasons.{flaw_at, no_such, order_flaw, or
 
 use crate::fields::member;
 use crate::lines::Lines;
-use crate::reading::{capacity, cluster};
+use crate::reading::capacity;
 use console_text::{CommandError, bad_line, line_reason, push_text, push_unknown};
 use line_words::{cut_word, first_word, is_word, line_numbered};
 use node_core::Timer;
+use schedule::cluster_size;
 use std::alloc::{AllocError, Global};
 
 /// What is printed for plans of which the line of this number can't be read, where it is known that it is the first such line.
@@ -37,7 +38,7 @@ fn push_flaw(text: &mut Vec<u8>, lines: &mut Lines<'_>, line: &[u8]) -> Result<(
     let Ok((_, first)) = lines.next() else {
         return push_text(text, "there is no line cluster NODES SLOTS");
     };
-    let Some(cluster) = cluster(first) else {
+    let Some(cluster) = cluster_size(first) else {
         return push_text(text, "not of the form cluster NODES SLOTS");
     };
     let Ok((_, second)) = lines.next() else {

@@ -11,7 +11,7 @@ use crate::reading::{Setup, read_plans};
 use crate::reasons::bad_plans;
 use crate::writing::write_run;
 use console_text::{
-    CommandError, Ended, IoTrouble, Output, Source, print_explained, push_number, push_text,
+    CommandError, Ended, IoTrouble, Output, Source, print_explained, push_named_number, push_text,
     read_source,
 };
 use group_task::NodeId;
@@ -50,7 +50,7 @@ pub fn threads<T: Threads + Wait + Sync, R: Read, W: Write>(
     // Promise: What `threads` writes is the text of the trace of a whole run of the plans that were read, or of a fault that has
     // its reason in them, or the first bad line.
     // Also: read_plans.
-    // Refuses: entry_left_out, line_of_another_worker, sizes_swapped, fault_answered_as_another.
+    // Refuses: entry_left_out, line_of_another_worker, schedule::sizes_swapped, fault_answered_as_another.
     ensures prints { Prints IsThreading (R.remaining input.old.reader) (W.contents output.old) (W.contents output.new) result.ending }
     ensures why { IsWhy plans_flaw (R.remaining input.old.reader) result.ending result.why.items }
     ensures reads { input.old.left ≤ input.new.left + 16777216 }
@@ -121,8 +121,7 @@ fn refuse(alloc: Global, fault: ThreadsFault) -> Result<Output, AllocError>
 fn push_unfinished(text: &mut Vec<u8>, node: NodeId, worker: Worker) -> Result<(), AllocError>
     ensures { OnOk result (text.new.items ≡ text.old.items ++ (codes "unfinished " ++ decimal node ++ codes " " ++ worker_name worker)) }
 {
-    push_text(text, "unfinished ")?;
-    push_number(text, u64::from(node.number()))?;
+    push_named_number(text, "unfinished ", u64::from(node.number()))?;
     push_text(text, " ")?;
     push_worker(text, worker)
 }

@@ -1,5 +1,5 @@
 -- What is left where no entry more can be taken.
-use Rattle.std.proofs.Common.{◌≡◌, ◌<◌, ◌==◌, ℕ, suc, ◌+◌, Bool, true, false, List, [], ◌∷◌, ◌++◌, length, Option, Some, None, slice_get, inl, inr, refl, sym, ap, ◌∙◌, subst, arith}
+use Rattle.std.proofs.Common.{◌≡◌, ◌<◌, ◌≤◌, ◌==◌, ℕ, suc, ◌+◌, Bool, true, false, List, [], ◌∷◌, ◌++◌, length, Option, Some, None, slice_get, slice_set, inl, inr, refl, sym, ap, ◌∙◌, subst, arith}
 use Rattle.std.specs.Prelude.{IfSome, IsSomeAnd}
 use Rattle.std.proofs.lemmas.Bool.{cases_Bool, cases_lt, eqb-true}
 use Rattle.std.proofs.lemmas.Option.{same_Some}
@@ -18,11 +18,14 @@ use Rattle.trace_check.specs.declared.trace.RecoverFault.TheVariants as recover
 use Rattle.trace_check.specs.declared.leftover.Holdup.{Holdup}
 use Rattle.trace_check.specs.declared.leftover.Holdup.TheVariants.{Waits, Misaddressed, Refused, Sends}
 use Rattle.trace_check.specs.declared.leftover.Leftover.{Leftover}
+use Rattle.trace_check.specs.declared.search.NodeView.{NodeView}
 use Rattle.trace_check.specs.Claims.{Claim, MayCome, what_at, what_of, after_claim, brought_by}
 use Rattle.trace_check.specs.Orders.{history, taken, state_of, IsSent, MayTake, IsLegal, IsStuck}
 use Rattle.trace_check.specs.Leftovers.{HoldsUp, HoldupsHold, IsMissing, IsHeldUp, AddsLeft, AreLeftBelow, CanReplay, IsFound}
+use Rattle.trace_check.specs.Searches.{IsAtRest, twin_after}
 use Rattle.trace_check.specs.Twins.{Twin}
 use Rattle.trace_check.proofs.Turning.{state_more}
+use Rattle.trace_check.proofs.Turns.{rests_spoiled, set_other}
 
 -- ---- a history that is brought forward again
 
@@ -126,8 +129,8 @@ quiet_silent self nodes s false (deed.NotRecovered true recover.Raise) quiet = t
 
 -- ---- the node's next entry, and those before it
 
-pub replayed_more : (hs : List (List Claim)) (n k : ℕ) (old new : Twin) (c : Claim) → old ≡ record { id = n; nodes = length hs; node = state_of hs n k } → slice_get (history hs n) k ≡ Some c → new.id ≡ old.id
-    → new.nodes ≡ old.nodes → new.node ≡ after_claim old.id old.nodes old.node c → new ≡ record { id = n; nodes = length hs; node = state_of hs n (k + 1) }
+pub replayed_more : (hs : List (List Claim)) (n k : ℕ) (old new : Twin) (c : Claim) → old ≡ twin_after hs n k → slice_get (history hs n) k ≡ Some c → new.id ≡ old.id
+    → new.nodes ≡ old.nodes → new.node ≡ after_claim old.id old.nodes old.node c → new ≡ twin_after hs n (k + 1)
 replayed_more hs n k old new c is at id nodes node =
     let more : suc k ≡ k + 1 = omega arith in
     let next : new.node ≡ state_of hs n (k + 1) =
@@ -169,3 +172,15 @@ left_one hs past n k place left new holdup up stuck is found pushed before =
     subst (λ (j : ℕ). AreLeftBelow hs past j new) more
     (subst (λ (ls : List Leftover). AreLeftBelow hs past (suc n) ls) (sym (pushed ∙ ap (λ (p : ℕ). left ++ record { node = n; index = p; holdup = holdup } ∷ []) is))
     (left_some hs past n left at.0 holdup stuck (ap (λ (p : ℕ). slice_get (history hs n) p) (sym is) ∙ at.1) (subst (λ (p : ℕ). HoldsUp n (length hs) (state_of hs n p) at.0 holdup) is at.2) before))
+
+-- the nodes from this number on stand as they did, and each at its place
+pub record StandStill (hs : List (List Claim)) (olds seats : List NodeView) (past : List ℕ) (number : ℕ) : Type 0 where
+  pub rests : IsAtRest hs seats past
+  pub kept : (n : ℕ) → number ≤ n → slice_get seats n ≡ slice_get olds n
+
+pub still_on : (hs : List (List Claim)) (olds seats : List NodeView) (past : List ℕ) (number k : ℕ) (s new : NodeView) → StandStill hs olds seats past number → k ≡ number → slice_get seats number ≡ Some s → new.place ≡ s.place
+    → StandStill hs olds (slice_set seats k new) past (number + 1)
+still_on hs olds seats past number k s new still is at same = record {
+  rests = subst (λ (j : ℕ). IsAtRest hs (slice_set seats j new) past) (sym is) (rests_spoiled hs seats past number s new still.rests at same);
+  kept = λ n above. set_other seats k new n (λ here. absurd (omega (arith, above, here, is))) ∙ still.kept n (omega (arith, above));
+}

@@ -15,8 +15,8 @@ use Rattle.trace_check.specs.declared.search.Judgement.TheVariants.{Stops, Waits
 use Rattle.trace_check.specs.Claims.{Claim, MayCome}
 use Rattle.trace_check.specs.Orders.{history, claims_of, taken, IsSent, IsLegal, IsStuck}
 use Rattle.trace_check.specs.Twins.{Twin}
-use Rattle.trace_check.specs.Searches.{twin_at, IsDesk, IsTaken, Judges, PostsAll}
-use Rattle.trace_check.proofs.Searches.{Reseats, twin_in, stop_desk, wait_desk, take_desk}
+use Rattle.trace_check.specs.Searches.{twin_at, IsAtRest, IsDesk, IsTaken, Judges, PostsAll}
+use Rattle.trace_check.proofs.Searches.{Reseats, same_or_other, twin_in, stop_desk, wait_desk, take_desk}
 
 -- ---- lists of nodes
 
@@ -30,7 +30,7 @@ set_here [] i v t at = absurd cc
 set_here (x ∷ xs) zero v t at = sym (same_Some v t at)
 set_here (x ∷ xs) (suc i) v t at = set_here xs i v t at
 
-set_other : (xs : List NodeView) (i : ℕ) (v : NodeView) (k : ℕ) → k ≢ i → slice_get (slice_set xs i v) k ≡ slice_get xs k
+pub set_other : (xs : List NodeView) (i : ℕ) (v : NodeView) (k : ℕ) → k ≢ i → slice_get (slice_set xs i v) k ≡ slice_get xs k
 set_other [] i v k other = refl
 set_other (x ∷ xs) zero v zero other = absurd (other refl)
 set_other (x ∷ xs) zero v (suc k) other = refl
@@ -169,6 +169,28 @@ outside_taken hs past n legal outside =
 
 pub desk_stuck : (hs : List (List Claim)) (seats : List NodeView) (ready stopped : List ℕ) (posted : List Envelope) (past : List ℕ) → IsDesk hs seats ready stopped posted past → ready ≡ [] → IsStuck hs past
 desk_stuck hs seats ready stopped posted past search none n may = search.waits n (ap (λ (ids : List ℕ). has ids n) none) may
+
+pub desk_rests : (hs : List (List Claim)) (seats : List NodeView) (ready stopped : List ℕ) (posted : List Envelope) (past : List ℕ) → IsDesk hs seats ready stopped posted past → ready ≡ [] → IsAtRest hs seats past
+desk_rests hs seats ready stopped posted past search none = record {
+  count = search.count;
+  places = λ n s at. (search.fits n s at).place;
+  legal = search.legal;
+  least = search.least;
+  stuck = desk_stuck hs seats ready stopped posted past search none;
+}
+
+-- a node model may change there
+pub rests_spoiled : (hs : List (List Claim)) (seats : List NodeView) (past : List ℕ) (n : ℕ) (old new : NodeView) → IsAtRest hs seats past → slice_get seats n ≡ Some old → new.place ≡ old.place → IsAtRest hs (slice_set seats n new) past
+rests_spoiled hs seats past n old new rests at same = record {
+  count = set_length seats n new ∙ rests.count;
+  places = λ k s here. elim (same_or_other k n) [
+    | inl is ↦ ap (λ (t : NodeView). t.place) (set_here seats n new s (subst (λ (j : ℕ). slice_get (slice_set seats n new) j ≡ Some s) is here)) ∙ same ∙ rests.places n old at ∙ ap (λ (j : ℕ). taken j past) (sym is)
+    | inr other ↦ rests.places k s (sym (set_other seats n new k other) ∙ here)
+  ];
+  legal = rests.legal;
+  least = rests.least;
+  stuck = rests.stuck;
+}
 
 -- the same under other names
 pub desk_same : (hs : List (List Claim)) (s s' : List NodeView) (r r' t t' : List ℕ) (p p' : List Envelope) (past : List ℕ) → s' ≡ s → r' ≡ r → t' ≡ t → p' ≡ p → IsDesk hs s r t p past → IsDesk hs s' r' t' p' past

@@ -21,6 +21,7 @@ use Rattle.node_core.specs.State.{State, is_down}
 use Rattle.node_core.specs.Wants.{wants_of}
 use Rattle.histories.specs.NodeState.{wants_at, effect_at}
 use Rattle.histories.specs.Possible.{IsForNode, Takes}
+use Rattle.histories.specs.declared.history_event.HistoryEvent.{HistoryEvent}
 use Rattle.histories.specs.declared.history_event.HistoryEvent.TheVariants.{Did}
 use Rattle.histories.proofs.PublicLaws.{at_down, stays_up}
 use Rattle.trace_check.specs.Twins.{Twin, IsTwin, Judged}
@@ -89,3 +90,8 @@ judged_handled t new event sent made true takes made_is as_sent doubt state dura
       ∙ ap (λ (o : Option Command). record { state = (effect_at t.id t.nodes t.node event).state; durable = after_wanted t.node.durable (wants_at t.id t.nodes t.node event); doubt = o }) doubt,
 )
 judged_handled t new event sent made false takes made_is as_sent doubt state durable = λ comes. clash false (as_sent.1 (made_is ∙ sym comes.1)) refl
+
+-- so where another list is said to be sent
+pub judged_same : (t new : Twin) (what : HistoryEvent) (made sent : List Envelope) (b : Bool) → Judged t new what made true → (IsTrue b ↔ (made ≡ sent)) → Judged t new what sent b
+judged_same t new what made sent true is same = ((is.0.0, sym (same.0 refl) ∙ is.0.1), is.1)
+judged_same t new what made sent false is same = λ comes. let yes : false ≡ true = same.1 (is.0.1 ∙ sym comes.1) in cc

@@ -9,13 +9,17 @@ use Rattle.trace_check.specs.declared.search.Search.{Search}
 use Rattle.trace_check.specs.declared.search.Judgement.{Judgement}
 use Rattle.trace_check.specs.declared.search.Judgement.TheVariants.{Stops, Waits, Takes}
 use Rattle.trace_check.specs.Claims.{Claim, MayCome, after_claim, brought_by}
-use Rattle.trace_check.specs.Orders.{history, taken, state_of, IsSent, MayTake, IsLegal, IsLeast}
+use Rattle.trace_check.specs.Orders.{history, taken, state_of, IsSent, MayTake, IsLegal, IsLeast, IsStuck}
 use Rattle.trace_check.specs.Posts.{IsPosted}
 use Rattle.trace_check.specs.Twins.{Twin}
 
+-- the node after so many entries of its history
+abbrev pub twin_after : List (List Claim) → ℕ → ℕ → Twin
+twin_after hs n many = record { id = n; nodes = length hs; node = state_of hs n many }
+
 -- the node as its entries leave it that were taken
 abbrev pub twin_at : List (List Claim) → List ℕ → ℕ → Twin
-twin_at hs past n = record { id = n; nodes = length hs; node = state_of hs n (taken n past) }
+twin_at hs past n = twin_after hs n (taken n past)
 
 -- the next entry of the node can't come, whatever is sent
 abbrev pub IsDead : List (List Claim) → List ℕ → ℕ → Type 0
@@ -39,6 +43,17 @@ pub record IsDesk (hs : List (List Claim)) (seats : List NodeView) (ready stoppe
 
 abbrev pub Fits : List (List Claim) → Search → Type 0
 Fits hs d = IsDesk hs d.seats.items d.ready d.stopped d.posted (reverse d.order.items)
+
+-- no entry more can be taken, and each node stands at its next
+pub record IsAtRest (hs : List (List Claim)) (seats : List NodeView) (past : List ℕ) : Type 0 where
+  pub count : length seats ≡ length hs
+  pub places : (n : ℕ) (s : NodeView) → slice_get seats n ≡ Some s → s.place ≡ taken n past
+  pub legal : IsLegal hs past
+  pub least : IsLeast hs past
+  pub stuck : IsStuck hs past
+
+abbrev pub Rests : List (List Claim) → Search → Type 0
+Rests hs d = IsAtRest hs d.seats.items (reverse d.order.items)
 
 -- ---- what is said of a node's next entry
 

@@ -1,6 +1,6 @@
 ghost use Rattle.std.specs.Prelude.{◌≡◌, ◌≤◌, ◌<◌, ◌+◌, [], ℕ, length, slice_get, reverse, IfOk, IsTrue, true, false, MatchOption, Ok, None};
 ghost use Rattle.group_task.specs.Ids.{has, without_id};
-ghost use Rattle.trace_check.specs.Searches.{Fits};
+ghost use Rattle.trace_check.specs.Searches.{Fits, Rests};
 ghost use Rattle.trace_check.specs.Leftovers.{AreLeftovers};
 ghost use Rattle.trace_check.specs.Orders.{history};
 ghost use Rattle.trace_check.specs.Verdicts.{AreTaken, IsVerdict, IsOrderOf, DecidesRun};
@@ -49,8 +49,8 @@ pub fn examine(alloc: Global, trace: &Trace) -> Result<Examined, AllocError>
     // Refuses: run_taken_in_another_order, last_turn_left_out.
     ensures taken { IfOk result (λ examined. AreTaken trace.now examined.verdict examined.taken.items) }
 {
-    let search = taken(alloc, trace)?;
-    let left = leftovers(alloc, trace, &search)?;
+    let mut search = taken(alloc, trace)?;
+    let left = leftovers(alloc, trace, &mut search)?;
     let taken = search.order.to_vec(alloc)?;
     let verdict = decided(trace, search);
     Ok(Examined {
@@ -61,9 +61,11 @@ pub fn examine(alloc: Global, trace: &Trace) -> Result<Examined, AllocError>
 }
 
 /// A check at its end: no entry more can be taken.
+#[tactic(auto, using(crate::proofs::Turns::desk_rests))]
 fn taken<'a>(alloc: Global, trace: &'a Trace) -> Result<Search<'a>, AllocError>
     ensures fits { IfOk result (Fits trace.now) }
     ensures none { IfOk result (λ search. search.ready ≡ []) }
+    ensures rests { IfOk result (Rests trace.now) }
 {
     let mut search = open(alloc, trace)?;
     for _turn in 0..u64::MAX {
@@ -175,8 +177,7 @@ fn take_next<'a>(trace: &'a Trace, search: &mut Search<'a>, id: NodeId) -> Resul
 
 /// The verdict, which decides whether some order is a run.
 fn decided(trace: &Trace, search: Search<'_>) -> Verdict
-    requires fits { Fits trace.now search }
-    requires none { search.ready ≡ [] }
+    requires { Rests trace.now search }
     ensures verdict { IsVerdict trace.now result }
     ensures decides { DecidesRun trace.now result }
     ensures order { IsOrderOf result search.entry.order.items }
@@ -186,8 +187,7 @@ fn decided(trace: &Trace, search: Search<'_>) -> Verdict
 
 /// The verdict, once no entry more can be taken.
 fn verdict(trace: &Trace, search: Search<'_>) -> Verdict
-    requires fits { Fits trace.now search }
-    requires none { search.ready ≡ [] }
+    requires { Rests trace.now search }
     ensures verdict { IsVerdict trace.now result }
     ensures order { IsOrderOf result search.entry.order.items }
 {

@@ -1,36 +1,42 @@
-//! What is left once no entry more can be taken. Each node that has entries left is brought through its history again, since the node model
-//! of one that was stopped is spoiled.
-ghost use Rattle.std.specs.Prelude.{◌≡◌, ◌<◌, ◌↔◌, [], length, slice_get, IfOk, IsTrue};
+//! What is left once no entry more can be taken. A node that was stopped is brought through its history again, since its node model is
+//! spoiled.
+ghost use Rattle.std.specs.Prelude.{◌≡◌, ◌<◌, ◌↔◌, [], length, slice_get, false, IfOk, OnOk, IsTrue};
 ghost use Rattle.histories.specs.HistoryEvent.{AreAddressed};
 ghost use Rattle.trace_check.specs.Claims.{brought_by};
-ghost use Rattle.trace_check.specs.Searches.{Fits};
+ghost use Rattle.trace_check.specs.Searches.{Fits, Rests, twin_after};
 ghost use Rattle.trace_check.specs.Leftovers.{AreLeftovers, CanReplay, HoldsUp, IsFound};
-ghost use Rattle.trace_check.specs.Orders.{history, state_of};
+ghost use Rattle.trace_check.specs.Orders.{history};
 ghost use Rattle.trace_check.specs.Traces.{claim_seen};
 
 use crate::history::EntryView;
 use crate::leftover::{Holdup, Leftover};
 use crate::node_model::{NodeModel, same};
-use crate::search::Search;
+use crate::search::{NodeView, Search};
 use crate::trace::{Trace, TraceAction};
 use group_task::NodeId;
 use std::alloc::{AllocError, Global};
+use wire_msg::Message;
 
-/// The next entry of each node that has entries left, with what holds it up, once no entry more can be taken.
+/// The next entry of each node that has entries left, with what holds it up, once no entry more can be taken. The node models are of no
+/// more use then.
 pub(crate) fn leftovers(
     alloc: Global,
     trace: &Trace,
-    search: &Search<'_>,
+    search: &mut Search<'_>,
 ) -> Result<Vec<Leftover>, AllocError>
-    requires fits { Fits trace.now search.now }
-    requires none { search.now.ready ≡ [] }
-    ensures { IfOk result (λ left. AreLeftovers trace.now left.items) }
+    requires fits { Fits trace.now search.old }
+    requires none { search.old.ready ≡ [] }
+    ensures left { IfOk result (λ left. AreLeftovers trace.now left.items) }
+    ensures rests { OnOk result (Rests trace.now search.new) }
 {
     let mut left = Vec::new(alloc);
     for number in 0..trace.nodes() {
         let node = NodeId::numbered(number);
-        let index = search.seats[usize::from(number)].place;
-        if let Some(holdup) = next_holdup(alloc, trace, node, index)? {
+        let is_stopped = search.stopped.contains(node);
+        let seat = &mut search.seats[usize::from(number)];
+        let found = next_holdup(alloc, trace, node, is_stopped, seat)?;
+        let index = seat.place;
+        if let Some(holdup) = found {
             left.push(Leftover {
                 node,
                 index,
@@ -41,25 +47,49 @@ pub(crate) fn leftovers(
     Ok(left)
 }
 
-/// What holds the node's entry at this place up, if there is one: those before it can come.
+/// What holds the node's next entry up, if there is one: those before it can come.
 fn next_holdup(
     alloc: Global,
     trace: &Trace,
     node: NodeId,
-    place: usize,
+    is_stopped: bool,
+    seat: &mut NodeView,
 ) -> Result<Option<Holdup>, AllocError>
     requires within { node < length trace.now }
-    requires before { CanReplay trace.now node place }
-    ensures { IfOk result (IsFound trace.now node place (slice_get (history trace.now node) place)) }
+    requires before { CanReplay trace.now node seat.old.place }
+    requires going { is_stopped ≡ false → seat.old.node_model ≡ twin_after trace.now node seat.old.place }
+    ensures found { IfOk result (IsFound trace.now node seat.old.place (slice_get (history trace.now node) seat.old.place)) }
+    ensures place { seat.new.place ≡ seat.old.place }
 {
-    let Some(entry) = trace.entry(node, place) else {
+    let Some(entry) = trace.entry(node, seat.place) else {
         return Ok(None);
     };
     if !is_for(&entry.deed, node) {
         return Ok(Some(Holdup::Misaddressed));
     }
-    let node_model = replayed(alloc, trace, node, place)?;
-    Ok(Some(holdup_at(node_model, &entry)?))
+    renew(alloc, trace, node, is_stopped, seat)?;
+    Ok(Some(holdup_at(&mut seat.node_model, &entry)?))
+}
+
+/// Brings a node that was stopped before its next entry again.
+fn renew(
+    alloc: Global,
+    trace: &Trace,
+    node: NodeId,
+    is_stopped: bool,
+    seat: &mut NodeView,
+) -> Result<(), AllocError>
+    requires within { node < length trace.now }
+    requires before { CanReplay trace.now node seat.old.place }
+    requires there { seat.old.place < length (history trace.now node) }
+    requires going { is_stopped ≡ false → seat.old.node_model ≡ twin_after trace.now node seat.old.place }
+    ensures node_model { OnOk result (seat.new.node_model ≡ twin_after trace.now node seat.old.place) }
+    ensures place { seat.new.place ≡ seat.old.place }
+{
+    if is_stopped {
+        seat.node_model = replayed(alloc, trace, node, seat.place)?;
+    }
+    Ok(())
 }
 
 /// Whether the message that was brought, if there is one, is for this node.
@@ -73,9 +103,9 @@ fn is_for(deed: &TraceAction, node: NodeId) -> bool
 }
 
 /// What holds an entry up at a node that stands before it.
-fn holdup_at(node_model: NodeModel, entry: &EntryView<'_>) -> Result<Holdup, AllocError>
-    requires { AreAddressed node_model.id (brought_by entry.now.deed) }
-    ensures { IfOk result (HoldsUp node_model.id node_model.nodes node_model.node (claim_seen entry.now)) }
+fn holdup_at(node_model: &mut NodeModel, entry: &EntryView<'_>) -> Result<Holdup, AllocError>
+    requires { AreAddressed node_model.old.id (brought_by entry.now.deed) }
+    ensures { IfOk result (HoldsUp node_model.old.id node_model.old.nodes node_model.old.node (claim_seen entry.now)) }
 {
     let phase = node_model.vector().group_state.phase;
     let Some(made) = node_model.sends(entry)? else {
@@ -98,14 +128,15 @@ fn replayed(
     requires within { node < length trace.now }
     requires before { CanReplay trace.now node many }
     requires there { many < length (history trace.now node) }
-    ensures { IfOk result (λ node_model. node_model ≡ record { id = node; nodes = length trace.now; node = state_of trace.now node many }) }
+    ensures { IfOk result (λ node_model. node_model ≡ twin_after trace.now node many) }
 {
     let mut node_model = NodeModel::new(alloc, node, trace.nodes())?;
+    let mut message = Message::blank();
     for place in 0..many {
-        let Some(entry) = trace.entry(node, place) else {
+        let Some(kept) = trace.kept(node, place) else {
             unreachable!()
         };
-        if !node_model.take(&entry)? {
+        if !node_model.take_kept(&kept, &mut message)? {
             unreachable!()
         }
     }

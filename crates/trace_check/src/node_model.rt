@@ -11,7 +11,7 @@ ghost use Rattle.histories.specs.declared.history_event.HistoryEvent.TheVariants
 ghost use Rattle.histories.specs.declared.history_event.NoOpKind.TheVariants.{Nothing};
 ghost use Rattle.histories.specs.Possible.{IsForNode, IsPossible};
 ghost use Rattle.trace_check.specs.Leftovers.{IsRefused, IsSilent, WouldSend};
-ghost use Rattle.trace_check.specs.Twins.{Comes, Judged, Taken, Settled, WantsOf};
+ghost use Rattle.trace_check.specs.Twins.{Judged, Taken, Settled, WantsOf};
 ghost use Rattle.trace_check.specs.Kept.{EventStands, event_said};
 ghost use Rattle.trace_check.specs.Traces.{claim, claim_seen};
 ghost use Rattle.trace_check.specs.Views.{Stands, claim_kept};
@@ -120,10 +120,10 @@ impl NodeModel {
     }
 
     /// The messages that the node sends where what the entry says was done comes here, whatever it says that was sent. None where that
-    /// isn't possible. Whether a message that was delivered was sent is left open.
-    pub fn sends(self, entry: &EntryView<'_>) -> Result<Option<Vec<Message>>, AllocError>
-        ensures { IfOk result (λ made. MatchOption made (IsRefused self.id self.nodes self.node (claim_seen entry.now))
-            (λ messages. WouldSend self.id self.nodes self.node (claim_seen entry.now) messages.items)) }
+    /// isn't possible. Whether a message that was delivered was sent is left open. The node model is of no more use then.
+    pub fn sends(&mut self, entry: &EntryView<'_>) -> Result<Option<Vec<Message>>, AllocError>
+        ensures { IfOk result (λ made. MatchOption made (IsRefused self.old.id self.old.nodes self.old.node (claim_seen entry.now))
+            (λ messages. WouldSend self.old.id self.old.nodes self.old.node (claim_seen entry.now) messages.items)) }
     {
         match &entry.deed {
             TraceAction::Done(event) => self.handled(event),
@@ -245,59 +245,50 @@ impl NodeModel {
     }
 
     /// An event that is handled.
+    #[tactic(auto, using(crate::proofs::Twins::judged_same))]
     fn handle(&mut self, event: &Event, sent: &Sent<'_>) -> Result<bool, AllocError>
         ensures id { self.new.id ≡ self.old.id }
         ensures nodes { self.new.nodes ≡ self.old.nodes }
         ensures judged { IfOk result (Judged self.old self.new (Did event.now) sent.now) }
     {
-        if !self.is_for_node(event) {
-            return Ok(false);
+        match self.handled(event)? {
+            Some(made) => Ok(same(&made, sent)),
+            None => Ok(false),
         }
-        let plan = match self.core.plan_step(event, self.durable_state.table()) {
-            Ok(plan) => plan,
-            Err(CoreFault::NoMemory) => return Err(AllocError),
-            Err(_) => return Ok(false),
-        };
-        let wants = plan.wanted();
-        if self.durable_state.is_spent(&wants) {
-            return Ok(false);
-        }
-        let answer = self.durable_state.take(&wants)?;
-        let made = self.core.commit_step(plan, answer);
-        Ok(same(&made, sent))
     }
 
     /// The messages that an event sends that is handled. None where it isn't taken.
-    fn handled(self, event: &Event) -> Result<Option<Vec<Message>>, AllocError>
-        ensures { IfOk result (λ made. MatchOption made (IsPossible self.id self.nodes self.node (Did event.now) → ⊥)
-            (λ messages. Comes self (Did event.now) messages.items)) }
+    fn handled(&mut self, event: &Event) -> Result<Option<Vec<Message>>, AllocError>
+        ensures id { self.new.id ≡ self.old.id }
+        ensures nodes { self.new.nodes ≡ self.old.nodes }
+        ensures made { IfOk result (λ made. MatchOption made (IsPossible self.old.id self.old.nodes self.old.node (Did event.now) → ⊥)
+            (λ messages. Judged self.old self.new (Did event.now) messages.items true)) }
     {
         if !self.is_for_node(event) {
             return Ok(None);
         }
-        let NodeModel {
-            mut core,
-            mut durable_state,
-            ..
-        } = self;
-        let plan = match core.plan_step(event, durable_state.table()) {
+        let plan = match self.core.plan_step(event, self.durable_state.table()) {
             Ok(plan) => plan,
             Err(CoreFault::NoMemory) => return Err(AllocError),
             Err(_) => return Ok(None),
         };
         let wants = plan.wanted();
-        if durable_state.is_spent(&wants) {
+        if self.durable_state.is_spent(&wants) {
             return Ok(None);
         }
-        let answer = durable_state.take(&wants)?;
-        Ok(Some(core.commit_step(plan, answer)))
+        let answer = self.durable_state.take(&wants)?;
+        Ok(Some(self.core.commit_step(plan, answer)))
     }
 
     /// What a recovery sends, at a node that is down or isn't.
-    fn risen(self, kept: bool, entry: &EntryView<'_>) -> Result<Option<Vec<Message>>, AllocError>
+    fn risen(
+        &mut self,
+        kept: bool,
+        entry: &EntryView<'_>,
+    ) -> Result<Option<Vec<Message>>, AllocError>
         requires { entry.now.deed ≡ deed.Recovered kept }
-        ensures { IfOk result (λ made. MatchOption made (IsRefused self.id self.nodes self.node (claim_seen entry.now))
-            (λ messages. WouldSend self.id self.nodes self.node (claim_seen entry.now) messages.items)) }
+        ensures { IfOk result (λ made. MatchOption made (IsRefused self.old.id self.old.nodes self.old.node (claim_seen entry.now))
+            (λ messages. WouldSend self.old.id self.old.nodes self.old.node (claim_seen entry.now) messages.items)) }
     {
         if self.is_down() {
             self.silent(entry)
@@ -309,19 +300,17 @@ impl NodeModel {
     }
 
     /// What an entry sends that sends nothing: an empty list, where it is possible.
-    fn silent(self, entry: &EntryView<'_>) -> Result<Option<Vec<Message>>, AllocError>
-        requires { IsSilent self.id self.nodes self.node (claim_seen entry.now) }
-        ensures { IfOk result (λ made. MatchOption made (IsRefused self.id self.nodes self.node (claim_seen entry.now))
-            (λ messages. WouldSend self.id self.nodes self.node (claim_seen entry.now) messages.items)) }
+    fn silent(&mut self, entry: &EntryView<'_>) -> Result<Option<Vec<Message>>, AllocError>
+        requires { IsSilent self.old.id self.old.nodes self.old.node (claim_seen entry.now) }
+        ensures { IfOk result (λ made. MatchOption made (IsRefused self.old.id self.old.nodes self.old.node (claim_seen entry.now))
+            (λ messages. WouldSend self.old.id self.old.nodes self.old.node (claim_seen entry.now) messages.items)) }
     {
-        let mut node = self;
-        let none = Vec::new(node.alloc);
         let alone = EntryView {
             deed: entry.deed,
             sent: entry.sent.none(),
         };
-        if node.take(&alone)? {
-            Ok(Some(none))
+        if self.take(&alone)? {
+            Ok(Some(Vec::new(self.alloc)))
         } else {
             Ok(None)
         }

@@ -1,13 +1,14 @@
 -- The nodes after one turn more.
-use Rattle.std.proofs.Common.{◌≡◌, ◌≢◌, ◌<◌, ◌==◌, ◌⊎◌, ℕ, zero, suc, ◌+◌, true, List, [], ◌∷◌, ◌++◌, length, slice_get, slice_set, slice_index_or, Some, inl, inr, refl, sym, ap, ◌∙◌, subst, arith}
+use Rattle.std.proofs.Common.{◌≡◌, ◌≢◌, ◌<◌, ◌==◌, ◌⊎◌, ℕ, ◌+◌, true, List, [], ◌∷◌, ◌++◌, length, reverse, slice_get, slice_set, slice_index_or, Some, inl, inr, refl, sym, ap, ◌∙◌, subst, arith}
 use Rattle.std.proofs.lemmas.Bool.{cases_Bool, cases_lt, eqb-true}
 use Rattle.std.proofs.lemmas.Bool.Decides.{nat_tests}
-use Rattle.std.proofs.lemmas.Option.{same_Some, slice_get_read}
+use Rattle.std.proofs.lemmas.Option.{slice_get_read}
 use Rattle.histories.specs.NodeState.{opening}
 use Rattle.trace_check.specs.Claims.{Claim, after_claim}
-use Rattle.trace_check.specs.Orders.{history, taken, state_of, MayTake}
+use Rattle.trace_check.specs.Followed.{before}
+use Rattle.trace_check.specs.Orders.{history, taken, state_of, IsLegal, MayTake}
 use Rattle.trace_check.specs.Twins.{Twin}
-use Rattle.trace_check.proofs.PublicLaws.{twin_in, turns, none_past}
+use Rattle.trace_check.proofs.PublicLaws.{may_take, twin_in, turns, none_past}
 use Rattle.trace_draw.specs.declared.walk.NodeView.{NodeView}
 use Rattle.trace_draw.specs.Walks.{AreSeats, seat_at}
 use Rattle.trace_draw.proofs.Lists.{set_length, set_at, last_or_before}
@@ -65,5 +66,13 @@ node_within hs past n may = elim (cases_lt n (length hs)) [
   | inr outside ↦ (let none : slice_get [] (taken n past) ≡ Some may.claim = subst (λ (h : List Claim). slice_get h (taken n past) ≡ Some may.claim) (none_past hs n outside) may.next in absurd cc)
 ]
 
-pub seat_here : (seats : List NodeView) (k n : ℕ) (s : NodeView) → k ≡ n → k < length seats → s ≡ slice_index_or seats k s → slice_get seats n ≡ Some s
+seat_here : (seats : List NodeView) (k n : ℕ) (s : NodeView) → k ≡ n → k < length seats → s ≡ slice_index_or seats k s → slice_get seats n ≡ Some s
 seat_here seats k n s is within at = subst (λ (j : ℕ). slice_get seats j ≡ Some s) is (slice_get_read seats (length seats) k s refl within at)
+
+-- the node of a turn can take it, and stands before it
+pub turn_seat : (hs : List (List Claim)) (order : List ℕ) (number node : ℕ) (seats : List NodeView) (k : ℕ) (s : NodeView) → IsLegal hs (reverse order) → slice_get order number ≡ Some node → AreSeats hs (before order number) seats → k ≡ node
+    → s ≡ slice_index_or seats k s → MayTake hs (before order number) node × (s ≡ seat_at hs (before order number) node)
+turn_seat hs order number node seats k s legal now are here at =
+    let may = may_take hs order number node legal now in
+    let within = node_within hs (before order number) node may in
+    let count = are.0 in (may, are.1 node s (seat_here seats k node s here (omega (arith, within, count, here)) at))

@@ -1,5 +1,9 @@
 //! The commands of traces. `trace`: a trace in, or several files that make one, the verdict on it out, and why no order takes all entries where none
 //! does. `draw`: a trace in, a picture of the run out.
+//!
+//! ```
+//! let ended = trace(alloc, Stage::Over, &mut input, &mut output); // a line: Run, or NotARun with the place of an entry
+//! ```
 #![tactic(auto)]
 
 mod bands;

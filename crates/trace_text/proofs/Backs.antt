@@ -1,6 +1,7 @@
 -- The JSON value that is written for a trace stands for that trace.
 use Rattle.std.proofs.Common.{◌≡◌, ◌<◌, ◌≤◌, ◌+◌, ◌^◌, ℕ, suc, Bool, true, false, List, [], ◌∷◌, length, map, Option, Some, None, Result, Ok, codes, refl, ap, ◌∙◌, arith, lt-ltb, le-leb, eq-eqb}
 use Rattle.std.specs.Prelude.{if◌then◌else◌, ◌==◌, option_map, option_and_then}
+use Rattle.std.specs.Result.{result_ok}
 use Rattle.hex.specs.Hex.{encode_lower, decode_of}
 use Rattle.hex.specs.declared.error.FromHexError.{FromHexError}
 use Rattle.hex.proofs.HexLemmas.{decode_of-encode_lower}
@@ -25,7 +26,7 @@ use Rattle.trace_check.specs.declared.trace.RecoverFault.TheVariants as recover
 use Rattle.trace_check.specs.Claims.{Claim}
 use Rattle.trace_text.specs.declared.fault.Location.{Location}
 use Rattle.trace_text.specs.Fields.{fields_in}
-use Rattle.trace_text.specs.Entries.{good, message_in, with_first, messages_in, below, short, priority_in, submitted, done_in, deed_in, claim_in}
+use Rattle.trace_text.specs.Entries.{message_in, with_first, messages_in, below, short, priority_in, submitted, done_in, deed_in, claim_in}
 use Rattle.trace_text.specs.Fits.{WorkFits, DeedFits, ClaimFits, TraceFits, HasName, IsWritable}
 use Rattle.trace_text.specs.Wholes.{first_entry, entries_from, first_history, histories_from, count_items, all_lists, shape_in, in_shape}
 use Rattle.trace_text.specs.Written.{message_data, entry_data, history_data, trace_data}
@@ -34,7 +35,7 @@ use Rattle.trace_text.specs.Written.{message_data, entry_data, history_data, tra
 
 message_back : (m : Envelope) → IsMessage m → message_in (Some (message_data m)) ≡ Some m
 message_back m fits =
-    ap (λ (r : Result (List ℕ) FromHexError). option_and_then message_of (good r)) (decode_of-encode_lower (spelling m) (IsBytes-spelling m fits))
+    ap (λ (r : Result (List ℕ) FromHexError). option_and_then message_of (result_ok r)) (decode_of-encode_lower (spelling m) (IsBytes-spelling m fits))
     ∙ spelled_is_message (spelling m) m (record { message = fits; spelled = refl })
 
 messages_back : (ms : List Envelope) → Each IsMessage ms → messages_in (items_of (map message_data ms)) ≡ Some ms
@@ -55,9 +56,9 @@ priority_back : (b : Bool) (p : ℕ) → (p == 0) ≡ b → p < 2 ^ 8 → priori
 priority_back true p is fits = ap (λ (n : ℕ). Some n) (grind (arith, is))
 priority_back false p is fits = let more : 0 < p = grind (arith, is) in let few : p < 256 = omega (arith, fits) in rw (lt-ltb 0 p more, lt-ltb p 256 few)
 
-payload_back : (bytes : List ℕ) → length bytes ≤ PAYLOAD_CAPACITY → AreBytes bytes → option_and_then short (good (decode_of (encode_lower bytes))) ≡ Some bytes
+payload_back : (bytes : List ℕ) → length bytes ≤ PAYLOAD_CAPACITY → AreBytes bytes → option_and_then short (result_ok (decode_of (encode_lower bytes))) ≡ Some bytes
 payload_back bytes few fits =
-    ap (λ (r : Result (List ℕ) FromHexError). option_and_then short (good r)) (decode_of-encode_lower bytes (IsBytes-from_all bytes fits)) ∙ rw (le-leb (length bytes) PAYLOAD_CAPACITY few)
+    ap (λ (r : Result (List ℕ) FromHexError). option_and_then short (result_ok r)) (decode_of-encode_lower bytes (IsBytes-from_all bytes fits)) ∙ rw (le-leb (length bytes) PAYLOAD_CAPACITY few)
 
 -- ---- what was done
 

@@ -154,26 +154,20 @@ module _ (depth : ℕ) (ts : List Token) where
   no_object t d r other there = passed as_object plain d r (data_at depth (t ∷ ts)) (other_than_object t other) there
 
 -- the same, of what a reader hands out
+told : (t : Read) → (token_of t ≡ Token.begin_array → t ≡ front.BeginArray) × (token_of t ≡ Token.begin_object → t ≡ front.BeginObject)
+told front.BeginObject = (λ is. absurd cc, λ is. refl)
+told front.EndObject = (λ is. absurd cc, λ is. absurd cc)
+told front.BeginArray = (λ is. refl, λ is. absurd cc)
+told front.EndArray = (λ is. absurd cc, λ is. absurd cc)
+told (front.Key s) = (λ is. absurd cc, λ is. absurd cc)
+told (front.String s) = (λ is. absurd cc, λ is. absurd cc)
+told (front.Number s) = (λ is. absurd cc, λ is. absurd cc)
+told (front.Bool b) = (λ is. absurd cc, λ is. absurd cc)
+told front.Null = (λ is. absurd cc, λ is. absurd cc)
+told front.Bad = (λ is. absurd cc, λ is. absurd cc)
+
 pub told_list : (t : Read) → (t ≡ front.BeginArray → ⊥) → token_of t ≡ Token.begin_array → ⊥
-told_list front.BeginObject other is = cc
-told_list front.EndObject other is = cc
-told_list front.BeginArray other is = other refl
-told_list front.EndArray other is = cc
-told_list (front.Key s) other is = cc
-told_list (front.String s) other is = cc
-told_list (front.Number s) other is = cc
-told_list (front.Bool b) other is = cc
-told_list front.Null other is = cc
-told_list front.Bad other is = cc
+told_list t other is = other ((told t).0 is)
 
 pub told_object : (t : Read) → (t ≡ front.BeginObject → ⊥) → token_of t ≡ Token.begin_object → ⊥
-told_object front.BeginObject other is = other refl
-told_object front.EndObject other is = cc
-told_object front.BeginArray other is = cc
-told_object front.EndArray other is = cc
-told_object (front.Key s) other is = cc
-told_object (front.String s) other is = cc
-told_object (front.Number s) other is = cc
-told_object (front.Bool b) other is = cc
-told_object front.Null other is = cc
-told_object front.Bad other is = cc
+told_object t other is = other ((told t).1 is)

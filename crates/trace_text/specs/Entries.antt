@@ -1,6 +1,7 @@
 -- The entry that a JSON value stands for.
-use Rattle.std.specs.Prelude.{ℕ, Bool, true, false, List, [], ◌∷◌, Option, Some, None, option_map, option_and_then, if◌then◌else◌, ◌&&◌, nat_lt, nat_le, length, codes, Result, Ok, Err}
+use Rattle.std.specs.Prelude.{ℕ, Bool, true, false, List, [], ◌∷◌, Option, Some, None, option_map, option_and_then, if◌then◌else◌, ◌&&◌, nat_lt, nat_le, length, codes}
 use Rattle.std.specs.Option.{option_or}
+use Rattle.std.specs.Result.{result_ok}
 use Rattle.std.specs.Str.{bytes_eq}
 use Rattle.serde_json.specs.Data.{Data, Items, no_items, item}
 use Rattle.serde_json.specs.Find.{get, as_str, as_bool, as_array, as_number, as_u64}
@@ -20,17 +21,13 @@ use Rattle.trace_check.specs.declared.trace.TraceAction.TheVariants as deed
 use Rattle.trace_check.specs.declared.trace.RecoverFault.TheVariants as recover
 use Rattle.trace_check.specs.Claims.{Claim}
 
-abbrev pub good : {A E : Type 0} → Result A E → Option A
-good (Ok a) = Some a
-good (Err e) = None
-
 -- bytes, as a text of hex digits
 abbrev pub bytes_in : Option Data → Option (List ℕ)
-bytes_in d = option_and_then (λ (text : List ℕ). good (decode_of text)) (option_and_then as_str d)
+bytes_in d = option_and_then (λ (text : List ℕ). result_ok (decode_of text)) (option_and_then as_str d)
 
 -- the message that a text of hex digits spells
 abbrev pub spelled_in : List ℕ → Option Envelope
-spelled_in text = option_and_then message_of (good (decode_of text))
+spelled_in text = option_and_then message_of (result_ok (decode_of text))
 
 abbrev pub message_in : Option Data → Option Envelope
 message_in d = option_and_then spelled_in (option_and_then as_str d)

@@ -3,6 +3,12 @@
 //! A trace is an object with `nodes` and `histories`, and an entry an object with `do`, `sent` and the fields that its `do` names:
 //! docs/SIMULATION.md has them all. The definitions in `specs/` say which trace a text is, as functions of the value that `serde_json`
 //! reads in it.
+//!
+//! ```
+//! let trace = read(alloc, text)?;                                 // or which entry is the first that can't be read
+//! let verdict = check(alloc, &trace)?;                            // trace_check's
+//! let text = write(alloc, &trace)?;                               // compact JSON, which reads back as this trace
+//! ```
 #![tactic(auto)]
 
 mod fault;

@@ -1,11 +1,12 @@
-ghost use Rattle.std.specs.Prelude.{◌≡◌, codes, IfOk, option_map, option_and_then, Some, None, MatchBool, false};
+ghost use Rattle.std.specs.Prelude.{◌≡◌, codes, IfOk, length, option_map, option_and_then, Some, None, false};
+ghost use Rattle.std.specs.Result.{result_ok};
 ghost use Rattle.std.specs.Str.{bytes_eq};
 ghost use Rattle.serde_json.specs.Find.{as_str};
 ghost use Rattle.hex.specs.Hex.{decode_of};
 ghost use Rattle.group_task.specs.declared.node.TheConstants.{NODES};
 ghost use Rattle.job_model.specs.declared.queue.TheConstants.{QUEUES};
 ghost use Rattle.trace_text.specs.Fields.{data_of, fields_by};
-ghost use Rattle.trace_text.specs.Entries.{good, below, bytes_in, spelled_in, message_in, number_in, priority_in, deliver_in, submit_in, finish_in, event_in, device_in, recover_in, deed_named, deed_in};
+ghost use Rattle.trace_text.specs.Entries.{below, bytes_in, spelled_in, message_in, number_in, priority_in, deliver_in, submit_in, finish_in, event_in, device_in, recover_in, deed_named, deed_in};
 ghost use Rattle.trace_text.specs.Places.{IsRead, recovery_said, with_device};
 
 use crate::fields::{Field, Fields};
@@ -31,22 +32,38 @@ fn number_of(field: Option<Field<'_>>) -> Option<u64>
     field?.number()
 }
 
-/// The bytes that a field has as hex digits go to the room, if it has some.
-fn bytes_of(room: &mut Vec<u8>, field: Option<Field<'_>>) -> Result<bool, AllocError>
-    ensures { IfOk result (λ some. MatchBool some (bytes_in (option_map data_of field.entry) ≡ Some room.new.items) (bytes_in (option_map data_of field.entry) ≡ None)) }
+/// The bytes that a field has as hex digits, if it has some. They stand in the room.
+fn bytes_of<'a>(
+    room: &'a mut Vec<u8>,
+    field: Option<Field<'_>>,
+) -> Result<Option<&'a [u8]>, AllocError>
+    ensures { IfOk result (λ bytes. option_map (λ b. b.now) bytes ≡ bytes_in (option_map data_of field.entry)) }
 {
     match text_of(field) {
         Some(text) => read_bytes(room, text),
-        None => Ok(false),
+        None => Ok(None),
     }
 }
 
-/// The bytes of hex digits go to the room, if it is some.
-fn read_bytes(room: &mut Vec<u8>, text: &[u8]) -> Result<bool, AllocError>
-    ensures { IfOk result (λ some. MatchBool some (good (decode_of text.now) ≡ Some room.new.items) (good (decode_of text.now) ≡ None)) }
+/// The bytes of hex digits, if it is some. They stand in the room.
+fn read_bytes<'a>(room: &'a mut Vec<u8>, text: &[u8]) -> Result<Option<&'a [u8]>, AllocError>
+    ensures { IfOk result (λ bytes. option_map (λ b. b.now) bytes ≡ result_ok (decode_of text.now)) }
 {
-    room.resize(text.len() / 2, 0)?;
-    Ok(hex::decode_to_slice(text, room.as_mut_slice()).is_ok())
+    let front = lend_front(room, text.len() / 2)?;
+    match hex::decode_to_slice(text, front) {
+        Ok(()) => Ok(Some(front)),
+        Err(_) => Ok(None),
+    }
+}
+
+/// So many bytes of the room, which grows alone: to shorten it and fill it again would cost more than to read the digits.
+fn lend_front(room: &mut Vec<u8>, many: usize) -> Result<&mut [u8], AllocError>
+    ensures { IfOk result (λ front. length front.now ≡ many) }
+{
+    if room.len() < many {
+        room.resize(many, 0)?;
+    }
+    Ok(&mut room[..many])
 }
 
 /// The message that a field has as hex digits goes in the place of another, if it has one.
@@ -67,10 +84,10 @@ pub(crate) fn read_message(
 fn read_spelled(room: &mut Vec<u8>, text: &[u8], message: &mut Message) -> Result<bool, AllocError>
     ensures { IfOk result (λ some. IsRead some message.new (spelled_in text.now)) }
 {
-    if !read_bytes(room, text)? {
+    let Some(bytes) = read_bytes(room, text)? else {
         return Ok(false);
-    }
-    match decode_into(room, message) {
+    };
+    match decode_into(bytes, message) {
         Ok(()) => Ok(true),
         Err(_) => Ok(false),
     }
@@ -271,10 +288,10 @@ fn read_submit(
     let Some(priority) = priority_of(fields.priority) else {
         return Ok(false);
     };
-    if !bytes_of(room, fields.payload)? {
+    let Some(bytes) = bytes_of(room, fields.payload)? else {
         return Ok(false);
-    }
-    match Payload::new(room) {
+    };
+    match Payload::new(bytes) {
         Some(payload) => {
             *event = Event::Submit(Work {
                 queue,

@@ -1,6 +1,4 @@
 use Rattle.std.proofs.Common.{sym, ◌∙◌}
-use Rattle.durable_node.specs.Node.{Node}
-use Rattle.sector_disk.specs.Memory.{Memory}
 use Rattle.cluster_sim.proofs.Answering.{area_stays, armed_within}
 use Rattle.cluster_sim.proofs.member.arm.Goals as goal
 

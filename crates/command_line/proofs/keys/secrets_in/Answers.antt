@@ -1,4 +1,4 @@
-use Rattle.std.proofs.Common.{◌≡◌, ◌∷◌, ◌∙◌, sym, ap, List, ℕ}
+use Rattle.std.proofs.Common.{◌∷◌, ◌∙◌, sym, ap, List, ℕ}
 use Rattle.command_line.specs.Keys.{secrets_of}
 use Rattle.command_line.proofs.Texts.{too_many}
 use Rattle.command_line.proofs.keys.secrets_in.Goals as goal

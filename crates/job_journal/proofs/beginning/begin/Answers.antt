@@ -1,13 +1,13 @@
-use Rattle.job_journal.proofs.Common.{◌∙◌, IsOk, refl, arith, run_on, jobs_of}
+use Rattle.job_journal.proofs.Common.{◌∙◌, arith, run_on, jobs_of}
 use Rattle.job_journal.proofs.Areas.{areas_within}
-use Rattle.job_journal.proofs.Beginnings.{begun, unwritten}
+use Rattle.job_journal.proofs.Beginnings.{begun}
 use Rattle.job_journal.proofs.beginning.begin.Goals as goal
 
-pub returns-in_default-clause-writes : goal.returns-in_default-clause-writes
-returns-in_default-clause-writes g c = record { answers = grind arith; counts = grind arith; run = λ honest. areas_within c.args.slots (c.unseal_all.ensures.writes.run honest) }
+pub returns-in_err-or-clause-writes : goal.returns-in_err-or-clause-writes
+returns-in_err-or-clause-writes g c = record { answers = grind arith; counts = grind arith; run = λ honest. areas_within c.args.slots (c.unseal_all.ensures.writes.run honest) }
 
-pub returns-in_default-write_records-clause-writes : goal.returns-in_default-write_records-clause-writes
-returns-in_default-write_records-clause-writes g c = record {
+pub returns-in_err-or-2-clause-writes : goal.returns-in_err-or-2-clause-writes
+returns-in_err-or-2-clause-writes g c = record {
   answers = grind arith;
   counts = grind arith;
   run = run_on _ (λ k is. (omega (arith, is.0), omega (arith, is.1))) c.unseal_all.ensures.writes.counts.honest (λ honest. areas_within c.args.slots (c.unseal_all.ensures.writes.run honest)) c.write_records.ensures.writes.run;
@@ -23,20 +23,12 @@ returns-clause-writes g c = record {
 
 pub returns-clause-jobs : goal.returns-clause-jobs
 returns-clause-jobs g c = λ honest ok i image.
-    let mid = c.unseal_all.ensures.writes.counts.honest ∙ honest in
-    let still = c.write_records.ensures.writes.counts.honest ∙ mid in
-    let went : IsOk c.format.result = grind arith in
-    let jobs = jobs_of c.args.table.now in
-    let written = c.in-Ok-write_records.ensures.written mid refl (unwritten c.args.slots jobs _ (c.in-Ok.ensures.unsealed honest refl)) in
-    (begun c.args.slots jobs (c.in-Ok-write_records.ensures.in_order refl) c.requires.room written (c.format.ensures.writes.run still) (c.format.ensures.synced still went) i image
-    (c.format.ensures.value still went i image)).0
+    let state = g.D.SectorDisk.state in
+    (begun c.args.slots (jobs_of c.args.table.now) (state c.args.disk.now) (state c.unseal_all.new.disk) c.unseal_all.ensures.writes.counts.honest c.write_records.ensures.writes.counts.honest (c.write_records.ensures.in_order (grind arith)) c.requires.room
+    (λ h. c.unseal_all.ensures.unsealed h (grind arith)) (λ h. c.write_records.ensures.written h (grind arith)) c.format.ensures.writes.run (λ h. c.format.ensures.synced h (grind arith)) (λ h. c.format.ensures.value h (grind arith)) honest i image).0
 
 pub returns-clause-sound : goal.returns-clause-sound
 returns-clause-sound g c = λ honest ok now i image.
-    let mid = c.unseal_all.ensures.writes.counts.honest ∙ honest in
-    let still = c.write_records.ensures.writes.counts.honest ∙ mid in
-    let went : IsOk c.format.result = grind arith in
-    let jobs = jobs_of c.args.table.now in
-    let written = c.in-Ok-write_records.ensures.written mid refl (unwritten c.args.slots jobs _ (c.in-Ok.ensures.unsealed honest refl)) in
-    (begun c.args.slots jobs (c.in-Ok-write_records.ensures.in_order refl) c.requires.room written (c.format.ensures.writes.run still) (c.format.ensures.synced still went) i image
-    (c.format.ensures.value still went i image)).1
+    let state = g.D.SectorDisk.state in
+    (begun c.args.slots (jobs_of c.args.table.now) (state c.args.disk.now) (state c.unseal_all.new.disk) c.unseal_all.ensures.writes.counts.honest c.write_records.ensures.writes.counts.honest (c.write_records.ensures.in_order (grind arith)) c.requires.room
+    (λ h. c.unseal_all.ensures.unsealed h (grind arith)) (λ h. c.write_records.ensures.written h (grind arith)) c.format.ensures.writes.run (λ h. c.format.ensures.synced h (grind arith)) (λ h. c.format.ensures.value h (grind arith)) honest i image).1

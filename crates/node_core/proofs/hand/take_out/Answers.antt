@@ -1,5 +1,5 @@
 use Rattle.std.proofs.Common.{◌∙◌, ap, drop, arith}
-use Rattle.node_core.proofs.Holds.{moved_down}
+use Rattle.job_model.proofs.PublicLaws.{moved_down}
 use Rattle.node_core.proofs.hand.take_out.Goals as goal
 
 pub returns-else-at-len-clause-jobs : goal.returns-else-at-len-clause-jobs

@@ -3,9 +3,8 @@ use Rattle.std.proofs.lemmas.Result.{on_ok_weaker}
 use Rattle.threads_console.specs.Printed.{worker_name}
 use Rattle.threads_console.proofs.running.push_unfinished.Goals as goal
 
-four : (t a b c d : List ℕ) → (((t ++ a) ++ b) ++ c) ++ d ≡ t ++ (((a ++ b) ++ c) ++ d)
-four t a b c d =
-    ap (λ (text : List ℕ). text ++ d) (ap (λ (text : List ℕ). text ++ c) (append_assoc t a b) ∙ append_assoc t (a ++ b) c) ∙ append_assoc t ((a ++ b) ++ c) d
+three : (t a b c : List ℕ) → ((t ++ a) ++ b) ++ c ≡ t ++ ((a ++ b) ++ c)
+three t a b c = ap (λ (text : List ℕ). text ++ c) (append_assoc t a b) ∙ append_assoc t (a ++ b) c
 
 pub returns : goal.returns
 returns c =
@@ -13,7 +12,7 @@ returns c =
     let name = worker_name c.args.worker in
     let node : c.from.result ≡ c.args.node = search rules in
     on_ok_weaker c.push_worker.result
-    (λ last. last ∙ ap (λ (text : List ℕ). text ++ name) (c.in_ok-push_text-2.ensures ∙ ap (λ (text : List ℕ). text ++ codes " ")
-    (c.in_ok-push_number.ensures ∙ ap (λ (text : List ℕ). text ++ decimal c.from.result) c.in_ok-push_text.ensures ∙ ap (λ (k : ℕ). (t ++ codes "unfinished ") ++ decimal k) node))
-    ∙ four t (codes "unfinished ") (decimal c.args.node) (codes " ") name)
+    (λ last. last ∙ ap (λ (text : List ℕ). text ++ name) (c.in_ok-push_text.ensures ∙ ap (λ (text : List ℕ). text ++ codes " ")
+    (c.in_ok-push_named_number.ensures ∙ ap (λ (k : ℕ). t ++ (codes "unfinished " ++ decimal k)) node))
+    ∙ three t (codes "unfinished " ++ decimal c.args.node) (codes " ") name)
     c.push_worker.ensures

@@ -4,7 +4,7 @@ use Rattle.std.proofs.lemmas.Bool.{cases_lt}
 use Rattle.std.proofs.lemmas.Option.{slice_get_within}
 use Rattle.trace_check.specs.Claims.{Claim}
 use Rattle.trace_check.specs.Orders.{history, taken}
-use Rattle.trace_check.proofs.Turns.{all_taken, outside_taken, desk_stuck, seat_at}
+use Rattle.trace_check.proofs.Turns.{all_taken, outside_taken, seat_at}
 use Rattle.trace_check.proofs.checking.verdict.Goals as goal
 
 is_none : {A : Type 0} (o : Option A) → false ≡ is_some o → IsNone o
@@ -24,14 +24,14 @@ loop-number-preserved c = λ n less.
       | inl before ↦ c.loop-number.invariant n before
       | inr not_before ↦ (
           let here : n ≡ number = omega (arith, less, not_before) in
-          let count = c.requires.fits.count in
+          let count = c.requires.count in
           let size = c.nodes-number-end.ensures.value in
           let test = c.loop-number-test.true in
           let from = c.from.ensures in
           let at = seat_at c.args.search.seats.items c.from.result number c.index.result.now from (omega (arith, from, count, size, test)) c.index.ensures in
           let none : slice_get (history hs number) c.index.result.now.place ≡ None =
           subst (λ (k : ℕ). slice_get (history hs k) c.index.result.now.place ≡ None) c.numbered-id.ensures (c.entry.ensures.none (is_none c.entry.result (sym c.if-is_some.false ∙ c.is_some.ensures))) in
-          subst (λ (k : ℕ). taken k past ≡ length (history hs k)) (sym here) (all_taken hs past number c.index.result.now.place c.requires.fits.legal (c.requires.fits.fits number c.index.result.now at).place none)
+          subst (λ (k : ℕ). taken k past ≡ length (history hs k)) (sym here) (all_taken hs past number c.index.result.now.place c.requires.legal (c.requires.places number c.index.result.now at) none)
           )
     ]
 
@@ -39,11 +39,11 @@ pub returns-clause-verdict : goal.returns-clause-verdict
 returns-clause-verdict c =
     let hs = c.args.trace.now in
     let past = reverse c.args.search.order.items in (
-      c.requires.fits.legal,
-      c.requires.fits.least,
+      c.requires.legal,
+      c.requires.least,
       λ n. elim (cases_lt n c.loop-number.number) [
         | inl before ↦ c.loop-number.invariant n before
-        | inr not_before ↦ outside_taken hs past n c.requires.fits.legal (let size = c.nodes-number-end.ensures.value in let test = c.loop-number-test.false in omega (arith, size, test, not_before))
+        | inr not_before ↦ outside_taken hs past n c.requires.legal (let size = c.nodes-number-end.ensures.value in let test = c.loop-number-test.false in omega (arith, size, test, not_before))
       ],
     )
 
@@ -53,17 +53,17 @@ returns-then-is_some-clause-verdict c =
     let d = c.args.search in
     let past = reverse d.order.items in
     let number = c.loop-number.number in
-    let count = c.requires.fits.count in
+    let count = c.requires.count in
     let size = c.nodes-number-end.ensures.value in
     let test = c.loop-number-test.true in
     let from = c.from.ensures in
     let id = c.numbered-id.ensures in
     let at = seat_at d.seats.items c.from.result number c.index.result.now from (omega (arith, from, count, size, test)) c.index.ensures in (
       past,
-      c.requires.fits.legal,
-      c.requires.fits.least,
-      desk_stuck hs d.seats.items d.ready d.stopped d.posted past c.requires.fits c.requires.none,
-      (c.requires.fits.fits number c.index.result.now at).place ∙ ap (λ (k : ℕ). taken k past) (sym id),
+      c.requires.legal,
+      c.requires.least,
+      c.requires.stuck,
+      (c.requires.places number c.index.result.now at) ∙ ap (λ (k : ℕ). taken k past) (sym id),
       some_there c.entry.result (history hs c.numbered-id.result) c.index.result.now.place _ (sym c.if-is_some.true ∙ c.is_some.ensures) c.entry.ensures.some,
       λ m less. c.loop-number.invariant m (omega (arith, less, id)),
     )

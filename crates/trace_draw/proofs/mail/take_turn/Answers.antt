@@ -1,4 +1,4 @@
-use Rattle.std.proofs.Common.{◌≡◌, ◌≤◌, ◌<◌, ℕ, suc, ◌+◌, List, [], ◌∷◌, ◌++◌, length, option_map, get_or, Option, Some, None, refl, sym, ap, ◌∙◌, subst, arith}
+use Rattle.std.proofs.Common.{◌≡◌, ◌≤◌, ℕ, ◌+◌, List, ◌++◌, length, option_map, get_or, Option, sym, ap, ◌∙◌, subst}
 use Rattle.std.proofs.lemmas.Option.{same_Some}
 use Rattle.wire_msg.specs.Envelope.{Envelope}
 use Rattle.trace_check.specs.Claims.{Claim, brought_by}
@@ -10,20 +10,8 @@ use Rattle.trace_draw.specs.Mails.{IsMail}
 use Rattle.trace_draw.proofs.Steps.{entry_at, one_brought, sendings_more, sent_before, source_of_turn, step_read}
 use Rattle.trace_draw.proofs.mail.take_turn.Goals as goal
 
-pub find-source-requires-clause-sent : goal.find-source-requires-clause-sent
-find-source-requires-clause-sent c = λ m brings.
-    let hs = c.args.trace.now in
-    let order = c.args.order.now.nodes.items in
-    let steps = c.args.steps.now in
-    let turn = c.args.turn in
-    let node = c.index-node.result.now in
-    let s = get_or steps turn c.index-steps-turn.result in
-    let step = step_read hs order steps turn node c.index-steps-turn.result c.requires.steps c.requires.within c.index-node.ensures c.index-steps-turn.is in
-    let brought : c.in-Some.brought ≡ brought_by step.0.deed = same_Some _ _ (sym c.in-Some.is ∙ c.brought.ensures ∙ ap (option_map (λ (k : Claim). brought_by k.deed)) (entry_at hs order turn node step.0 s step.1)) in
-    subst (λ (all : List Sending). WasSent all m) (sym c.requires.mail.sendings) (sent_before hs order turn node step.0 m c.requires.legal step.1.takes (sym brought ∙ brings))
-
-pub find-source-requires-clause-few : goal.find-source-requires-clause-few
-find-source-requires-clause-few c =
+pub find-source-requires : goal.find-source-requires
+find-source-requires c =
     let hs = c.args.trace.now in
     let order = c.args.order.now.nodes.items in
     let steps = c.args.steps.now in
@@ -33,10 +21,14 @@ find-source-requires-clause-few c =
     let step = step_read hs order steps turn node c.index-steps-turn.result c.requires.steps c.requires.within c.index-node.ensures c.index-steps-turn.is in
     let brought : c.in-Some.brought ≡ brought_by step.0.deed = same_Some _ _ (sym c.in-Some.is ∙ c.brought.ensures ∙ ap (option_map (λ (k : Claim). brought_by k.deed)) (entry_at hs order turn node step.0 s step.1)) in
     let few = one_brought step.0.deed in
-    subst (λ (ms : List Envelope). length ms ≤ 1) (sym brought) few
+    record {
+      few = subst (λ (ms : List Envelope). length ms ≤ 1) (sym brought) few;
+      latest = c.requires.mail.latest;
+      sent = λ m brings. subst (λ (all : List Sending). WasSent all m) (sym c.requires.mail.sendings) (sent_before hs order turn node step.0 m c.requires.legal step.1.takes (sym brought ∙ brings));
+    }
 
-pub returns-clause-source : goal.returns-clause-source
-returns-clause-source c =
+pub returns : goal.returns
+returns c =
     let hs = c.args.trace.now in
     let order = c.args.order.now.nodes.items in
     let steps = c.args.steps.now in
@@ -45,23 +37,15 @@ returns-clause-source c =
     let s = get_or steps turn c.index-steps-turn.result in
     let step = step_read hs order steps turn node c.index-steps-turn.result c.requires.steps c.requires.within c.index-node.ensures c.index-steps-turn.is in
     let brought : c.in-Some.brought ≡ brought_by step.0.deed = same_Some _ _ (sym c.in-Some.is ∙ c.brought.ensures ∙ ap (option_map (λ (k : Claim). brought_by k.deed)) (entry_at hs order turn node step.0 s step.1)) in
-    let named : c.named_at.result ≡ named_at c.args.order.now.messages.items turn = c.named_at.ensures ∙ ap (λ (ms : List (Option ℕ)). named_at ms turn) c.deref.ensures.value in
-    source_of_turn hs c.args.order.now turn node step.0 c.find-source.result step.1.takes
-    (subst (λ (o : Option ℕ). ComeFrom (sendings hs (before order turn)) (brought_by step.0.deed) o c.find-source.result) named
-    (subst (λ (ms : List Envelope). ComeFrom (sendings hs (before order turn)) ms c.named_at.result c.find-source.result) brought
-    (subst (λ (all : List Sending). ComeFrom all c.in-Some.brought c.named_at.result c.find-source.result) c.requires.mail.sendings c.find-source.ensures)))
-
-pub returns-clause-mail : goal.returns-clause-mail
-returns-clause-mail c =
-    let hs = c.args.trace.now in
-    let order = c.args.order.now.nodes.items in
-    let steps = c.args.steps.now in
-    let turn = c.args.turn in
-    let node = c.index-node.result.now in
-    let s = get_or steps turn c.index-steps-turn.result in
-    let step = step_read hs order steps turn node c.index-steps-turn.result c.requires.steps c.requires.within c.index-node.ensures c.index-steps-turn.is in
     let sent : c.in-Some-sent.sent ≡ step.0.sent = same_Some _ _ (sym c.in-Some-sent.is ∙ c.sent.ensures ∙ ap (option_map (λ (k : Claim). k.sent)) (entry_at hs order turn node step.0 s step.1)) in
+    let named : c.named_at.result ≡ named_at c.args.order.now.messages.items turn = c.named_at.ensures ∙ ap (λ (ms : List (Option ℕ)). named_at ms turn) c.deref.ensures.value in
     let at : Point = record { turn = turn; node = node } in
-    subst (λ (all : List Sending). IsMail all c.post_all.new.mail)
-    (ap (λ (all : List Sending). all ++ sendings_of at 0 c.in-Some-sent.sent) c.requires.mail.sendings ∙ ap (λ (ms : List Envelope). sendings hs (before order turn) ++ sendings_of at 0 ms) sent ∙ sym (sendings_more hs order turn node step.0 step.1.takes))
-    c.in_ok-post_all.ensures
+    record {
+      source = source_of_turn hs c.args.order.now turn node step.0 c.find-source.result step.1.takes
+          (subst (λ (o : Option ℕ). ComeFrom (sendings hs (before order turn)) (brought_by step.0.deed) o c.find-source.result) named
+          (subst (λ (ms : List Envelope). ComeFrom (sendings hs (before order turn)) ms c.named_at.result c.find-source.result) brought
+          (subst (λ (all : List Sending). ComeFrom all c.in-Some.brought c.named_at.result c.find-source.result) c.requires.mail.sendings c.find-source.ensures)));
+      mail = subst (λ (all : List Sending). IsMail all c.post_all.new.mail)
+          (ap (λ (all : List Sending). all ++ sendings_of at 0 c.in-Some-sent.sent) c.requires.mail.sendings ∙ ap (λ (ms : List Envelope). sendings hs (before order turn) ++ sendings_of at 0 ms) sent ∙ sym (sendings_more hs order turn node step.0 step.1.takes))
+          c.in_ok-post_all.ensures;
+    }

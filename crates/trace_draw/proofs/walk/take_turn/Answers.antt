@@ -1,23 +1,17 @@
-use Rattle.std.proofs.Common.{◌≡◌, ◌<◌, ℕ, suc, ◌+◌, Bool, List, ◌∷◌, length, slice_get, slice_set, Option, Some, None, refl, sym, ap, ◌∙◌, subst, arith}
+use Rattle.std.proofs.Common.{◌≡◌, ℕ, suc, ◌+◌, Bool, List, [], ◌∷◌, length, length-append, slice_get, slice_set, Some, None, refl, sym, ap, ◌∙◌, subst, arith}
 use Rattle.std.proofs.lemmas.Option.{same_Some, slice_get_read}
-use Rattle.wire_msg.specs.Envelope.{Envelope}
-use Rattle.histories.specs.Lists.{Each}
-use Rattle.trace_check.specs.Claims.{Claim, MayCome, brought_by}
-use Rattle.trace_check.specs.Orders.{history, taken, state_of, IsSent}
+use Rattle.trace_check.specs.Claims.{Claim, MayCome}
+use Rattle.trace_check.specs.Orders.{history, taken, state_of}
 use Rattle.trace_check.specs.Traces.{claim_seen}
 use Rattle.trace_check.specs.Twins.{Taken}
-use Rattle.group_task.specs.Group.{Group}
-use Rattle.histories.specs.NodeState.{NodeState}
-use Rattle.trace_draw.specs.declared.turn.Point.{Point}
 use Rattle.trace_draw.specs.declared.walk.NodeView.{NodeView}
 use Rattle.trace_check.specs.Followed.{before}
 use Rattle.trace_draw.specs.Stays.{stand_of}
-use Rattle.trace_draw.specs.declared.turn.Stand.{Stand}
 use Rattle.trace_draw.specs.declared.step.Step.{Step}
 use Rattle.trace_draw.specs.Walks.{AreFirst, AreSeats, IsStep}
 use Rattle.trace_draw.proofs.Lists.{each_more}
 use Rattle.trace_check.proofs.PublicLaws.{before_more, may_take}
-use Rattle.trace_draw.proofs.NodeViews.{node_within, seat_after, seat_here, seats_more}
+use Rattle.trace_draw.proofs.NodeViews.{node_within, seat_after, seats_more, turn_seat}
 use Rattle.trace_draw.proofs.walk.take_turn.Goals as goal
 
 pub index_mut-node_view-requires : goal.index_mut-node_view-requires
@@ -39,14 +33,11 @@ unreachable-requires c =
     let number = c.args.turn in
     let node = c.index-order-turn.result in
     let s = c.index_mut-node_view.result.now in
-    let may = may_take hs order number node c.requires.legal (slice_get_read order (length order) number node refl c.requires.more c.index-order-turn.is) in
-    let within = node_within hs (before order number) node may in
-    let count = c.requires.seats.0 in
+    let now = slice_get_read order (length order) number node refl c.requires.more c.index-order-turn.is in
     let here : c.from.result ≡ node = c.from.ensures ∙ c.number.ensures.value in
-    let inside : c.from.result < length c.args.seats.now.items = omega (arith, within, count, here) in
-    let is = c.requires.seats.1 node s (seat_here c.args.seats.now.items c.from.result node s here inside c.index_mut-node_view.ensures.value) in
+    let seat = turn_seat hs order number node c.args.seats.now.items c.from.result s c.requires.legal now c.requires.seats here c.index_mut-node_view.ensures.value in
     let none : slice_get (history hs node) s.index ≡ None = c.in_default.ensures.none refl in
-    let clash : None ≡ Some may.claim = sym none ∙ ap (λ (x : NodeView). slice_get (history hs node) x.index) is ∙ may.next in cc
+    let clash : None ≡ Some seat.0.claim = sym none ∙ ap (λ (x : NodeView). slice_get (history hs node) x.index) seat.1 ∙ seat.0.next in cc
 
 pub unreachable-requires-then-not-branch : goal.unreachable-requires-then-not-branch
 unreachable-requires-then-not-branch c =
@@ -55,20 +46,18 @@ unreachable-requires-then-not-branch c =
     let number = c.args.turn in
     let node = c.index-order-turn.result in
     let s = c.index_mut-node_view.result.now in
-    let may = may_take hs order number node c.requires.legal (slice_get_read order (length order) number node refl c.requires.more c.index-order-turn.is) in
-    let within = node_within hs (before order number) node may in
-    let count = c.requires.seats.0 in
+    let now = slice_get_read order (length order) number node refl c.requires.more c.index-order-turn.is in
     let here : c.from.result ≡ node = c.from.ensures ∙ c.number.ensures.value in
-    let inside : c.from.result < length c.args.seats.now.items = omega (arith, within, count, here) in
-    let is = c.requires.seats.1 node s (seat_here c.args.seats.now.items c.from.result node s here inside c.index_mut-node_view.ensures.value) in
+    let seat = turn_seat hs order number node c.args.seats.now.items c.from.result s c.requires.legal now c.requires.seats here c.index_mut-node_view.ensures.value in
+    let may = seat.0 in
     let entry = claim_seen c.in-Some.entry in
-    let same : may.claim ≡ entry = same_Some _ _ (sym (ap (λ (x : NodeView). slice_get (history hs node) x.index) is ∙ may.next) ∙ c.in-Some.ensures.some) in
+    let same : may.claim ≡ entry = same_Some _ _ (sym (ap (λ (x : NodeView). slice_get (history hs node) x.index) seat.1 ∙ may.next) ∙ c.in-Some.ensures.some) in
     let possible : MayCome s.node_model.id s.node_model.nodes s.node_model.node entry =
-    subst (λ (x : NodeView). MayCome x.node_model.id x.node_model.nodes x.node_model.node entry) (sym is) (subst (λ (d : Claim). MayCome node (length hs) (state_of hs node (taken node (before order number))) d) same may.possible) in
+    subst (λ (x : NodeView). MayCome x.node_model.id x.node_model.nodes x.node_model.node entry) (sym seat.1) (subst (λ (d : Claim). MayCome node (length hs) (state_of hs node (taken node (before order number))) d) same may.possible) in
     subst (λ (b : Bool). Taken s.node_model c.take.new.self entry b) c.if-not-branch.true c.in_ok-take.ensures.taken possible
 
-pub returns-clause-steps : goal.returns-clause-steps
-returns-clause-steps c =
+pub returns : goal.returns
+returns c =
     let hs = c.args.trace.now in
     let order = c.args.order.now in
     let number = c.args.turn in
@@ -76,45 +65,28 @@ returns-clause-steps c =
     let past = before order number in
     let s = c.index_mut-node_view.result.now in
     let now = slice_get_read order (length order) number node refl c.requires.more c.index-order-turn.is in
-    let within = node_within hs past node (may_take hs order number node c.requires.legal now) in
-    let count = c.requires.seats.0 in
     let here : c.from.result ≡ node = c.from.ensures ∙ c.number.ensures.value in
-    let inside : c.from.result < length c.args.seats.now.items = omega (arith, within, count, here) in
-    let is = c.requires.seats.1 node s (seat_here c.args.seats.now.items c.from.result node s here inside c.index_mut-node_view.ensures.value) in
+    let is = (turn_seat hs order number node c.args.seats.now.items c.from.result s c.requires.legal now c.requires.seats here c.index_mut-node_view.ensures.value).1 in
     let entry = claim_seen c.in-Some.entry in
     let taken_is = subst (λ (b : Bool). Taken s.node_model c.take.new.self entry b) c.if-not-branch.false c.in_ok-take.ensures.taken in
     let new = seat_after hs past node entry s c.take.new.self is c.in-Some.ensures.some c.in_ok-take.ensures.id c.in_ok-take.ensures.nodes taken_is.1 in
-    let step : Step = record { index = c.index_mut-node_view.result.now.index; stand = c.stand_of-stand.result } in
-    let is : IsStep hs order number step = (
+    let more : suc number ≡ number + 1 = omega arith in
+    let behind : node ∷ past ≡ before order (number + 1) = sym (before_more order number node now) ∙ ap (λ (k : ℕ). before order k) more in
+    let node_view : NodeView = record { node_model = c.take.new.self; index = s.index + 1 } in
+    let step : Step = record { index = s.index; stand = c.stand_of-stand.result } in
+    let is_step : IsStep hs order number step = (
       node,
       entry,
       record {
         takes = record { node = now; entry = ap (λ (x : NodeView). slice_get (history hs node) x.index) (sym is) ∙ c.in-Some.ensures.some };
         index = ap (λ (x : NodeView). x.index) is;
-        stand = c.stand_of-stand.ensures ∙ ap (λ (x : NodeView). stand_of x.node_model.node.state) new ∙ ap (λ (p : List ℕ). stand_of (state_of hs node (taken node p)).state) (sym (before_more order number node now) ∙ ap (λ (k : ℕ). before order k) (let more : suc number ≡ number + 1 = omega arith in more));
+        stand = c.stand_of-stand.ensures ∙ ap (λ (x : NodeView). stand_of x.node_model.node.state) new ∙ ap (λ (p : List ℕ). stand_of (state_of hs node (taken node p)).state) behind;
       },
     ) in
-    subst (λ (xs : List Step). AreFirst hs order xs) (sym c.in_ok-push.ensures.items)
-    (each_more (λ k v. IsStep hs order k v) c.args.steps.now.items step c.requires.steps (subst (λ (k : ℕ). IsStep hs order k step) (sym c.requires.count) is))
-
-pub returns-clause-seats : goal.returns-clause-seats
-returns-clause-seats c =
-    let hs = c.args.trace.now in
-    let order = c.args.order.now in
-    let number = c.args.turn in
-    let node = c.index-order-turn.result in
-    let past = before order number in
-    let s = c.index_mut-node_view.result.now in
-    let now = slice_get_read order (length order) number node refl c.requires.more c.index-order-turn.is in
-    let within = node_within hs past node (may_take hs order number node c.requires.legal now) in
-    let count = c.requires.seats.0 in
-    let here : c.from.result ≡ node = c.from.ensures ∙ c.number.ensures.value in
-    let inside : c.from.result < length c.args.seats.now.items = omega (arith, within, count, here) in
-    let is = c.requires.seats.1 node s (seat_here c.args.seats.now.items c.from.result node s here inside c.index_mut-node_view.ensures.value) in
-    let entry = claim_seen c.in-Some.entry in
-    let taken_is = subst (λ (b : Bool). Taken s.node_model c.take.new.self entry b) c.if-not-branch.false c.in_ok-take.ensures.taken in
-    let new = seat_after hs past node entry s c.take.new.self is c.in-Some.ensures.some c.in_ok-take.ensures.id c.in_ok-take.ensures.nodes taken_is.1 in
-    let node_view : NodeView = record { node_model = c.take.new.self; index = s.index + 1 } in
-    let more : suc number ≡ number + 1 = omega arith in
-    subst (λ (p : List ℕ). AreSeats hs p (slice_set c.args.seats.now.items c.from.result node_view)) (sym (before_more order number node now) ∙ ap (λ (k : ℕ). before order k) more)
-    (subst (λ (k : ℕ). AreSeats hs (node ∷ past) (slice_set c.args.seats.now.items k node_view)) (sym here) (seats_more hs past node c.args.seats.now.items node_view c.requires.seats new))
+    record {
+      seats = subst (λ (p : List ℕ). AreSeats hs p (slice_set c.args.seats.now.items c.from.result node_view)) behind
+          (subst (λ (k : ℕ). AreSeats hs (node ∷ past) (slice_set c.args.seats.now.items k node_view)) (sym here) (seats_more hs past node c.args.seats.now.items node_view c.requires.seats new));
+      count = ap (λ (xs : List Step). length xs) c.in_ok-push.ensures.items ∙ length-append c.args.steps.now.items (step ∷ []) ∙ ap (λ (k : ℕ). k + 1) c.requires.count;
+      steps = subst (λ (xs : List Step). AreFirst hs order xs) (sym c.in_ok-push.ensures.items)
+          (each_more (λ k v. IsStep hs order k v) c.args.steps.now.items step c.requires.steps (subst (λ (k : ℕ). IsStep hs order k step) (sym c.requires.count) is_step));
+    }

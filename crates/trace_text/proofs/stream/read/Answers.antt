@@ -15,22 +15,15 @@ Judgement = Result (List (List Claim)) (Option Location)
 pub returns-in_default-clause-err : goal.returns-in_default-clause-err
 returns-in_default-clause-err c = text_none c.args.text.now c.in_default.ensures.cases.0
 
-pub returns-in-Ok-read_whole-clause-ok : goal.returns-in-Ok-read_whole-clause-ok
-returns-in-Ok-read_whole-clause-ok c =
+pub returns-in-Ok-read_whole : goal.returns-in-Ok-read_whole
+returns-in-Ok-read_whole c =
     let text = c.in-Ok.text.now in
     let same = c.in-Ok.ensures.cases.0 in
     let utf8 = c.in-Ok.ensures.cases.1 in
     let r = shaped (parted_by c.in-Ok-read_whole.parts) in
     let over : c.read_whole.new.reader ≡ [] = search rules in
     let read = ap trace_of (sym same) ∙ text_read text c.in_ok-reader.reader c.in_ok-reader.ensures.ok r (rw (sym same) at utf8) (c.in-Ok-read_whole.ensures.ok ∙ ap (λ (ts : List Token). Some (r, ts)) over) in
-    subst (λ (o : Judgement). IfOk c.judge.result (λ trace. o ≡ Ok trace)) (sym read) c.judge.ensures.ok
-
-pub returns-in-Ok-read_whole-clause-err : goal.returns-in-Ok-read_whole-clause-err
-returns-in-Ok-read_whole-clause-err c =
-    let text = c.in-Ok.text.now in
-    let same = c.in-Ok.ensures.cases.0 in
-    let utf8 = c.in-Ok.ensures.cases.1 in
-    let r = shaped (parted_by c.in-Ok-read_whole.parts) in
-    let over : c.read_whole.new.reader ≡ [] = search rules in
-    let read = ap trace_of (sym same) ∙ text_read text c.in_ok-reader.reader c.in_ok-reader.ensures.ok r (rw (sym same) at utf8) (c.in-Ok-read_whole.ensures.ok ∙ ap (λ (ts : List Token). Some (r, ts)) over) in
-    subst (λ (o : Judgement). IfErr c.judge.result (IsFaultOf o)) (sym read) c.judge.ensures.err
+    record {
+      ok = subst (λ (o : Judgement). IfOk c.judge.result (λ trace. o ≡ Ok trace)) (sym read) c.judge.ensures.ok;
+      err = subst (λ (o : Judgement). IfErr c.judge.result (IsFaultOf o)) (sym read) c.judge.ensures.err;
+    }

@@ -1,4 +1,4 @@
-use Rattle.std.proofs.Common.{◌≡◌, ◌++◌, ◌∷◌, [], Bool, List, Option, Some, None, option_map, map, refl, sym, ◌∙◌, ap}
+use Rattle.std.proofs.Common.{◌≡◌, ◌++◌, ◌∷◌, [], Bool, Option, Some, None, option_map, map, refl, sym, ◌∙◌, ap}
 use Rattle.std.proofs.lemmas.List.{map-append}
 use Rattle.cluster_sim.specs.declared.report.Mounted.{Mounted}
 use Rattle.cluster_sim.specs.Cluster.{listed, moment_in, mounted_now, mounted_of, mounting_at, report_in, tried_as, tried_at, work_in}

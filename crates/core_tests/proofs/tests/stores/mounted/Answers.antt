@@ -1,7 +1,7 @@
 use Rattle.std.proofs.Common.{ℕ, sym, subst}
 use Rattle.sector_disk.specs.Memory.{state_of}
 use Rattle.job_journal.specs.Journal.{IsSound}
-use Rattle.core_tests.proofs.stores.mounted.Goals as goal
+use Rattle.core_tests.proofs.tests.stores.mounted.Goals as goal
 
 pub returns-in-Ok : goal.returns-in-Ok
 returns-in-Ok c =

@@ -7,7 +7,7 @@ use Rattle.durable_node.specs.declared.fault.NodeFault.{NodeFault}
 use Rattle.durable_node.specs.Faults.{fault_for}
 use Rattle.durable_node.specs.Carrying.{Writes}
 use Rattle.durable_node.proofs.Mounts.{written}
-use Rattle.durable_node.proofs.carry.write.Goals as goal
+use Rattle.durable_node.proofs.carry.carry.Goals as goal
 
 -- what is answered as done was done
 done_of : (r : Result ℕ StoreFault) (t : Result (Option ℕ) NodeFault) → IfErr r (λ fault. t ≡ Err (fault_for fault)) → IsOk t → IsOk r
@@ -17,8 +17,8 @@ done_of (Err fault) t err ok = (let failed = rw err at ok in absurd cc)
 pub returns-in-Put-clause-disk : goal.returns-in-Put-clause-disk
 returns-in-Put-clause-disk g c =
     let e = c.put.ensures in
-    subst (λ (w : Option Command). Writes g.D.SectorDisk.state c.args.store.now c.put.new.self w (IsOk c.node_answer-in-Put.result)) (sym (ap lent_by c.in-Put.is))
-    (written g.D.SectorDisk.state c.args.store.now c.put.new.self (Put c.in-Put.work.now) (IsOk c.node_answer-in-Put.result) c.requires.ready.whole e.tries.areas.slots e.appends.images
+    subst (λ (w : Option Command). Writes g.D.SectorDisk.state c.args.store.now c.put.new.store w (IsOk c.node_answer-in-Put.result)) (sym (ap lent_by c.in-Put.is))
+    (written g.D.SectorDisk.state c.args.store.now c.put.new.store (Put c.in-Put.work.now) (IsOk c.node_answer-in-Put.result) c.requires.ready.whole e.tries.areas.slots e.appends.images
     (λ honest ok. (e.appends.after honest (done_of c.put.result c.node_answer-in-Put.result c.node_answer-in-Put.ensures.err ok)).lasts)
     (λ honest ok. (e.appends.after honest (done_of c.put.result c.node_answer-in-Put.result c.node_answer-in-Put.ensures.err ok)).spelled))
 

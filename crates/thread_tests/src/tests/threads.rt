@@ -4,8 +4,8 @@ ghost use Rattle.std.specs.Prelude.{◌≡◌, ◌≤◌, IfSome, length};
 ghost use Rattle.group_task.specs.declared.node.TheConstants.{NODES};
 ghost use Rattle.node_threads.specs.Nodes.{PollOthers};
 
-use crate::judged::is_run;
-use crate::turns::came;
+use crate::tests::judged::is_run;
+use crate::tests::turns::came;
 use crossbeam_utils::CachePadded;
 use group_task::{NODES, NodeId};
 use histories::HistoryEvent;

@@ -1,7 +1,7 @@
 //! Rows of the table of events at a core of two nodes: the whole state, the command that is wanted, and the messages that are sent.
 ghost use Rattle.std.specs.Prelude.{◌≢◌, ◌<◌, ◌≤◌};
 
-use crate::groups::members;
+use crate::tests::groups::members;
 use group_task::{GroupNo, Members, NodeId, Task, share};
 use job_model::{Command, JobTable, Payload, Queue, Work};
 use node_core::{CoreFault, Event, GroupState, InHand, NodeCore, Phase, Timer, Wanted};

@@ -2,7 +2,7 @@
 //! refused; `tests/hostile/refused_tried.py` runs it again and again, and each time refuses one allocation more.
 ghost use Rattle.std.specs.Prelude.{◌<◌};
 
-use crate::messages::{all_spellings, expect_all, spelling};
+use crate::tests::messages::{all_spellings, expect_all, spelling};
 use std::alloc::Global;
 use std::io::Print;
 use std::process::Abort;

@@ -1,6 +1,6 @@
 //! When a gate is asked: once by each worker before its first turn, and before each turn inside the node's lock.
 
-use crate::threads::{add, checks, fault, whole};
+use crate::tests::threads::{add, checks, fault, whole};
 use crossbeam_utils::CachePadded;
 use group_task::NodeId;
 use node_core::Timer;
@@ -108,7 +108,7 @@ impl Gate for Inside {
     fn reach(&self, _node: NodeId, _worker: Worker) -> bool {
         let come: &AtomicU64 = &self.come;
         come.fetch_add(1, Ordering::SeqCst);
-        crate::threads::wait_for(come, self.workers)
+        crate::tests::threads::wait_for(come, self.workers)
     }
 
     fn pass(&self, _node: NodeId, _worker: Worker, _index: u64) -> bool {

@@ -1,0 +1,13 @@
+mod cells;
+mod files;
+mod gates;
+mod groups;
+mod journals;
+mod messages;
+mod records;
+mod refused;
+mod rows;
+mod seals;
+mod sectors;
+mod stores;
+mod texts;

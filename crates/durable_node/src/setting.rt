@@ -1,0 +1,10 @@
+use group_task::NodeId;
+use std::alloc::Global;
+
+/// What stays the same of a node: where it takes memory, its id, and how many nodes there are.
+#[derive(Clone, Copy)]
+pub(crate) struct NodeSetting {
+    pub(crate) alloc: Global,
+    pub(crate) id: NodeId,
+    pub(crate) nodes: u8,
+}

@@ -1,5 +1,0 @@
-use Rattle.job_journal.proofs.Common.{refl, writes_on}
-use Rattle.job_journal.proofs.beginning.write_records.Goals as goal
-
-pub returns-clause-writes : goal.returns-clause-writes
-returns-clause-writes g c = writes_on _ (λ k is. is) (λ k is. is) refl c.in-Ok.ensures.writes c.seal_area.ensures.writes

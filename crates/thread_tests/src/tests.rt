@@ -1,0 +1,6 @@
+mod gates;
+mod judged;
+mod links;
+mod refused;
+mod threads;
+mod turns;
