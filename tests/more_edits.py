@@ -8,8 +8,9 @@
 With --jobs J before these words J checks run side by side, whatever memory they take; without it as many as processors and memory hold. rt ci tries the edits in a
 copy of the repository that has the crates that they turn, those below and no other edits: it takes over what the gate proved, and proves a crate once more for all its edits.
 With --kept as the first word rt check tries them, in copies of the crates over what it kept in crates/NAME/out: for that, rt all check comes first, and copies take up to
-200 MB a crate for each check that runs. Since a caller's proof rests on a contract and on no body, edits that turn different functions are tried together in one check, which
-takes 10 to 60 s: each has to be refused at a goal of a function that it turns. One that isn't is tried once more, alone.
+200 MB a crate for each check that runs. Since a caller's proof rests on a contract and on no body, edits that turn different functions are tried together, in one check of these
+functions alone: each has to be refused at a goal of a function that it turns. One that isn't is tried once more, alone, and where its functions are proved all the same, or it turns
+what is no function, in a check of the whole crate.
 Each edit is printed behind what refused it:
 
     goal      a goal of a function that it turns
@@ -36,7 +37,7 @@ from crate_copy import TOP, lay, lines_of_crates, text_of
 EDITS = f"{TOP}/tests/more_edits"
 KINDS = ("goal", "other", "script", "limit", "passed", "untried")
 # The front of a function, with what stands above it.
-FUNCTION = re.compile(r"^(?:[ \t]*(?:#\[|///).*\n)*[ \t]*(?:pub(?:\([^)]*\))? )?(?:const )?fn ", re.M)
+FUNCTION = re.compile(r"^(?:[ \t]*(?:#\[|///).*\n)*[ \t]*(?:pub(?:\([^)]*\))? )?(?:const )?fn (\w+)", re.M)
 
 
 def stop(why):
@@ -96,15 +97,15 @@ def apply(crates):
 
 
 def turned(crate, edit):
-    """Returns the functions that an edit turns: the file of each, and its first and last line."""
+    """Returns the functions that an edit turns: the file of each, its first and last line, and its name."""
     found = []
     for file, old, _ in pairs_in(edit)[0]:
         text = text_of(f"{TOP}/crates/{crate}/{file}")
-        starts = [it.start() for it in FUNCTION.finditer(text)]
+        starts = {it.start(): it[1] for it in FUNCTION.finditer(text)}
         at = text.find(old) + len(old) - 1
         first = max([it for it in starts if it <= at], default=0)
         last = min([it for it in starts if it > at], default=len(text))
-        found.append((file, text.count("\n", 0, first) + 1, text.count("\n", 0, last)))
+        found.append((file, text.count("\n", 0, first) + 1, text.count("\n", 0, last), starts.get(first)))
     return found
 
 
@@ -119,7 +120,7 @@ def kind_of(crate, edit, said):
     at = re.search(r"(?:\./)?(src/\S+?):(\d+):\d+: ", said)
     if not at or re.search(r"(\./)?proofs/", said[: at.start()]):
         return "script"
-    is_own = any(file == at[1] and first <= int(at[2]) <= last for file, first, last in turned(crate, edit))
+    is_own = any(file == at[1] and first <= int(at[2]) <= last for file, first, last, _ in turned(crate, edit))
     return "goal" if is_own else "other"
 
 
@@ -132,11 +133,26 @@ class Copy:
             if os.path.isdir(f"{TOP}/crates/{below}/out"):
                 shutil.copytree(f"{TOP}/crates/{below}/out", f"{folder}/crates/{below}/out", symlinks=True)
         self.crate, self.at = crate, f"{folder}/crates/{crate}"
+        lines = self.check()
+        self.is_proved = any(it.startswith("logic=proved") for it in lines)
+        self.functions = [it.split()[1].rstrip(":") for it in lines if re.match(r"fn \S+: proved", it)]
 
     def check(self, *flags):
         """Returns what rt check says of the copy as it stands."""
         ran = subprocess.run(["rt", "check", "--jobs", "1", *flags], cwd=self.at, stdin=subprocess.DEVNULL, stdout=subprocess.PIPE, stderr=subprocess.STDOUT, errors="replace")
         return ran.stdout.split("\n")
+
+    def named(self, name):
+        """Returns the paths of the functions that an edit turns, as rt check names them, or none where it turns something else."""
+        paths = []
+        for file, _, _, function in turned(self.crate, f"{EDITS}/{self.crate}/{name}"):
+            module = re.sub(r"^src/(lib|main)?|\.rt$", "", file).strip("/").replace("/", "::")
+            front = f"{self.crate}::{module}::" if module else f"{self.crate}::"
+            own = [it for it in self.functions if re.fullmatch(rf"{front}(\w+::)?{function}", it)]
+            if not function or not own:
+                return []
+            paths += own
+        return paths
 
     def apply(self, names):
         """Applies as many of these edits as turn different functions and still fit, and returns them with the texts that stood there before."""
@@ -162,12 +178,16 @@ class Copy:
             with open(f"{self.at}/{file}", "w", encoding="utf-8") as it:
                 it.write(text)
 
+    def only(self, names):
+        """Returns the flags of a check of the functions alone that these edits turn."""
+        return [word for path in sorted({path for name in names for path in self.named(name)}) for word in ("--only", path)]
+
     def together(self, names):
         """Tries as many of these edits in one check as it can, and returns those, and the refusals of them at a goal of their own."""
         taken, before = self.apply(names)
-        lines = self.check("--allow-holes")
+        lines = self.check("--allow-holes", *self.only(taken))
         self.write(before)
-        if len(taken) > 1 and not any(it.startswith("logic=") for it in lines):
+        if len(taken) > 1 and not any(it.startswith("only=") for it in lines):
             # one of them keeps the others from the prover
             half = len(taken) // 2
             return taken, {**self.together(taken[:half])[1], **self.together(taken[half:])[1]}
@@ -185,13 +205,17 @@ class Copy:
         taken, before = self.apply([name])
         if not taken:
             return "BAD EDIT: it doesn't fit"
-        lines = self.check()
+        only = self.only([name])
+        lines = self.check(*only)
+        count = next((it for it in map(re.compile(r"only=(\d+) proved=(\d+)").match, lines) if it), None)
+        if only and (not count or count[1] == count[2]):
+            lines, count = self.check(), None
         self.write(before)
         if any(it.startswith("logic=proved") for it in lines):
             return "NOT REFUSED"
-        if not any(it.startswith("logic=not-proved") for it in lines):
+        if not count and not any(it.startswith("logic=not-proved") for it in lines):
             return "BAD EDIT: " + next((it for it in lines if ": error" in it), "it did not reach the prover")
-        told = [it for it in lines if re.match(r"(note: )?(\./)?\S+?:\d+:\d+: ", it)]
+        told = [it for it in lines if re.match(r"(note: )?(\./)?\S+?:\d+:\d+: ", it) and (": error" in it or it.startswith("note: "))]
         return f"refused, as it must be: {([*filter(AT_GOAL.search, told), *told] or [''])[0][:160]}"
 
 
@@ -203,9 +227,10 @@ def tried_over_kept(crate, names):
     """Tries a crate's edits over what rt check kept, and returns what rt says of each."""
     with tempfile.TemporaryDirectory() as folder:
         copy = Copy(crate, f"{folder}/repository")
-        if not any(it.startswith("logic=proved") for it in copy.check()):
+        if not copy.is_proved:
             return {(crate, name): f"BAD EDIT: {crate} itself isn't proved" for name in names}
-        said, left, doubtful = {}, list(names), []
+        said, left = {}, [it for it in names if copy.named(it)]
+        doubtful = [it for it in names if it not in left]
         while left:
             taken, refused = copy.together(left)
             said.update(refused)

@@ -10,7 +10,7 @@ import promises
 
 TOP = os.path.dirname(os.path.dirname(os.path.abspath(__file__)))
 GENERATED = "docs/PROMISES.md"
-MEASURED = ("docs/PERFORMANCE.md",)
+MEASURED = ("docs/PERFORMANCE.md", "docs/COMPARISON.md")
 WORDS, LINE, CELL = 32000, 160, 40
 MONTHS = "January|February|March|April|May|June|July|August|September|October|November|December"
 ROOTS = r"(?:tests|crates|docs|schedules|plans|examples|packaging|agent|measures)"
@@ -122,7 +122,7 @@ def measure(page, text):
 
 def look():
     hand = [page for page in found("README.md", "CONTRIBUTING.md", "docs/*.md") if page != GENERATED]
-    others = found("CHANGELOG.md", "crates/*/README.md", "schedules/README.md", "examples/*/README.md")
+    others = found("CHANGELOG.md", "crates/*/README.md", "schedules/README.md", "examples/*/README.md", "measures/README.md")
     edits = {os.path.basename(path)[:-5] for path in found("crates/*/must-fail/*.edit", "tests/more_edits/*/*.edit")}
     schedules = {os.path.basename(path)[:-4] for path in found("schedules/*.txt")}
     calls = functions()

@@ -1,5 +1,5 @@
 -- What a cluster makes of an act, by the kind of the act.
-use Rattle.std.proofs.Common.{◌≡◌, ◌≤◌, ℕ, Bool, true, List, [], length, nat_lt, slice_get, refl, sym, ◌∙◌, ap, subst, Option, Some, None, Result, Ok, Err, ◌&&◌, if◌then◌else◌, IfSome, IfOk, OnErr}
+use Rattle.std.proofs.Common.{◌≡◌, ◌≤◌, ℕ, Bool, true, false, List, [], length, nat_lt, slice_get, refl, sym, ◌∙◌, ap, subst, Option, Some, None, Result, Ok, Err, ◌&&◌, if◌then◌else◌, IfSome, IfOk, OnErr}
 use Rattle.std.proofs.lemmas.Option.{slice_get_past}
 use Rattle.wire_msg.specs.Envelope.{Envelope}
 use Rattle.sim_net.specs.declared.fault.NetFault.{NetFault}
@@ -25,7 +25,7 @@ use Rattle.sector_disk.specs.Memory.{Memory}
 use Rattle.durable_node.specs.Arming.{armed_disk}
 use Rattle.durable_node.specs.Node.{Node}
 use Rattle.durable_node.proofs.PublicLaws.{is_some}
-use Rattle.cluster_sim.specs.World.{FaultsAt, IsUntouched, WorldView, StandsFor, Performed, Makes, bare, disk_of}
+use Rattle.cluster_sim.specs.World.{FaultsAt, IsUntouched, WorldView, StandsFor, Performed, Makes, bare, disk_of, linked, link_act}
 use Rattle.cluster_sim.specs.Operated.{Operates, IsCompacted, OperatedAs, OperatesNode, operated_at}
 use Rattle.cluster_sim.specs.Names.{node_named, node_or_first}
 use Rattle.cluster_sim.specs.declared.act_report.ActReport.{ActReport}
@@ -144,12 +144,17 @@ pub known_step : (w : World) (a b : ℕ) (view : WorldView) (net : Network) (kno
 known_step w a b view net known stands is =
     sym (ap (λ (x : Bool). if x then Changes net else Denies 0 refusal.Stranger) (ap (λ (c : ℕ). nat_lt a c && nat_lt b c) (sym stands.count) ∙ is))
 
-pub linked_by : (w : World) (act : Act) (a b : ℕ) (after : Network → Network) (view now : WorldView) (net' : Network) (o : Outcome)
-    → ((step : Step) → step ≡ (if nat_lt a (length w.states) && nat_lt b (length w.states) then Changes (after w.net) else Denies 0 refusal.Stranger) → IsStepOf (length w.states) w act step)
-    → view ≡ now → StandsFor now w → (nat_lt a (length now.nodes) && nat_lt b (length now.nodes)) ≡ true → net'.sent ≡ view.net.sent → net' ≡ after view.net
-    → o ≡ outcome.Done None (length net'.sent) 0 → Performed w act (bare o) (record view { net = net' })
-linked_by w act a b after view now net' o is_step viewed stands known sent same is = wired w act view now net' (after w.net) o viewed stands sent is
-    (λ before. (is_step _ (known_step w a b now (after w.net) true stands known), same ∙ ap after before.net))
+pub is_link : (joined : Bool) (nodes : ℕ) (w : World) (a b : ℕ) (step : Step) → step ≡ (if nat_lt a nodes && nat_lt b nodes then Changes (linked joined w.net a b) else Denies 0 refusal.Stranger)
+    → IsStepOf nodes w (link_act joined a b) step
+is_link true nodes w a b step is = is
+is_link false nodes w a b step is = is
+
+pub linked_by : (w : World) (joined : Bool) (a b : ℕ) (view now : WorldView) (net' : Network) (o : Outcome)
+    → view ≡ now → StandsFor now w → (nat_lt a (length now.nodes) && nat_lt b (length now.nodes)) ≡ true → net' ≡ linked joined view.net a b
+    → o ≡ outcome.Done None (length net'.sent) 0 → Performed w (link_act joined a b) (bare o) (record view { net = net' })
+linked_by w joined a b view now net' o viewed stands known same is =
+    wired w (link_act joined a b) view now net' (linked joined w.net a b) o viewed stands (ap (λ (n : Network). n.sent) same) is
+    (λ before. (is_link joined _ w a b _ (known_step w a b now (linked joined w.net a b) true stands known), same ∙ ap (λ (n : Network). linked joined n a b) before.net))
 
 -- ---- an act of the operator
 

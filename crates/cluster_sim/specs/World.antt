@@ -1,11 +1,12 @@
 -- What contracts see of the world of a cluster, and what it stands for.
-use Rattle.std.specs.Prelude.{ℕ, ◌≡◌, ◌≢◌, ◌+◌, ◌*◌, ◌≤◌, ◌⊎◌, ◌<◌, ◌^◌, Bool, true, false, List, length, slice_get, Option, Some, None, option_map, option_and_then}
+use Rattle.std.specs.Prelude.{ℕ, ◌≡◌, ◌≢◌, ◌+◌, ◌*◌, ◌≤◌, ◌⊎◌, ◌<◌, ◌^◌, Bool, true, false, if◌then◌else◌, List, length, slice_get, Option, Some, None, option_map, option_and_then}
 use Rattle.group_task.specs.declared.node.TheConstants.{NODES}
+use Rattle.group_task.specs.Ids.{with_id, without_id}
 use Rattle.sector_disk.specs.Disk.{Counts}
 use Rattle.sector_disk.specs.Memory.{Memory, state_of}
 use Rattle.job_journal.specs.Journal.{AllWithin}
 use Rattle.node_core.specs.declared.fault.Refusal.TheVariants.{AreaExhausted}
-use Rattle.sim_net.specs.Network.{Network, after_all_sent}
+use Rattle.sim_net.specs.Network.{Network, after_all_sent, with_pair}
 use Rattle.durable_node.specs.Forgetting.{forgotten_disk}
 use Rattle.durable_node.specs.Node.{Node, Stands}
 use Rattle.histories.specs.NodeState.{NodeState, opening}
@@ -14,6 +15,7 @@ use Rattle.histories.specs.declared.history_event.HistoryEvent.TheVariants.{Did,
 use Rattle.histories.specs.After.{after, sent_at, mounted_at}
 use Rattle.histories.specs.Possible.{IsPossible, IsOfSlots}
 use Rattle.schedule.specs.declared.act.Act.{Act}
+use Rattle.schedule.specs.declared.act.Act.TheVariants as act
 use Rattle.cluster_sim.specs.declared.act_report.ActReport.{ActReport}
 use Rattle.durable_node.specs.Stepping.{answer_at, command_at}
 use Rattle.histories.specs.EventOutcomes.{attempt_of}
@@ -156,6 +158,13 @@ abbrev pub MayHaveForgotten : Node Memory → Node Memory → Type 0
 MayHaveForgotten old new = (new ≡ old) ⊎ (new ≡ record old { disk = forgotten_disk old.disk })
 
 -- ---- the cluster
+
+-- two nodes are joined again, or cut from one another
+abbrev pub link_act : Bool → ℕ → ℕ → Act
+link_act joined a b = if joined then act.Mend a b else act.Cut a b
+
+abbrev pub linked : Bool → Network → ℕ → ℕ → Network
+linked joined net a b = record net { cuts = with_pair (if joined then without_id else with_id) net.cuts a b }
 
 -- nothing has changed, but that this node may not show any more what it mounted last
 pub record IsUntouched (at : ℕ) (old new : WorldView) : Type 0 where

@@ -9,12 +9,12 @@ ghost use Rattle.runs.specs.declared.outcome.Outcome.TheVariants as outcome;
 ghost use Rattle.runs.specs.declared.outcome.Refusal.TheVariants.{Node as OfNode};
 ghost use Rattle.runs.specs.Acts.{At};
 ghost use Rattle.runs.specs.Events.{event_at};
-ghost use Rattle.cluster_sim.specs.World.{AreasRise, AreasWithin, AreOpened, AreUnarmed, IsUntouched, StandsFor, Makes, Performed, FaultsAt, bare};
+ghost use Rattle.cluster_sim.specs.World.{AreasRise, AreOpened, IsUntouched, StandsFor, Makes, Performed, FaultsAt, bare, linked, link_act};
 ghost use Rattle.cluster_sim.specs.Answering.{IsAnsweredAt};
 ghost use Rattle.cluster_sim.specs.Operated.{Operates, operated_at};
 ghost use Rattle.cluster_sim.specs.Names.{node_named, node_or_first};
 ghost use Rattle.runs.specs.Run.{IsBrought};
-ghost use Rattle.runs.specs.World.{World, start};
+ghost use Rattle.runs.specs.World.{World};
 
 use crate::act_report::ActReport;
 use crate::member::{handle, nothing_sent, operate};
@@ -31,9 +31,9 @@ use std::marker::Model;
 /// The nodes of a cluster by their ids, each over its own disk in memory, and the network between them.
 #[derive(Drop)]
 pub(crate) struct Nodes {
-    slots: u64,
-    nodes: Vec<DurableNode<MemDisk>>,
-    net: Net,
+    pub(crate) slots: u64,
+    pub(crate) nodes: Vec<DurableNode<MemDisk>>,
+    pub(crate) net: Net,
 }
 
 impl Model for Nodes {
@@ -47,27 +47,6 @@ impl Model for Nodes {
 }
 
 impl Nodes {
-    /// Nodes over new disks of so many slots, each of which was formatted, mounted and recovered. Nothing is sent.
-    ///
-    /// Refused where there is no memory.
-    pub(crate) fn open(alloc: Global, nodes: u8, slots: u64) -> Result<Nodes, AllocError>
-        requires least { 1 ≤ nodes }
-        requires most { nodes ≤ NODES }
-        requires least_slots { 4 ≤ slots }
-        requires most_slots { slots ≤ 4096 }
-        ensures slots { IfOk result (λ members. members.slots ≡ slots) }
-        ensures starts { IfOk result (λ members. StandsFor members (start nodes)) }
-        ensures areas { IfOk result (λ members. AreasWithin 2 members.nodes) }
-        ensures unarmed { IfOk result (λ members. AreUnarmed members.nodes) }
-    {
-        let members = opened(alloc, nodes, slots)?;
-        Ok(Nodes {
-            slots,
-            nodes: members,
-            net: Net::new(alloc),
-        })
-    }
-
     /// The node of this id.
     pub(crate) fn node(&self, id: NodeId) -> &DurableNode<MemDisk>
         requires { id < length self.now.nodes }
@@ -146,10 +125,10 @@ impl Nodes {
         }
     }
 
-    /// Cuts two nodes from one another.
-    fn cut(&mut self, a: NodeId, b: NodeId) -> Outcome
+    /// Joins two nodes again, or cuts them from one another.
+    fn link(&mut self, a: NodeId, b: NodeId, joined: bool) -> Outcome
         ensures slots { self.new.slots ≡ self.old.slots }
-        ensures acted { (w : World) → StandsFor self.old w → Performed w (acts.Cut a b) (bare result) self.new }
+        ensures acted { (w : World) → StandsFor self.old w → Performed w (link_act joined a b) (bare result) self.new }
         ensures faults { FaultsAt 0 self.old self.new result }
         ensures nodes { self.new.nodes ≡ self.old.nodes }
         ensures own { result ≢ outcome.Refused (OfNode AreaExhausted) }
@@ -157,22 +136,7 @@ impl Nodes {
         if !self.has_both(a, b) {
             return Outcome::Refused(Refusal::Stranger);
         }
-        self.net.cut(a, b);
-        nothing_sent(&self.net)
-    }
-
-    /// Joins two nodes again.
-    fn mend(&mut self, a: NodeId, b: NodeId) -> Outcome
-        ensures slots { self.new.slots ≡ self.old.slots }
-        ensures acted { (w : World) → StandsFor self.old w → Performed w (acts.Mend a b) (bare result) self.new }
-        ensures faults { FaultsAt 0 self.old self.new result }
-        ensures nodes { self.new.nodes ≡ self.old.nodes }
-        ensures own { result ≢ outcome.Refused (OfNode AreaExhausted) }
-    {
-        if !self.has_both(a, b) {
-            return Outcome::Refused(Refusal::Stranger);
-        }
-        self.net.mend(a, b);
+        link(&mut self.net, a, b, joined);
         nothing_sent(&self.net)
     }
 
@@ -212,16 +176,31 @@ impl Nodes {
     {
         match act {
             Act::Lose(number) => self.lose(*number),
-            Act::Cut(a, b) => self.cut(*a, *b),
-            Act::Mend(a, b) => self.mend(*a, *b),
+            Act::Cut(a, b) => self.link(*a, *b, false),
+            Act::Mend(a, b) => self.link(*a, *b, true),
             Act::Arm(id, _) | Act::Crash(id, _) | Act::Compact(id) => self.operate(*id, act),
             _ => unreachable!(),
         }
     }
 }
 
+/// Joins two nodes of a network again, or cuts them from one another.
+fn link(net: &mut Net, a: NodeId, b: NodeId, joined: bool)
+    ensures { net.new.network ≡ linked joined net.old.network a b }
+{
+    if joined {
+        net.mend(a, b);
+    } else {
+        net.cut(a, b);
+    }
+}
+
 /// So many nodes, each over a new disk of so many slots. All disks are copies of one that was formatted.
-fn opened(alloc: Global, nodes: u8, slots: u64) -> Result<Vec<DurableNode<MemDisk>>, AllocError>
+pub(crate) fn opened(
+    alloc: Global,
+    nodes: u8,
+    slots: u64,
+) -> Result<Vec<DurableNode<MemDisk>>, AllocError>
     requires most { nodes ≤ NODES }
     requires least_slots { 4 ≤ slots }
     requires most_slots { slots ≤ 4096 }

@@ -107,7 +107,7 @@ fn trace_acts(
     Ok(())
 }
 
-/// Does one act.
+/// Does one act, and adds what came of it to the history of the node that it comes to, if any.
 fn trace_act(
     alloc: Global,
     world: &mut World,
@@ -123,34 +123,11 @@ fn trace_act(
     ensures traced { (nodes slots : ℕ) (before : List ActValue) → IsSoFar nodes slots world.old before histories.old.items order.old
         → OnOk result (IsSoFar nodes slots world.new (before ++ act.now ∷ []) histories.new.items order.new) }
 {
-    match brought_by(world.count(), world.net(), act) {
-        Some((id, brought)) => trace_at(alloc, world, histories, order, act, id, &brought),
-        None => step(world, act),
-    }
-}
-
-/// Does an act that comes to a node.
-fn trace_at(
-    alloc: Global,
-    world: &mut World,
-    histories: &mut Vec<History>,
-    order: &mut Order,
-    act: &Act,
-    id: NodeId,
-    brought: &Brought,
-) -> Result<(), AllocError>
-    requires brought { brought_by (length world.old.nodes) world.old.net act.now ≡ Some (id, brought.now) }
-    requires within { id < length world.old.nodes }
-    requires world { HasWorld world.old }
-    requires many { length histories.old.items ≡ length world.old.nodes }
-    ensures world { OnOk result (HasWorld world.new) }
-    ensures many { OnOk result (length histories.new.items ≡ length histories.old.items) }
-    ensures nodes { OnOk result (length world.new.nodes ≡ length world.old.nodes) }
-    ensures traced { (nodes slots : ℕ) (before : List ActValue) → IsSoFar nodes slots world.old before histories.old.items order.old
-        → OnOk result (IsSoFar nodes slots world.new (before ++ act.now ∷ []) histories.new.items order.new) }
-{
+    let Some((id, brought)) = brought_by(world.count(), world.net(), act) else {
+        return step(world, act);
+    };
     let place = world.net().sent().len();
-    let deed = perform(world, act, brought)?;
+    let deed = perform(world, act, &brought)?;
     let sent = sent_since(alloc, world.net().sent(), place)?;
     let message = message_of(act, &deed);
     note(histories, order, id, &deed, message, &sent)

@@ -11,7 +11,7 @@ ghost use Rattle.runs.specs.World.{World as RunWorld, start};
 
 use crate::act_report::ActReport;
 use crate::acts::{event_at, read_delivery, some_delivery};
-use crate::nodes::Nodes;
+use crate::nodes::{Nodes, opened};
 use durable_node::DurableNode;
 use group_task::NodeId;
 use node_core::Event;
@@ -59,8 +59,13 @@ impl World {
         ensures areas { IfOk result (λ world. AreasWithin 2 world.nodes) }
         ensures unarmed { IfOk result (λ world. AreUnarmed world.nodes) }
     {
+        let members = opened(alloc, nodes, slots)?;
         Ok(World {
-            nodes: Nodes::open(alloc, nodes, slots)?,
+            nodes: Nodes {
+                slots,
+                nodes: members,
+                net: Net::new(alloc),
+            },
             delivery: some_delivery(),
             event: Event::Recover,
         })

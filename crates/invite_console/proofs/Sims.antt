@@ -7,23 +7,18 @@ use Rattle.sim_net.specs.Network.{Network}
 use Rattle.sector_disk.specs.Memory.{Memory, state_of}
 use Rattle.durable_node.specs.Node.{Node, Stands}
 use Rattle.histories.specs.NodeState.{NodeState}
-use Rattle.histories.specs.declared.history_event.HistoryEvent.{HistoryEvent}
-use Rattle.histories.specs.declared.history_event.HistoryEvent.TheVariants.{NoOp, Crashed}
-use Rattle.histories.specs.declared.history_event.NoOpKind.TheVariants.{Nothing, Compacted, CompactDown, CompactAreaExhausted}
 use Rattle.schedule.specs.declared.act.Act.{Act}
-use Rattle.schedule.specs.declared.act.Act.TheVariants as an
 use Rattle.runs.specs.declared.outcome.Outcome.{Outcome}
 use Rattle.runs.specs.declared.outcome.Outcome.TheVariants as outcome
 use Rattle.runs.specs.declared.outcome.Outcome.TheVariants.{Done}
-use Rattle.runs.specs.World.{World, node_in, start}
+use Rattle.runs.specs.World.{World, start}
 use Rattle.node_core.specs.declared.fault.Refusal.TheVariants.{AreaExhausted}
 use Rattle.runs.specs.declared.outcome.Outcome.TheVariants.{Refused}
 use Rattle.runs.specs.declared.outcome.Refusal.TheVariants.{Node as OfNode}
-use Rattle.runs.proofs.PublicLaws.{step_adds, step_length, length_openings}
-use Rattle.runs.specs.Step.{Step, Takes, Changes, Denies, step_sent, world_after}
-use Rattle.runs.specs.Acts.{what_outcome, act_outcome}
+use Rattle.runs.proofs.PublicLaws.{IsSaid, step_adds, step_length, step_said, length_openings}
+use Rattle.runs.specs.Step.{Step, step_sent, world_after}
+use Rattle.runs.specs.Acts.{act_outcome}
 use Rattle.runs.specs.Run.{IsAllowed}
-use Rattle.histories.specs.After.{sent_at}
 use Rattle.runs.specs.Reporting.{Moment, grown, moment_of, report_of}
 use Rattle.runs.specs.Growth.{IsNext, RunsGrow, RunsOpen}
 use Rattle.cluster_sim.specs.Names.{node_named}
@@ -42,22 +37,9 @@ messages_part names (Done answer first many) sent = sent_text names first sent
 messages_part names (outcome.Refused why) sent = []
 messages_part names outcome.Faulted sent = []
 
--- An act that was done says how many messages had been sent before it, and another one sends none.
-outcome_said : (names : Bool) (n nodes first : ℕ) (s : NodeState) (what : HistoryEvent) (a : Act)
-    → messages_part names (what_outcome n nodes first s what a) (sent_at n nodes s what) ≡ sent_text names first (sent_at n nodes s what)
-outcome_said names n nodes first s (NoOp Nothing) a = refl
-outcome_said names n nodes first s (NoOp Compacted) a = refl
-outcome_said names n nodes first s (NoOp CompactDown) a = refl
-outcome_said names n nodes first s (NoOp CompactAreaExhausted) a = refl
-outcome_said names n nodes first s Crashed (an.Compact m) = refl
-outcome_said names n nodes first s Crashed _ = refl
-outcome_said names n nodes first s _ a = refl
-
-step_said : (names : Bool) (nodes : ℕ) (w : World) (a : Act) (step : Step)
-    → messages_part names (act_outcome nodes w a step) (step_sent nodes w step) ≡ sent_text names (length w.net.sent) (step_sent nodes w step)
-step_said names nodes w a (Takes n number what) = outcome_said names n nodes (length w.net.sent) (node_in w.states n) what a
-step_said names nodes w a (Changes net) = refl
-step_said names nodes w a (Denies n why) = refl
+part_said : (names : Bool) (first : ℕ) (sent : List Envelope) (o : Outcome) → IsSaid first sent o → messages_part names o sent ≡ sent_text names first sent
+part_said names first sent (Done answer k many) is = ap (λ (o : Outcome). messages_part names o sent) is
+part_said names first sent _ is = sym (ap (λ (ms : List Envelope). sent_text names first ms) is)
 
 -- the messages of a step are the last ones
 pub last_sent : (nodes : ℕ) (w : World) (step : Step) → IsAllowed nodes w step → drop (length w.net.sent) (world_after nodes w step).net.sent ≡ step_sent nodes w step
@@ -135,7 +117,7 @@ said_of names old new w a outcome stands acted =
     subst (λ (k : ℕ). messages_part names outcome (drop k new.net.sent) ≡ sent_text names k (drop k new.net.sent)) (ap (λ (net : Network). length net.sent) (sym stands.net))
     (subst (λ (ms : List Envelope). messages_part names outcome ms ≡ sent_text names (length w.net.sent) ms) (sym sent)
     (subst (λ (o : Outcome). messages_part names o (step_sent n w step) ≡ sent_text names (length w.net.sent) (step_sent n w step)) (sym acted.outcome_is)
-    (step_said names n w a step)))
+    (part_said names _ _ _ (step_said n w a step))))
 
 line_parts : (names : Bool) (number : ℕ) (a : Act) (outcome : Outcome) (sent : List Envelope)
     → act_head number a outcome ++ (messages_part names outcome sent ++ codes "\n") ≡ act_line names number a outcome sent

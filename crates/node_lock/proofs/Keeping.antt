@@ -14,7 +14,7 @@ use Rattle.histories.proofs.PublicLaws.{history_goes_on}
 use Rattle.node_lock.specs.declared.run.Run.{Run}
 use Rattle.node_lock.specs.declared.worker.Worker.{Worker}
 use Rattle.node_lock.specs.Asking.{Asked}
-use Rattle.node_lock.specs.Doing.{Gives, TurnDid}
+use Rattle.node_lock.specs.Doing.{Gives, StandsForSome, TurnDid}
 use Rattle.node_lock.specs.Path.{Path}
 use Rattle.node_lock.specs.Planned.{no_turns}
 use Rattle.node_lock.specs.Sending.{PutsSome, addressed_to, SameLink, SameSides, SentTo, SentOn}
@@ -60,9 +60,9 @@ put_link_more run ts t p q h s =
 
 -- ---- the state, after one turn more
 
--- the ends of its links are in the order of the other nodes
-pub ends_in : (h : HeldView) → Kept h → AreEnds h.node.id h.puts
-ends_in h k i d lt = subst (λ (own : ℕ). IsOther own i (slice_index_or h.puts i d).receiver) (sym k.id) (k.puts i d lt).1
+-- the node stands for a state, and the ends of its links are in the order of the other nodes
+pub ready_in : (h : HeldView) → Kept h → StandsForSome h.node × AreEnds h.node.id h.puts
+ready_in h k = ((_, k.replay.stands), λ i d lt. subst (λ (own : ℕ). IsOther own i (slice_index_or h.puts i d).receiver) (sym k.id) (k.puts i d lt).1)
 
 comes_in : (h : HeldView) (asked : Asked) (t : Turn) (new : Node Memory) → Kept h → TurnDid h.node asked t.entry.what t.entry.sent new → Comes h.node (replay h.run.node h.run.nodes (opening h.run.node) (entries_of h.history)) asked t.entry.what t.entry.sent new
 comes_in h asked t new k did = turn_comes h.node new asked t.entry.what t.entry.sent did (replay h.run.node h.run.nodes (opening h.run.node) (entries_of h.history)) k.replay.stands

@@ -6,7 +6,9 @@ use Rattle.histories.specs.HistoryEvent.{Entry}
 use Rattle.durable_node.specs.Node.{Node}
 use Rattle.node_lock.specs.declared.worker.Worker.{Worker}
 use Rattle.node_lock.specs.Asking.{Asked}
-use Rattle.node_lock.specs.Doing.{TurnDid}
+use Rattle.node_lock.specs.declared.turn.Site.{Site as Standing}
+use Rattle.node_lock.specs.Doing.{StandsForSome, TurnDid}
+use Rattle.node_lock.specs.HeldView.{AreEnds}
 use Rattle.node_lock.specs.Sending.{SentOn, SameSides}
 use Rattle.node_lock.specs.History.{Turn}
 
@@ -18,6 +20,13 @@ pub record Site : Type 0 where
 
 abbrev pub site : Node Memory → List Side → List Turn → Site
 site node puts turns = record { node = node; puts = puts; turns = turns }
+
+abbrev pub site_of : Standing → Site
+site_of s = site s.node s.puts.items s.history.turns
+
+-- the node stands for a state, and its links are to the others
+abbrev pub IsReady : Standing → Type 0
+IsReady s = StandsForSome s.node × AreEnds s.node.id s.puts.items
 
 abbrev pub turn_of : Worker → ℕ → Entry → Turn
 turn_of worker index e = record { worker = worker; index = index; entry = e }

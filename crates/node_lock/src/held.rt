@@ -11,7 +11,7 @@ ghost use Rattle.node_lock.specs.declared.worker.Worker.TheVariants.{Intake, Clo
 use crate::history::History;
 use crate::plans::Plans;
 use crate::run::Run;
-use crate::turn::{clear, fetch, hand, operate, receive};
+use crate::turn::{Site, clear, fetch};
 use crate::worker::{Turns, Worker};
 use durable_node::DurableNode;
 use group_task::NodeId;
@@ -40,13 +40,11 @@ pub const MOST_ENTRIES: usize = 65_536;
 /// A node with its links, its plans and its history.
 #[derive(Drop)]
 pub struct Held {
-    node: DurableNode<MemDisk>,
+    site: Site,
     run: Run,
-    puts: Vec<PutEnd>,
     takes: Vec<TakeEnd>,
     plans: Plans,
     turns: Turns,
-    history: History,
     waiting: Option<Message>,
 }
 
@@ -55,7 +53,7 @@ impl Model for Held {
 
     ghost Value = { HeldView };
 
-    ghost view = { λ h. record { node = h.node; run = h.run; puts = h.puts.items; takes = h.takes.items; plans = h.plans; turns = h.turns; history = h.history.turns; waiting = h.waiting; room = h.history.room; sends = h.history.sends; events = h.history.events } };
+    ghost view = { λ h. record { node = h.site.node; run = h.run; puts = h.site.puts.items; takes = h.takes.items; plans = h.plans; turns = h.turns; history = h.site.history.turns; waiting = h.waiting; room = h.site.history.room; sends = h.site.history.sends; events = h.site.history.events } };
 
     // Promise: The history is one of a node that has just opened, and the node stands for the state that it replays to; of a node
     // that is Down each disk image does, with or without the command in doubt.
@@ -72,7 +70,7 @@ impl Model for Held {
     // Promise: A history has at most 65,536 turns.
     // Also: limits.
     // Refuses: limit_off_by_one.
-    ghost invariant = { λ h. Kept (record { node = h.node; run = h.run; puts = h.puts.items; takes = h.takes.items; plans = h.plans; turns = h.turns; history = h.history.turns; waiting = h.waiting; room = h.history.room; sends = h.history.sends; events = h.history.events }) };
+    ghost invariant = { λ h. Kept (record { node = h.site.node; run = h.run; puts = h.site.puts.items; takes = h.takes.items; plans = h.plans; turns = h.turns; history = h.site.history.turns; waiting = h.waiting; room = h.site.history.room; sends = h.site.history.sends; events = h.site.history.events }) };
 }
 
 /// What is left of a node when its workers have ended.
@@ -108,9 +106,12 @@ impl Held {
     {
         let node = DurableNode::open(alloc, run.node, run.nodes, run.slots)?;
         Ok(Held {
-            node,
+            site: Site {
+                node,
+                puts,
+                history: History::new(alloc),
+            },
             run,
-            puts,
             takes,
             plans,
             turns: Turns {
@@ -118,7 +119,6 @@ impl Held {
                 clock: 0,
                 operator: 0,
             },
-            history: History::new(alloc),
             waiting: None,
         })
     }
@@ -150,7 +150,7 @@ impl Held {
         if self.is_used_up(worker) {
             return Ok(false);
         }
-        if self.history.len() >= MOST_ENTRIES {
+        if self.site.history.len() >= MOST_ENTRIES {
             return Err(HeldFault::HistoryFull);
         }
         match worker {
@@ -160,7 +160,7 @@ impl Held {
         }
     }
 
-    #[tactic(auto, using(crate::proofs::Keeping::ends_in))]
+    #[tactic(auto, using(crate::proofs::Keeping::ready_in))]
     fn next_intake(&mut self) -> Result<bool, HeldFault>
         requires more { self.old.turns.intake < length self.old.plans.intake }
         requires few { length self.old.history < MOST_ENTRIES }
@@ -172,19 +172,13 @@ impl Held {
         let from = self.plans.intake()[index];
         let place = place_of(self.run.node, from);
         fetch(&mut self.takes, &mut self.waiting, place)?;
-        receive(
-            &mut self.node,
-            &mut self.puts,
-            &mut self.history,
-            index as u64,
-            &self.waiting,
-        )?;
+        self.site.receive(index as u64, &self.waiting)?;
         self.turns.intake += 1;
         clear(&mut self.waiting);
         Ok(true)
     }
 
-    #[tactic(auto, using(crate::proofs::Keeping::ends_in))]
+    #[tactic(auto, using(crate::proofs::Keeping::ready_in))]
     fn next_clock(&mut self) -> Result<bool, HeldFault>
         requires more { self.old.turns.clock < length self.old.plans.clock }
         requires few { length self.old.history < MOST_ENTRIES }
@@ -194,19 +188,12 @@ impl Held {
     {
         let index = self.turns.clock;
         let event = Event::Timer(self.plans.clock()[index]);
-        hand(
-            &mut self.node,
-            &mut self.puts,
-            &mut self.history,
-            Worker::Clock,
-            index as u64,
-            &event,
-        )?;
+        self.site.hand(Worker::Clock, index as u64, &event)?;
         self.turns.clock += 1;
         Ok(true)
     }
 
-    #[tactic(auto, using(crate::proofs::Keeping::ends_in))]
+    #[tactic(auto, using(crate::proofs::Keeping::ready_in))]
     fn next_operator(&mut self) -> Result<bool, HeldFault>
         requires more { self.old.turns.operator < length self.old.plans.operator }
         requires few { length self.old.history < MOST_ENTRIES }
@@ -215,13 +202,8 @@ impl Held {
         ensures memory { IfErr result (λ f. (f ≡ NoMemory) × Unserved self.old self.new) }
     {
         let index = self.turns.operator;
-        operate(
-            &mut self.node,
-            &mut self.puts,
-            &mut self.history,
-            index as u64,
-            &self.plans.operator()[index],
-        )?;
+        let order = &self.plans.operator()[index];
+        self.site.operate(index as u64, order)?;
         self.turns.operator += 1;
         Ok(true)
     }
@@ -268,15 +250,14 @@ impl Held {
         ensures parts { (result.run ≡ self.run) × (result.plans ≡ self.plans) × (result.history.turns ≡ self.history) × (result.puts.items ≡ self.puts) × (result.takes.items ≡ self.takes) × (result.waiting ≡ self.waiting) }
     {
         let Held {
-            node: _,
+            site,
             run,
-            puts,
             takes,
             plans,
             turns: _,
-            history,
             waiting,
         } = self;
+        let Site { puts, history, .. } = site;
         HeldParts {
             run,
             plans,

@@ -5,12 +5,10 @@ ghost use Rattle.durable_node.specs.Stepping.{most_by};
 ghost use Rattle.node_lock.specs.declared.held.HeldFault.TheVariants.{NoMemory};
 ghost use Rattle.node_lock.specs.declared.worker.Worker.TheVariants.{Intake, Operator};
 ghost use Rattle.node_lock.specs.Asking.{Hand, asked_in, asked_by};
-ghost use Rattle.node_lock.specs.Doing.{StandsForSome};
 ghost use Rattle.node_lock.specs.Kept.{what_quiet};
 ghost use Rattle.node_lock.specs.declared.line.Quiet.TheVariants.{Rested};
-ghost use Rattle.node_lock.specs.Taking.{TookTurn, TookNone, site, turn_of};
+ghost use Rattle.node_lock.specs.Taking.{IsReady, TookTurn, TookNone, site_of, turn_of};
 ghost use Rattle.link_ring.specs.Sides.{Side};
-ghost use Rattle.node_lock.specs.HeldView.{AreEnds};
 ghost use Rattle.node_lock.specs.Sending.{HasRoomFor, SameSides, Brings, most_to};
 
 use crate::held::HeldFault;
@@ -27,27 +25,86 @@ use sector_disk::MemDisk;
 use std::alloc::AllocError;
 use wire_msg::Message;
 
-/// A turn that hands an event to the node.
-pub(crate) fn hand(
-    node: &mut DurableNode<MemDisk>,
-    puts: &mut Vec<PutEnd>,
-    history: &mut History,
-    worker: Worker,
-    index: u64,
-    event: &Event,
-) -> Result<(), HeldFault>
-    requires stands { StandsForSome node.old }
-    requires ends { AreEnds node.old.id puts.old.items }
-    ensures taken { OnOk result ((e : Entry) × TookTurn worker index (Hand event.now) e (site node.old puts.old.items history.old.turns) (site node.new puts.new.items history.new.turns)) }
-    ensures memory { IfErr result (λ fault. (fault ≡ NoMemory) × TookNone (site node.old puts.old.items history.old.turns) (site node.new puts.new.items history.new.turns)) }
-{
-    if make_room(node, puts, history, event).is_err() {
-        return Err(HeldFault::NoMemory);
+/// A node, the ends of its links to the others, and its history.
+#[derive(Drop)]
+pub(crate) struct Site {
+    pub(crate) node: DurableNode<MemDisk>,
+    pub(crate) puts: Vec<PutEnd>,
+    pub(crate) history: History,
+}
+
+impl Site {
+    /// A turn that hands an event to the node.
+    pub(crate) fn hand(
+        &mut self,
+        worker: Worker,
+        index: u64,
+        event: &Event,
+    ) -> Result<(), HeldFault>
+        requires { IsReady self.old }
+        ensures taken { OnOk result ((e : Entry) × TookTurn worker index (Hand event.now) e (site_of self.old) (site_of self.new)) }
+        ensures memory { IfErr result (λ fault. (fault ≡ NoMemory) × TookNone (site_of self.old) (site_of self.new)) }
+    {
+        if make_room(&self.node, &mut self.puts, &mut self.history, event).is_err() {
+            return Err(HeldFault::NoMemory);
+        }
+        let (event_outcome, sent) = perform(&mut self.node, event)?;
+        send_all(&mut self.puts, &sent);
+        self.history
+            .push(worker, index, event, event_outcome, &sent);
+        Ok(())
     }
-    let (event_outcome, sent) = perform(node, event)?;
-    send_all(puts, &sent);
-    history.push(worker, index, event, event_outcome, &sent);
-    Ok(())
+
+    /// The operator's turn.
+    pub(crate) fn operate(&mut self, index: u64, order: &OperatorOrder) -> Result<(), HeldFault>
+        requires { IsReady self.old }
+        ensures taken { OnOk result ((e : Entry) × TookTurn Operator index (asked_in order.now) e (site_of self.old) (site_of self.new)) }
+        ensures memory { IfErr result (λ fault. (fault ≡ NoMemory) × TookNone (site_of self.old) (site_of self.new)) }
+    {
+        let event = match order {
+            OperatorOrder::Submit(job) => Event::Submit(job.work()),
+            OperatorOrder::Finish(origin, id) => Event::Finish(*origin, *id),
+            OperatorOrder::Recover => Event::Recover,
+            OperatorOrder::Arm(calls) => {
+                rest(&mut self.history, Worker::Operator, index)?;
+                self.node.arm(*calls);
+                return Ok(());
+            }
+            OperatorOrder::Crash(fill) => {
+                if self.history.reserve_quiet().is_err() {
+                    return Err(HeldFault::NoMemory);
+                }
+                self.node.crash(fill.as_slice());
+                self.history
+                    .push_quiet(Worker::Operator, index, Quiet::Crashed);
+                return Ok(());
+            }
+        };
+        self.hand(Worker::Operator, index, &event)
+    }
+
+    /// The intake's turn: what a poll took is handed to the node.
+    pub(crate) fn receive(&mut self, index: u64, arrived: &Option<Message>) -> Result<(), HeldFault>
+        requires { IsReady self.old }
+        ensures taken { OnOk result ((e : Entry) × TookTurn Intake index (asked_by arrived.now) e (site_of self.old) (site_of self.new)) }
+        ensures memory { IfErr result (λ fault. (fault ≡ NoMemory) × TookNone (site_of self.old) (site_of self.new)) }
+    {
+        match arrived {
+            Some(message) => self.deliver(index, message),
+            None => rest(&mut self.history, Worker::Intake, index),
+        }
+    }
+
+    // Hands a message to the node. It stands apart, since most polls take none, and here a whole event is made.
+    #[inline(never)]
+    fn deliver(&mut self, index: u64, message: &Message) -> Result<(), HeldFault>
+        requires { IsReady self.old }
+        ensures taken { OnOk result ((e : Entry) × TookTurn Intake index (Hand (Event.Deliver message.now)) e (site_of self.old) (site_of self.new)) }
+        ensures memory { IfErr result (λ fault. (fault ≡ NoMemory) × TookNone (site_of self.old) (site_of self.new)) }
+    {
+        let event = Event::Deliver(*message);
+        self.hand(Worker::Intake, index, &event)
+    }
 }
 
 /// Makes all the room that an event takes outside the node.
@@ -77,77 +134,6 @@ fn rest(history: &mut History, worker: Worker, index: u64) -> Result<(), HeldFau
     }
     history.push_quiet(worker, index, Quiet::Rested);
     Ok(())
-}
-
-/// The operator's turn.
-pub(crate) fn operate(
-    node: &mut DurableNode<MemDisk>,
-    puts: &mut Vec<PutEnd>,
-    history: &mut History,
-    index: u64,
-    order: &OperatorOrder,
-) -> Result<(), HeldFault>
-    requires stands { StandsForSome node.old }
-    requires ends { AreEnds node.old.id puts.old.items }
-    ensures taken { OnOk result ((e : Entry) × TookTurn Operator index (asked_in order.now) e (site node.old puts.old.items history.old.turns) (site node.new puts.new.items history.new.turns)) }
-    ensures memory { IfErr result (λ fault. (fault ≡ NoMemory) × TookNone (site node.old puts.old.items history.old.turns) (site node.new puts.new.items history.new.turns)) }
-{
-    let event = match order {
-        OperatorOrder::Submit(job) => Event::Submit(job.work()),
-        OperatorOrder::Finish(origin, id) => Event::Finish(*origin, *id),
-        OperatorOrder::Recover => Event::Recover,
-        OperatorOrder::Arm(calls) => {
-            rest(history, Worker::Operator, index)?;
-            node.arm(*calls);
-            return Ok(());
-        }
-        OperatorOrder::Crash(fill) => {
-            if history.reserve_quiet().is_err() {
-                return Err(HeldFault::NoMemory);
-            }
-            node.crash(fill.as_slice());
-            history.push_quiet(Worker::Operator, index, Quiet::Crashed);
-            return Ok(());
-        }
-    };
-    hand(node, puts, history, Worker::Operator, index, &event)
-}
-
-/// The intake's turn: what a poll took is handed to the node.
-pub(crate) fn receive(
-    node: &mut DurableNode<MemDisk>,
-    puts: &mut Vec<PutEnd>,
-    history: &mut History,
-    index: u64,
-    arrived: &Option<Message>,
-) -> Result<(), HeldFault>
-    requires stands { StandsForSome node.old }
-    requires ends { AreEnds node.old.id puts.old.items }
-    ensures taken { OnOk result ((e : Entry) × TookTurn Intake index (asked_by arrived.now) e (site node.old puts.old.items history.old.turns) (site node.new puts.new.items history.new.turns)) }
-    ensures memory { IfErr result (λ fault. (fault ≡ NoMemory) × TookNone (site node.old puts.old.items history.old.turns) (site node.new puts.new.items history.new.turns)) }
-{
-    match arrived {
-        Some(message) => deliver(node, puts, history, index, message),
-        None => rest(history, Worker::Intake, index),
-    }
-}
-
-// Hands a message to the node. It stands apart, since most polls take none, and here a whole event is made.
-#[inline(never)]
-fn deliver(
-    node: &mut DurableNode<MemDisk>,
-    puts: &mut Vec<PutEnd>,
-    history: &mut History,
-    index: u64,
-    message: &Message,
-) -> Result<(), HeldFault>
-    requires stands { StandsForSome node.old }
-    requires ends { AreEnds node.old.id puts.old.items }
-    ensures taken { OnOk result ((e : Entry) × TookTurn Intake index (Hand (Event.Deliver message.now)) e (site node.old puts.old.items history.old.turns) (site node.new puts.new.items history.new.turns)) }
-    ensures memory { IfErr result (λ fault. (fault ≡ NoMemory) × TookNone (site node.old puts.old.items history.old.turns) (site node.new puts.new.items history.new.turns)) }
-{
-    let event = Event::Deliver(*message);
-    hand(node, puts, history, Worker::Intake, index, &event)
 }
 
 /// No message waits. None is written over none, since that takes as long as to write a message.

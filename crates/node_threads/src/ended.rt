@@ -14,7 +14,6 @@ use crate::fault::ThreadsFault;
 use crate::size::RunSize;
 use crate::workers::Stopped;
 use group_task::NodeId;
-use link_ring::Unpaired;
 use node_lock::{Gate, Held, History, MOST_ENTRIES, NodeLock, Plans, Run, TurnFault, Worker};
 use std::alloc::Global;
 use std::vec::IntoIter;
@@ -45,16 +44,16 @@ pub(crate) fn take_all(
 }
 
 /// What is left of a node, where it is this node of this run, has these plans, and its workers have taken all their turns.
-fn take_out(lock: NodeLock, run: Run, plan: &Plans) -> Result<(History, Left), Unpaired>
+fn take_out(lock: NodeLock, run: Run, plan: &Plans) -> Result<(History, Left), ThreadsFault>
     ensures { IfOk result (λ r. HasEnded run plan.now r.0.turns r.1) }
 {
     let held = lock.into_held();
     if held.run() != run || !is_ended(&held) {
-        return Err(Unpaired);
+        return Err(ThreadsFault::Unpaired);
     }
     let parts = held.into_parts();
     if !parts.plans.is_same(plan) {
-        return Err(Unpaired);
+        return Err(ThreadsFault::Unpaired);
     }
     Ok((parts.history, Left::new(parts.puts, parts.takes)))
 }

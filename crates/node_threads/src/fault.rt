@@ -1,10 +1,9 @@
 //! Why a run wasn't gathered.
 
 ghost use Rattle.std.specs.Prelude.{◌≡◌};
-ghost use Rattle.node_threads.specs.declared.fault.ThreadsFault.TheVariants.{NoMemory, Unpaired};
+ghost use Rattle.node_threads.specs.declared.fault.ThreadsFault.TheVariants.{NoMemory};
 
 use group_task::NodeId;
-use link_ring::Unpaired;
 use node_lock::Worker;
 use std::alloc::AllocError;
 use thiserror::Error;
@@ -33,13 +32,5 @@ impl From<AllocError> for ThreadsFault {
 
     fn from(_e: AllocError) -> ThreadsFault {
         ThreadsFault::NoMemory
-    }
-}
-
-impl From<Unpaired> for ThreadsFault {
-    ghost from_gives = { λ _ e. e ≡ Unpaired };
-
-    fn from(_e: Unpaired) -> ThreadsFault {
-        ThreadsFault::Unpaired
     }
 }

@@ -5,7 +5,7 @@ ghost use Rattle.node_threads.specs.Links.{AreGathered, GatheredMore, TookEnds};
 
 use crate::ends::Left;
 use crate::fault::ThreadsFault;
-use link_ring::{LinkEnd, PutEnd, TakeEnd, Unpaired, gather};
+use link_ring::{LinkEnd, PutEnd, TakeEnd, gather};
 use std::alloc::Global;
 
 /// A link for each ordered pair of different nodes, by sender and then receiver.
@@ -30,8 +30,10 @@ fn gather_sender(
 {
     for receiver in 0..left.len() {
         if receiver != sender {
-            let (put, take) = next_ends(sender, receiver, left).ok_or(Unpaired)?;
-            let link = gather(put, take)?;
+            let (put, take) = next_ends(sender, receiver, left).ok_or(ThreadsFault::Unpaired)?;
+            let Ok(link) = gather(put, take) else {
+                return Err(ThreadsFault::Unpaired);
+            };
             links.reserve(1)?;
             links.push_reserved(link);
         }

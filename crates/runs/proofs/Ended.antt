@@ -29,7 +29,7 @@ use Rattle.runs.specs.declared.outcome.Refusal.{Refusal}
 use Rattle.runs.specs.declared.attempt_at.AttemptAt.{AttemptAt}
 use Rattle.runs.specs.Reporting.{Moment, Report, moment_of, tries, commands_at, grown, report_from}
 use Rattle.runs.proofs.Finishing.{SaysFinished, finish_act, acted_outcome}
-use Rattle.runs.proofs.Keeping.{AllStates, states_keep}
+use Rattle.runs.proofs.Keeping.{AllStates, lawful_keeps}
 use Rattle.runs.proofs.Lawful.{allowed_of, sent_there}
 use Rattle.runs.proofs.Reports.{moments_from}
 use Rattle.runs.proofs.Runs.{brought_sent, node_there}
@@ -102,11 +102,6 @@ step_underway F slots nodes w a (Takes n number what) acts steps of may owned h 
     ]
 step_underway F slots nodes w a (Changes net) acts steps of may owned h m id i body = inl (h m id (subst (λ (ms : List Envelope). IsAmong m ms) (sent_there nodes w a net of) i) body)
 step_underway F slots nodes w a (Denies named why) acts steps of may owned h m id i body = inl (h m id i body)
-
-step_owned : (slots nodes : ℕ) (w : World) (step : Step) → IsLawful slots nodes w step → AllStates OwnedAt w → AllStates OwnedAt (world_after nodes w step)
-step_owned slots nodes w (Takes n number what) may owned = states_keep OwnedAt nodes w n number what may.0 may.1 (owned_after n nodes may.0 what may.2 (owned n may.0 may.1)) owned
-step_owned slots nodes w (Changes net) may owned = owned
-step_owned slots nodes w (Denies named why) may owned = owned
 
 -- ---- a command that ends a job
 
@@ -190,7 +185,7 @@ done_ended F slots nodes [] (step ∷ steps) w r run owned h t id i is = absurd 
 done_ended F slots nodes (a ∷ acts) [] w r run owned h t id i is = absurd run
 done_ended F slots nodes (a ∷ acts) (step ∷ steps) w r run owned h t id i is =
     elim (done_ended (λ o j. F o j ⊎ Now nodes w (a ∷ acts) (step ∷ steps) o j) slots nodes acts steps (world_after nodes w step) (grown nodes w a step r) run.2
-    (step_owned slots nodes w step run.1 owned) (step_underway F slots nodes w a step acts steps run.0 run.1 owned h) t id i is) [
+    (lawful_keeps OwnedAt OwnedAt nodes slots (λ n s h. h) (λ n s what may fits h. owned_after n nodes s what may h) w step run.1 owned) (step_underway F slots nodes w a step acts steps run.0 run.1 owned h) t id i is) [
       | inl among ↦ elim (among_either t r.commands (commands_at nodes w step) among) [
         | inl old ↦ inl old
         | inr new ↦ inr (step_ended F slots nodes w a step acts steps t id run.0 run.1 owned h new is)

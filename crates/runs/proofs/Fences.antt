@@ -1,6 +1,5 @@
 -- Group numbers as fences: one leader, one owner of each queue, one list of members.
 use Rattle.std.proofs.Common.{◌≡◌, ◌⊎◌, ℕ, true, List, sym, ◌∙◌, ap, subst, inl, inr, Option}
-use Rattle.group_task.specs.Group.{Group}
 use Rattle.group_task.specs.Assignment.{Assignment, owner_of}
 use Rattle.group_task.specs.Ids.{has}
 use Rattle.node_core.specs.declared.phase.Phase.TheVariants.{Reorganization, Normal}

@@ -6,10 +6,12 @@ use Rattle.std.proofs.lemmas.List.{length-set}
 use Rattle.histories.specs.NodeState.{NodeState}
 use Rattle.histories.specs.declared.history_event.HistoryEvent.{HistoryEvent}
 use Rattle.histories.specs.After.{after}
+use Rattle.histories.specs.Possible.{IsPossible, IsOfSlots}
 use Rattle.histories.proofs.PublicLaws.{eq_nat}
 use Rattle.runs.specs.World.{World, node_in}
 use Rattle.runs.specs.Step.{Step, Takes, Changes, Denies, world_after}
 use Rattle.runs.specs.Run.{world_at}
+use Rattle.runs.specs.Acts.{IsLawful}
 use Rattle.runs.proofs.Runs.{state_here, state_elsewhere}
 
 -- P holds of each node and its state
@@ -31,6 +33,13 @@ states_keep P nodes w m number what s at kept all n t at_n = by_place (m == n) r
     by_place false is =
         let ne : n ≢ m = grind (arith, nat_tests) in
         all n t (sym (state_elsewhere m n nodes what w.states ne) ∙ at_n)
+
+-- so it does after any step that may come where it does
+pub lawful_keeps : (P Q : ℕ → NodeState → Type 0) (nodes slots : ℕ) → ((n : ℕ) (s : NodeState) → P n s → Q n s)
+    → ((n : ℕ) (s : NodeState) (what : HistoryEvent) → IsPossible n nodes s what → IsOfSlots slots n nodes s what → P n s → Q n (after n nodes s what))
+    → (w : World) (step : Step) → IsLawful slots nodes w step → AllStates P w → AllStates Q (world_after nodes w step)
+lawful_keeps P Q nodes slots stays moves w (Takes n number what) may all = states_keep Q nodes w n number what may.0 may.1 (moves n may.0 what may.2 may.3 (all n may.0 may.1)) (λ k s at. stays k s (all k s at))
+lawful_keeps P Q nodes slots stays moves w _ may all = λ k s at. stays k s (all k s at)
 
 -- there are as many nodes as there were
 pub step_length : (nodes : ℕ) (w : World) (step : Step) → length (world_after nodes w step).states ≡ length w.states

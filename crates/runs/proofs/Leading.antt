@@ -26,7 +26,7 @@ use Rattle.runs.specs.Acts.{IsLawful, IsRunOf}
 use Rattle.runs.specs.Reporting.{Moment, Report, moment_of}
 use Rattle.runs.specs.Uses.{Leads, LeaderCountsRise}
 use Rattle.runs.proofs.ExactRuns.{run_in}
-use Rattle.runs.proofs.Keeping.{AllStates, states_keep}
+use Rattle.runs.proofs.Keeping.{AllStates, lawful_keeps}
 use Rattle.runs.proofs.Reports.{moments_from, moments_are}
 use Rattle.runs.proofs.Runs.{node_there, opened, starts_opened, state_elsewhere, state_here}
 
@@ -96,9 +96,7 @@ counter_more self nodes s (RaiseRefused kept) = omega arith
 -- ---- a step
 
 step_leads : (slots nodes : ℕ) (w : World) (step : Step) → IsLawful slots nodes w step → AllStates LeadsLast w → AllStates LeadsLast (world_after nodes w step)
-step_leads slots nodes w (Takes n number what) may h = states_keep LeadsLast nodes w n number what may.0 may.1 (leads_after n nodes may.0 what may.2 (h n may.0 may.1)) h
-step_leads slots nodes w (Changes net) may h = h
-step_leads slots nodes w (Denies named why) may h = h
+step_leads slots nodes = lawful_keeps LeadsLast LeadsLast nodes slots (λ n s h. h) (λ n s what may fits h. leads_after n nodes s what may h)
 
 -- a node after a step
 record GoesOn (nodes : ℕ) (w : World) (step : Step) (n : ℕ) (s : NodeState) : Type 0 where

@@ -5,7 +5,7 @@ use Rattle.std.proofs.Math.Seq.{drop-append_seam, take-append_seam}
 use Rattle.wire_msg.specs.Envelope.{Envelope}
 use Rattle.histories.specs.NodeState.{NodeState}
 use Rattle.histories.specs.declared.history_event.HistoryEvent.{HistoryEvent}
-use Rattle.histories.specs.declared.history_event.HistoryEvent.TheVariants.{Did, NoOp, Crashed}
+use Rattle.histories.specs.declared.history_event.HistoryEvent.TheVariants.{NoOp, Crashed}
 use Rattle.histories.specs.declared.history_event.NoOpKind.TheVariants.{Nothing, Compacted, CompactDown, CompactAreaExhausted}
 use Rattle.histories.specs.After.{sent_at}
 use Rattle.schedule.specs.declared.act.Act.{Act}
@@ -16,6 +16,8 @@ use Rattle.runs.specs.Run.{IsAllowed, RunFrom, world_at}
 use Rattle.runs.proofs.ExactRuns.{left_run}
 use Rattle.runs.proofs.Exact.{all_acts_run}
 use Rattle.runs.proofs.Reports.{moments_from, moments_are}
+use Rattle.runs.specs.declared.outcome.Outcome.{Outcome}
+use Rattle.runs.specs.declared.outcome.Outcome.TheVariants.{Done}
 use Rattle.runs.specs.Acts.{what_outcome, act_outcome}
 use Rattle.runs.specs.Reporting.{Moment, Report, moment_of}
 use Rattle.runs.specs.Growth.{IsLeft, acts_in}
@@ -25,21 +27,32 @@ use Rattle.runs.specs.Numbered.{sent_under}
 part_between : (first part rest : List Envelope) → take (length part) (drop (length first) ((first ++ part) ++ rest)) ≡ part
 part_between first part rest = rw (append_assoc first part rest, drop-append_seam first (part ++ rest)) (take-append_seam part rest)
 
+-- an act that was done says how many messages had been sent before it and by it, and another one sends none
+abbrev pub IsSaid : ℕ → List Envelope → Outcome → Type 0
+IsSaid first sent (Done answer k many) = Done answer k many ≡ Done answer first (length sent)
+IsSaid first sent refused = sent ≡ []
+
 -- what comes at a node
-node_numbered : (n nodes : ℕ) (before rest : List Envelope) (s : NodeState) (what : HistoryEvent) (a : Act)
-    → sent_at n nodes s what ≡ sent_under ((before ++ sent_at n nodes s what) ++ rest) (what_outcome n nodes (length before) s what a)
-node_numbered n nodes before rest s (Did event) a = sym (part_between before (sent_at n nodes s (Did event)) rest)
-node_numbered n nodes before rest s (NoOp Nothing) a = refl
-node_numbered n nodes before rest s (NoOp Compacted) a = refl
-node_numbered n nodes before rest s (NoOp CompactDown) a = refl
-node_numbered n nodes before rest s (NoOp CompactAreaExhausted) a = refl
-node_numbered n nodes before rest s Crashed (act.Compact m) = refl
-node_numbered n nodes before rest s Crashed _ = refl
-node_numbered n nodes before rest s _ a = refl
+node_said : (n nodes first : ℕ) (s : NodeState) (what : HistoryEvent) (a : Act) → IsSaid first (sent_at n nodes s what) (what_outcome n nodes first s what a)
+node_said n nodes first s (NoOp Nothing) a = refl
+node_said n nodes first s (NoOp Compacted) a = refl
+node_said n nodes first s (NoOp CompactDown) a = refl
+node_said n nodes first s (NoOp CompactAreaExhausted) a = refl
+node_said n nodes first s Crashed (act.Compact m) = refl
+node_said n nodes first s Crashed _ = refl
+node_said n nodes first s _ a = refl
+
+pub step_said : (nodes : ℕ) (w : World) (a : Act) (step : Step) → IsSaid (length w.net.sent) (step_sent nodes w step) (act_outcome nodes w a step)
+step_said nodes w a (Takes n number what) = node_said n nodes (length w.net.sent) (node_in w.states n) what a
+step_said nodes w a _ = refl
+
+said_numbered : (before sent rest : List Envelope) (o : Outcome) → IsSaid (length before) sent o → sent ≡ sent_under ((before ++ sent) ++ rest) o
+said_numbered before sent rest (Done answer k many) is = sym (ap (sent_under ((before ++ sent) ++ rest)) is ∙ part_between before sent rest)
+said_numbered before sent rest _ is = is
 
 pub step_numbered : (nodes : ℕ) (w : World) (a : Act) (step : Step) (rest : List Envelope)
     → step_sent nodes w step ≡ sent_under ((world_after nodes w step).net.sent ++ rest) (act_outcome nodes w a step)
-step_numbered nodes w a (Takes n number what) rest = node_numbered n nodes w.net.sent rest (node_in w.states n) what a
+step_numbered nodes w a (Takes n number what) rest = said_numbered w.net.sent _ rest _ (step_said nodes w a (Takes n number what))
 step_numbered nodes w a _ rest = refl
 
 -- ---- messages are only added, at the end

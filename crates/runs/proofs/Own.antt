@@ -43,6 +43,16 @@ module _ {A B : Type 0} (node : A → ℕ) (part : A → B) where
       ]
       pick false is i rest = (let it = rest i in (it.0, inr it.1, it.2, it.3))
 
+  -- elements that are all of node m
+  module _ {C : Type 0} (each : C → A) (m n : ℕ) (of : (c : C) → node (each c) ≡ m) where
+    pub all_mine : (m == n) ≡ true → (cs : List C) → own n (map each cs) ≡ map (λ (c : C). part (each c)) cs
+    all_mine is [] = refl
+    all_mine is (c ∷ cs) = let here : (node (each c) == n) ≡ true = rw (of c) is in rw here (ap (λ (bs : List B). part (each c) ∷ bs) (all_mine is cs))
+
+    pub none_mine : (m == n) ≡ false → (cs : List C) → own n (map each cs) ≡ []
+    none_mine is [] = refl
+    none_mine is (c ∷ cs) = let other : (node (each c) == n) ≡ false = rw (of c) is in rw other (none_mine is cs)
+
   -- where each node has one element
   none_before : (each : ℕ → A) → ((i : ℕ) → node (each i) ≡ i) → (k i n : ℕ) → n < i → own n (map each (range_with_len i k)) ≡ []
   none_before each of zero i n lt = refl

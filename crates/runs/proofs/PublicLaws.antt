@@ -15,7 +15,7 @@ pub use Rattle.runs.proofs.Hands.{hands_grow}
 -- What each node keeps at its own steps, every node keeps, and there are as many nodes as there were.
 pub use Rattle.runs.proofs.Keeping.{step_length}
 -- The messages of a moment are those under its numbers, also when more were sent after it.
-pub use Rattle.runs.proofs.Numbered.{left_numbered, step_adds, step_numbered}
+pub use Rattle.runs.proofs.Numbered.{IsSaid, left_numbered, step_adds, step_numbered, step_said}
 -- The nodes that open, and the report of one more.
 pub use Rattle.runs.proofs.Opened.{length_openings, opened_more}
 -- What the report of a run says, part by part.

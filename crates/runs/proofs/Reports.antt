@@ -1,7 +1,7 @@
 -- What the report of a run says, part by part.
 use Rattle.std.proofs.Common.{◌≡◌, ◌≢◌, ℕ, ◌+◌, ◌<◌, Bool, true, false, List, [], ◌∷◌, ◌++◌, length, map, slice_get, refl, sym, ◌∙◌, ap, subst, arith, Option, Some, None, append_assoc}
 use Rattle.std.specs.Prelude.{if◌then◌else◌, ◌==◌, option_to_list, flat_map}
-use Rattle.std.proofs.lemmas.List.{append-nil, length-append}
+use Rattle.std.proofs.lemmas.List.{append-nil, length-append, map-id}
 use Rattle.std.proofs.lemmas.Bool.Decides.{nat_tests}
 use Rattle.group_task.specs.Group.{Group}
 use Rattle.node_core.specs.Words.{own_group}
@@ -19,7 +19,7 @@ use Rattle.histories.specs.declared.attempt.Attempt.{Attempt}
 use Rattle.histories.specs.Marks.{Mark, Acknowledged, Unanswered, Mounted, commands_of, mountings_of, tried_marks, failed_marks, marks_at, marks_from, marks_of}
 use Rattle.histories.proofs.PublicLaws.{commands_append, eq_nat}
 use Rattle.schedule.specs.declared.act.Act.{Act}
-use Rattle.runs.proofs.Own.{append_own, one_each}
+use Rattle.runs.proofs.Own.{append_own, all_mine, none_mine, one_each}
 use Rattle.runs.specs.World.{World, node_in, start}
 use Rattle.runs.specs.Step.{Step, Takes, Changes, Denies, world_after}
 use Rattle.runs.specs.Run.{history_in}
@@ -111,22 +111,6 @@ own_mounted_append n xs ys = append_own (λ (w : ℕ × Mounting). w.0) (λ (w :
 abbrev mounted_there : ℕ → ℕ → Option Durable → List (ℕ × Mounting)
 mounted_there m before d = map (λ (d : Durable). (m, record { before = before; state = d })) (option_to_list d)
 
-own_here : (m n : ℕ) (ts : List Attempt) → (m == n) ≡ true → own_commands n (with_node m ts) ≡ ts
-own_here m n [] is = refl
-own_here m n (t ∷ ts) is = rw is (ap (λ (us : List Attempt). t ∷ us) (own_here m n ts is))
-
-own_elsewhere : (m n : ℕ) (ts : List Attempt) → (m == n) ≡ false → own_commands n (with_node m ts) ≡ []
-own_elsewhere m n [] is = refl
-own_elsewhere m n (t ∷ ts) is = rw is (own_elsewhere m n ts is)
-
-mounted_here : (m n before : ℕ) (d : Option Durable) → (m == n) ≡ true → own_mountings n (mounted_there m before d) ≡ map (λ (x : Durable). record { before = before; state = x }) (option_to_list d)
-mounted_here m n before None is = refl
-mounted_here m n before (Some d) is = rw is refl
-
-mounted_elsewhere : (m n before : ℕ) (d : Option Durable) → (m == n) ≡ false → own_mountings n (mounted_there m before d) ≡ []
-mounted_elsewhere m n before None is = refl
-mounted_elsewhere m n before (Some d) is = rw is refl
-
 -- the commands and mountings of an entry are its marks
 did_tries : (d : Durable) (wants : Option Command) → map (λ (c : Command). record { command = c; acked = Some (answer_of d c) }) (option_to_list wants) ≡ commands_of (tried_marks d wants)
 did_tries d None = refl
@@ -183,19 +167,19 @@ step_here m n nodes number w a what r s is at =
     record {
       commands = own_append n r.commands (with_node m (tries m nodes (node_in w.states m) what))
           ∙ ap (λ (ts : List Attempt). own_commands n r.commands ++ ts)
-          (own_here m n (tries m nodes (node_in w.states m) what) is ∙ (λ i. tries (same i) nodes (here i) what) ∙ tries_are n nodes (so_many n r) s what);
+          (all_mine (λ (t : AttemptAt). t.node) (λ (t : AttemptAt). t.tried) (λ (t : Attempt). record { node = m; tried = t }) m n (λ t. refl) is (tries m nodes (node_in w.states m) what) ∙ map-id _ ∙ (λ i. tries (same i) nodes (here i) what) ∙ tries_are n nodes (so_many n r) s what);
       mounted = own_mounted_append n r.mounted (mounted_there m (so_many m r) (mounted_at (node_in w.states m) what))
           ∙ ap (λ (ws : List Mounting). own_mountings n r.mounted ++ ws)
-          (mounted_here m n (so_many m r) (mounted_at (node_in w.states m) what) is
+          (all_mine (λ (w : ℕ × Mounting). w.0) (λ (w : ℕ × Mounting). w.1) (λ (d : Durable). (m, record { before = so_many m r; state = d })) m n (λ d. refl) is (option_to_list (mounted_at (node_in w.states m) what))
           ∙ (λ i. map (λ (x : Durable). record { before = so_many (same i) r; state = x }) (option_to_list (mounted_at (here i) what))) ∙ mounts_are n nodes (so_many n r) s what);
     }
 
 step_elsewhere : (m n nodes number : ℕ) (w : World) (a : Act) (what : HistoryEvent) (r : Report) → (m == n) ≡ false → GoesOn n r (grown nodes w a (Takes m number what) r) []
 step_elsewhere m n nodes number w a what r is = record {
   commands = own_append n r.commands (with_node m (tries m nodes (node_in w.states m) what))
-      ∙ ap (λ (ts : List Attempt). own_commands n r.commands ++ ts) (own_elsewhere m n (tries m nodes (node_in w.states m) what) is);
+      ∙ ap (λ (ts : List Attempt). own_commands n r.commands ++ ts) (none_mine (λ (t : AttemptAt). t.node) (λ (t : AttemptAt). t.tried) (λ (t : Attempt). record { node = m; tried = t }) m n (λ t. refl) is (tries m nodes (node_in w.states m) what));
   mounted = own_mounted_append n r.mounted (mounted_there m (so_many m r) (mounted_at (node_in w.states m) what))
-      ∙ ap (λ (ws : List Mounting). own_mountings n r.mounted ++ ws) (mounted_elsewhere m n (so_many m r) (mounted_at (node_in w.states m) what) is);
+      ∙ ap (λ (ws : List Mounting). own_mountings n r.mounted ++ ws) (none_mine (λ (w : ℕ × Mounting). w.0) (λ (w : ℕ × Mounting). w.1) (λ (d : Durable). (m, record { before = so_many m r; state = d })) m n (λ d. refl) is (option_to_list (mounted_at (node_in w.states m) what)));
 }
 
 quiet_step : (n : ℕ) (r q : Report) → q.commands ≡ r.commands ++ [] → q.mounted ≡ r.mounted ++ [] → GoesOn n r q []

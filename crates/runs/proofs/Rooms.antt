@@ -20,16 +20,14 @@ use Rattle.histories.specs.Marks.{IsNone}
 use Rattle.histories.proofs.PublicLaws.{at_down, DoubtIsDown, doubt_after}
 use Rattle.schedule.specs.declared.act.Act.{Act}
 use Rattle.runs.specs.World.{World, start}
-use Rattle.runs.specs.Step.{Step, Takes, Changes, Denies, world_after}
-use Rattle.runs.specs.Run.{IsAllowed, world_at}
+use Rattle.runs.specs.Step.{Step, world_after}
+use Rattle.runs.specs.Run.{world_at}
 use Rattle.runs.specs.Acts.{IsRunOf}
-use Rattle.runs.specs.Growth.{StepOfSlots}
 use Rattle.runs.proofs.ExactRuns.{left_run}
-use Rattle.runs.proofs.Lawful.{allowed_of, slots_of}
 use Rattle.runs.specs.Reporting.{Report}
 use Rattle.runs.specs.Growth.{IsLeft, acts_in}
-use Rattle.runs.proofs.Runs.{node_there, opened}
-use Rattle.runs.proofs.Keeping.{AllStates, states_keep}
+use Rattle.runs.proofs.Runs.{opened}
+use Rattle.runs.proofs.Keeping.{AllStates, lawful_keeps}
 
 -- ---- one command
 
@@ -93,19 +91,12 @@ room_opened slots self = record { few = omega arith; doubt = inl tt }
 
 -- ---- all nodes
 
-step_rooms : (nodes slots : ℕ) (w : World) (step : Step) → IsAllowed nodes w step → StepOfSlots slots nodes w step → AllStates (HasRoom slots) w → AllStates (HasRoom slots) (world_after nodes w step)
-step_rooms nodes slots w (Takes m number what) allowed fits all =
-    let s : NodeState = allowed.0 in
-    let of_slots : IsOfSlots slots m nodes s what = subst (λ (x : NodeState). IsOfSlots slots m nodes x what) (node_there w.states m s allowed.1) fits in
-    states_keep (HasRoom slots) nodes w m number what s allowed.1 (room_kept slots m nodes s what allowed.2 of_slots (all m s allowed.1)) all
-step_rooms nodes slots w (Changes net) allowed fits all = all
-step_rooms nodes slots w (Denies named why) allowed fits all = all
-
 run_rooms : (nodes slots : ℕ) (acts : List Act) (steps : List Step) (w : World) → IsRunOf nodes slots w acts steps → AllStates (HasRoom slots) w → AllStates (HasRoom slots) (world_at nodes w steps)
 run_rooms nodes slots [] [] w run all = all
 run_rooms nodes slots [] (step ∷ steps) w run all = absurd run
 run_rooms nodes slots (a ∷ acts) [] w run all = absurd run
-run_rooms nodes slots (a ∷ acts) (step ∷ steps) w run all = run_rooms nodes slots acts steps (world_after nodes w step) run.2 (step_rooms nodes slots w step (allowed_of slots nodes w a step run.0 run.1) (slots_of slots nodes w step run.1) all)
+run_rooms nodes slots (a ∷ acts) (step ∷ steps) w run all =
+    run_rooms nodes slots acts steps (world_after nodes w step) run.2 (lawful_keeps (HasRoom slots) (HasRoom slots) nodes slots (λ n s h. h) (λ n s what may fits h. room_kept slots n nodes s what may fits h) w step run.1 all)
 
 start_rooms : (nodes slots : ℕ) → AllStates (HasRoom slots) (start nodes)
 start_rooms nodes slots n s at =

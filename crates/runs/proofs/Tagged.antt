@@ -2,6 +2,7 @@
 use Rattle.std.proofs.Common.{◌≡◌, ◌≢◌, ℕ, suc, ◌+◌, ◌≤◌, Bool, true, false, List, [], ◌∷◌, ◌++◌, length, slice_get, refl, sym, ◌∙◌, ap, subst, arith, Some, add-zero}
 use Rattle.std.specs.Prelude.{if◌then◌else◌, ◌==◌}
 use Rattle.std.proofs.lemmas.Bool.Decides.{nat_tests}
+use Rattle.std.proofs.lemmas.List.{map-id}
 use Rattle.histories.specs.NodeState.{NodeState, opening}
 use Rattle.histories.specs.HistoryEvent.{Entry}
 use Rattle.histories.specs.After.{after, sent_at}
@@ -12,23 +13,17 @@ use Rattle.runs.specs.World.{World, start, node_in}
 use Rattle.runs.specs.Step.{Step, Takes, Changes, Denies, world_after}
 use Rattle.runs.specs.Run.{history_in}
 use Rattle.runs.specs.Tagged.{tagged, own, step_marks, counts_after, run_marks, RunsAreKept}
+use Rattle.runs.proofs.Own.{append_own, all_mine, none_mine}
 use Rattle.runs.proofs.Runs.{node_there, state_here, state_elsewhere, opened, history_follows}
 
-pub own_same : (m n : ℕ) (ms : List Mark) (ps : List (ℕ × Mark)) → (m == n) ≡ true → own n (tagged m ms ++ ps) ≡ ms ++ own n ps
-own_same m n [] ps is = refl
-own_same m n (x ∷ ms) ps is = rw is (ap (λ (ys : List Mark). x ∷ ys) (own_same m n ms ps is))
-
-pub own_other : (m n : ℕ) (ms : List Mark) (ps : List (ℕ × Mark)) → (m == n) ≡ false → own n (tagged m ms ++ ps) ≡ own n ps
-own_other m n [] ps is = refl
-own_other m n (x ∷ ms) ps is = rw is (own_other m n ms ps is)
+own_more : (n : ℕ) (ps qs : List (ℕ × Mark)) → own n (ps ++ qs) ≡ own n ps ++ own n qs
+own_more = append_own (λ (p : ℕ × Mark). p.0) (λ (p : ℕ × Mark). p.1)
 
 own_all : (m n : ℕ) (ms : List Mark) → (m == n) ≡ true → own n (tagged m ms) ≡ ms
-own_all m n [] is = refl
-own_all m n (x ∷ ms) is = rw is (ap (λ (ys : List Mark). x ∷ ys) (own_all m n ms is))
+own_all m n ms is = all_mine (λ (p : ℕ × Mark). p.0) (λ (p : ℕ × Mark). p.1) (λ (x : Mark). (m, x)) m n (λ x. refl) is ms ∙ map-id ms
 
 own_none : (m n : ℕ) (ms : List Mark) → (m == n) ≡ false → own n (tagged m ms) ≡ []
-own_none m n [] is = refl
-own_none m n (x ∷ ms) is = rw is (own_none m n ms is)
+own_none m n ms is = none_mine (λ (p : ℕ × Mark). p.0) (λ (p : ℕ × Mark). p.1) (λ (x : Mark). (m, x)) m n (λ x. refl) is ms
 
 pub run_own : (n nodes : ℕ) (steps : List Step) (w : World) (counts : ℕ → ℕ) (s : NodeState) (c : ℕ) → slice_get w.states n ≡ Some s → counts n ≡ c
     → own n (run_marks nodes w counts steps) ≡ marks_from n nodes s c (history_in n nodes w steps)
@@ -46,15 +41,16 @@ run_own n nodes (Takes m number what ∷ steps) w counts s c at is =
         let here : slice_get w.states m ≡ Some s = subst (λ (j : ℕ). slice_get w.states j ≡ Some s) (sym same) at in
         let mine : marks_at m nodes (node_in w.states m) (counts m) what ≡ marks_at n nodes s c what =
         ap (λ (x : NodeState). marks_at m nodes x (counts m) what) (node_there w.states m s here) ∙ (ap (λ (j : ℕ). marks_at j nodes s (counts j) what) same ∙ ap (λ (k : ℕ). marks_at n nodes s k what) is) in
+        let all = own_all m n (marks_at m nodes (node_in w.states m) (counts m) what) e ∙ mine in
         let count : counts_after counts (step_marks nodes w counts (Takes m number what)) n ≡ c + length (commands_of (marks_at n nodes s c what)) =
-        ap (λ (ms : List Mark). counts n + length (commands_of ms)) (own_all m n (marks_at m nodes (node_in w.states m) (counts m) what) e ∙ mine) ∙ ap (λ (k : ℕ). k + length (commands_of (marks_at n nodes s c what))) is in
-        own_same m n _ _ e ∙ (ap (λ (ms : List Mark). ms ++ own n (run_marks nodes (world_after nodes w (Takes m number what)) (counts_after counts (step_marks nodes w counts (Takes m number what))) steps)) mine
+        ap (λ (ms : List Mark). counts n + length (commands_of ms)) all ∙ ap (λ (k : ℕ). k + length (commands_of (marks_at n nodes s c what))) is in
+        own_more n _ _ ∙ (ap (λ (ms : List Mark). ms ++ own n (run_marks nodes (world_after nodes w (Takes m number what)) (counts_after counts (step_marks nodes w counts (Takes m number what))) steps)) all
         ∙ ap (λ (ms : List Mark). marks_at n nodes s c what ++ ms) (rest (after n nodes s what) (c + length (commands_of (marks_at n nodes s c what))) (state_here m n nodes what w.states s same at) count))
     pick false e rest =
         let ne : n ≢ m = grind (arith, nat_tests) in
-        let none : counts_after counts (step_marks nodes w counts (Takes m number what)) n ≡ c =
-        ap (λ (ms : List Mark). counts n + length (commands_of ms)) (own_none m n (marks_at m nodes (node_in w.states m) (counts m) what) e) ∙ (add-zero (counts n) ∙ is) in
-        own_other m n _ _ e ∙ rest s c (state_elsewhere m n nodes what w.states ne ∙ at) none
+        let nothing = own_none m n (marks_at m nodes (node_in w.states m) (counts m) what) e in
+        let none : counts_after counts (step_marks nodes w counts (Takes m number what)) n ≡ c = ap (λ (ms : List Mark). counts n + length (commands_of ms)) nothing ∙ (add-zero (counts n) ∙ is) in
+        own_more n _ _ ∙ (ap (λ (ms : List Mark). ms ++ own n (run_marks nodes (world_after nodes w (Takes m number what)) (counts_after counts (step_marks nodes w counts (Takes m number what))) steps)) nothing ∙ rest s c (state_elsewhere m n nodes what w.states ne ∙ at) none)
 run_own n nodes (Changes net ∷ steps) w counts s c at is = run_own n nodes steps (world_after nodes w (Changes net)) (counts_after counts []) s c at (add-zero (counts n) ∙ is)
 run_own n nodes (Denies named why ∷ steps) w counts s c at is = run_own n nodes steps w (counts_after counts []) s c at (add-zero (counts n) ∙ is)
 

@@ -34,7 +34,7 @@ use Rattle.runs.specs.Step.{Step, Takes, Changes, Denies, world_after}
 use Rattle.runs.specs.Acts.{At, IsCompaction, IsStepBy, IsStepOf, IsLawful, IsRunOf, act_outcome, receiver_or_first, what_outcome}
 use Rattle.runs.proofs.Bringing.{BringsBy}
 use Rattle.runs.specs.Reporting.{Moment, report_of}
-use Rattle.runs.proofs.Keeping.{AllStates, states_keep}
+use Rattle.runs.proofs.Keeping.{AllStates, lawful_keeps}
 use Rattle.runs.proofs.Reports.{moments_from, moments_are}
 use Rattle.runs.proofs.Runs.{node_there, opened}
 
@@ -122,10 +122,7 @@ few_stay : (limit self : ℕ) (s : NodeState) → FewGiven limit self s → FewG
 few_stay limit self s h = record { low = h.low; sum = omega (arith, h.sum); below = h.below; doubt = h.doubt }
 
 pub step_few : (slots nodes limit : ℕ) (w : World) (step : Step) → IsLawful slots nodes w step → AllStates (FewGiven limit) w → AllStates (FewGiven (limit + 1)) (world_after nodes w step)
-step_few slots nodes limit w (Takes n number what) may h =
-    states_keep (FewGiven (limit + 1)) nodes w n number what may.0 may.1 (few_more limit n nodes may.0 what may.2 (h n may.0 may.1)) (λ k s at. few_stay limit k s (h k s at))
-step_few slots nodes limit w (Changes net) may h = λ k s at. few_stay limit k s (h k s at)
-step_few slots nodes limit w (Denies named why) may h = λ k s at. few_stay limit k s (h k s at)
+step_few slots nodes limit = lawful_keeps (FewGiven limit) (FewGiven (limit + 1)) nodes slots (few_stay limit) (λ n s what may fits h. few_more limit n nodes s what may h)
 
 -- ---- what is refused
 

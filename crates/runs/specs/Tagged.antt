@@ -1,5 +1,6 @@
 -- The commands and mountings of a run, each with its node, in the order of the steps.
-use Rattle.std.specs.Prelude.{ℕ, ◌+◌, ◌≡◌, ◌==◌, List, [], ◌∷◌, ◌++◌, map, length, slice_get, if◌then◌else◌, Some}
+use Rattle.std.specs.Prelude.{ℕ, ◌+◌, ◌≡◌, ◌==◌, List, [], ◌∷◌, ◌++◌, map, length, slice_get, Some}
+use Rattle.std.specs.List.{filter}
 use Rattle.histories.specs.NodeState.{NodeState}
 use Rattle.histories.specs.Counts.{IsShort}
 use Rattle.histories.specs.Kept.{Kept}
@@ -13,8 +14,7 @@ tagged n ms = map (λ m. (n, m)) ms
 
 -- those of one node
 abbrev pub own : ℕ → List (ℕ × Mark) → List Mark
-own n [] = []
-own n (p ∷ ps) = if p.0 == n then p.1 ∷ own n ps else own n ps
+own n ps = map (λ p. p.1) (filter (λ p. p.0 == n) ps)
 
 -- the marks of a step, where each node has given so many commands
 abbrev pub step_marks : ℕ → World → (ℕ → ℕ) → Step → List (ℕ × Mark)

@@ -1,5 +1,5 @@
 -- Entries are taken in an order that is given.
-use Rattle.std.proofs.Common.{◌≡◌, ◌≤◌, ◌<◌, ℕ, ◌+◌, List, [], ◌∷◌, length, reverse, slice_get, slice_set, Option, Some, None, true, false, inl, inr, refl, sym, ap, ◌∙◌, subst, arith}
+use Rattle.std.proofs.Common.{◌≡◌, ◌≤◌, ℕ, ◌+◌, List, [], ◌∷◌, length, reverse, slice_get, slice_set, Some, inl, inr, refl, sym, ap, ◌∙◌, subst, arith}
 use Rattle.wire_msg.specs.Envelope.{Envelope}
 use Rattle.histories.specs.Lists.{Each}
 use Rattle.histories.specs.NodeState.{NodeState}
@@ -7,17 +7,14 @@ use Rattle.histories.proofs.PublicLaws.{each_more}
 use Rattle.trace_check.specs.declared.search.NodeView.{NodeView}
 use Rattle.trace_check.specs.declared.search.Judgement.TheVariants.{Stops, Waits}
 use Rattle.trace_check.specs.Claims.{Claim, MayCome, after_claim, brought_by}
-use Rattle.trace_check.specs.Orders.{history, taken, state_of, IsSent, MayTake, IsLegal, IsComplete}
+use Rattle.trace_check.specs.Orders.{history, taken, state_of, IsSent, MayTake}
 use Rattle.trace_check.specs.Posts.{IsPosted}
 use Rattle.trace_check.specs.Searches.{twin_at, IsDesk, IsTaken, Judges, PostsAll}
 use Rattle.trace_check.specs.Followed.{AreFollowed, seat_at}
 use Rattle.trace_check.specs.Verdicts.{Turned}
 use Rattle.trace_check.proofs.Searches.{same_or_other, taken_same, taken_other, twin_in}
 use Rattle.trace_check.proofs.Turning.{turns}
-use Rattle.trace_check.proofs.Turns.{reseats_set, none_past, outside_taken, all_taken}
-use Rattle.std.specs.Prelude.{is_some, IfSome, IsNone}
-use Rattle.std.proofs.lemmas.Bool.{cases_lt}
-use Rattle.std.proofs.lemmas.Option.{slice_get_within}
+use Rattle.trace_check.proofs.Turns.{reseats_set, none_past}
 
 module _ (hs : List (List Claim)) (seats : List NodeView) (posted : List Envelope) (past : List ℕ) (n : ℕ) (old new : NodeView) (are : AreFollowed hs seats posted past) (at : slice_get seats n ≡ Some old) where
   pub stops_cant : Judges hs posted n old new Stops → MayTake hs past n → ⊥
@@ -82,7 +79,7 @@ outside_cant hs seats posted past n are outside may =
     let count = are.count in
     let none : slice_get [] (taken n past) ≡ Some may.claim = subst (λ (h : List Claim). slice_get h (taken n past) ≡ Some may.claim) (none_past hs n (omega (arith, count, outside))) may.next in absurd cc
 
--- ---- the beginning, and the end
+-- ---- the beginning
 
 pub followed_opens : (hs : List (List Claim)) (seats : List NodeView) (ready stopped : List ℕ) (posted : List Envelope) (order : List ℕ) → IsDesk hs seats ready stopped posted (reverse order) → stopped ≡ [] → order ≡ []
     → AreFollowed hs seats posted []
@@ -94,24 +91,3 @@ followed_opens hs seats ready stopped posted order search none empty =
       posts = desk'.posts;
       legal = tt;
     }
-
-pub followed_ends : (hs : List (List Claim)) (seats : List NodeView) (posted : List Envelope) (past : List ℕ) → AreFollowed hs seats posted past → ((n : ℕ) → n < length hs → taken n past ≡ length (history hs n)) → IsComplete hs past
-followed_ends hs seats posted past are each n = elim (cases_lt n (length hs)) [ inl within ↦ each n within | inr outside ↦ outside_taken hs past n are.legal outside ]
-
--- an entry that is left isn't taken
-pub left_over : (hs : List (List Claim)) (past : List ℕ) (n k : ℕ) (o : Option Claim) → k ≡ taken n past → slice_get (history hs n) k ≡ o → true ≡ is_some o → IsComplete hs past → ⊥
-left_over hs past n k None is at some complete = absurd cc
-left_over hs past n k (Some c) is at some complete =
-    let within = slice_get_within (history hs n) k c at in
-    let all = complete n in
-    omega (arith, within, all, is)
-
--- no entry of a node is left
-pub none_over : (hs : List (List Claim)) (past : List ℕ) (n k : ℕ) (o : Option Claim) → IsLegal hs past → k ≡ taken n past → slice_get (history hs n) k ≡ o → false ≡ is_some o → taken n past ≡ length (history hs n)
-none_over hs past n k None legal is at none = all_taken hs past n k legal is at
-none_over hs past n k (Some c) legal is at none = absurd cc
-
--- the entry that is seen, if there is one
-pub seen_at : {A : Type 0} (o : Option A) (x : Option Claim) (f : A → Claim) → IfSome o (λ (a : A). x ≡ Some (f a)) → (IsNone o → x ≡ None) → is_some x ≡ is_some o
-seen_at None x f some none = ap is_some (none search)
-seen_at (Some a) x f some none = ap is_some some

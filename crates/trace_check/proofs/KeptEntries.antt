@@ -17,9 +17,11 @@ use Rattle.trace_check.specs.declared.kept.PackedEvent.TheVariants as kept
 use Rattle.trace_check.specs.declared.kept.PackedAction.{PackedAction}
 use Rattle.trace_check.specs.declared.kept.PackedAction.TheVariants as done
 use Rattle.trace_check.specs.declared.kept.PackedEntry.{PackedEntry}
+use Rattle.trace_check.specs.declared.stored.StoredEntry.{StoredEntry}
 use Rattle.trace_check.specs.Claims.{Claim, brought_by}
 use Rattle.trace_check.specs.Traces.{claim}
 use Rattle.trace_check.specs.Kept.{kept_event, kept_deed, payload_of, payload_in, delivered, part, event_said, deed_said, claim_said, EventStands, DeedStands, EntryStands}
+use Rattle.trace_check.specs.Stored.{claim_stored, entry_of, IsStored}
 
 -- ---- more is kept, and an entry says what it said
 
@@ -34,30 +36,25 @@ part_same {A} xs more start len within =
     ∙ take-append-le len (drop start xs) more (omega (arith, within, length-drop start xs))
 
 pub event_same : (ms more : List Envelope) (p bytes : List ℕ) (e : PackedEvent) → EventStands (length ms) (length p) e → event_said (ms ++ more) (p ++ bytes) e ≡ event_said ms p e
-event_same ms more p bytes (kept.Timer timer) h = refl
 event_same ms more p bytes (kept.Deliver place) h = ap (λ (o : Option Envelope). delivered o) (get_same ms more place h)
 event_same ms more p bytes (kept.Submit queue priority len start) h = ap (λ (xs : List ℕ). on.Submit (record { queue = queue; priority = priority; payload = xs })) (part_same p bytes start len h.0)
-event_same ms more p bytes (kept.Finish origin id) h = refl
-event_same ms more p bytes kept.Recover h = refl
+event_same ms more p bytes e h = refl
 
 deed_same : (ms more : List Envelope) (p bytes : List ℕ) (d : PackedAction) → DeedStands (length ms) (length p) d → deed_said (ms ++ more) (p ++ bytes) d ≡ deed_said ms p d
-deed_same ms more p bytes done.Nothing h = refl
 deed_same ms more p bytes (done.Done event) h = ap (λ (e : Event). deed.Done e) (event_same ms more p bytes event h)
 deed_same ms more p bytes (done.Faulted event) h = ap (λ (e : Event). deed.Faulted e) (event_same ms more p bytes event h)
-deed_same ms more p bytes done.Crashed h = refl
-deed_same ms more p bytes (done.Recovered kept) h = refl
-deed_same ms more p bytes (done.NotRecovered kept fault) h = refl
+deed_same ms more p bytes d h = refl
 
 claim_same : (ms more : List Envelope) (p bytes : List ℕ) (e : PackedEntry) → EntryStands (length ms) (length p) e → claim_said (ms ++ more) (p ++ bytes) e ≡ claim_said ms p e
 claim_same ms more p bytes e h =
     ap (λ (d : TraceAction). claim d (part e.start e.end (ms ++ more))) (deed_same ms more p bytes e.deed h.deed)
     ∙ ap (λ (xs : List Envelope). claim (deed_said ms p e.deed) xs) (part_same ms more e.start (e.end - e.start) (let front = h.sent.0 in let back = h.sent.1 in omega (arith, front, back)))
 
-pub claims_same : (ms more : List Envelope) (p bytes : List ℕ) (es : List PackedEntry) → All (EntryStands (length ms) (length p)) es → map (claim_said (ms ++ more) (p ++ bytes)) es ≡ map (claim_said ms p) es
+claims_same : (ms more : List Envelope) (p bytes : List ℕ) (es : List StoredEntry) → All (IsStored (length ms) (length p)) es → map (claim_stored (ms ++ more) (p ++ bytes)) es ≡ map (claim_stored ms p) es
 claims_same ms more p bytes [] h = refl
 claims_same ms more p bytes (e ∷ es) h =
-    ap (λ (c : Claim). c ∷ map (claim_said (ms ++ more) (p ++ bytes)) es) (claim_same ms more p bytes e (All-head (EntryStands (length ms) (length p)) e es h))
-    ∙ ap (λ (cs : List Claim). claim_said ms p e ∷ cs) (claims_same ms more p bytes es (All-tail (EntryStands (length ms) (length p)) e es h))
+    ap (λ (c : Claim). c ∷ map (claim_stored (ms ++ more) (p ++ bytes)) es) (claim_same ms more p bytes (entry_of e) (All-head (IsStored (length ms) (length p)) e es h))
+    ∙ ap (λ (cs : List Claim). claim_stored ms p e ∷ cs) (claims_same ms more p bytes es (All-tail (IsStored (length ms) (length p)) e es h))
 
 -- ---- an entry that was kept last is read back
 
@@ -73,51 +70,36 @@ pub part_again : {A : Type 0} → (xs ys : List A) → take (length ys) (drop (l
 part_again {A} xs ys = ap (λ (zs : List A). take (length ys) zs) (drop-append_seam xs ys) ∙ take_whole ys
 
 pub event_again : (ms : List Envelope) (p : List ℕ) (e : Event) → event_said (ms ++ brought (Some e)) (p ++ payload_of e) (kept_event (length ms) (length p) e) ≡ e
-event_again ms p (on.Timer timer) = refl
 event_again ms p (on.Deliver m) = ap (λ (o : Option Envelope). delivered o) (get_again ms m)
 event_again ms p (on.Submit work) = ap (λ (xs : List ℕ). on.Submit (record work { payload = xs })) (part_again p work.payload)
-event_again ms p (on.Finish origin id) = refl
-event_again ms p on.Recover = refl
+event_again ms p e = refl
 
 pub deed_again : (ms : List Envelope) (p : List ℕ) (d : TraceAction) → deed_said (ms ++ brought_by d) (p ++ payload_in d) (kept_deed (length ms) (length p) d) ≡ d
-deed_again ms p deed.Nothing = refl
 deed_again ms p (deed.Done event) = ap (λ (e : Event). deed.Done e) (event_again ms p event)
 deed_again ms p (deed.Faulted event) = ap (λ (e : Event). deed.Faulted e) (event_again ms p event)
-deed_again ms p deed.Crashed = refl
-deed_again ms p (deed.Recovered kept) = refl
-deed_again ms p (deed.NotRecovered kept fault) = refl
+deed_again ms p d = refl
 
 pub event_stands : (ms : List Envelope) (p : List ℕ) (e : Event) → length (payload_of e) ≤ PAYLOAD_CAPACITY → EventStands (length (ms ++ brought (Some e))) (length (p ++ payload_of e)) (kept_event (length ms) (length p) e)
-event_stands ms p (on.Timer timer) few = tt
 event_stands ms p (on.Deliver m) few = omega (arith, length-append ms (m ∷ []))
 event_stands ms p (on.Submit work) few = (omega (arith, length-append p work.payload), few)
-event_stands ms p (on.Finish origin id) few = tt
-event_stands ms p on.Recover few = tt
+event_stands ms p e few = tt
 
 pub deed_stands : (ms : List Envelope) (p : List ℕ) (d : TraceAction) → length (payload_in d) ≤ PAYLOAD_CAPACITY → DeedStands (length (ms ++ brought_by d)) (length (p ++ payload_in d)) (kept_deed (length ms) (length p) d)
-deed_stands ms p deed.Nothing few = tt
 deed_stands ms p (deed.Done event) few = event_stands ms p event few
 deed_stands ms p (deed.Faulted event) few = event_stands ms p event few
-deed_stands ms p deed.Crashed few = tt
-deed_stands ms p (deed.Recovered kept) few = tt
-deed_stands ms p (deed.NotRecovered kept fault) few = tt
+deed_stands ms p d few = tt
 
 -- ---- where more can be read, what could be read still can
 
 pub event_longer : (m m' p p' : ℕ) (e : PackedEvent) → m ≤ m' → p ≤ p' → EventStands m p e → EventStands m' p' e
-event_longer m m' p p' (kept.Timer timer) a b h = tt
 event_longer m m' p p' (kept.Deliver place) a b h = omega (arith, a, h)
 event_longer m m' p p' (kept.Submit queue priority len start) a b h = (let within = h.0 in omega (arith, b, within), h.1)
-event_longer m m' p p' (kept.Finish origin id) a b h = tt
-event_longer m m' p p' kept.Recover a b h = tt
+event_longer m m' p p' e a b h = tt
 
 pub deed_longer : (m m' p p' : ℕ) (d : PackedAction) → m ≤ m' → p ≤ p' → DeedStands m p d → DeedStands m' p' d
-deed_longer m m' p p' done.Nothing a b h = tt
 deed_longer m m' p p' (done.Done event) a b h = event_longer m m' p p' event a b h
 deed_longer m m' p p' (done.Faulted event) a b h = event_longer m m' p p' event a b h
-deed_longer m m' p p' done.Crashed a b h = tt
-deed_longer m m' p p' (done.Recovered kept) a b h = tt
-deed_longer m m' p p' (done.NotRecovered kept fault) a b h = tt
+deed_longer m m' p p' d a b h = tt
 
 pub entry_longer : (m m' p p' : ℕ) → m ≤ m' → p ≤ p' → (e : PackedEntry) → EntryStands m p e → EntryStands m' p' e
 entry_longer m m' p p' a b e h = record { deed = deed_longer m m' p p' e.deed a b h.deed; sent = (h.sent.0, let back = h.sent.1 in omega (arith, a, back)) }
@@ -151,35 +133,41 @@ claim_again ms p d sent few =
         append_none [] = refl
         append_none (x ∷ xs) = ap (λ (ys : List ℕ). x ∷ ys) (append_none xs)
 
-pub claims_more : (es : List PackedEntry) (ms : List Envelope) (p : List ℕ) (d : TraceAction) (sent : List Envelope) → length (payload_in d) ≤ PAYLOAD_CAPACITY → All (EntryStands (length ms) (length p)) es
-    → map (claim_said (ms ++ brought_by d ++ sent) (p ++ payload_in d)) (es ++ kept_entry (length ms) (length p) d sent ∷ []) ≡ map (claim_said ms p) es ++ claim d sent ∷ []
-claims_more es ms p d sent few h =
-    let f = claim_said (ms ++ brought_by d ++ sent) (p ++ payload_in d) in
-    map-append f es (kept_entry (length ms) (length p) d sent ∷ [])
-    ∙ ap (λ (cs : List Claim). cs ++ f (kept_entry (length ms) (length p) d sent) ∷ []) (later es h)
-    ∙ ap (λ (c : Claim). map (claim_said ms p) es ++ c ∷ []) (claim_again ms p d sent few)
-  where
-    append_twice : (a b c : List Envelope) → a ++ b ++ c ≡ a ++ (b ++ c)
-    append_twice [] b c = refl
-    append_twice (x ∷ a) b c = ap (λ (ys : List Envelope). x ∷ ys) (append_twice a b c)
-
-    later : (xs : List PackedEntry) → All (EntryStands (length ms) (length p)) xs → map (claim_said (ms ++ brought_by d ++ sent) (p ++ payload_in d)) xs ≡ map (claim_said ms p) xs
-    later xs all = rw (append_twice ms (brought_by d) sent) (claims_same ms (brought_by d ++ sent) p (payload_in d) xs all)
-
-pub all_stand_more : (es : List PackedEntry) (ms : List Envelope) (p : List ℕ) (d : TraceAction) (sent : List Envelope) → length (payload_in d) ≤ PAYLOAD_CAPACITY → All (EntryStands (length ms) (length p)) es
-    → All (EntryStands (length (ms ++ brought_by d ++ sent)) (length (p ++ payload_in d))) (es ++ kept_entry (length ms) (length p) d sent ∷ [])
-all_stand_more es ms p d sent few h =
-    let m' = length (ms ++ brought_by d ++ sent) in
+-- it can be read back behind them
+pub entry_stands : (ms : List Envelope) (p : List ℕ) (d : TraceAction) (sent : List Envelope) → length (payload_in d) ≤ PAYLOAD_CAPACITY
+    → EntryStands (length (ms ++ brought_by d ++ sent)) (length (p ++ payload_in d)) (kept_entry (length ms) (length p) d sent)
+entry_stands ms p d sent few =
     let p' = length (p ++ payload_in d) in
     let first = length-append ms (brought_by d) in
     let second = length-append (ms ++ brought_by d) sent in
-    let bytes = length-append p (payload_in d) in
-    All-push (EntryStands m' p') es (kept_entry (length ms) (length p) d sent)
-    (All-weaker (EntryStands (length ms) (length p)) (EntryStands m' p') (entry_longer (length ms) m' (length p) p' (omega (arith, first, second)) (omega (arith, bytes))) es h)
-    (record {
-      deed = deed_longer (length (ms ++ brought_by d)) m' p' p' (kept_deed (length ms) (length p) d) (omega (arith, second)) (omega arith) (deed_stands ms p d few);
+    record {
+      deed = deed_longer (length (ms ++ brought_by d)) (length (ms ++ brought_by d ++ sent)) p' p' (kept_deed (length ms) (length p) d) (omega (arith, second)) (omega arith) (deed_stands ms p d few);
       sent = (omega arith, omega (arith, first, second));
-    })
+    }
+
+module _ (es : List StoredEntry) (e : StoredEntry) (ms : List Envelope) (p : List ℕ) (d : TraceAction) (sent : List Envelope) (few : length (payload_in d) ≤ PAYLOAD_CAPACITY) (is : entry_of e ≡ kept_entry (length ms) (length p) d sent)
+    (h : All (IsStored (length ms) (length p)) es) where
+  pub claims_more : map (claim_stored (ms ++ brought_by d ++ sent) (p ++ payload_in d)) (es ++ e ∷ []) ≡ map (claim_stored ms p) es ++ claim d sent ∷ []
+  claims_more =
+      let f = claim_stored (ms ++ brought_by d ++ sent) (p ++ payload_in d) in
+      map-append f es (e ∷ [])
+      ∙ ap (λ (cs : List Claim). cs ++ f e ∷ []) (rw (append_twice ms (brought_by d) sent) (claims_same ms (brought_by d ++ sent) p (payload_in d) es h))
+      ∙ ap (λ (c : Claim). map (claim_stored ms p) es ++ c ∷ []) (ap (claim_said (ms ++ brought_by d ++ sent) (p ++ payload_in d)) is ∙ claim_again ms p d sent few)
+    where
+      append_twice : (a b c : List Envelope) → a ++ b ++ c ≡ a ++ (b ++ c)
+      append_twice [] b c = refl
+      append_twice (x ∷ a) b c = ap (λ (ys : List Envelope). x ∷ ys) (append_twice a b c)
+
+  pub all_stand_more : All (IsStored (length (ms ++ brought_by d ++ sent)) (length (p ++ payload_in d))) (es ++ e ∷ [])
+  all_stand_more =
+      let m' = length (ms ++ brought_by d ++ sent) in
+      let p' = length (p ++ payload_in d) in
+      let first = length-append ms (brought_by d) in
+      let second = length-append (ms ++ brought_by d) sent in
+      let bytes = length-append p (payload_in d) in
+      All-push (IsStored m' p') es e
+      (All-weaker (IsStored (length ms) (length p)) (IsStored m' p') (λ x. entry_longer (length ms) m' (length p) p' (omega (arith, first, second)) (omega (arith, bytes)) (entry_of x)) es h)
+      (subst (λ (x : PackedEntry). EntryStands m' p' x) (sym is) (entry_stands ms p d sent few))
 
 -- ---- a part of the messages, read by place
 

@@ -51,19 +51,13 @@ can_replay hs (m ∷ past) n legal k c less at = elim (cases_Bool (m == n)) [
 -- ---- a message that is missing
 
 event_brings : (event : Event) → length (brought (Some event)) < 2
-event_brings (on.Timer timer) = omega arith
 event_brings (on.Deliver m) = omega arith
-event_brings (on.Submit work) = omega arith
-event_brings (on.Finish origin id) = omega arith
-event_brings on.Recover = omega arith
+event_brings event = omega arith
 
 pub brings_few : (d : TraceAction) → length (brought_by d) < 2
-brings_few deed.Nothing = omega arith
 brings_few (deed.Done event) = event_brings event
 brings_few (deed.Faulted event) = event_brings event
-brings_few deed.Crashed = omega arith
-brings_few (deed.Recovered kept) = omega arith
-brings_few (deed.NotRecovered kept fault) = omega arith
+brings_few d = omega arith
 
 missing : (hs : List (List Claim)) (past : List ℕ) (ms : List Envelope) → length ms < 2 → (Each (λ (m : Envelope). IsSent hs past m) ms → ⊥) → IsMissing hs past ms
 missing hs past [] few none = absurd (none tt)

@@ -47,4 +47,4 @@ turns hs past n c at = record {
 
 pub decide : VerdictsDecide
 decide hs (Run order) v = (reverse order.items, v.0, v.2)
-decide hs (NotARun node index) v = λ run. not_complete hs v.0 run.0 node v.3 (let is = v.4 in let left = v.5 in omega (arith, is, left)) run.1 run.2
+decide hs (NotARun node index) v = λ run. not_complete hs v.0 run.0 node v.3 (let is = v.4.0 in let left = v.4.1 in omega (arith, is, left)) run.1 run.2

@@ -201,3 +201,7 @@ desk_same hs s s' r r' t t' p p' past es er et ep search =
 -- the seat at a place of the list
 pub seat_at : (seats : List NodeView) (k n : ℕ) (s : NodeView) → k ≡ n → k < length seats → s ≡ slice_index_or seats k s → slice_get seats n ≡ Some s
 seat_at seats k n s is within at = subst (λ (j : ℕ). slice_get seats j ≡ Some s) is (slice_get_read seats (length seats) k s refl within at)
+
+-- so where a loop comes to it that goes over the nodes
+pub seat_numbered : (hs : List (List Claim)) (seats : List NodeView) (k n end : ℕ) (s : NodeView) → length seats ≡ length hs → end ≡ length hs → k ≡ n → n < end → s ≡ slice_index_or seats k s → slice_get seats n ≡ Some s
+seat_numbered hs seats k n end s count size is less at = seat_at seats k n s is (omega (arith, count, size, is, less)) at

@@ -24,7 +24,7 @@ use Rattle.histories.specs.Possible.{IsForNode, Takes}
 use Rattle.histories.specs.declared.history_event.HistoryEvent.{HistoryEvent}
 use Rattle.histories.specs.declared.history_event.HistoryEvent.TheVariants.{Did}
 use Rattle.histories.proofs.PublicLaws.{at_down, stays_up}
-use Rattle.trace_check.specs.Twins.{Twin, IsTwin, Judged}
+use Rattle.trace_check.specs.Twins.{Twin, twin, IsTwin, Judged}
 
 clash : (b : Bool) → b ≡ true → b ≡ false → ⊥
 clash true t f = absurd cc
@@ -49,7 +49,7 @@ twin_down t is not_spent = record {
 }
 
 -- after an event that was handled
-pub twin_handled : (t new : Twin) (event : Event) → IsTwin t → IsForNode t.node.state event → refusal_of t.nodes t.id event t.node.state ≡ None → new.id ≡ t.id
+twin_handled : (t new : Twin) (event : Event) → IsTwin t → IsForNode t.node.state event → refusal_of t.nodes t.id event t.node.state ≡ None → new.id ≡ t.id
     → new.node.doubt ≡ t.node.doubt → new.node.state ≡ (effect_at t.id t.nodes t.node event).state → new.node.durable ≡ after_wanted t.node.durable (wants_at t.id t.nodes t.node event) → IsTwin new
 twin_handled t new event is for_node taken id doubt state durable = elim (cases_Bool (is_down t.node.state.phase)) [
   | inl fallen ↦ (
@@ -62,11 +62,11 @@ twin_handled t new event is for_node taken id doubt state durable = elim (cases_
 ]
 
 -- the plan of an event, carried out: what it wants, and what it makes
-pub record IsCarriedOut (t : Twin) (event : Event) (wants : Option Command) (effect : Effect) : Type 0 where
-  pub wanted : wants ≡ wants_at t.id t.nodes t.node event
-  pub made : effect ≡ effect_at t.id t.nodes t.node event
+record IsCarriedOut (t : Twin) (event : Event) (wants : Option Command) (effect : Effect) : Type 0 where
+  wanted : wants ≡ wants_at t.id t.nodes t.node event
+  made : effect ≡ effect_at t.id t.nodes t.node event
 
-pub carried_out : (t : Twin) (event : Event) (core : Core) (pending : List Job) (plan : Plan) (wants : Option Command) (answer : ℕ) (effect : Effect)
+carried_out : (t : Twin) (event : Event) (core : Core) (pending : List Job) (plan : Plan) (wants : Option Command) (answer : ℕ) (effect : Effect)
     → core.id ≡ t.id → core.nodes ≡ t.nodes → core.state ≡ t.node.state → pending ≡ t.node.durable.pending → IsPlanFor core pending event plan → wants ≡ plan_wants plan → answer ≡ answer_to t.node.durable wants
     → ((p : List Job) (e : Event) → IsPlanFor core p e plan → effect_of core.nodes core.id p e answer core.state ≡ effect) → IsCarriedOut t event wants effect
 carried_out t event core pending plan wants answer effect id nodes state jobs is wanted answered step =
@@ -81,15 +81,23 @@ carried_out t event core pending plan wants answer effect id nodes state jobs is
           ∙ ap (λ (n : ℕ). effect_of t.nodes t.id t.node.durable.pending event n t.node.state) (answered ∙ ap (λ (o : Option Command). answer_to t.node.durable o) same);
     }
 
--- an event that was handled is judged by what was sent
-pub judged_handled : (t new : Twin) (event : Event) (sent made : List Envelope) (b : Bool) → Takes t.id t.nodes t.node event → made ≡ (effect_at t.id t.nodes t.node event).sent → (IsTrue b ↔ (made ≡ sent))
-    → new.node.doubt ≡ t.node.doubt → new.node.state ≡ (effect_at t.id t.nodes t.node event).state → new.node.durable ≡ after_wanted t.node.durable (wants_at t.id t.nodes t.node event) → Judged t new (Did event) sent b
-judged_handled t new event sent made true takes made_is as_sent doubt state durable = (
-  (takes, sym (as_sent.0 refl) ∙ made_is),
-  ap (λ (s : State). record new.node { state = s }) state ∙ ap (λ (d : Durable). record { state = (effect_at t.id t.nodes t.node event).state; durable = d; doubt = new.node.doubt }) durable
-      ∙ ap (λ (o : Option Command). record { state = (effect_at t.id t.nodes t.node event).state; durable = after_wanted t.node.durable (wants_at t.id t.nodes t.node event); doubt = o }) doubt,
-)
-judged_handled t new event sent made false takes made_is as_sent doubt state durable = λ comes. clash false (as_sent.1 (made_is ∙ sym comes.1)) refl
+-- the node model that an event leaves that was handled, and what was sent
+pub record IsHandled (t new : Twin) (event : Event) (sent : List Envelope) : Type 0 where
+  pub twin : IsTwin new
+  pub judged : Judged t new (Did event) sent true
+
+pub handled : (t : Twin) (event : Event) (core left : Core) (pending : List Job) (plan : Plan) (wants doubt : Option Command) (answer : ℕ) (durable : Durable) (sent : List Envelope)
+    → core.id ≡ t.id → core.nodes ≡ t.nodes → core.state ≡ t.node.state → pending ≡ t.node.durable.pending → IsPlanFor core pending event plan → wants ≡ plan_wants plan → answer ≡ answer_to t.node.durable wants
+    → ((p : List Job) (e : Event) → IsPlanFor core p e plan → effect_of core.nodes core.id p e answer core.state ≡ record { state = left.state; sent = sent })
+    → IsTwin t → Takes t.id t.nodes t.node event → refusal_of t.nodes t.id event t.node.state ≡ None → left.id ≡ t.id → durable ≡ after_wanted t.node.durable wants → doubt ≡ t.node.doubt → IsHandled t (twin left durable doubt) event sent
+handled t event core left pending plan wants doubt answer durable sent id nodes state jobs is wanted answered step fits takes taken same put sure =
+    let done = carried_out t event core pending plan wants answer _ id nodes state jobs is wanted answered step in
+    let state_is : left.state ≡ (effect_at t.id t.nodes t.node event).state = ap (λ (e : Effect). e.state) done.made in
+    let durable_is : durable ≡ after_wanted t.node.durable (wants_at t.id t.nodes t.node event) = put ∙ ap (λ (o : Option Command). after_wanted t.node.durable o) done.wanted in
+    record {
+      twin = twin_handled t (twin left durable doubt) event fits takes.0 taken same sure state_is durable_is;
+      judged = ((takes, ap (λ (e : Effect). e.sent) done.made), λ i. record { state = state_is i; durable = durable_is i; doubt = sure i });
+    }
 
 -- so where another list is said to be sent
 pub judged_same : (t new : Twin) (what : HistoryEvent) (made sent : List Envelope) (b : Bool) → Judged t new what made true → (IsTrue b ↔ (made ≡ sent)) → Judged t new what sent b

@@ -23,11 +23,8 @@ kept_event messages payloads (on.Finish origin id) = kept.Finish origin id
 kept_event messages payloads on.Recover = kept.Recover
 
 abbrev pub payload_of : Event → List ℕ
-payload_of (on.Timer timer) = []
-payload_of (on.Deliver m) = []
 payload_of (on.Submit work) = work.payload
-payload_of (on.Finish origin id) = []
-payload_of on.Recover = []
+payload_of event = []
 
 abbrev pub kept_deed : ℕ → ℕ → TraceAction → PackedAction
 kept_deed messages payloads deed.Nothing = done.Nothing
@@ -38,12 +35,9 @@ kept_deed messages payloads (deed.Recovered kept) = done.Recovered kept
 kept_deed messages payloads (deed.NotRecovered kept fault) = done.NotRecovered kept fault
 
 abbrev pub payload_in : TraceAction → List ℕ
-payload_in deed.Nothing = []
 payload_in (deed.Done event) = payload_of event
 payload_in (deed.Faulted event) = payload_of event
-payload_in deed.Crashed = []
-payload_in (deed.Recovered kept) = []
-payload_in (deed.NotRecovered kept fault) = []
+payload_in d = []
 
 -- ---- what it says
 
@@ -76,36 +70,25 @@ claim_said messages payloads e = record { deed = deed_said messages payloads e.d
 -- ---- where the message stands that it was brought
 
 abbrev pub delivered_at : PackedEvent → Option ℕ
-delivered_at (kept.Timer timer) = None
 delivered_at (kept.Deliver place) = Some place
-delivered_at (kept.Submit queue priority len start) = None
-delivered_at (kept.Finish origin id) = None
-delivered_at kept.Recover = None
+delivered_at event = None
 
 abbrev pub brought_at : PackedAction → Option ℕ
-brought_at done.Nothing = None
 brought_at (done.Done event) = delivered_at event
 brought_at (done.Faulted event) = delivered_at event
-brought_at done.Crashed = None
-brought_at (done.Recovered kept) = None
-brought_at (done.NotRecovered kept fault) = None
+brought_at d = None
 
 -- ---- what can be read back, from so many messages and bytes of payloads
 
 abbrev pub EventStands : ℕ → ℕ → PackedEvent → Type 0
-EventStands messages payloads (kept.Timer timer) = ⊤
 EventStands messages payloads (kept.Deliver place) = place < messages
 EventStands messages payloads (kept.Submit queue priority len start) = (start + len ≤ payloads) × (len ≤ PAYLOAD_CAPACITY)
-EventStands messages payloads (kept.Finish origin id) = ⊤
-EventStands messages payloads kept.Recover = ⊤
+EventStands messages payloads event = ⊤
 
 abbrev pub DeedStands : ℕ → ℕ → PackedAction → Type 0
-DeedStands messages payloads done.Nothing = ⊤
 DeedStands messages payloads (done.Done event) = EventStands messages payloads event
 DeedStands messages payloads (done.Faulted event) = EventStands messages payloads event
-DeedStands messages payloads done.Crashed = ⊤
-DeedStands messages payloads (done.Recovered kept) = ⊤
-DeedStands messages payloads (done.NotRecovered kept fault) = ⊤
+DeedStands messages payloads d = ⊤
 
 pub record EntryStands (messages payloads : ℕ) (e : PackedEntry) : Type 0 where
   pub deed : DeedStands messages payloads e.deed

@@ -6,6 +6,7 @@ pub mod Leftovers
 pub mod Orders
 pub mod Posts
 pub mod Runs
+pub mod Stored
 pub mod Traces
 pub mod Twins
 pub mod Verdicts

@@ -1,5 +1,5 @@
 -- Where a check stands after some turns.
-use Rattle.std.specs.Prelude.{◌≡◌, ◌↔◌, ◌⊎◌, ℕ, ◌+◌, Bool, true, false, List, [], ◌∷◌, length, reverse, Some, slice_get}
+use Rattle.std.specs.Prelude.{◌≡◌, ◌↔◌, ◌⊎◌, ℕ, ◌+◌, Bool, true, false, List, [], ◌∷◌, length, reverse, Some, slice_get, slice_set}
 use Rattle.group_task.specs.Ids.{has}
 use Rattle.wire_msg.specs.Envelope.{Envelope}
 use Rattle.histories.specs.Lists.{IsAmong, Each}
@@ -79,9 +79,32 @@ Judges hs posted n old new Stops =
 Judges hs posted n old new Waits = (new ≡ old) × IsUnsent hs posted n old.place
 Judges hs posted n old new Takes = IsTaken hs posted n old new
 
+-- each node of the list is at its next entry
+pub record AreAtPlaces (hs : List (List Claim)) (seats : List NodeView) (past : List ℕ) : Type 0 where
+  pub legal : IsLegal hs past
+  pub places : (n : ℕ) (s : NodeView) → slice_get seats n ≡ Some s → s.place ≡ taken n past
+
 -- these messages are sent, and wake their receivers
 pub record PostsAll (stopped : List ℕ) (posted posted' : List Envelope) (ready ready' : List ℕ) (sent : List Envelope) : Type 0 where
   pub posts : (m : Envelope) → IsPosted posted' m ↔ (IsAmong m sent ⊎ IsPosted posted m)
   pub grows : (k : ℕ) → has ready k ≡ true → has ready' k ≡ true
   pub wakes : (m : Envelope) → IsAmong m sent → has stopped m.receiver ≡ false → has ready' m.receiver ≡ true
   pub only : (k : ℕ) → has ready' k ≡ true → (has ready k ≡ true) ⊎ (has stopped k ≡ false)
+
+-- ---- a node's turn
+
+-- what its next entry sent is sent if it is taken, and else all is as it was
+abbrev pub SendsIts : List (List Claim) → Search → Search → ℕ → ℕ → Judgement → Type 0
+SendsIts hs old new n place Takes = (c : Claim) → slice_get (history hs n) place ≡ Some c → PostsAll old.stopped old.posted new.posted old.ready new.ready c.sent
+SendsIts hs old new n place answer = (new.posted ≡ old.posted) × (new.ready ≡ old.ready)
+
+-- its next entry is judged, and the other nodes stay where they are
+pub record IsTurn (hs : List (List Claim)) (old new : Search) (n : ℕ) (answer : Judgement) : Type 0 where
+  pub was : NodeView
+  pub is : NodeView
+  pub at : slice_get old.seats.items n ≡ Some was
+  pub judged : Judges hs old.posted n was is answer
+  pub sends : SendsIts hs old new n was.place answer
+  pub seats : new.seats.items ≡ slice_set old.seats.items n is
+  pub order : new.order.items ≡ old.order.items
+  pub stopped : new.stopped ≡ old.stopped

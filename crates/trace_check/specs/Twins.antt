@@ -13,6 +13,7 @@ use Rattle.node_core.specs.Start.{down}
 use Rattle.node_core.specs.State.{is_down}
 use Rattle.histories.specs.NodeState.{NodeState, wants_at, settled}
 use Rattle.histories.specs.declared.history_event.HistoryEvent.{HistoryEvent}
+use Rattle.histories.specs.declared.history_event.HistoryEvent.TheVariants.{Did, Faulted}
 use Rattle.histories.specs.After.{after, sent_at}
 use Rattle.histories.specs.Possible.{IsPossible, IsSettling, Takes}
 use Rattle.trace_check.specs.Claims.{Claim, MayCome, after_claim}
@@ -47,6 +48,11 @@ Comes t what sent = IsPossible t.id t.nodes t.node what × (sent ≡ sent_at t.i
 abbrev pub Judged : Twin → Twin → HistoryEvent → List Envelope → Bool → Type 0
 Judged old new what sent true = Comes old what sent × (new.node ≡ after old.id old.nodes old.node what)
 Judged old new what sent false = Comes old what sent → ⊥
+
+-- what comes of an event that is handled, or else in whose command the device failed
+abbrev pub came : Bool → Event → HistoryEvent
+came true event = Did event
+came false event = Faulted event
 
 -- so of an entry
 abbrev pub Taken : Twin → Twin → Claim → Bool → Type 0

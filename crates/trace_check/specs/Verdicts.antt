@@ -7,13 +7,16 @@ use Rattle.trace_check.specs.declared.trace.Verdict.TheVariants.{Run, NotARun}
 use Rattle.trace_check.specs.Claims.{Claim, after_claim}
 use Rattle.trace_check.specs.Orders.{history, taken, state_of, IsSent, IsLegal, IsStuck, IsComplete, IsLeast}
 
+-- this is the least node with entries left after these, and the index of its next
+abbrev pub IsFirstLeft : List (List Claim) → List ℕ → ℕ → ℕ → Type 0
+IsFirstLeft hs past node index = (index ≡ taken node past) × (index < length (history hs node)) × ((m : ℕ) → m < node → taken m past ≡ length (history hs m))
+
 -- all entries are taken in this order; or none more can be after some others, and then the least node with entries left is
 -- named. At each turn the least node that could took its entry
 abbrev pub IsVerdict : List (List Claim) → Verdict → Type 0
 IsVerdict hs (Run order) = IsLegal hs (reverse order.items) × IsLeast hs (reverse order.items) × IsComplete hs (reverse order.items)
 IsVerdict hs (NotARun node index) =
-    (past : List ℕ) × IsLegal hs past × IsLeast hs past × IsStuck hs past × (index ≡ taken node past) × (index < length (history hs node))
-    × ((m : ℕ) → m < node → taken m past ≡ length (history hs m))
+    (past : List ℕ) × IsLegal hs past × IsLeast hs past × IsStuck hs past × IsFirstLeft hs past node index
 
 -- the order of the run, where the verdict is one
 abbrev pub IsOrderOf : Verdict → List ℕ → Type 0

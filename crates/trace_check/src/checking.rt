@@ -8,7 +8,7 @@ ghost use Rattle.trace_check.specs.Verdicts.{AreTaken, IsVerdict, IsOrderOf, Dec
 use crate::leaving::leftovers;
 use crate::leftover::Leftover;
 use crate::node_model::NodeModel;
-use crate::search::{Judgement, NodeView, Search, judge, post_all};
+use crate::search::{Judgement, NodeView, Search, first_left, turn};
 use crate::sent_messages::SentMessages;
 use crate::trace::{Trace, Verdict};
 use group_task::{Members, NodeId};
@@ -137,19 +137,11 @@ fn take_next<'a>(trace: &'a Trace, search: &mut Search<'a>, id: NodeId) -> Resul
     ensures more { IfOk result (λ more. more ≡ true → length search.new.order.items ≡ length search.old.order.items + 1) }
     ensures none { IfOk result (λ more. more ≡ false → (search.new.ready ≡ without_id search.old.ready id) × (search.new.order.items ≡ search.old.order.items)) }
 {
-    let index = usize::from(id.number());
-    if index >= search.seats.len() {
+    if usize::from(id.number()) >= search.seats.len() {
         search.ready.remove(id);
         return Ok(false);
     }
-    let place = search.seats[index].place;
-    match judge(
-        trace,
-        &search.posted,
-        &mut search.message,
-        &mut search.seats[index],
-        id,
-    )? {
+    match turn(trace, search, id)? {
         Judgement::Stops => {
             search.ready.remove(id);
             search.stopped.insert(id);
@@ -160,15 +152,6 @@ fn take_next<'a>(trace: &'a Trace, search: &mut Search<'a>, id: NodeId) -> Resul
             Ok(false)
         }
         Judgement::Takes => {
-            let Some(sent) = trace.sent(id, place) else {
-                unreachable!()
-            };
-            post_all(
-                &mut search.posted,
-                &mut search.ready,
-                &search.stopped,
-                &sent,
-            )?;
             search.order.push(id)?;
             Ok(true)
         }
@@ -191,12 +174,8 @@ fn verdict(trace: &Trace, search: Search<'_>) -> Verdict
     ensures verdict { IsVerdict trace.now result }
     ensures order { IsOrderOf result search.entry.order.items }
 {
-    for number in 0..trace.nodes() {
-        let id = NodeId::numbered(number);
-        let index = search.seats[usize::from(number)].place;
-        if trace.entry(id, index).is_some() {
-            return Verdict::NotARun(id, index);
-        }
+    match first_left(trace, &search) {
+        Some(left) => Verdict::NotARun(left.0, left.1),
+        None => Verdict::Run(search.order),
     }
-    Verdict::Run(search.order)
 }

@@ -7,6 +7,7 @@ ghost use Rattle.trace_check.specs.Traces.{claim, claim_seen};
 ghost use Rattle.trace_check.specs.Views.{Stands, claim_kept};
 
 use crate::kept::{PackedEntry, brought_at, deed_said, keep_deed};
+use crate::stored::{StoredEntry, stored_deed};
 use crate::trace::TraceAction;
 use group_task::NodeId;
 use job_model::PAYLOAD_CAPACITY;
@@ -15,13 +16,16 @@ use std::alloc::{AllocError, Global};
 use std::marker::Model;
 use wire_msg::Message;
 
+// the greatest number of 32 bits
+const MOST: usize = u32::MAX as usize;
+
 /// The entries of one node, in their order.
 ///
-/// An entry takes 40 bytes or less. The message that it was brought and those that it sent stand in a list of messages, which
+/// An entry takes 20 bytes, so a history has fewer than 2^32 messages and bytes of payloads. The message that it was brought and those that it sent stand in a list of messages, which
 /// takes 16 bytes for most, and the payload of a job in a list of bytes.
 #[derive(Drop)]
 pub struct History {
-    entries: Vec<PackedEntry>,
+    entries: Vec<StoredEntry>,
     messages: MessageList,
     payloads: Vec<u8>,
 }
@@ -29,13 +33,13 @@ pub struct History {
 impl Model for History {
     ghost use Rattle.std.specs.Prelude.{List, map, length, All};
     ghost use Rattle.trace_check.specs.Claims.{Claim};
-    ghost use Rattle.trace_check.specs.Kept.{claim_said, EntryStands};
+    ghost use Rattle.trace_check.specs.Stored.{claim_stored, IsStored};
 
     ghost Value = { List Claim };
 
-    ghost view = { λ a. map (claim_said a.messages.messages a.payloads.items) a.entries.items };
+    ghost view = { λ a. map (claim_stored a.messages.messages a.payloads.items) a.entries.items };
 
-    ghost invariant = { λ a. All (EntryStands (length a.messages.messages) (length a.payloads.items)) a.entries.items };
+    ghost invariant = { λ a. All (IsStored (length a.messages.messages) (length a.payloads.items)) a.entries.items };
 }
 
 impl History {
@@ -57,24 +61,29 @@ impl History {
         self.entries.len()
     }
 
-    /// Adds an entry: what was done, and the messages sent in their order.
+    /// Adds an entry: what was done, and the messages sent in their order. It is refused where memory is short, or where the history
+    /// could come to 2^32 messages or bytes of payloads.
     pub fn push(&mut self, deed: &TraceAction, sent: &[Message]) -> Result<(), AllocError>
         // Promise: A history is the list of its entries, each as it was put in; want of memory leaves it as it was.
         // Also: History::entry.
-        // Refuses: payload_read_from_the_start, entry_keeps_what_it_was_brought_as_sent.
+        // Refuses: payload_read_from_the_start, entry_keeps_what_it_was_brought_as_sent, halves_of_an_id_swapped,
+        // failed_command_stored_as_handled.
         ensures added { OnOk result (self.new ≡ self.old ++ claim deed.now sent.now ∷ []) }
         ensures refused { OnErr result (self.new ≡ self.old) }
     {
+        if !is_room(self.messages.len(), sent.len(), self.payloads.len()) {
+            return Err(AllocError);
+        }
         self.entries.reserve(1)?;
         self.payloads.reserve(PAYLOAD_CAPACITY)?;
         self.messages.reserve(sent.len() + 1)?;
         let deed = keep_deed(&mut self.messages, &mut self.payloads, deed);
         let start = self.messages.len();
         keep_messages(&mut self.messages, sent);
-        self.entries.push_reserved(PackedEntry {
-            deed,
-            start,
-            end: self.messages.len(),
+        self.entries.push_reserved(StoredEntry {
+            deed: stored_deed(deed),
+            start: start as u32,
+            end: self.messages.len() as u32,
         });
         Ok(())
     }
@@ -85,15 +94,12 @@ impl History {
         ensures none { IsNone result → slice_get self.now place ≡ None }
         ensures fits { IfSome result (λ _. place + 1 < 2 ^ 64) }
     {
-        let kept = self.entries.get(place)?;
-        Some(EntryView {
-            deed: deed_said(&self.messages, &self.payloads, kept.deed),
-            sent: Sent {
-                messages: &self.messages,
-                start: kept.start,
-                end: kept.end,
-            },
-        })
+        let Some(kept) = self.kept(place) else {
+            return None;
+        };
+        let sent = kept.sent();
+        let deed = deed_said(kept.messages, kept.payloads, kept.entry.deed);
+        Some(EntryView { deed, sent })
     }
 
     /// The entry at this place, as it is kept.
@@ -103,11 +109,11 @@ impl History {
         ensures stands { IfSome result (λ kept. Stands kept) }
         ensures fits { IfSome result (λ _. place + 1 < 2 ^ 64) }
     {
-        let entry = self.entries.get(place)?;
+        let entry = self.entries.get(place)?.entry();
         Some(KeptView {
             messages: &self.messages,
             payloads: &self.payloads,
-            entry: *entry,
+            entry,
         })
     }
 
@@ -115,33 +121,28 @@ impl History {
     pub fn sent(&self, place: usize) -> Option<Sent<'_>>
         ensures { result ≡ option_map (λ (c : Claim). c.sent) (slice_get self.now place) }
     {
-        let kept = self.entries.get(place)?;
-        Some(Sent {
-            messages: &self.messages,
-            start: kept.start,
-            end: kept.end,
-        })
+        let Some(kept) = self.kept(place) else {
+            return None;
+        };
+        Some(kept.sent())
     }
 
     /// The message that the entry at this place was brought, alone: none where it was brought none. It isn't made for this.
     pub fn brought(&self, place: usize) -> Option<Sent<'_>>
         ensures { result ≡ option_map (λ (c : Claim). brought_by c.deed) (slice_get self.now place) }
     {
-        let kept = self.entries.get(place)?;
-        let _many = self.messages.len();
-        match brought_at(kept.deed) {
-            Some(start) => Some(Sent {
-                messages: &self.messages,
-                start,
-                end: start + 1,
-            }),
-            None => Some(Sent {
-                messages: &self.messages,
-                start: 0,
-                end: 0,
-            }),
-        }
+        let Some(kept) = self.kept(place) else {
+            return None;
+        };
+        Some(kept.brought())
     }
+}
+
+// whether one message more and these, and the payload of one job, still have places of 32 bits
+fn is_room(messages: usize, sent: usize, payloads: usize) -> bool
+    ensures { IsTrue result ↔ ((messages + sent + 1 < 2 ^ 32) × (payloads + PAYLOAD_CAPACITY < 2 ^ 32)) }
+{
+    sent < MOST && messages < MOST - sent && payloads <= MOST - PAYLOAD_CAPACITY
 }
 
 /// Keeps messages, in the room that is there.
@@ -179,6 +180,26 @@ impl<'a> KeptView<'a> {
             messages: self.messages,
             start: self.entry.start,
             end: self.entry.end,
+        }
+    }
+
+    /// The message that the entry was brought, alone: none where it was brought none.
+    pub(crate) fn brought(&self) -> Sent<'a>
+        requires { Stands self.now }
+        ensures { result ≡ brought_by (claim_kept self.now).deed }
+    {
+        let _many = self.messages.len();
+        match brought_at(self.entry.deed) {
+            Some(start) => Sent {
+                messages: self.messages,
+                start,
+                end: start + 1,
+            },
+            None => Sent {
+                messages: self.messages,
+                start: 0,
+                end: 0,
+            },
         }
     }
 }

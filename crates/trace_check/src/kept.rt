@@ -12,7 +12,6 @@ use group_task::NodeId;
 use job_model::{PAYLOAD_CAPACITY, Payload, Queue, Work};
 use message_list::MessageList;
 use node_core::{Event, Timer};
-use std::mem::size_of;
 
 /// An event as it is kept.
 #[derive(Clone, Copy)]
@@ -44,9 +43,6 @@ pub struct PackedEntry {
     pub start: usize,
     pub end: usize,
 }
-
-// a long history takes about what its text takes
-const _: () = prove!(size_of::<PackedEntry>() == 40);
 
 /// Keeps what was done, in the room that is there.
 pub fn keep_deed(

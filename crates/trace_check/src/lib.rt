@@ -21,6 +21,7 @@ mod node_model;
 mod order;
 mod search;
 mod sent_messages;
+mod stored;
 mod trace;
 
 pub use checking::{Examined, check, examine};

@@ -1,7 +1,6 @@
 ghost use Rattle.std.specs.Prelude.{◌≡◌, ◌<◌, ◌≤◌, ◌↔◌, length, true, IfOk, IfSome, IsTrue, MatchOption};
 ghost use Rattle.group_task.specs.declared.node.TheConstants.{NODES};
 ghost use Rattle.node_core.specs.declared.event.Event.TheVariants.{Deliver};
-ghost use Rattle.node_core.specs.declared.event.Event.TheVariants as on;
 ghost use Rattle.node_core.specs.NodeStep.{IsSpent};
 ghost use Rattle.node_core.specs.Planned.{lent_by, wanted_by};
 ghost use Rattle.node_core.specs.Start.{down};
@@ -11,7 +10,7 @@ ghost use Rattle.histories.specs.declared.history_event.HistoryEvent.TheVariants
 ghost use Rattle.histories.specs.declared.history_event.NoOpKind.TheVariants.{Nothing};
 ghost use Rattle.histories.specs.Possible.{IsForNode, IsPossible};
 ghost use Rattle.trace_check.specs.Leftovers.{IsRefused, IsSilent, WouldSend};
-ghost use Rattle.trace_check.specs.Twins.{Judged, Taken, Settled, WantsOf};
+ghost use Rattle.trace_check.specs.Twins.{Judged, Taken, Settled, WantsOf, came};
 ghost use Rattle.trace_check.specs.Kept.{EventStands, event_said};
 ghost use Rattle.trace_check.specs.Traces.{claim, claim_seen};
 ghost use Rattle.trace_check.specs.Views.{Stands, claim_kept};
@@ -19,10 +18,10 @@ ghost use Rattle.trace_check.specs.declared.trace.TraceAction.TheVariants as dee
 
 use crate::durable_state::DurableState;
 use crate::history::{EntryView, KeptView, Sent};
-use crate::kept::{PackedAction, PackedEvent, event_said, read_event};
+use crate::kept::{PackedAction, PackedEvent, read_event};
 use crate::trace::{RecoverFault, TraceAction};
 use group_task::NodeId;
-use node_core::{CoreFault, Event, NodeCore, Phase, Timer, Vector, Wanted, WantedRef};
+use node_core::{CoreFault, Event, NodeCore, Phase, Vector, Wanted, WantedRef};
 use std::alloc::{AllocError, Global};
 use std::marker::Model;
 use std::mem;
@@ -111,8 +110,14 @@ impl NodeModel {
         let sent = kept.sent();
         match kept.entry.deed {
             PackedAction::Nothing => Ok(sent.is_empty()),
-            PackedAction::Done(event) => self.handle_kept(kept, event, message, &sent),
-            PackedAction::Faulted(event) => self.fault_kept(kept, event, &sent),
+            PackedAction::Done(PackedEvent::Deliver(place)) => {
+                if !kept.messages.read(place, message) {
+                    unreachable!()
+                }
+                self.deliver(message, &sent)
+            }
+            PackedAction::Done(event) => self.take_said(kept, event, true, &sent),
+            PackedAction::Faulted(event) => self.take_said(kept, event, false, &sent),
             PackedAction::Crashed => Ok(self.crash(&sent)),
             PackedAction::Recovered(kept) => self.recover(kept, &sent),
             PackedAction::NotRecovered(kept, fault) => self.not_recover(kept, fault, &sent),
@@ -135,75 +140,27 @@ impl NodeModel {
         }
     }
 
-    /// An event as it is kept, which is handled. Of a message that is delivered no event is made: it is read in place of
-    /// `message`.
-    fn handle_kept(
+    /// An event as it is kept, which is handled, or in whose command the device failed. It stands apart, since an event takes over
+    /// 400 bytes.
+    #[inline(never)]
+    fn take_said(
         &mut self,
         kept: &KeptView<'_>,
         event: PackedEvent,
-        message: &mut Message,
+        is_done: bool,
         sent: &Sent<'_>,
     ) -> Result<bool, AllocError>
         requires { EventStands (length kept.now.messages.now.messages) (length kept.now.payloads.now) event }
         ensures id { self.new.id ≡ self.old.id }
         ensures nodes { self.new.nodes ≡ self.old.nodes }
-        ensures judged { IfOk result (Judged self.old self.new (Did (event_said kept.now.messages.now.messages kept.now.payloads.now event)) sent.now) }
-    {
-        match event {
-            PackedEvent::Deliver(place) => {
-                if !kept.messages.read(place, message) {
-                    unreachable!()
-                }
-                self.deliver(message, sent)
-            }
-            PackedEvent::Timer(timer) => self.handle_timer(timer, sent),
-            _ => self.handle_said(kept, event, sent),
-        }
-    }
-
-    /// A timer that fires. It stands apart, since an event takes over 400 bytes.
-    #[inline(never)]
-    fn handle_timer(&mut self, timer: Timer, sent: &Sent<'_>) -> Result<bool, AllocError>
-        ensures id { self.new.id ≡ self.old.id }
-        ensures nodes { self.new.nodes ≡ self.old.nodes }
-        ensures judged { IfOk result (Judged self.old self.new (Did (on.Timer timer)) sent.now) }
-    {
-        self.handle(&Event::Timer(timer), sent)
-    }
-
-    /// An event as it is kept, which is handled. It stands apart, as a timer does.
-    #[inline(never)]
-    fn handle_said(
-        &mut self,
-        kept: &KeptView<'_>,
-        event: PackedEvent,
-        sent: &Sent<'_>,
-    ) -> Result<bool, AllocError>
-        requires { EventStands (length kept.now.messages.now.messages) (length kept.now.payloads.now) event }
-        ensures id { self.new.id ≡ self.old.id }
-        ensures nodes { self.new.nodes ≡ self.old.nodes }
-        ensures judged { IfOk result (Judged self.old self.new (Did (event_said kept.now.messages.now.messages kept.now.payloads.now event)) sent.now) }
+        ensures judged { IfOk result (Judged self.old self.new (came is_done (event_said kept.now.messages.now.messages kept.now.payloads.now event)) sent.now) }
     {
         let mut said = Event::Recover;
         read_event(kept.messages, kept.payloads, event, &mut said);
-        self.handle(&said, sent)
-    }
-
-    /// An event as it is kept, in whose command the device failed.
-    #[inline(never)]
-    fn fault_kept(
-        &mut self,
-        kept: &KeptView<'_>,
-        event: PackedEvent,
-        sent: &Sent<'_>,
-    ) -> Result<bool, AllocError>
-        requires { EventStands (length kept.now.messages.now.messages) (length kept.now.payloads.now) event }
-        ensures id { self.new.id ≡ self.old.id }
-        ensures nodes { self.new.nodes ≡ self.old.nodes }
-        ensures judged { IfOk result (Judged self.old self.new (Faulted (event_said kept.now.messages.now.messages kept.now.payloads.now event)) sent.now) }
-    {
-        let event = event_said(kept.messages, kept.payloads, event);
-        self.fault(&event, sent)
+        if is_done {
+            return self.handle(&said, sent);
+        }
+        self.fault(&said, sent)
     }
 
     /// Recover, at a node that is down or isn't.

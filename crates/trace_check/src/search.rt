@@ -1,7 +1,9 @@
-ghost use Rattle.std.specs.Prelude.{◌≡◌, ◌≤◌, ◌<◌, ◌+◌, ◌∷◌, [], ℕ, length, slice_get, Some, cond, IfOk, OnOk, IfSome, IsNone, IsTrue, true, false};
+ghost use Rattle.std.specs.Prelude.{◌≡◌, ◌≤◌, ◌<◌, ◌+◌, ◌∷◌, [], ℕ, List, MatchOption, length, slice_get, Some, cond, IfOk, OnOk, IfSome, IsNone, IsTrue, true, false};
 ghost use Rattle.group_task.specs.Ids.{has, with_id, without_id};
 ghost use Rattle.wire_msg.specs.Envelope.{Envelope};
-ghost use Rattle.trace_check.specs.Searches.{Fits, Judges, PostsAll};
+ghost use Rattle.trace_check.specs.Orders.{IsComplete};
+ghost use Rattle.trace_check.specs.Searches.{AreAtPlaces, IsTurn, Judges, PostsAll};
+ghost use Rattle.trace_check.specs.Verdicts.{IsFirstLeft};
 
 use crate::history::Sent;
 use crate::node_model::NodeModel;
@@ -52,9 +54,10 @@ pub(crate) fn judge<'a>(
 ) -> Result<Judgement, AllocError>
     ensures { IfOk result (Judges trace.now posted.now id node_view.old node_view.new) }
 {
-    let Some(brought) = trace.brought(id, node_view.place) else {
+    let Some(kept) = trace.kept(id, node_view.place) else {
         return Ok(Judgement::Stops);
     };
+    let brought = kept.brought();
     if let Some(receiver) = brought.receiver(0) {
         if receiver != id {
             return Ok(Judgement::Stops);
@@ -63,14 +66,55 @@ pub(crate) fn judge<'a>(
             return Ok(Judgement::Waits);
         }
     }
-    let Some(kept) = trace.kept(id, node_view.place) else {
-        unreachable!()
-    };
     if !node_view.node_model.take_kept(&kept, message)? {
         return Ok(Judgement::Stops);
     }
     node_view.place += 1;
     Ok(Judgement::Takes)
+}
+
+/// What can be said of the next entry of the node of this id. If it can be taken, it is, and what it sent is sent.
+pub(crate) fn turn<'a>(
+    trace: &'a Trace,
+    search: &mut Search<'a>,
+    id: NodeId,
+) -> Result<Judgement, AllocError>
+    requires { id < length search.old.seats.items }
+    ensures { IfOk result (IsTurn trace.now search.old search.new id) }
+{
+    let node_view = &mut search.seats[usize::from(id.number())];
+    let place = node_view.place;
+    match judge(trace, &search.posted, &mut search.message, node_view, id)? {
+        Judgement::Stops => Ok(Judgement::Stops),
+        Judgement::Waits => Ok(Judgement::Waits),
+        Judgement::Takes => {
+            let Some(sent) = trace.sent(id, place) else {
+                unreachable!()
+            };
+            post_all(
+                &mut search.posted,
+                &mut search.ready,
+                &search.stopped,
+                &sent,
+            )?;
+            Ok(Judgement::Takes)
+        }
+    }
+}
+
+/// The least node that has entries left, and the index of its next.
+pub(crate) fn first_left(trace: &Trace, search: &Search<'_>) -> Option<(NodeId, usize)>
+    requires { length search.now.seats.items ≡ length trace.now }
+    ensures { (past : List ℕ) → AreAtPlaces trace.now search.now.seats.items past → MatchOption result (IsComplete trace.now past) (λ left. IsFirstLeft trace.now past left.0 left.1) }
+{
+    for number in 0..trace.nodes() {
+        let id = NodeId::numbered(number);
+        let index = search.seats[usize::from(number)].place;
+        if trace.sent(id, index).is_some() {
+            return Some((id, index));
+        }
+    }
+    None
 }
 
 /// The messages are sent: who waits for one of them may go on.

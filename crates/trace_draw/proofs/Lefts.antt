@@ -1,5 +1,5 @@
 -- Which messages some turn was brought.
-use Rattle.std.proofs.Common.{◌≡◌, ◌==◌, ◌⊎◌, ◌&&◌, ◌||◌, ℕ, zero, suc, Bool, true, false, eqb, cond, List, [], ◌∷◌, ◌++◌, length, slice_get, Option, Some, None, inl, inr, refl, sym, ap, ◌∙◌, subst, arith}
+use Rattle.std.proofs.Common.{◌≡◌, ◌⊎◌, ◌&&◌, ℕ, Bool, true, false, cond, List, [], ◌∷◌, ◌++◌, length, Option, Some, inl, inr, refl, sym, ap, ◌∙◌, subst, arith}
 use Rattle.std.specs.Prelude.{nat_eq}
 use Rattle.std.specs.HashSet.{HashSet, contains}
 use Rattle.std.specs.declared.hash.FoldHasher.{FoldHasher}
@@ -23,15 +23,6 @@ taken_split sources o k p is = elim (last_or_before sources o (Some is.source) i
   | inl early ↦ inl (record { later = is.later; source = is.source; brought = early; turn = is.turn; place_is = is.place_is })
   | inr now ↦ inr (is.source, sym now.1, is.turn, is.place_is)
 ]
-
-pub places_same : (sources : List (Option Source)) (o : Option Source) (places : HashSet (ℕ × ℕ) (BuildHasherDefault FoldHasher)) → o ≡ None → ArePlaces sources places → ArePlaces (sources ++ o ∷ []) places
-places_same sources o places none are = λ k p. (
-  λ has. taken_still sources (o ∷ []) k p ((are k p).0 has),
-  λ taken. elim (taken_split sources o k p taken) [
-    | inl early ↦ (are k p).1 early
-    | inr now ↦ (let clash : None ≡ Some now.0 = sym none ∙ now.1 in absurd cc)
-  ],
-)
 
 both : (a b : Bool) → (a && b) ≡ true → (a ≡ true) × (b ≡ true)
 both true true h = (refl, refl)

@@ -1,5 +1,5 @@
 -- Where to look first.
-use Rattle.std.proofs.Common.{◌≡◌, ◌≤◌, ◌<◌, ◌+◌, ℕ, true, false, List, [], ◌∷◌, length, drop, get_or, None, Some, refl, sym, ap, ◌∙◌, arith}
+use Rattle.std.proofs.Common.{◌≡◌, ◌≤◌, ◌<◌, ◌+◌, ℕ, true, false, List, [], length, drop, get_or, None, Some, refl, sym, ap, ◌∙◌}
 use Rattle.std.proofs.lemmas.Option.{slice_get_read}
 use Rattle.trace_check.specs.declared.leftover.Leftover.{Leftover}
 use Rattle.trace_text.proofs.PublicLaws.{drop_all, drop_get}

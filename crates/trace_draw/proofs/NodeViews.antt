@@ -1,5 +1,5 @@
 -- The nodes after one turn more.
-use Rattle.std.proofs.Common.{◌≡◌, ◌≢◌, ◌<◌, ◌==◌, ◌⊎◌, ℕ, ◌+◌, true, List, [], ◌∷◌, ◌++◌, length, reverse, slice_get, slice_set, slice_index_or, Some, inl, inr, refl, sym, ap, ◌∙◌, subst, arith}
+use Rattle.std.proofs.Common.{◌≡◌, ◌≢◌, ◌<◌, ◌==◌, ℕ, ◌+◌, true, List, [], ◌∷◌, ◌++◌, length, reverse, slice_get, slice_set, slice_index_or, Some, inl, inr, refl, sym, ap, ◌∙◌, subst, arith, length-append}
 use Rattle.std.proofs.lemmas.Bool.{cases_Bool, cases_lt, eqb-true}
 use Rattle.std.proofs.lemmas.Bool.Decides.{nat_tests}
 use Rattle.std.proofs.lemmas.Option.{slice_get_read}
@@ -49,14 +49,16 @@ seats_more hs past n seats s are is = (
 abbrev pub AreOpen : ℕ → List NodeView → Type 0
 AreOpen nodes seats = (n : ℕ) (s : NodeView) → slice_get seats n ≡ Some s → s ≡ record { node_model = record { id = n; nodes = nodes; node = opening n }; index = 0 }
 
-pub open_more : (nodes : ℕ) (seats : List NodeView) (s : NodeView) → AreOpen nodes seats → s ≡ record { node_model = record { id = length seats; nodes = nodes; node = opening (length seats) }; index = 0 } → AreOpen nodes (seats ++ s ∷ [])
+open_more : (nodes : ℕ) (seats : List NodeView) (s : NodeView) → AreOpen nodes seats → s ≡ record { node_model = record { id = length seats; nodes = nodes; node = opening (length seats) }; index = 0 } → AreOpen nodes (seats ++ s ∷ [])
 open_more nodes seats s each is n t at = elim (last_or_before seats s t n at) [
   | inl early ↦ each n t early
   | inr now ↦ now.1 ∙ is ∙ ap (λ (k : ℕ). record { node_model = record { id = k; nodes = nodes; node = opening k }; index = 0 }) (sym now.0)
 ]
 
-pub opened : (hs : List (List Claim)) (seats : List NodeView) → length seats ≡ length hs → AreOpen (length hs) seats → AreSeats hs [] seats
-opened hs seats count each = (count, each)
+pub opens : (nodes number : ℕ) (seats new : List NodeView) (s : NodeView) → (length seats ≡ number) × AreOpen nodes seats → new ≡ seats ++ s ∷ [] → s ≡ record { node_model = record { id = number; nodes = nodes; node = opening number }; index = 0 }
+    → (length new ≡ number + 1) × AreOpen nodes new
+opens nodes number seats new s so_far pushed is =
+    rw pushed (length-append seats (s ∷ []) ∙ ap (λ (k : ℕ). k + 1) so_far.0, open_more nodes seats s so_far.1 (is ∙ ap (λ (k : ℕ). record { node_model = record { id = k; nodes = nodes; node = opening k }; index = 0 }) (sym so_far.0)))
 
 -- ---- which node is next
 
@@ -70,9 +72,16 @@ seat_here : (seats : List NodeView) (k n : ℕ) (s : NodeView) → k ≡ n → k
 seat_here seats k n s is within at = subst (λ (j : ℕ). slice_get seats j ≡ Some s) is (slice_get_read seats (length seats) k s refl within at)
 
 -- the node of a turn can take it, and stands before it
-pub turn_seat : (hs : List (List Claim)) (order : List ℕ) (number node : ℕ) (seats : List NodeView) (k : ℕ) (s : NodeView) → IsLegal hs (reverse order) → slice_get order number ≡ Some node → AreSeats hs (before order number) seats → k ≡ node
+turn_seat : (hs : List (List Claim)) (order : List ℕ) (number node : ℕ) (seats : List NodeView) (k : ℕ) (s : NodeView) → IsLegal hs (reverse order) → slice_get order number ≡ Some node → AreSeats hs (before order number) seats → k ≡ node
     → s ≡ slice_index_or seats k s → MayTake hs (before order number) node × (s ≡ seat_at hs (before order number) node)
 turn_seat hs order number node seats k s legal now are here at =
     let may = may_take hs order number node legal now in
     let within = node_within hs (before order number) node may in
     let count = are.0 in (may, are.1 node s (seat_here seats k node s here (omega (arith, within, count, here)) at))
+
+-- as they are read
+pub seat_read : (hs : List (List Claim)) (order : List ℕ) (number node : ℕ) (seats : List NodeView) (k : ℕ) (s : NodeView) → IsLegal hs (reverse order) → number < length order → node ≡ slice_index_or order number node → AreSeats hs (before order number) seats → k ≡ node
+    → s ≡ slice_index_or seats k s → (slice_get order number ≡ Some node) × MayTake hs (before order number) node × (s ≡ seat_at hs (before order number) node)
+seat_read hs order number node seats k s legal less there are here at =
+    let now = slice_get_read order (length order) number node refl less there in
+    let seat = turn_seat hs order number node seats k s legal now are here at in (now, seat.0, seat.1)

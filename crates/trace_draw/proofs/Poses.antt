@@ -50,6 +50,21 @@ pose_begun hs order turn n stand stands other = record {
 covered_still : (hs : List (List Claim)) (order : List ℕ) (stays more : List Stay) (n k : ℕ) → IsCovered hs order stays n k → IsCovered hs order (stays ++ more) n k
 covered_still hs order stays more n k is = record { index = is.index; stay = is.stay; first = is.first; there = still_at stays more is.stay is.index is.there; node = is.node; is = is.is; past = is.past; before = is.before }
 
+-- the stay of a node that ends covers what its pose did
+covered_last : (hs : List (List Claim)) (order : List ℕ) (turns : ℕ) (stays : List Stay) (poses : List Pose) (node : ℕ) (p : Pose) (s : Stay) → node ≡ s.node → ((first : ℕ) → IsPoseFrom hs order turns first node p → IsStayFrom hs order first s)
+    → slice_get poses node ≡ Some p → (n k : ℕ) → n ≡ node → k ≤ s.until → IsPosed hs order turns poses n k → IsCovered hs order (stays ++ s ∷ []) n k
+covered_last hs order turns stays poses node p s is ended there n k here within posed =
+    let same : posed.pose ≡ p = same_Some posed.pose p (sym posed.there ∙ ap (λ (m : ℕ). slice_get poses m) here ∙ there) in record {
+      index = length stays;
+      stay = s;
+      first = posed.first;
+      there = last_at stays s;
+      node = sym (here ∙ is);
+      is = ended posed.first (subst (λ (v : Pose). IsPoseFrom hs order turns posed.first node v) same (subst (λ (m : ℕ). IsPoseFrom hs order turns posed.first m posed.pose) here posed.is));
+      past = posed.past;
+      before = within;
+    }
+
 -- the pose of a node after a turn after which it stands as before
 each_on : (hs : List (List Claim)) (order : List ℕ) (turn node : ℕ) (poses : List Pose) (first n : ℕ) (p : Pose) → slice_get order turn ≡ Some node
     → ((q : Pose) → slice_get poses node ≡ Some q → stand_after hs order node (turn + 1) ≡ q.stand) → slice_get poses n ≡ Some p → IsPoseFrom hs order turn first n p → IsPoseFrom hs order (turn + 1) first n p
@@ -103,18 +118,7 @@ stay_ends hs order turn node stays poses p stand at there is other are =
           | inl past ↦ inr (record { pose = q; first = turn + 1; there = subst (λ (m : ℕ). slice_get (slice_set poses node q) m ≡ Some q) (sym here) (set_here poses node q (slice_get_within poses node p there)); is = subst (λ (m : ℕ). IsPoseFrom hs order (turn + 1) (turn + 1) m q) (sym here) begun; past = omega (arith, past) })
           | inr within ↦ elim (are.all n k inside within) [
             | inl covered ↦ inl (covered_still hs order stays (s ∷ []) n k covered)
-            | inr posed ↦ (
-                let same : posed.pose ≡ p = same_Some posed.pose p (sym posed.there ∙ ap (λ (m : ℕ). slice_get poses m) here ∙ there) in
-                inl (record {
-                  index = length stays;
-                  stay = s;
-                  first = posed.first;
-                  there = last_at stays s;
-                  node = sym here;
-                  is = ended posed.first (subst (λ (v : Pose). IsPoseFrom hs order turn posed.first node v) same (subst (λ (m : ℕ). IsPoseFrom hs order turn posed.first m posed.pose) here posed.is));
-                  past = posed.past;
-                  before = within;
-                }))
+            | inr posed ↦ inl (covered_last hs order turn stays poses node p s refl ended there n k here within posed)
           ]
         ]
         | inr apart ↦ elim (cases_lt turn k) [
@@ -176,19 +180,7 @@ end_one hs order number stays poses p there are =
       all = λ n k less until. elim (are.all n k less until) [
         | inl covered ↦ inl (covered_still hs order stays (s ∷ []) n k covered)
         | inr later ↦ elim (cases_eq n number) [
-          | inl here ↦ (
-              let posed = later.1 in
-              let same : posed.pose ≡ p = same_Some posed.pose p (sym posed.there ∙ ap (λ (m : ℕ). slice_get poses m) here ∙ there) in
-              inl (record {
-                index = length stays;
-                stay = s;
-                first = posed.first;
-                there = last_at stays s;
-                node = sym here;
-                is = ended posed.first (subst (λ (v : Pose). IsPoseFrom hs order (length order) posed.first number v) same (subst (λ (m : ℕ). IsPoseFrom hs order (length order) posed.first m posed.pose) here posed.is));
-                past = posed.past;
-                before = until;
-              }))
+          | inl here ↦ inl (covered_last hs order (length order) stays poses number p s refl ended there n k here until later.1)
           | inr apart ↦ inr (let low = later.0 in omega (arith, low, apart), later.1)
         ]
       ];

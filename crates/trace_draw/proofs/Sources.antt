@@ -1,12 +1,11 @@
 -- Where a message was sent.
-use Rattle.std.proofs.Common.{◌≡◌, ◌≤◌, ◌<◌, ℕ, suc, Bool, true, false, List, [], ◌∷◌, ◌++◌, length, slice_get, Option, Some, None, inl, inr, refl, sym, ap, ◌∙◌, subst, arith}
+use Rattle.std.proofs.Common.{◌≡◌, ◌≤◌, ◌<◌, ℕ, true, List, [], ◌∷◌, length, slice_get, Option, Some, None, refl, sym, ap, ◌∙◌, subst, arith}
 use Rattle.std.proofs.lemmas.Option.{same_Some, slice_get_within}
 use Rattle.wire_msg.specs.Envelope.{Envelope}
 use Rattle.trace_draw.specs.declared.mail.Latest.{Latest}
 use Rattle.trace_draw.specs.declared.mail.Sending.{Sending}
-use Rattle.trace_draw.specs.declared.turn.Source.{Source}
 use Rattle.trace_draw.specs.Mails.{IsLatest}
-use Rattle.trace_draw.specs.Turns.{IsLast, IsLastSource, IsNamed, IsSending, WasSent, source_at}
+use Rattle.trace_draw.specs.Turns.{IsLast, IsLastSource, IsNamed, source_at}
 
 pub none_there : (ms : List Envelope) → slice_get ms 0 ≡ None → ms ≡ []
 none_there [] none = refl
@@ -28,10 +27,6 @@ last_found all m (Some k) l s is same there =
 pub last_within : (all : List Sending) (m : Envelope) (o : Option Latest) (l : Latest) → IsLatest all m o → o ≡ Some l → l.number < length all
 last_within all m None l is same = absurd cc
 last_within all m (Some k) l is same = subst (λ (x : Latest). x.number < length all) (same_Some k l same) (slice_get_within all k.number is.sending is.is.there)
-
--- where one was sent, a last one is known
-pub last_known : (all : List Sending) (m : Envelope) (o : Option Latest) → IsLatest all m o → WasSent all m → o ≡ None → ⊥
-last_known all m o is was none = subst (λ (x : Option Latest). IsLatest all m x) none is was
 
 pub named_found : (all : List Sending) (m : Envelope) (named : Option ℕ) (number : ℕ) (s : Sending) → named ≡ Some number → slice_get all number ≡ Some s → s.message ≡ m
     → (is : IsNamed all m named) × (record { at = s.at; place = s.place; sure = true } ≡ source_at is.sending true)

@@ -1,5 +1,5 @@
 -- The turn of a number, with its entry.
-use Rattle.std.proofs.Common.{◌≡◌, ◌≤◌, ◌<◌, ℕ, suc, ◌+◌, List, [], ◌∷◌, ◌++◌, length, reverse, take, option_map, slice_get, get_or, Option, Some, None, inl, inr, refl, sym, ap, ◌∙◌, subst, arith, drop}
+use Rattle.std.proofs.Common.{◌≡◌, ◌≤◌, ◌<◌, ℕ, suc, ◌+◌, List, [], ◌∷◌, ◌++◌, length, reverse, take, option_map, slice_get, get_or, Option, Some, inl, inr, refl, sym, ap, ◌∙◌, subst, arith, drop}
 use Rattle.std.proofs.lemmas.List.{length-reverse, length-take-le, take-append-drop, reverse-append}
 use Rattle.std.proofs.lemmas.Bool.{cases_lt}
 use Rattle.std.proofs.lemmas.Option.{same_Some, slice_get_read, slice_get_within}
@@ -13,10 +13,8 @@ use Rattle.trace_check.specs.declared.trace.TraceAction.{TraceAction}
 use Rattle.trace_check.specs.declared.trace.TraceAction.TheVariants as deed
 use Rattle.trace_check.specs.Claims.{Claim, brought_by}
 use Rattle.trace_check.specs.Followed.{before}
-use Rattle.trace_check.specs.Orders.{history, taken, IsLegal, IsSent, MayTake}
+use Rattle.trace_check.specs.Orders.{history, taken, IsLegal, IsSent}
 use Rattle.trace_check.proofs.PublicLaws.{before_more, may_take, none_past}
-use Rattle.trace_draw.specs.declared.mail.Sending.{Sending}
-use Rattle.trace_draw.specs.declared.turn.Point.{Point}
 use Rattle.trace_draw.specs.declared.turn.Source.{Source}
 use Rattle.trace_draw.specs.declared.step.Step.{Step}
 use Rattle.trace_draw.specs.Turns.{IsSourceAt, IsSourceOf, Takes, WasSent, sendings, sendings_of, sent_of}
@@ -50,6 +48,10 @@ step_read hs order ss turn node s are less at there =
 pub entry_at : (hs : List (List Claim)) (order : List ℕ) (turn node : ℕ) (c : Claim) (s : Step) → IsStepOf hs order turn node c s → slice_get (history hs node) s.index ≡ Some c
 entry_at hs order turn node c s is = ap (λ (i : ℕ). slice_get (history hs node) i) is.index ∙ is.takes.entry
 
+-- what the trace says of the entry at its index
+pub said_at : {A : Type 0} {hs : List (List Claim)} {order : List ℕ} {turn node : ℕ} {c : Claim} {s : Step} {o : Option A} {a : A} (f : Claim → A) → IsStepOf hs order turn node c s → o ≡ option_map f (slice_get (history hs node) s.index) → o ≡ Some a → a ≡ f c
+said_at {hs = hs} {order = order} {turn = turn} {node = node} {c = c} {s = s} f is said there = same_Some _ _ (sym there ∙ said ∙ ap (option_map f) (entry_at hs order turn node c s is))
+
 -- a turn takes one entry
 pub takes_one : (hs : List (List Claim)) (order : List ℕ) (turn n m : ℕ) (c d : Claim) → Takes hs order turn n c → Takes hs order turn m d → c ≡ d
 takes_one hs order turn n m c d one other =
@@ -60,20 +62,14 @@ pub source_of_turn : (hs : List (List Claim)) (order : Order) (turn node : ℕ) 
 source_of_turn hs order turn node c source takes is = λ n d other. subst (λ (e : Claim). IsSourceOf hs order turn e source) (takes_one hs order.nodes.items turn node n c d takes other) is
 
 event_brings_one : (e : Event) → length (brought (Some e)) ≤ 1
-event_brings_one (on.Timer timer) = omega arith
 event_brings_one (on.Deliver m) = omega arith
-event_brings_one (on.Submit work) = omega arith
-event_brings_one (on.Finish origin id) = omega arith
-event_brings_one on.Recover = omega arith
+event_brings_one _ = omega arith
 
 -- a deed is brought one message at most
 pub one_brought : (d : TraceAction) → length (brought_by d) ≤ 1
-one_brought deed.Nothing = omega arith
 one_brought (deed.Done event) = event_brings_one event
 one_brought (deed.Faulted event) = event_brings_one event
-one_brought deed.Crashed = omega arith
-one_brought (deed.Recovered kept) = omega arith
-one_brought (deed.NotRecovered kept fault) = omega arith
+one_brought _ = omega arith
 
 -- what a turn is brought was sent before
 pub sent_before : (hs : List (List Claim)) (order : List ℕ) (turn node : ℕ) (c : Claim) (m : Envelope) → IsLegal hs (reverse order) → Takes hs order turn node c → brought_by c.deed ≡ m ∷ [] → WasSent (sendings hs (before order turn)) m

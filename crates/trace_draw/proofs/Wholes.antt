@@ -1,9 +1,9 @@
 -- Orders in which all entries are taken.
-use Rattle.std.proofs.Common.{◌≡◌, ◌≤◌, ℕ, zero, suc, List, [], length, reverse, slice_get, Option, Some, None, refl, sym, ap, ◌∙◌, subst, arith}
+use Rattle.std.proofs.Common.{◌≡◌, ℕ, zero, suc, List, [], length, slice_get, Option, Some, None, refl, sym, ◌∙◌, subst, arith}
 use Rattle.std.proofs.lemmas.Option.{slice_get_past}
 use Rattle.trace_check.specs.Claims.{Claim}
 use Rattle.trace_check.specs.Leftovers.{AddsLeft, AreLeftBelow, AreLeftovers}
-use Rattle.trace_check.specs.Orders.{history, taken, IsComplete, IsLegal, MayTake}
+use Rattle.trace_check.specs.Orders.{history, taken, IsComplete, IsLegal}
 
 -- a node has no more entries
 none_next : (hs : List (List Claim)) (past : List ℕ) (n : ℕ) → IsComplete hs past → slice_get (history hs n) (taken n past) ≡ None

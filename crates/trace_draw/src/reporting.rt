@@ -3,7 +3,7 @@ ghost use Rattle.std.specs.Prelude.{◌≡◌, ◌++◌, IfOk, OnOk, map};
 ghost use Rattle.std.specs.List.{flat_map};
 ghost use Rattle.wire_msg.specs.Envelope.{Envelope};
 ghost use Rattle.trace_draw.specs.Judged.{words};
-ghost use Rattle.trace_draw.specs.Reported.{cannot_text, first_text, holdup_text, leftover_text, look_text, line_text, message_text, messages_text, place_text, report, sent_text, waits};
+ghost use Rattle.trace_draw.specs.Reported.{cannot_text, first_text, holdup_text, leftover_text, look_text, message_text, messages_text, place_text, report, sent_text, waits};
 ghost use Rattle.trace_check.specs.Traces.{claim_seen};
 ghost use Rattle.trace_check.specs.Claims.{brought_by};
 
@@ -95,6 +95,7 @@ fn push_leftovers(
 }
 
 /// Adds the line of an entry that is left, behind the end of the line before.
+#[tactic(auto, unfolding(crate::specs::Reported::line_text))]
 pub(crate) fn push_leftover(
     alloc: Global,
     text: &mut Vec<u8>,
@@ -103,24 +104,12 @@ pub(crate) fn push_leftover(
 ) -> Result<(), AllocError>
     ensures { OnOk result (text.new.items ≡ text.old.items ++ leftover_text trace.now left.now) }
 {
-    match trace.entry(left.node, left.index) {
-        Some(entry) => push_line(alloc, text, &entry, left),
-        None => Ok(()),
-    }
-}
-
-#[tactic(auto, unfolding(crate::specs::Reported::line_text))]
-fn push_line(
-    alloc: Global,
-    text: &mut Vec<u8>,
-    entry: &EntryView<'_>,
-    left: &Leftover,
-) -> Result<(), AllocError>
-    ensures { OnOk result (text.new.items ≡ text.old.items ++ line_text (claim_seen entry.now) left.now) }
-{
+    let Some(entry) = trace.entry(left.node, left.index) else {
+        return Ok(());
+    };
     push_text(text, "\nnode ")?;
     push_place(text, left.node, ": entry ", left.index)?;
-    push_holdup(alloc, text, entry, &left.holdup)
+    push_holdup(alloc, text, &entry, &left.holdup)
 }
 
 /// Adds what holds an entry up.

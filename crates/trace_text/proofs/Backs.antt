@@ -27,7 +27,7 @@ use Rattle.trace_check.specs.Claims.{Claim}
 use Rattle.trace_text.specs.declared.fault.Location.{Location}
 use Rattle.trace_text.specs.Fields.{fields_in}
 use Rattle.trace_text.specs.Entries.{message_in, with_first, messages_in, below, short, priority_in, submitted, done_in, deed_in, claim_in}
-use Rattle.trace_text.specs.Fits.{WorkFits, DeedFits, ClaimFits, TraceFits, HasName, IsWritable}
+use Rattle.trace_text.specs.Fits.{EventFits, IsNamed, WorkFits, DeedFits, ClaimFits, TraceFits, HasName, IsWritable}
 use Rattle.trace_text.specs.Wholes.{first_entry, entries_from, first_history, histories_from, count_items, all_lists, shape_in, in_shape}
 use Rattle.trace_text.specs.Written.{message_data, entry_data, history_data, trace_data}
 
@@ -80,9 +80,8 @@ parts_back failed w queue priority payload a b c = rw (a, b, c) refl
 
 submit_back : (failed b : Bool) (w : Work) (ms : List Envelope) → (w.priority == 0) ≡ b → WorkFits w → deed_in (fields_in (object (work_members failed b w ms))) ≡ Some (done_in (on.Submit w) failed)
 submit_back true true w ms is fits = parts_back true w _ _ _ (below_back QUEUES w.queue fits.queue) (priority_back true w.priority is fits.priority) (payload_back w.payload fits.payload fits.bytes)
-submit_back true false w ms is fits = parts_back true w _ _ _ (below_back QUEUES w.queue fits.queue) (priority_back false w.priority is fits.priority) (payload_back w.payload fits.payload fits.bytes)
 submit_back false true w ms is fits = parts_back false w _ _ _ (below_back QUEUES w.queue fits.queue) (priority_back true w.priority is fits.priority) (payload_back w.payload fits.payload fits.bytes)
-submit_back false false w ms is fits = parts_back false w _ _ _ (below_back QUEUES w.queue fits.queue) (priority_back false w.priority is fits.priority) (payload_back w.payload fits.payload fits.bytes)
+submit_back failed b w ms is fits = parts_back failed w _ _ _ (below_back QUEUES w.queue fits.queue) (priority_back b w.priority is fits.priority) (payload_back w.payload fits.payload fits.bytes)
 
 deliver_back : (failed : Bool) (m : Envelope) → IsMessage m
     → option_and_then (λ (event : Event). Some (done_in event failed)) (option_map (λ (x : Envelope). on.Deliver x) (message_in (Some (message_data m)))) ≡ Some (done_in (on.Deliver m) failed)
@@ -95,20 +94,22 @@ finish_back failed origin id h = ap (λ (x : Option ℕ). option_and_then (λ (e
 abbrev pub claim_with : TraceAction → List Envelope → Claim
 claim_with d ms = record { deed = d; sent = ms }
 
+event_back : (failed : Bool) (event : Event) (ms : List Envelope) → EventFits event → IsNamed event → deed_in (fields_in (entry_data (claim_with (done_in event failed) ms))) ≡ Some (done_in event failed)
+event_back true (on.Timer timer.Check) ms fits named = refl
+event_back false (on.Timer timer.Check) ms fits named = refl
+event_back _ (on.Timer _) ms fits named = refl
+event_back true (on.Deliver m) ms fits named = deliver_back true m fits
+event_back false (on.Deliver m) ms fits named = deliver_back false m fits
+event_back true (on.Submit w) ms fits named = submit_back true (w.priority == 0) w ms refl fits
+event_back false (on.Submit w) ms fits named = submit_back false (w.priority == 0) w ms refl fits
+event_back true (on.Finish origin id) ms fits named = finish_back true origin id fits.0
+event_back false (on.Finish origin id) ms fits named = finish_back false origin id fits.0
+event_back failed on.Recover ms fits named = absurd named
+
 deed_back : (d : TraceAction) (ms : List Envelope) → DeedFits d → HasName d → deed_in (fields_in (entry_data (claim_with d ms))) ≡ Some d
 deed_back deed.Nothing ms fits named = refl
-deed_back (deed.Done (on.Timer timer.Check)) ms fits named = refl
-deed_back (deed.Done (on.Timer _)) ms fits named = refl
-deed_back (deed.Done (on.Deliver m)) ms fits named = deliver_back false m fits
-deed_back (deed.Done (on.Submit w)) ms fits named = submit_back false (w.priority == 0) w ms refl fits
-deed_back (deed.Done (on.Finish origin id)) ms fits named = finish_back false origin id fits.0
-deed_back (deed.Done on.Recover) ms fits named = absurd named
-deed_back (deed.Faulted (on.Timer timer.Check)) ms fits named = refl
-deed_back (deed.Faulted (on.Timer _)) ms fits named = refl
-deed_back (deed.Faulted (on.Deliver m)) ms fits named = deliver_back true m fits
-deed_back (deed.Faulted (on.Submit w)) ms fits named = submit_back true (w.priority == 0) w ms refl fits
-deed_back (deed.Faulted (on.Finish origin id)) ms fits named = finish_back true origin id fits.0
-deed_back (deed.Faulted on.Recover) ms fits named = absurd named
+deed_back (deed.Done event) ms fits named = event_back false event ms fits named
+deed_back (deed.Faulted event) ms fits named = event_back true event ms fits named
 deed_back deed.Crashed ms fits named = refl
 deed_back (deed.Recovered kept) ms fits named = refl
 deed_back (deed.NotRecovered kept recover.Mount) ms fits named = refl
@@ -118,25 +119,18 @@ deed_back (deed.NotRecovered kept recover.Raise) ms fits named = refl
 
 work_sent : (failed b : Bool) (w : Work) (ms : List Envelope) → get (codes "sent") (object (work_members failed b w ms)) ≡ Some (sent_data ms)
 work_sent true true w ms = refl
-work_sent true false w ms = refl
 work_sent false true w ms = refl
-work_sent false false w ms = refl
+work_sent _ _ w ms = refl
+
+event_sent : (failed : Bool) (event : Event) (ms : List Envelope) → get (codes "sent") (entry_data (claim_with (done_in event failed) ms)) ≡ Some (sent_data ms)
+event_sent true (on.Submit w) ms = work_sent true (w.priority == 0) w ms
+event_sent false (on.Submit w) ms = work_sent false (w.priority == 0) w ms
+event_sent _ _ ms = refl
 
 sent_there : (d : TraceAction) (ms : List Envelope) → get (codes "sent") (entry_data (claim_with d ms)) ≡ Some (sent_data ms)
-sent_there deed.Nothing ms = refl
-sent_there (deed.Done (on.Timer t)) ms = refl
-sent_there (deed.Done (on.Deliver m)) ms = refl
-sent_there (deed.Done (on.Submit w)) ms = work_sent false (w.priority == 0) w ms
-sent_there (deed.Done (on.Finish origin id)) ms = refl
-sent_there (deed.Done on.Recover) ms = refl
-sent_there (deed.Faulted (on.Timer t)) ms = refl
-sent_there (deed.Faulted (on.Deliver m)) ms = refl
-sent_there (deed.Faulted (on.Submit w)) ms = work_sent true (w.priority == 0) w ms
-sent_there (deed.Faulted (on.Finish origin id)) ms = refl
-sent_there (deed.Faulted on.Recover) ms = refl
-sent_there deed.Crashed ms = refl
-sent_there (deed.Recovered kept) ms = refl
-sent_there (deed.NotRecovered kept fault) ms = refl
+sent_there (deed.Done event) ms = event_sent false event ms
+sent_there (deed.Faulted event) ms = event_sent true event ms
+sent_there _ ms = refl
 
 claim_back : (c : Claim) → ClaimFits c → HasName c.deed → claim_in (entry_data c) ≡ Some c
 claim_back c fits named =

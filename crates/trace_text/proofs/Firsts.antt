@@ -1,5 +1,5 @@
 -- The value that begins with a token.
-use Rattle.std.proofs.Common.{◌≡◌, ℕ, zero, suc, ◌-◌, ◌<◌, Bool, List, [], ◌∷◌, length, Option, Some, None, option_map, MatchResult, refl, sym, ap, ◌∙◌}
+use Rattle.std.proofs.Common.{◌≡◌, ℕ, zero, suc, ◌-◌, ◌<◌, Bool, List, [], ◌∷◌, length, Option, Some, None, option_map, MatchResult, refl, sym, ap, ap₂, ◌∙◌}
 use Rattle.std.specs.Option.{ok_or}
 use Rattle.json.specs.Token.{Token}
 use Rattle.json.specs.Json as json
@@ -16,7 +16,7 @@ use Rattle.trace_text.proofs.Turns.{converted_array, converted_object}
 use Rattle.trace_text.specs.declared.fields.Field.{Field}
 use Rattle.trace_text.specs.Fields.{data_of, plain}
 use Rattle.trace_text.specs.Streams.{behind, data_at, items_at, members_at}
-use Rattle.trace_text.proofs.Walks.{behind_some, in_list, in_object, no_list_in, no_object_in}
+use Rattle.trace_text.proofs.Walks.{behind_some, in_list, in_object}
 
 module _ (depth : ℕ) (ts : List Token) where
   pub text_there : (text : List ℕ) → parse_map plain (data_at depth (Token.string text ∷ ts)) ≡ Some (string text, ts)
@@ -48,35 +48,29 @@ module _ (depth : ℕ) (ts : List Token) where
   pub list_there : (r : List Token) → 0 < depth → behind (items_at (depth - 1) ts) ≡ Some r → parse_map plain (data_at depth (Token.begin_array ∷ ts)) ≡ Some (null, r)
   list_there r some passed =
       let ds = behind_some (items_at (depth - 1) ts) r passed in
-      in_list depth (Token.begin_array ∷ ts) ts some refl plain (λ (x : Items). null) (λ x. refl) ∙ ap (parse_map (λ (x : Items). null)) ds.1
+      in_list depth some {ts = Token.begin_array ∷ ts} {r = ts} refl plain (λ (x : Items). null) (λ x. refl) ∙ ap (parse_map (λ (x : Items). null)) ds.1
 
   pub object_there : (r : List Token) → 0 < depth → behind (members_at (depth - 1) ts) ≡ Some r → parse_map plain (data_at depth (Token.begin_object ∷ ts)) ≡ Some (null, r)
   object_there r some passed =
       let ms = behind_some (members_at (depth - 1) ts) r passed in
-      in_object depth (Token.begin_object ∷ ts) ts some refl plain (λ (x : Members). null) (λ x. refl) ∙ ap (parse_map (λ (x : Members). null)) ms.1
-
-  pub no_list_there : 0 < depth → items_at (depth - 1) ts ≡ None → data_at depth (Token.begin_array ∷ ts) ≡ None
-  no_list_there some none = no_list_in depth (Token.begin_array ∷ ts) ts some refl none
-
-  pub no_object_there : 0 < depth → members_at (depth - 1) ts ≡ None → data_at depth (Token.begin_object ∷ ts) ≡ None
-  no_object_there some none = no_object_in depth (Token.begin_object ∷ ts) ts some refl none
+      in_object depth some {ts = Token.begin_object ∷ ts} {r = ts} refl plain (λ (x : Members). null) (λ x. refl) ∙ ap (parse_map (λ (x : Members). null)) ms.1
 
   pub number_first : (t : Token) (text : List ℕ) (o : Option Field) → t ≡ Token.number text → option_map data_of o ≡ option_map (λ (n : Num). plain (number n)) (number_of text)
       → MatchResult (ok_or o (record {})) (λ (field : Field). parse_map plain (data_at depth (t ∷ ts)) ≡ Some (data_of field, ts)) (λ (e : Invalid). data_at depth (t ∷ ts) ≡ None)
   number_first t text None is said = ap (λ (f : Token). data_at depth (f ∷ ts)) is ∙ no_number text said
   number_first t text (Some field) is said = ap (λ (f : Token). parse_map plain (data_at depth (f ∷ ts))) is ∙ number_there text (data_of field) said
 
-pub nothing_there : (depth : ℕ) → data_at depth [] ≡ None
-nothing_there depth = ap (converted of_json) (value_is depth [])
+pub nothing_there : (depth : ℕ) (ts : List Token) → ts ≡ [] → data_at depth ts ≡ None
+nothing_there depth ts empty = ap (data_at depth) empty ∙ ap (converted of_json) (value_is depth [])
 
 -- too deep
-pub too_deep : (ts : List Token) → data_at 0 (Token.begin_array ∷ ts) ≡ None
+pub too_deep : (depth : ℕ) (ts all : List Token) → depth ≡ 0 → all ≡ Token.begin_array ∷ ts → data_at depth all ≡ None
 unfolding value
-too_deep ts = refl
+too_deep depth ts all none is = ap₂ data_at none is
 
-pub too_deep_object : (ts : List Token) → data_at 0 (Token.begin_object ∷ ts) ≡ None
+pub too_deep_object : (depth : ℕ) (ts all : List Token) → depth ≡ 0 → all ≡ Token.begin_object ∷ ts → data_at depth all ≡ None
 unfolding value
-too_deep_object ts = refl
+too_deep_object depth ts all none is = ap₂ data_at none is
 
 -- ---- a value that begins with another token is no list, or no object
 
@@ -118,56 +112,36 @@ module _ (depth : ℕ) (ts : List Token) where
 
   -- a reading that finds nothing in a scalar finds nothing in a value that begins with another token than its own
   module _ {A : Type 0} (f : Data → Option A) (of_null : f null ≡ None) (of_boolean : (b : Bool) → f (boolean b) ≡ None) (of_number : (n : Num) → f (number n) ≡ None) (of_string : (s : List ℕ) → f (string s) ≡ None) where
-    abbrev FindsNone : Token → Type 0
-    FindsNone t = parse_map f (data_at depth (t ∷ ts)) ≡ parse_map none_of (data_at depth (t ∷ ts))
+    abbrev FindsNone : Read → Type 0
+    FindsNone t = parse_map f (data_at depth (token_of t ∷ ts)) ≡ parse_map none_of (data_at depth (token_of t ∷ ts))
 
-    other_than : (t : Token) → (t ≡ Token.begin_array → FindsNone Token.begin_array) → (t ≡ Token.begin_object → FindsNone Token.begin_object) → FindsNone t
-    other_than Token.begin_object at_list at_object = at_object refl
-    other_than Token.end_object at_list at_object = scalar f depth (Token.end_object ∷ ts) _ (ap (converted of_json) (value_is depth (Token.end_object ∷ ts))) refl
-    other_than Token.begin_array at_list at_object = at_list refl
-    other_than Token.end_array at_list at_object = scalar f depth (Token.end_array ∷ ts) _ (ap (converted of_json) (value_is depth (Token.end_array ∷ ts))) refl
-    other_than (Token.key s) at_list at_object = scalar f depth (Token.key s ∷ ts) _ (ap (converted of_json) (value_is depth (Token.key s ∷ ts))) refl
-    other_than (Token.string s) at_list at_object = scalar f depth (Token.string s ∷ ts) _ (ap (converted of_json) (value_is depth (Token.string s ∷ ts))) (ap (λ (a : Option A). Some (a, ts)) (of_string s))
-    other_than (Token.number s) at_list at_object = scalar f depth (Token.number s ∷ ts) _ (ap (converted of_json) (value_is depth (Token.number s ∷ ts))) (numbers f ts (number_of s) of_number)
-    other_than (Token.boolean b) at_list at_object = scalar f depth (Token.boolean b ∷ ts) _ (ap (converted of_json) (value_is depth (Token.boolean b ∷ ts))) (ap (λ (a : Option A). Some (a, ts)) (of_boolean b))
-    other_than Token.null at_list at_object = scalar f depth (Token.null ∷ ts) _ (ap (converted of_json) (value_is depth (Token.null ∷ ts))) (ap (λ (a : Option A). Some (a, ts)) of_null)
-    other_than Token.bad at_list at_object = scalar f depth (Token.bad ∷ ts) _ (ap (converted of_json) (value_is depth (Token.bad ∷ ts))) refl
-
-  other_than_list : (t : Token) → (t ≡ Token.begin_array → ⊥) → parse_map as_array (data_at depth (t ∷ ts)) ≡ parse_map none_of (data_at depth (t ∷ ts))
-  other_than_list t other =
-      other_than as_array refl (λ b. refl) (λ n. refl) (λ s. refl) t (λ is. absurd (other is))
-      (λ is. scalar as_array depth (Token.begin_object ∷ ts) _ object_is (under as_array object (of_object (inner_members depth ts)) (λ ms. refl)))
-
-  other_than_object : (t : Token) → (t ≡ Token.begin_object → ⊥) → parse_map as_object (data_at depth (t ∷ ts)) ≡ parse_map none_of (data_at depth (t ∷ ts))
-  other_than_object t other =
-      other_than as_object refl (λ b. refl) (λ n. refl) (λ s. refl) t (λ is. scalar as_object depth (Token.begin_array ∷ ts) _ list_is (under as_object array (converted of_items (inner_items depth ts)) (λ ds. refl)))
-      (λ is. absurd (other is))
+    other_than : (t : Read) → (t ≡ front.BeginArray → FindsNone front.BeginArray) → (t ≡ front.BeginObject → FindsNone front.BeginObject) → FindsNone t
+    other_than front.BeginObject at_list at_object = at_object refl
+    other_than front.EndObject at_list at_object = scalar f depth (Token.end_object ∷ ts) _ (ap (converted of_json) (value_is depth (Token.end_object ∷ ts))) refl
+    other_than front.BeginArray at_list at_object = at_list refl
+    other_than front.EndArray at_list at_object = scalar f depth (Token.end_array ∷ ts) _ (ap (converted of_json) (value_is depth (Token.end_array ∷ ts))) refl
+    other_than (front.Key s) at_list at_object = scalar f depth (Token.key s.now ∷ ts) _ (ap (converted of_json) (value_is depth (Token.key s.now ∷ ts))) refl
+    other_than (front.String s) at_list at_object = scalar f depth (Token.string s.now ∷ ts) _ (ap (converted of_json) (value_is depth (Token.string s.now ∷ ts))) (ap (λ (a : Option A). Some (a, ts)) (of_string s.now))
+    other_than (front.Number s) at_list at_object = scalar f depth (Token.number s.now ∷ ts) _ (ap (converted of_json) (value_is depth (Token.number s.now ∷ ts))) (numbers f ts (number_of s.now) of_number)
+    other_than (front.Bool b) at_list at_object = scalar f depth (Token.boolean b ∷ ts) _ (ap (converted of_json) (value_is depth (Token.boolean b ∷ ts))) (ap (λ (a : Option A). Some (a, ts)) (of_boolean b))
+    other_than front.Null at_list at_object = scalar f depth (Token.null ∷ ts) _ (ap (converted of_json) (value_is depth (Token.null ∷ ts))) (ap (λ (a : Option A). Some (a, ts)) of_null)
+    other_than front.Bad at_list at_object = scalar f depth (Token.bad ∷ ts) _ (ap (converted of_json) (value_is depth (Token.bad ∷ ts))) refl
 
   passed : {A B : Type 0} (f : Data → Option A) (g : Data → B) (b : B) (r : List Token) (o : Front) → parse_map f o ≡ parse_map none_of o → parse_map g o ≡ Some (b, r) → parse_map f o ≡ Some (None, r)
   passed f g b r None same there = absurd (cc)
   passed f g b r (Some p) same there = same ∙ ap (λ o. option_map (λ q. (None, q)) (behind o)) there
 
-  pub no_list : (t : Token) (d : Data) (r : List Token) → (t ≡ Token.begin_array → ⊥) → parse_map plain (data_at depth (t ∷ ts)) ≡ Some (d, r) → parse_map as_array (data_at depth (t ∷ ts)) ≡ Some (None, r)
-  no_list t d r other there = passed as_array plain d r (data_at depth (t ∷ ts)) (other_than_list t other) there
+  module _ (t : Read) (all : List Token) (d : Data) (r : List Token) (is : all ≡ token_of t ∷ ts) (there : parse_map plain (data_at depth (token_of t ∷ ts)) ≡ Some (d, r)) where
+    pub no_list : (t ≡ front.BeginArray → ⊥) → parse_map as_array (data_at depth all) ≡ Some (None, r)
+    no_list other =
+        ap (λ xs. parse_map as_array (data_at depth xs)) is
+        ∙ passed as_array plain d r (data_at depth (token_of t ∷ ts))
+        (other_than as_array refl (λ b. refl) (λ n. refl) (λ s. refl) t (λ same. absurd (other same))
+        (λ same. scalar as_array depth (Token.begin_object ∷ ts) _ object_is (under as_array object (of_object (inner_members depth ts)) (λ ms. refl)))) there
 
-  pub no_object : (t : Token) (d : Data) (r : List Token) → (t ≡ Token.begin_object → ⊥) → parse_map plain (data_at depth (t ∷ ts)) ≡ Some (d, r) → parse_map as_object (data_at depth (t ∷ ts)) ≡ Some (None, r)
-  no_object t d r other there = passed as_object plain d r (data_at depth (t ∷ ts)) (other_than_object t other) there
-
--- the same, of what a reader hands out
-told : (t : Read) → (token_of t ≡ Token.begin_array → t ≡ front.BeginArray) × (token_of t ≡ Token.begin_object → t ≡ front.BeginObject)
-told front.BeginObject = (λ is. absurd cc, λ is. refl)
-told front.EndObject = (λ is. absurd cc, λ is. absurd cc)
-told front.BeginArray = (λ is. refl, λ is. absurd cc)
-told front.EndArray = (λ is. absurd cc, λ is. absurd cc)
-told (front.Key s) = (λ is. absurd cc, λ is. absurd cc)
-told (front.String s) = (λ is. absurd cc, λ is. absurd cc)
-told (front.Number s) = (λ is. absurd cc, λ is. absurd cc)
-told (front.Bool b) = (λ is. absurd cc, λ is. absurd cc)
-told front.Null = (λ is. absurd cc, λ is. absurd cc)
-told front.Bad = (λ is. absurd cc, λ is. absurd cc)
-
-pub told_list : (t : Read) → (t ≡ front.BeginArray → ⊥) → token_of t ≡ Token.begin_array → ⊥
-told_list t other is = other ((told t).0 is)
-
-pub told_object : (t : Read) → (t ≡ front.BeginObject → ⊥) → token_of t ≡ Token.begin_object → ⊥
-told_object t other is = other ((told t).1 is)
+    pub no_object : (t ≡ front.BeginObject → ⊥) → parse_map as_object (data_at depth all) ≡ Some (None, r)
+    no_object other =
+        ap (λ xs. parse_map as_object (data_at depth xs)) is
+        ∙ passed as_object plain d r (data_at depth (token_of t ∷ ts))
+        (other_than as_object refl (λ b. refl) (λ n. refl) (λ s. refl) t (λ same. scalar as_object depth (Token.begin_array ∷ ts) _ list_is (under as_object array (converted of_items (inner_items depth ts)) (λ ds. refl)))
+        (λ same. absurd (other same))) there

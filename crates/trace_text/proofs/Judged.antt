@@ -6,9 +6,9 @@ use Rattle.std.specs.Str.{bytes_eq, IsUtf8}
 use Rattle.json.specs.Token.{Token}
 use Rattle.json.specs.Json.{parse_map, value}
 use Rattle.json.specs.Lex.{tokens}
-use Rattle.serde_json.specs.Data.{Data, null, boolean, number, string, array, object, Items, no_items, item, Members}
-use Rattle.serde_json.specs.Find.{as_array, as_object, get_member}
-use Rattle.trace_text.proofs.Turns.{pick, whole_read, whole_and_more, whole_refused}
+use Rattle.serde_json.specs.Data.{Data, object, Items, no_items, item, Members}
+use Rattle.serde_json.specs.Find.{as_array, get_member}
+use Rattle.trace_text.proofs.Turns.{pick, whole_read}
 use Rattle.group_task.specs.declared.node.TheConstants.{NODES}
 use Rattle.wire_msg.specs.Envelope.{Envelope}
 use Rattle.trace_check.specs.declared.trace.TraceAction.{TraceAction}
@@ -40,9 +40,6 @@ messages_begun ds = begun (messages_in ds)
     begun : (o : Option (List Envelope)) → o ≡ and_then [] o
     begun None = refl
     begun (Some ms) = refl
-
-no_first : (ms : List Envelope) (o : Option (List Envelope)) → and_then ms (with_first None o) ≡ None
-no_first ms o = refl
 
 pub message_more : (all : Bool) (ms : List Envelope) (d : Data) (m : Envelope) (ds : Items) → message_in (Some d) ≡ Some m → messages_then all ms (item d ds) ≡ messages_then all (ms ++ m ∷ []) ds
 message_more false ms d m ds is = refl
@@ -78,7 +75,7 @@ pub entry_read : (ts r new : List Token) (s : Drafted) (o : Option Claim) (old :
     → parse_map (added_in old) (data_at 124 ts) ≡ Some (option_map (λ (c : Claim). old ++ c ∷ []) o, new)
 entry_read ts r new s o old is read says =
     let m = mapped_some drafted_in (members_at 123 r) s new read in
-    in_object 124 ts r (omega arith) is (added_in old) (λ (ms : Members). added_in old (object ms)) (λ ms. refl)
+    in_object 124 (omega arith) is (added_in old) (λ (ms : Members). added_in old (object ms)) (λ ms. refl)
     ∙ ap (parse_map (λ (ms : Members). added_in old (object ms))) m.1
     ∙ ap (λ (x : Option Claim). Some (option_map (λ (c : Claim). old ++ c ∷ []) x, new)) (claim_law m.0 ∙ ap claim_drafted m.2 ∙ says)
 
@@ -100,14 +97,6 @@ pub field_put : (s : Drafted) (key : List ℕ) (o : Option (Data × List Token))
     → parse_map (drafted_put s key) o ≡ Some ((fields_put s.0 key x, s.1), r)
 field_put s key o x r other read =
     let d = mapped_some plain o x r read in ap (parse_map (drafted_put s key)) d.1 ∙ rw (other, d.2) refl
-
-pub no_object : (old : List Claim) (d : Data) → as_object d ≡ None → added_in old d ≡ None
-no_object old null is = refl
-no_object old (boolean b) is = refl
-no_object old (number n) is = refl
-no_object old (string s) is = refl
-no_object old (array ds) is = refl
-no_object old (object ms) is = absurd (cc)
 
 -- ---- the entries of a list
 
@@ -265,14 +254,6 @@ whole_law ms =
     let lists = get_member (codes "histories") ms in
     whole_by nodes (option_and_then as_array lists) ∙ ap (λ (j : Judged). shaped (nodes, j)) (sym (judged_same lists))
 
-pub no_whole : (d : Data) → as_object d ≡ None → trace_in d ≡ Err None
-no_whole null is = refl
-no_whole (boolean b) is = refl
-no_whole (number n) is = refl
-no_whole (string s) is = refl
-no_whole (array ds) is = refl
-no_whole (object ms) is = absurd (cc)
-
 -- ---- the text
 
 module _ (text : List ℕ) (ts : List Token) (front : ts ≡ tokens text) where
@@ -280,14 +261,6 @@ module _ (text : List ℕ) (ts : List Token) (front : ts ≡ tokens text) where
   text_read r utf8 e =
       let d = mapped_some trace_in (data_at 127 ts) r [] e in
       good_text text d.0 utf8 (whole_read (value 127 (tokens text)) d.0 (ap (data_at 127) (sym front) ∙ d.1)) ∙ d.2
-
-  pub text_longer : (r : Result (List (List Claim)) (Option Location)) (t : Token) (more : List Token) → parse_map trace_in (data_at 127 ts) ≡ Some (r, t ∷ more) → trace_of text ≡ Err None
-  text_longer r t more e =
-      let d = mapped_some trace_in (data_at 127 ts) r (t ∷ more) e in
-      bad_text text (λ utf8. whole_and_more (value 127 (tokens text)) d.0 t more (ap (data_at 127) (sym front) ∙ d.1))
-
-  pub text_refused : data_at 127 ts ≡ None → trace_of text ≡ Err None
-  text_refused none = bad_text text (λ utf8. whole_refused (value 127 (tokens text)) (ap (data_at 127) (sym front) ∙ none))
 
 pub text_none : (text : List ℕ) → (IsUtf8 text → ⊥) → trace_of text ≡ Err None
 text_none text other = bad_text text (λ utf8. absurd (other utf8))

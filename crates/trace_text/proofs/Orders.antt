@@ -21,9 +21,6 @@ use Rattle.group_task.specs.declared.node.TheConstants.{NODES}
 
 -- ---- the text under the key
 
-texts : Option json.Json → Option (List ℕ)
-texts found = option_and_then as_str found
-
 over : (b : Bool) (j : json.Json) (found g : Option json.Json) → option_and_then as_str (later_or g (if b then Some j else found)) ≡ option_and_then as_str (later_or (later_or g (cond b (Some j) None)) found)
 over true j found None = refl
 over true j found (Some k) = refl
@@ -154,17 +151,10 @@ abbrev pub joined : Ordered → Option Ordered → Option Ordered
 joined so None = None
 joined so (Some rest) = Some (so.0 ++ rest.0, so.1 ++ rest.1)
 
-pub none_joined : (o : Option Ordered) → joined ([], []) o ≡ o
-none_joined None = refl
-none_joined (Some rest) = refl
-
 pub turn_joined : (nodes : List ℕ) (messages : List (Option ℕ)) (n : ℕ) (m : Option ℕ) (o : Option Ordered)
     → joined (nodes, messages) (with_turn (Some n) (Some m) o) ≡ joined (nodes ++ n ∷ [], messages ++ m ∷ []) o
 turn_joined nodes messages n m None = refl
 turn_joined nodes messages n m (Some rest) = ap₂ (λ (a : List ℕ) (b : List (Option ℕ)). Some (a, b)) (sym (append_assoc nodes (n ∷ []) rest.0)) (sym (append_assoc messages (m ∷ []) rest.1))
-
-pub all_joined : (nodes : List ℕ) (messages : List (Option ℕ)) → joined (nodes, messages) (turns_of []) ≡ Some (nodes, messages)
-all_joined nodes messages = ap₂ (λ (a : List ℕ) (b : List (Option ℕ)). Some (a, b)) (append-nil nodes) (append-nil messages)
 
 -- ---- the text
 

@@ -32,7 +32,7 @@ use Rattle.trace_text.specs.Tokens.{Adds, histories_tokens, ordered_tokens}
 use Rattle.trace_text.specs.Wholes.{in_shape, shape_in, trace_of}
 use Rattle.trace_text.specs.Written.{history_data}
 use Rattle.trace_text.proofs.Backs.{are_lists, as_many, below_back, histories_back}
-use Rattle.trace_text.proofs.Printing.{histories_of, ok_then}
+use Rattle.trace_text.proofs.Printing.{histories_of, ok_then, whole_added}
 use Rattle.trace_text.proofs.Readings.{histories_flat, histories_read, value_read}
 use Rattle.trace_text.proofs.Texts.{good_text}
 
@@ -113,8 +113,7 @@ pub all_added : (hs : List (List Claim)) (text : List ℕ) (r : Result (Unit {0}
 all_added hs text r a b c d e begun middle ended last =
     let end = token.end_array ∷ token.key (codes "nodes") ∷ token.number (decimal (length hs)) ∷ [] in
     let words = token.key (codes "order") ∷ token.string text ∷ token.end_object ∷ [] in
-    ok_then r a b e (token.begin_object ∷ token.key (codes "histories") ∷ token.begin_array ∷ []) (histories_tokens hs ++ (end ++ words)) begun
-    (ok_then r b c e (histories_tokens hs) (end ++ words) middle (ok_then r c d e end words ended last))
+    whole_added hs (end ++ words) r a b c e begun middle (ok_then r c d e end words ended last)
 
 module _ (hs : List (List Claim)) (o : Ordered) where
   ordered_tokens_of : tree.json_tokens (outline (ordered_data hs o)) ≡ ordered_tokens hs (order_text o)

@@ -106,27 +106,18 @@ drop_all xs i past = none_left (drop i xs) (let left = length-drop i xs in omega
 pub each_more : {A : Type 0} (P : A → Type 0) (xs : List A) (i : ℕ) (x : A) → slice_get xs i ≡ Some x → P x → Each P (drop (i + 1) xs) → Each P (drop i xs)
 each_more P xs i x is here rest = subst (Each P) (sym (drop_get xs i x is)) (here, rest)
 
+-- the tokens of a list are those of its first, and then those of the others
+one_more : {A : Type 0} (first : A → List Token) (tokens : List A → List Token) → ((x : A) (rest : List A) → tokens (x ∷ rest) ≡ first x ++ tokens rest) → (out more : List Token) (xs : List A) (i : ℕ) (x : A) → slice_get xs i ≡ Some x → more ≡ out ++ first x
+    → more ++ tokens (drop (i + 1) xs) ≡ out ++ tokens (drop i xs)
+one_more first tokens law out more xs i x is added =
+    let rest = drop (i + 1) xs in
+    ap (λ (ts : List Token). ts ++ tokens rest) added ∙ append_assoc out (first x) (tokens rest) ∙ ap (λ (ts : List Token). out ++ ts) (sym (law x rest) ∙ ap tokens (sym (drop_get xs i x is)))
+
 pub entries_more : (out more : List Token) (h : List Claim) (i : ℕ) (c : Claim) → slice_get h i ≡ Some c → more ≡ out ++ entry_tokens c → more ++ entries_tokens (drop (i + 1) h) ≡ out ++ entries_tokens (drop i h)
-entries_more out more h i c is added =
-    ap (λ (ts : List Token). ts ++ entries_tokens (drop (i + 1) h)) added ∙ append_assoc out (entry_tokens c) (entries_tokens (drop (i + 1) h)) ∙ ap (λ (cs : List Claim). out ++ entries_tokens cs) (sym (drop_get h i c is))
+entries_more = one_more entry_tokens entries_tokens (λ x rest. refl)
 
 pub messages_more : (out more : List Token) (ms : List Envelope) (i : ℕ) (m : Envelope) → slice_get ms i ≡ Some m → more ≡ out ++ token.string (encode_lower (spelling m)) ∷ [] → more ++ message_tokens (drop (i + 1) ms) ≡ out ++ message_tokens (drop i ms)
-messages_more out more ms i m is added =
-    ap (λ (ts : List Token). ts ++ message_tokens (drop (i + 1) ms)) added ∙ append_assoc out (token.string (encode_lower (spelling m)) ∷ []) (message_tokens (drop (i + 1) ms)) ∙ ap (λ (xs : List Envelope). out ++ message_tokens xs) (sym (drop_get ms i m is))
-
-pub entries_done : (out : List Token) (h : List Claim) (i : ℕ) (all : List Token) → length h ≤ i → out ++ entries_tokens (drop i h) ≡ all → out ≡ all
-entries_done out h i all past is = sym (append_none out) ∙ ap (λ (cs : List Claim). out ++ entries_tokens cs) (sym (drop_all h i past)) ∙ is
-  where
-    append_none : (xs : List Token) → xs ++ [] ≡ xs
-    append_none [] = refl
-    append_none (x ∷ xs) = ap (λ (ys : List Token). x ∷ ys) (append_none xs)
-
-pub messages_done : (out : List Token) (ms : List Envelope) (i : ℕ) (all : List Token) → length ms ≤ i → out ++ message_tokens (drop i ms) ≡ all → out ≡ all
-messages_done out ms i all past is = sym (append_none out) ∙ ap (λ (xs : List Envelope). out ++ message_tokens xs) (sym (drop_all ms i past)) ∙ is
-  where
-    append_none : (xs : List Token) → xs ++ [] ≡ xs
-    append_none [] = refl
-    append_none (x ∷ xs) = ap (λ (ys : List Token). x ∷ ys) (append_none xs)
+messages_more = one_more (λ k. token.string (encode_lower (spelling k)) ∷ []) message_tokens (λ x rest. refl)
 
 -- ---- what is added one after another
 
@@ -135,6 +126,12 @@ ok_then r a b c ts us x h = on_ok_weaker r (λ (y : Adds b c us). adds_then a b 
   where
     adds_then : (a b c : Written) (ts us : List Token) → Adds a b ts → Adds b c us → Adds a c (ts ++ us)
     adds_then a b c ts us x y = record { before = y.before ∙ x.before; tokens = y.tokens ∙ ap (λ (zs : List Token). zs ++ us) x.tokens ∙ append_assoc a.tokens ts us }
+
+-- a whole of its head, its histories and its end
+pub whole_added : (hs : List (List Claim)) (end : List Token) (r : Result (Unit {0}) AllocError) (a b c d : Written) → Adds a b (token.begin_object ∷ token.key (codes "histories") ∷ token.begin_array ∷ []) → Adds b c (histories_tokens hs) → OnOk r (Adds c d end)
+    → OnOk r (Adds a d (token.begin_object ∷ token.key (codes "histories") ∷ token.begin_array ∷ (histories_tokens hs ++ end)))
+whole_added hs end r a b c d begun middle ended =
+    ok_then r a b d (token.begin_object ∷ token.key (codes "histories") ∷ token.begin_array ∷ []) (histories_tokens hs ++ end) begun (ok_then r b c d (histories_tokens hs) end middle ended)
 
 pub if_ok : (r : Result (Unit {0}) AllocError) (P : Type 0) → P → OnOk r P
 if_ok (Ok u) P p = p

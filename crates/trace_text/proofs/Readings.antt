@@ -23,7 +23,8 @@ use Rattle.histories.specs.Lists.{Each}
 use Rattle.trace_check.specs.declared.trace.TraceAction.{TraceAction}
 use Rattle.trace_check.specs.declared.trace.TraceAction.TheVariants as deed
 use Rattle.trace_check.specs.Claims.{Claim}
-use Rattle.trace_text.specs.Fits.{WorkFits, DeedFits, ClaimFits, TraceFits, IsWritable}
+use Rattle.trace_text.specs.Entries.{done_in}
+use Rattle.trace_text.specs.Fits.{EventFits, WorkFits, DeedFits, ClaimFits, TraceFits, IsWritable}
 use Rattle.trace_text.specs.Tokens.{Adds, trace_tokens}
 use Rattle.trace_text.specs.Wholes.{trace_of}
 use Rattle.trace_text.specs.Written.{message_data, event_members, deed_members, entry_data, history_data, trace_data}
@@ -40,31 +41,22 @@ sent_read (m ∷ ms) = ap (λ (o : Option Items). option_map (item (message_data
 -- a priority takes a byte, a queue one too
 work_read : (failed b : Bool) (w : Work) (ms : List Envelope) → WorkFits w → of_json (outline (object (work_members failed b w ms))) ≡ Some (object (work_members failed b w ms))
 work_read true true w ms fits = let queue : w.queue < 2 ^ 64 = omega (arith, fits.queue) in rw (number_of-decimal w.queue queue, sent_read ms) refl
-work_read true false w ms fits =
-    let queue : w.queue < 2 ^ 64 = omega (arith, fits.queue) in
-    let priority : w.priority < 2 ^ 64 = omega (arith, fits.priority) in
-    rw (number_of-decimal w.priority priority, number_of-decimal w.queue queue, sent_read ms) refl
 work_read false true w ms fits = let queue : w.queue < 2 ^ 64 = omega (arith, fits.queue) in rw (number_of-decimal w.queue queue, sent_read ms) refl
-work_read false false w ms fits =
+work_read _ _ w ms fits =
     let queue : w.queue < 2 ^ 64 = omega (arith, fits.queue) in
     let priority : w.priority < 2 ^ 64 = omega (arith, fits.priority) in
     rw (number_of-decimal w.priority priority, number_of-decimal w.queue queue, sent_read ms) refl
 
+event_read : (failed : Bool) (event : Event) (ms : List Envelope) → EventFits event → of_json (outline (entry_data (claim_with (done_in event failed) ms))) ≡ Some (entry_data (claim_with (done_in event failed) ms))
+event_read true (on.Submit w) ms fits = work_read true (w.priority == 0) w ms fits
+event_read false (on.Submit w) ms fits = work_read false (w.priority == 0) w ms fits
+event_read _ (on.Finish origin id) ms fits = let place : origin < 2 ^ 64 = omega (arith, fits.0) in rw (number_of-decimal id fits.1, number_of-decimal origin place, sent_read ms) refl
+event_read _ _ ms fits = rw (sent_read ms) refl
+
 entry_read : (d : TraceAction) (ms : List Envelope) → DeedFits d → of_json (outline (entry_data (claim_with d ms))) ≡ Some (entry_data (claim_with d ms))
-entry_read deed.Nothing ms fits = rw (sent_read ms) refl
-entry_read (deed.Done (on.Timer timer)) ms fits = rw (sent_read ms) refl
-entry_read (deed.Done (on.Deliver m)) ms fits = rw (sent_read ms) refl
-entry_read (deed.Done (on.Submit w)) ms fits = work_read false (w.priority == 0) w ms fits
-entry_read (deed.Done (on.Finish origin id)) ms fits = let place : origin < 2 ^ 64 = omega (arith, fits.0) in rw (number_of-decimal id fits.1, number_of-decimal origin place, sent_read ms) refl
-entry_read (deed.Done on.Recover) ms fits = rw (sent_read ms) refl
-entry_read (deed.Faulted (on.Timer timer)) ms fits = rw (sent_read ms) refl
-entry_read (deed.Faulted (on.Deliver m)) ms fits = rw (sent_read ms) refl
-entry_read (deed.Faulted (on.Submit w)) ms fits = work_read true (w.priority == 0) w ms fits
-entry_read (deed.Faulted (on.Finish origin id)) ms fits = let place : origin < 2 ^ 64 = omega (arith, fits.0) in rw (number_of-decimal id fits.1, number_of-decimal origin place, sent_read ms) refl
-entry_read (deed.Faulted on.Recover) ms fits = rw (sent_read ms) refl
-entry_read deed.Crashed ms fits = rw (sent_read ms) refl
-entry_read (deed.Recovered kept) ms fits = rw (sent_read ms) refl
-entry_read (deed.NotRecovered kept fault) ms fits = rw (sent_read ms) refl
+entry_read (deed.Done event) ms fits = event_read false event ms fits
+entry_read (deed.Faulted event) ms fits = event_read true event ms fits
+entry_read _ ms fits = rw (sent_read ms) refl
 
 entries_read : (h : List Claim) → Each ClaimFits h → of_items (items_outline (items_of (map entry_data h))) ≡ Some (items_of (map entry_data h))
 entries_read [] fits = refl

@@ -4,7 +4,7 @@ use Rattle.json.specs.Token.{Token}
 use Rattle.json.specs.Json as json
 use Rattle.json.specs.Json.{parse_map, after_end_array, read_key, items, members, value}
 use Rattle.json.proofs.Grammar.{read_key-shorter, value-begin_array, value-begin_object}
-use Rattle.serde_json.specs.Data.{Data, array, object, Items, no_items, item, Members, put}
+use Rattle.serde_json.specs.Data.{Data, array, object, Items, no_items, item, Members, no_members, put}
 use Rattle.serde_json.specs.Read.{of_json, of_items, of_members, converted}
 use Rattle.trace_text.proofs.Turns.{pick, converted_array, converted_object, item_read, item_refused, items_over, member_read, member_refused, key_refused, members_over}
 use Rattle.trace_text.specs.Streams.{behind, data_at, items_at, members_at}
@@ -17,7 +17,7 @@ pub mapped_none : {A B : Type 0} (f : A → B) (o : Option (A × List Token)) �
 mapped_none f None e = refl
 mapped_none f (Some p) e = absurd (cc)
 
-pub same_map : {A B : Type 0} (f g : A → B) (o : Option (A × List Token)) → ((a : A) → f a ≡ g a) → parse_map f o ≡ parse_map g o
+same_map : {A B : Type 0} (f g : A → B) (o : Option (A × List Token)) → ((a : A) → f a ≡ g a) → parse_map f o ≡ parse_map g o
 same_map f g None e = refl
 same_map f g (Some p) e = ap (λ b. Some (b, p.1)) (e p.0)
 
@@ -50,98 +50,103 @@ object_there : (depth : ℕ) (ts r : List Token) → ts ≡ Token.begin_object �
 object_there depth ts r is some =
     ap (data_at depth) is ∙ ap (converted of_json) (value-begin_object depth r some) ∙ converted_object (members (value (depth - 1)) (length r) r)
 
-module _ (depth : ℕ) (ts r : List Token) (some : 0 < depth) where
-  module _ (is : ts ≡ Token.begin_array ∷ r) where
-    pub in_list : {B : Type 0} (g : Data → B) (f : Items → B) → ((ds : Items) → g (array ds) ≡ f ds) → parse_map g (data_at depth ts) ≡ parse_map f (items_at (depth - 1) r)
-    in_list g f law = ap (parse_map g) (list_there depth ts r is some) ∙ mapped_twice g array f (items_at (depth - 1) r) law
+module _ (depth : ℕ) (some : 0 < depth) {ts r : List Token} where
+  pub in_list : {B : Type 0} → ts ≡ Token.begin_array ∷ r → (g : Data → B) (f : Items → B) → ((ds : Items) → g (array ds) ≡ f ds) → parse_map g (data_at depth ts) ≡ parse_map f (items_at (depth - 1) r)
+  in_list is g f law = ap (parse_map g) (list_there depth ts r is some) ∙ mapped_twice g array f (items_at (depth - 1) r) law
 
-    pub no_list_in : items_at (depth - 1) r ≡ None → data_at depth ts ≡ None
-    no_list_in none = list_there depth ts r is some ∙ ap (parse_map array) none
+  pub no_list_in : ts ≡ Token.begin_array ∷ r → items_at (depth - 1) r ≡ None → data_at depth ts ≡ None
+  no_list_in is none = list_there depth ts r is some ∙ ap (parse_map array) none
 
-  module _ (is : ts ≡ Token.begin_object ∷ r) where
-    pub in_object : {B : Type 0} (g : Data → B) (f : Members → B) → ((ms : Members) → g (object ms) ≡ f ms) → parse_map g (data_at depth ts) ≡ parse_map f (members_at (depth - 1) r)
-    in_object g f law = ap (parse_map g) (object_there depth ts r is some) ∙ mapped_twice g object f (members_at (depth - 1) r) law
+  pub in_object : {B : Type 0} → ts ≡ Token.begin_object ∷ r → (g : Data → B) (f : Members → B) → ((ms : Members) → g (object ms) ≡ f ms) → parse_map g (data_at depth ts) ≡ parse_map f (members_at (depth - 1) r)
+  in_object is g f law = ap (parse_map g) (object_there depth ts r is some) ∙ mapped_twice g object f (members_at (depth - 1) r) law
 
-    pub no_object_in : members_at (depth - 1) r ≡ None → data_at depth ts ≡ None
-    no_object_in none = object_there depth ts r is some ∙ ap (parse_map object) none
-
--- what is said of each value of another kind
-pub another : {A B : Type 0} (h : Data → Option A) (g : Data → B) (b : B) (o : Option (Data × List Token)) (r : List Token) → ((d : Data) → h d ≡ None → g d ≡ b) → parse_map h o ≡ Some (None, r)
-    → parse_map g o ≡ Some (b, r)
-another h g b o r law e = let d = mapped_some h o None r e in ap (parse_map g) d.1 ∙ ap (λ x. Some (x, r)) (law d.0 d.2)
+  pub no_object_in : ts ≡ Token.begin_object ∷ r → members_at (depth - 1) r ≡ None → data_at depth ts ≡ None
+  no_object_in is none = object_there depth ts r is some ∙ ap (parse_map object) none
 
 -- nothing is kept of it
-abbrev pub passed_over : Items → ℕ
-passed_over ds = 0
+abbrev pub nothing : {A : Type 0} → A → ℕ
+nothing a = 0
 
--- ---- the items of a list
+-- ---- a walk over the items of a list
 
-module _ (depth n : ℕ) (ts : List Token) where
-  pub item_turn : {B : Type 0} (r : List Token) (d : Data) (f g : Items → B) → 0 < n → after_end_array ts ≡ None → data_at depth ts ≡ Some (d, r) → ((ds : Items) → f (item d ds) ≡ g ds)
-      → parse_map f (converted of_items (items (value depth) n ts)) ≡ parse_map g (converted of_items (items (value depth) (n - 1) r))
-  item_turn r d f g some going there law =
-      ap (parse_map f) (item_read (value depth) n ts r d some going there) ∙ mapped_twice f (item d) g (converted of_items (items (value depth) (n - 1) r)) law
+-- what `f` says of the items from `start` on, `g` says of those that are left
+pub record ItemsWalked {B : Type 0} (depth : ℕ) (f g : Items → B) (start left : List Token) : Type 0 where
+  pub most : ℕ
+  pub within : length left ≤ most
+  pub same : parse_map f (items_at depth start) ≡ parse_map g (converted of_items (items (value depth) most left))
+  pub before : length left ≤ length start
 
-  pub items_done : {B : Type 0} (r : List Token) (f : Items → B) (b : B) → length ts ≤ n → after_end_array ts ≡ Some r → f no_items ≡ b → parse_map f (converted of_items (items (value depth) n ts)) ≡ Some (b, r)
-  items_done r f b enough over is = ap (parse_map f) (items_over (value depth) n ts r enough over) ∙ ap (λ x. Some (x, r)) is
+pub items_begun : {B : Type 0} (depth : ℕ) (f g : Items → B) (start : List Token) → ((ds : Items) → f ds ≡ g ds) → ItemsWalked depth f g start start
+items_begun depth f g start law = record { most = length start; within = omega arith; same = same_map f g (items_at depth start) law; before = omega arith }
 
-  pub items_refused : {B : Type 0} (f g : Items → B) (all : Option (Items × List Token)) → parse_map f all ≡ parse_map g (converted of_items (items (value depth) n ts)) → after_end_array ts ≡ None → data_at depth ts ≡ None → all ≡ None
-  items_refused f g all same going none = mapped_none f all (same ∙ ap (parse_map g) (item_refused (value depth) n ts going none))
+module _ {B : Type 0} {depth : ℕ} {f g : Items → B} {start left : List Token} (next : List Token) (walked : ItemsWalked depth f g start left) where
+  pub items_done : {b : B} → after_end_array left ≡ Some next → g no_items ≡ b → parse_map f (items_at depth start) ≡ Some (b, next)
+  items_done over is = walked.same ∙ ap (parse_map g) (items_over (value depth) walked.most left next walked.within over) ∙ ap (λ x. Some (x, next)) is
 
--- ---- the members of an object
+  module _ (going : (after_end_array left ≡ None) × (next ≡ left)) where
+    -- an item more
+    pub item_on : {X : Type 0} (p : Data → X) (h : Items → B) {x : X} {r : List Token} → parse_map p (data_at depth next) ≡ Some (x, r) → length r < length next → ((d : Data) (ds : Items) → p d ≡ x → g (item d ds) ≡ h ds) → ItemsWalked depth f h start r
+    item_on p h {x = x} {r = r} there less law =
+        let d = mapped_some p (data_at depth next) x r there in
+        let within = walked.within in
+        let before = walked.before in
+        let shorter : length r < length left = rw (← going.1) less in
+        let some : 0 < walked.most = omega (arith, within, shorter) in
+        record {
+          most = walked.most - 1;
+          within = omega (arith, within, shorter);
+          same = walked.same ∙ ap (parse_map g) (item_read (value depth) walked.most left r d.0 some going.0 (rw (← going.1) d.1))
+              ∙ mapped_twice g (item d.0) h (converted of_items (items (value depth) (walked.most - 1) r)) (λ ds. law d.0 ds d.2);
+          before = omega (arith, before, shorter);
+        }
+
+    pub item_missing : data_at depth next ≡ None → items_at depth start ≡ None
+    item_missing none = mapped_none f (items_at depth start) (walked.same ∙ ap (parse_map g) (item_refused (value depth) walked.most left going.0 (rw (← going.1) none)))
+
+-- ---- a walk over the members of an object
 
 -- what is read behind members that were read
 abbrev pub members_from : ℕ → Members → ℕ → List Token → Option (Members × List Token)
 members_from depth before n ts = converted (λ (js : json.Members). of_members js before) (members (value depth) n ts)
 
-module _ (depth n : ℕ) (ts : List Token) (before : Members) where
-  pub member_turn : {S : Type 0} (seen : Members → S) (step : S → List ℕ → Data → S) (law : (k : List ℕ) (d : Data) (ms : Members) → seen (put k d ms) ≡ step (seen ms) k d) (k : List ℕ) (s r : List Token) (old new : S)
-      → 0 < n → read_key ts ≡ Some (Some k, s) → seen before ≡ old → parse_map (step old k) (data_at depth s) ≡ Some (new, r)
-      → (more : Members) × (seen more ≡ new) × (members_from depth before n ts ≡ members_from depth more (n - 1) r)
-  member_turn {S = S} seen step law k s r old new some key is there =
-      let d = mapped_some (step old k) (data_at depth s) new r there in
-      (put k d.0 before, law k d.0 before ∙ ap (λ (x : S). step x k d.0) is ∙ d.2, member_read (value depth) before n k ts s r d.0 some key d.1)
-
-  pub member_passed : {S : Type 0} (f : Data → S) (k : List ℕ) (s r : List Token) (b : S) → 0 < n → read_key ts ≡ Some (Some k, s) → parse_map f (data_at depth s) ≡ Some (b, r)
-      → (more : Members) × (members_from depth before n ts ≡ members_from depth more (n - 1) r)
-  member_passed f k s r b some key there =
-      let d = mapped_some f (data_at depth s) b r there in (put k d.0 before, member_read (value depth) before n k ts s r d.0 some key d.1)
-
-  pub members_done : {S : Type 0} (seen : Members → S) (r : List Token) (now : S) (all : Option (Members × List Token)) → length ts ≤ n → read_key ts ≡ Some (None, r) → seen before ≡ now → all ≡ members_from depth before n ts
-      → parse_map seen all ≡ Some (now, r)
-  members_done seen r now all enough over is same = ap (parse_map seen) (same ∙ members_over (value depth) before n ts r enough over) ∙ ap (λ x. Some (x, r)) is
-
-  pub members_passed : (r : List Token) (all : Option (Members × List Token)) → length ts ≤ n → read_key ts ≡ Some (None, r) → all ≡ members_from depth before n ts → behind all ≡ Some r
-  members_passed r all enough over same = ap behind (same ∙ members_over (value depth) before n ts r enough over)
-
-  pub no_key : (all : Option (Members × List Token)) → all ≡ members_from depth before n ts → read_key ts ≡ None → all ≡ None
-  no_key all same none = same ∙ key_refused (value depth) before n ts none
-
-  pub no_member : (k : List ℕ) (s : List Token) (all : Option (Members × List Token)) → all ≡ members_from depth before n ts → read_key ts ≡ Some (Some k, s) → data_at depth s ≡ None → all ≡ None
-  no_member k s all same key none = same ∙ member_refused (value depth) before n k ts s key none
-
--- ---- a walk over the members of an object
-
 -- the members so far were read as this, of the tokens from `start` on; these are left
-abbrev pub Walked : {S : Type 0} → ℕ → (Members → S) → S → List Token → List Token → Type 0
-Walked depth seen now start left =
-    (n : ℕ) × (length left ≤ n) × (ms : Members) × (seen ms ≡ now) × (members_at depth start ≡ members_from depth ms n left) × (length left ≤ length start)
+pub record MembersWalked {S : Type 0} (depth : ℕ) (seen : Members → S) (now : S) (start left : List Token) : Type 0 where
+  pub most : ℕ
+  pub within : length left ≤ most
+  pub passed : Members
+  pub read : seen passed ≡ now
+  pub same : members_at depth start ≡ members_from depth passed most left
+  pub before : length left ≤ length start
 
-module _ {S : Type 0} (depth : ℕ) (seen : Members → S) (start left : List Token) where
-  pub walk_on : (step : S → List ℕ → Data → S) (law : (k : List ℕ) (d : Data) (ms : Members) → seen (put k d ms) ≡ step (seen ms) k d) (k : List ℕ) (s r : List Token) (old new : S)
-      → Walked depth seen old start left → read_key left ≡ Some (Some k, s) → parse_map (step old k) (data_at depth s) ≡ Some (new, r) → length r < length s → Walked depth seen new start r
-  walk_on step law k s r old new walked key there lesser =
-      let less = read_key-shorter left (Some k) s key in
-      let within = walked.1 in
-      let before = walked.5 in
-      let more = member_turn depth walked.0 left walked.2 seen step law k s r old new (omega (arith, within, less)) key walked.3 there in
-      (walked.0 - 1, omega (arith, within, less, lesser), more.0, more.1, walked.4 ∙ more.2, omega (arith, before, less, lesser))
+pub members_begun : {S : Type 0} (depth : ℕ) (seen : Members → S) {now : S} (start : List Token) → seen no_members ≡ now → MembersWalked depth seen now start start
+members_begun depth seen start is = record { most = length start; within = omega arith; passed = no_members; read = is; same = refl; before = omega arith }
 
-  pub walk_done : (r : List Token) (now : S) → Walked depth seen now start left → read_key left ≡ Some (None, r) → parse_map seen (members_at depth start) ≡ Some (now, r)
-  walk_done r now walked over = members_done depth walked.0 left walked.2 seen r now (members_at depth start) walked.1 over walked.3 walked.4
+module _ {S : Type 0} {depth : ℕ} {seen : Members → S} {now : S} {start left : List Token} (walked : MembersWalked depth seen now start left) where
+  pub members_done : (r : List Token) → read_key left ≡ Some (None, r) → parse_map seen (members_at depth start) ≡ Some (now, r)
+  members_done r over =
+      ap (parse_map seen) (walked.same ∙ members_over (value depth) walked.passed walked.most left r walked.within over) ∙ ap (λ x. Some (x, r)) walked.read
 
-  pub walk_without_key : (now : S) → Walked depth seen now start left → read_key left ≡ None → members_at depth start ≡ None
-  walk_without_key now walked none = no_key depth walked.0 left walked.2 (members_at depth start) walked.4 none
+  pub key_missing : read_key left ≡ None → members_at depth start ≡ None
+  key_missing none = walked.same ∙ key_refused (value depth) walked.passed walked.most left none
 
-  pub walk_refused : (now : S) (k : List ℕ) (s : List Token) → Walked depth seen now start left → read_key left ≡ Some (Some k, s) → data_at depth s ≡ None → members_at depth start ≡ None
-  walk_refused now k s walked key none = no_member depth walked.0 left walked.2 k s (members_at depth start) walked.4 key none
+  module _ (k : List ℕ) (s : List Token) (key : read_key left ≡ Some (Some k, s)) where
+    -- a member more
+    pub member_on : (step : S → List ℕ → Data → S) → ((k : List ℕ) (d : Data) (ms : Members) → seen (put k d ms) ≡ step (seen ms) k d)
+        → {new : S} {r : List Token} → parse_map (step now k) (data_at depth s) ≡ Some (new, r) → length r < length s → MembersWalked depth seen new start r
+    member_on step law {new = new} {r = r} there lesser =
+        let d = mapped_some (step now k) (data_at depth s) new r there in
+        let less = read_key-shorter left (Some k) s key in
+        let within = walked.within in
+        let before = walked.before in
+        let some : 0 < walked.most = omega (arith, within, less) in
+        record {
+          most = walked.most - 1;
+          within = omega (arith, within, less, lesser);
+          passed = put k d.0 walked.passed;
+          read = law k d.0 walked.passed ∙ ap (λ (x : S). step x k d.0) walked.read ∙ d.2;
+          same = walked.same ∙ member_read (value depth) walked.passed walked.most k left s r d.0 some key d.1;
+          before = omega (arith, before, less, lesser);
+        }
+
+    pub member_missing : data_at depth s ≡ None → members_at depth start ≡ None
+    member_missing none = walked.same ∙ member_refused (value depth) walked.passed walked.most k left s key none

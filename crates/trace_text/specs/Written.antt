@@ -7,7 +7,7 @@ use Rattle.wire_msg.specs.Envelope.{Envelope}
 use Rattle.wire_msg.specs.Spelling.{spelling}
 use Rattle.node_core.specs.declared.event.Event.{Event}
 use Rattle.node_core.specs.declared.event.Event.TheVariants as on
-use Rattle.node_core.specs.TimerWords.{word_of}
+use Rattle.node_words.specs.Words.{event_word}
 use Rattle.trace_check.specs.declared.trace.TraceAction.{TraceAction}
 use Rattle.trace_check.specs.declared.trace.TraceAction.TheVariants as deed
 use Rattle.trace_check.specs.declared.trace.RecoverFault.{RecoverFault}
@@ -16,13 +16,6 @@ use Rattle.trace_check.specs.Claims.{Claim}
 
 abbrev pub message_data : Envelope → Data
 message_data m = string (encode_lower (spelling m))
-
-abbrev pub event_name : Event → List ℕ
-event_name (on.Timer timer) = word_of timer
-event_name (on.Deliver m) = codes "deliver"
-event_name (on.Submit work) = codes "submit"
-event_name (on.Finish origin id) = codes "finish"
-event_name on.Recover = codes "recover"
 
 -- a priority in front of other members, left out where it is 0
 abbrev pub priority_members : ℕ → Members → Members
@@ -42,8 +35,8 @@ fault_name recover.Raise = codes "raise"
 
 abbrev pub deed_name : TraceAction → List ℕ
 deed_name deed.Nothing = codes "none"
-deed_name (deed.Done event) = event_name event
-deed_name (deed.Faulted event) = event_name event
+deed_name (deed.Done event) = event_word event
+deed_name (deed.Faulted event) = event_word event
 deed_name deed.Crashed = codes "crash"
 deed_name (deed.Recovered kept) = codes "recover"
 deed_name (deed.NotRecovered kept fault) = codes "recover"

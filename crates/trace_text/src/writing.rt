@@ -6,7 +6,7 @@ ghost use Rattle.trace_check.specs.Traces.{claim_seen};
 ghost use Rattle.trace_text.specs.Tokens.{Adds, deed_tokens, event_tokens, priority_tokens, rank_tokens, work_tokens, message_tokens, head_tokens, end_tokens, entry_tokens, history_tokens, histories_tokens, trace_tokens};
 ghost use Rattle.trace_text.specs.Fits.{WorkFits, EventFits, DeedFits, ClaimFits, TraceFits, IsUnwritable, IsWritable};
 ghost use Rattle.trace_text.specs.Wholes.{trace_of};
-ghost use Rattle.trace_text.specs.Written.{trace_data, deed_name, event_name, fault_name};
+ghost use Rattle.trace_text.specs.Written.{trace_data, deed_name, fault_name};
 ghost use Rattle.wire_msg.specs.Spelling.{spelling, AreBytes, IsMessage};
 ghost use Rattle.job_model.specs.declared.queue.TheConstants.{QUEUES};
 ghost use Rattle.histories.specs.Lists.{Each};
@@ -17,6 +17,7 @@ use crate::writable::is_writable;
 use job_model::Work;
 use json::Writer;
 use node_core::Event;
+use node_words::event_word;
 use std::alloc::{AllocError, Global};
 use trace_check::{EntryView, History, RecoverFault, Sent, Trace, TraceAction};
 use wire_msg::{Message, encode};
@@ -148,7 +149,7 @@ pub fn begin_handled(alloc: Global, out: &mut Writer, event: &Event) -> Result<(
 {
     out.begin_object()?;
     out.key("do")?;
-    out.string(event_name(event))?;
+    out.string(event_word(event))?;
     write_event(alloc, out, event)?;
     begin_list(out, "sent")
 }
@@ -167,23 +168,11 @@ pub fn deed_name(deed: &TraceAction) -> &'static str
 {
     match deed {
         TraceAction::Nothing => "none",
-        TraceAction::Done(event) => event_name(event),
-        TraceAction::Faulted(event) => event_name(event),
+        TraceAction::Done(event) => event_word(event),
+        TraceAction::Faulted(event) => event_word(event),
         TraceAction::Crashed => "crash",
         TraceAction::Recovered(_) => "recover",
         TraceAction::NotRecovered(_, _) => "recover",
-    }
-}
-
-fn event_name(event: &Event) -> &'static str
-    ensures { result.now ≡ event_name event.now }
-{
-    match event {
-        Event::Timer(timer) => timer.word(),
-        Event::Deliver(_) => "deliver",
-        Event::Submit(_) => "submit",
-        Event::Finish(_, _) => "finish",
-        Event::Recover => "recover",
     }
 }
 

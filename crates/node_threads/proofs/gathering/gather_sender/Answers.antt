@@ -3,7 +3,7 @@ use Rattle.link_ring.specs.declared.gathering.LinkEnd.{LinkEnd}
 use Rattle.node_threads.specs.Links.{TookEnds}
 use Rattle.node_threads.proofs.Links.{IsGathering, gathers, gathers_past, gathered_more, end_of}
 use Rattle.node_threads.proofs.gathering.gather_sender.Goals as goal
-use Rattle.node_threads.proofs.gathering.gather_sender.Goals.{then-receiver-sender+in_ok-put+in_ok-link+in_ok-reserve, else-receiver-sender}
+use Rattle.node_threads.proofs.gathering.gather_sender.Goals.{then-receiver-sender+in_ok-put+in-Ok+in_ok-reserve, else-receiver-sender}
 
 pub loop-receiver-preserved : goal.loop-receiver-preserved
 loop-receiver-preserved c =
@@ -12,12 +12,12 @@ loop-receiver-preserved c =
     let left = c.loop-receiver.left.items in
     let links = c.loop-receiver.links.items in
     elim c.if-receiver-sender.branch [
-      | then-receiver-sender+in_ok-put+in_ok-link+in_ok-reserve w ↦
+      | then-receiver-sender+in_ok-put+in-Ok+in_ok-reserve w ↦
           let p = w.in_ok-put.put in
           let t = w.in_ok-put.take in
-          let link = w.in_ok-link.link in
+          let link = w.in-Ok.link in
           let took : TookEnds s r p t left w.next_ends.new.left.items = subst (λ o. IfSome o (λ ends. TookEnds s r ends.0 ends.1 left w.next_ends.new.left.items)) w.in_ok-put.ensures.ok_part w.next_ends.ensures in
-          let said = w.in_ok-link.ensures in
+          let said = w.in-Ok.ensures in
           rw (w.left-is, w.links-is) (gathers s r c.args.left.now.items left w.next_ends.new.left.items c.args.links.now.items links w.push_reserved.new.self.items p t link
           (w.push_reserved.ensures.items ∙ ap (λ (xs : List LinkEnd). xs ++ link ∷ []) w.reserve.ensures.items) took w.if-receiver-sender.true
           (λ from to put taken. record { put_end = p; take_end = t; is_put = put; is_take = taken; paired = said.paired.0 refl; sender = said.nodes.0; receiver = said.nodes.1; put = said.messages.0; taken = said.messages.1 }) c.loop-receiver.invariant)

@@ -6,7 +6,7 @@ use Rattle.trace_check.specs.Orders.{history, taken}
 use Rattle.trace_check.specs.Leftovers.{AreLeftBelow, CanReplay, IsFound}
 use Rattle.trace_check.specs.Searches.{twin_after}
 use Rattle.trace_check.proofs.Leftovers.{can_replay, left_nothing, left_one, still_on}
-use Rattle.trace_check.proofs.Turns.{desk_rests, seat_at}
+use Rattle.trace_check.proofs.Turns.{desk_rests, seat_numbered}
 use Rattle.trace_check.proofs.leaving.leftovers.Goals as goal
 use Rattle.trace_check.proofs.leaving.leftovers.Goals.{in-Some+in_ok-push, in_default}
 
@@ -25,11 +25,7 @@ next_holdup-requires-clause-before c =
     let number = l.number in
     let seat = c.index_mut-seat.result.now in
     let rests = l.invariant.1.rests in
-    let count = rests.count in
-    let size = c.nodes-number-end.ensures.value in
-    let test = c.loop-number-test.true in
-    let from = c.from.ensures in
-    let at = seat_at l.search.seats.items c.from.result number seat from (omega (arith, from, count, size, test)) c.index_mut-seat.ensures.value in
+    let at = seat_numbered hs l.search.seats.items c.from.result number c.nodes-number-end.result seat rests.count c.nodes-number-end.ensures.value c.from.ensures c.loop-number-test.true c.index_mut-seat.ensures.value in
     subst (λ (n : ℕ). CanReplay hs n seat.place) (sym c.numbered-node.ensures)
     (subst (λ (p : ℕ). CanReplay hs number p) (sym (rests.places number seat at)) (can_replay hs (reverse l.search.order.items) number rests.legal))
 
@@ -39,11 +35,7 @@ next_holdup-requires-clause-going c = λ going.
     let l = c.loop-number in
     let number = l.number in
     let seat = c.index_mut-seat.result.now in
-    let count = l.invariant.1.rests.count in
-    let size = c.nodes-number-end.ensures.value in
-    let test = c.loop-number-test.true in
-    let from = c.from.ensures in
-    let at = seat_at l.search.seats.items c.from.result number seat from (omega (arith, from, count, size, test)) c.index_mut-seat.ensures.value in
+    let at = seat_numbered hs l.search.seats.items c.from.result number c.nodes-number-end.result seat l.invariant.1.rests.count c.nodes-number-end.ensures.value c.from.ensures c.loop-number-test.true c.index_mut-seat.ensures.value in
     let fits = c.requires.fits.fits number seat (sym (l.invariant.1.kept number (omega arith)) ∙ at) in
     let node = c.numbered-node.ensures in
     let up : has c.args.search.now.stopped number ≡ false = ap (λ (ids : List ℕ). has ids number) (sym l.invariant.2) ∙ ap (has l.search.stopped) (sym node) ∙ sym c.contains-is_stopped.ensures ∙ going in
@@ -58,17 +50,13 @@ loop-number-preserved c =
     let seat = c.index_mut-seat.result.now in
     let new = c.next_holdup.new.seat in
     let rests = l.invariant.1.rests in
-    let count = rests.count in
-    let size = c.nodes-number-end.ensures.value in
-    let test = c.loop-number-test.true in
-    let from = c.from.ensures in
-    let at = seat_at l.search.seats.items c.from.result number seat from (omega (arith, from, count, size, test)) c.index_mut-seat.ensures.value in
+    let at = seat_numbered hs l.search.seats.items c.from.result number c.nodes-number-end.result seat rests.count c.nodes-number-end.ensures.value c.from.ensures c.loop-number-test.true c.index_mut-seat.ensures.value in
     let id = c.numbered-node.result in
     let is : seat.place ≡ taken id past = rests.places number seat at ∙ ap (λ (k : ℕ). taken k past) (sym c.numbered-node.ensures) in
     let same : new.place ≡ seat.place = c.in_ok-found.ensures.place in
     let up : number + 1 ≡ id + 1 = ap (λ (k : ℕ). k + 1) (sym c.numbered-node.ensures) in
     let before : AreLeftBelow hs past id l.left.items = subst (λ (k : ℕ). AreLeftBelow hs past k l.left.items) (sym c.numbered-node.ensures) l.invariant.0 in
-    let still = still_on hs c.args.search.now.seats.items l.search.seats.items past number c.from.result seat new l.invariant.1 from at same in
+    let still = still_on hs c.args.search.now.seats.items l.search.seats.items past number c.from.result seat new l.invariant.1 c.from.ensures at same in
     elim c.match-found.branch [
       | in-Some+in_ok-push w ↦ (
         let found : IsFound hs id seat.place (slice_get (history hs id) seat.place) (Some w.in-Some.holdup) =

@@ -1,4 +1,4 @@
-use Rattle.std.proofs.Common.{[], reverse, true, refl, sym, subst}
+use Rattle.std.proofs.Common.{[], reverse, refl, sym, subst}
 use Rattle.console_text.specs.Ends.{Outcome}
 use Rattle.trace_text.specs.Ordered.{ordered_by}
 use Rattle.trace_draw.specs.Drawn.{DrawsRecorded}

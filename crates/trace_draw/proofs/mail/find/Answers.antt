@@ -1,4 +1,4 @@
-use Rattle.std.proofs.Common.{◌≡◌, List, [], Option, Some, None, inl, inr, ap, sym, ◌∙◌, subst}
+use Rattle.std.proofs.Common.{Option, inl, inr, sym, ◌∙◌, subst}
 use Rattle.trace_draw.specs.declared.turn.Source.{Source}
 use Rattle.trace_draw.specs.Turns.{ComeFrom}
 use Rattle.trace_draw.proofs.Sources.{none_there, one_there}

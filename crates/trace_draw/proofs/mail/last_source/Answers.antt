@@ -1,4 +1,4 @@
-use Rattle.std.proofs.Common.{length, refl, sym, ◌∙◌, ap, Some}
+use Rattle.std.proofs.Common.{length, refl, sym}
 use Rattle.std.proofs.lemmas.Option.{slice_get_read}
 use Rattle.std.specs.HashMap.{get}
 use Rattle.message_list.specs.Lent.{same_message}

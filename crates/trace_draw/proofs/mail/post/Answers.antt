@@ -1,10 +1,9 @@
-use Rattle.std.proofs.Common.{◌≡◌, ℕ, Bool, cond, List, [], ◌∷◌, ◌++◌, length, slice_get, Option, Some, refl, sym, ap, ◌∙◌, subst, arith}
+use Rattle.std.proofs.Common.{◌≡◌, ℕ, cond, List, [], ◌∷◌, ◌++◌, length, Some, sym, ap, ◌∙◌, subst, arith}
 use Rattle.std.specs.Prelude.{is_none}
 use Rattle.std.specs.HashMap.{get}
 use Rattle.std.proofs.lemmas.Option.{same_Some}
 use Rattle.wire_msg.specs.Envelope.{Envelope}
 use Rattle.message_list.specs.Lent.{same_message}
-use Rattle.trace_draw.specs.declared.mail.Latest.{Latest}
 use Rattle.trace_draw.specs.declared.mail.Sending.{Sending}
 use Rattle.trace_draw.specs.Mails.{AreLatest}
 use Rattle.trace_draw.proofs.Mails.{latest_more}

@@ -1,5 +1,4 @@
-use Rattle.std.proofs.Common.{◌≡◌, ◌≤◌, ℕ, ◌+◌, List, ◌++◌, length, option_map, get_or, Option, sym, ap, ◌∙◌, subst}
-use Rattle.std.proofs.lemmas.Option.{same_Some}
+use Rattle.std.proofs.Common.{◌≡◌, ◌≤◌, ℕ, List, ◌++◌, length, Option, sym, ap, ◌∙◌, subst}
 use Rattle.wire_msg.specs.Envelope.{Envelope}
 use Rattle.trace_check.specs.Claims.{Claim, brought_by}
 use Rattle.trace_check.specs.Followed.{before}
@@ -7,37 +6,31 @@ use Rattle.trace_draw.specs.declared.mail.Sending.{Sending}
 use Rattle.trace_draw.specs.declared.turn.Point.{Point}
 use Rattle.trace_draw.specs.Turns.{ComeFrom, WasSent, named_at, sendings, sendings_of}
 use Rattle.trace_draw.specs.Mails.{IsMail}
-use Rattle.trace_draw.proofs.Steps.{entry_at, one_brought, sendings_more, sent_before, source_of_turn, step_read}
+use Rattle.trace_draw.proofs.Steps.{one_brought, said_at, sendings_more, sent_before, source_of_turn, step_read}
 use Rattle.trace_draw.proofs.mail.take_turn.Goals as goal
 
 pub find-source-requires : goal.find-source-requires
 find-source-requires c =
     let hs = c.args.trace.now in
     let order = c.args.order.now.nodes.items in
-    let steps = c.args.steps.now in
-    let turn = c.args.turn in
-    let node = c.index-node.result.now in
-    let s = get_or steps turn c.index-steps-turn.result in
-    let step = step_read hs order steps turn node c.index-steps-turn.result c.requires.steps c.requires.within c.index-node.ensures c.index-steps-turn.is in
-    let brought : c.in-Some.brought ≡ brought_by step.0.deed = same_Some _ _ (sym c.in-Some.is ∙ c.brought.ensures ∙ ap (option_map (λ (k : Claim). brought_by k.deed)) (entry_at hs order turn node step.0 s step.1)) in
+    let step = step_read hs order c.args.steps.now c.args.turn c.index-node.result.now c.index-steps-turn.result c.requires.steps c.requires.within c.index-node.ensures c.index-steps-turn.is in
+    let brought = said_at (λ (k : Claim). brought_by k.deed) step.1 c.brought.ensures c.in-Some.is in
     let few = one_brought step.0.deed in
     record {
       few = subst (λ (ms : List Envelope). length ms ≤ 1) (sym brought) few;
       latest = c.requires.mail.latest;
-      sent = λ m brings. subst (λ (all : List Sending). WasSent all m) (sym c.requires.mail.sendings) (sent_before hs order turn node step.0 m c.requires.legal step.1.takes (sym brought ∙ brings));
+      sent = λ m brings. subst (λ (all : List Sending). WasSent all m) (sym c.requires.mail.sendings) (sent_before hs order c.args.turn c.index-node.result.now step.0 m c.requires.legal step.1.takes (sym brought ∙ brings));
     }
 
 pub returns : goal.returns
 returns c =
     let hs = c.args.trace.now in
     let order = c.args.order.now.nodes.items in
-    let steps = c.args.steps.now in
     let turn = c.args.turn in
     let node = c.index-node.result.now in
-    let s = get_or steps turn c.index-steps-turn.result in
-    let step = step_read hs order steps turn node c.index-steps-turn.result c.requires.steps c.requires.within c.index-node.ensures c.index-steps-turn.is in
-    let brought : c.in-Some.brought ≡ brought_by step.0.deed = same_Some _ _ (sym c.in-Some.is ∙ c.brought.ensures ∙ ap (option_map (λ (k : Claim). brought_by k.deed)) (entry_at hs order turn node step.0 s step.1)) in
-    let sent : c.in-Some-sent.sent ≡ step.0.sent = same_Some _ _ (sym c.in-Some-sent.is ∙ c.sent.ensures ∙ ap (option_map (λ (k : Claim). k.sent)) (entry_at hs order turn node step.0 s step.1)) in
+    let step = step_read hs order c.args.steps.now turn node c.index-steps-turn.result c.requires.steps c.requires.within c.index-node.ensures c.index-steps-turn.is in
+    let brought = said_at (λ (k : Claim). brought_by k.deed) step.1 c.brought.ensures c.in-Some.is in
+    let sent = said_at (λ (k : Claim). k.sent) step.1 c.sent.ensures c.in-Some-sent.is in
     let named : c.named_at.result ≡ named_at c.args.order.now.messages.items turn = c.named_at.ensures ∙ ap (λ (ms : List (Option ℕ)). named_at ms turn) c.deref.ensures.value in
     let at : Point = record { turn = turn; node = node } in
     record {

@@ -1,4 +1,4 @@
-use Rattle.std.proofs.Common.{◌≡◌, ℕ, ◌+◌, List, [], ◌∷◌, length, Option, refl, sym, ap, ◌∙◌, subst, arith, length-append}
+use Rattle.std.proofs.Common.{◌≡◌, ℕ, ◌+◌, List, [], ◌∷◌, length, Option, sym, ap, ◌∙◌, subst, arith, length-append}
 use Rattle.histories.specs.NodeState.{opening}
 use Rattle.trace_check.specs.Twins.{Twin}
 use Rattle.trace_draw.specs.declared.stays.Pose.{Pose}

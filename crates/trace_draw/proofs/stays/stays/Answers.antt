@@ -1,5 +1,4 @@
-use Rattle.std.proofs.Common.{◌≡◌, ◌<◌, ℕ, ◌+◌, List, [], length, get_or, slice_get, Some, refl, sym, ap, ◌∙◌, subst, arith}
-use Rattle.std.proofs.lemmas.Option.{slice_get_read}
+use Rattle.std.proofs.Common.{◌≡◌, ℕ, ◌+◌, List, length, sym, ap, ◌∙◌, subst, arith}
 use Rattle.trace_draw.specs.declared.stays.Pose.{Pose}
 use Rattle.trace_draw.specs.declared.turn.Stay.{Stay}
 use Rattle.trace_draw.specs.Poses.{AreUnderWay}

@@ -1,4 +1,4 @@
-use Rattle.std.proofs.Common.{◌≡◌, ℕ, true, false, List, ◌∷◌, [], ◌++◌, length, sym, ap, ◌∙◌, subst}
+use Rattle.std.proofs.Common.{◌≡◌, ℕ, true, false, List, ◌∷◌, [], ◌++◌, sym, ap, ◌∙◌, subst}
 use Rattle.group_task.specs.Ids.{with_id}
 use Rattle.trace_draw.specs.Turns.{AreLeft, IsTaken}
 use Rattle.trace_draw.proofs.Lefts.{left_more, left_same}

@@ -11,7 +11,7 @@ use Rattle.trace_draw.specs.declared.step.Step.{Step}
 use Rattle.trace_draw.specs.Walks.{AreFirst, AreSeats, IsStep}
 use Rattle.trace_draw.proofs.Lists.{each_more}
 use Rattle.trace_check.proofs.PublicLaws.{before_more, may_take}
-use Rattle.trace_draw.proofs.NodeViews.{node_within, seat_after, seats_more, turn_seat}
+use Rattle.trace_draw.proofs.NodeViews.{node_within, seat_after, seat_read, seats_more}
 use Rattle.trace_draw.proofs.walk.take_turn.Goals as goal
 
 pub index_mut-node_view-requires : goal.index_mut-node_view-requires
@@ -29,15 +29,11 @@ index_mut-node_view-requires c =
 pub unreachable-requires : goal.unreachable-requires
 unreachable-requires c =
     let hs = c.args.trace.now in
-    let order = c.args.order.now in
-    let number = c.args.turn in
     let node = c.index-order-turn.result in
     let s = c.index_mut-node_view.result.now in
-    let now = slice_get_read order (length order) number node refl c.requires.more c.index-order-turn.is in
-    let here : c.from.result ≡ node = c.from.ensures ∙ c.number.ensures.value in
-    let seat = turn_seat hs order number node c.args.seats.now.items c.from.result s c.requires.legal now c.requires.seats here c.index_mut-node_view.ensures.value in
+    let seat = seat_read hs c.args.order.now c.args.turn node c.args.seats.now.items c.from.result s c.requires.legal c.requires.more c.index-order-turn.is c.requires.seats (c.from.ensures ∙ c.number.ensures.value) c.index_mut-node_view.ensures.value in
     let none : slice_get (history hs node) s.index ≡ None = c.in_default.ensures.none refl in
-    let clash : None ≡ Some seat.0.claim = sym none ∙ ap (λ (x : NodeView). slice_get (history hs node) x.index) seat.1 ∙ seat.0.next in cc
+    let clash : None ≡ Some seat.1.claim = sym none ∙ ap (λ (x : NodeView). slice_get (history hs node) x.index) seat.2 ∙ seat.1.next in cc
 
 pub unreachable-requires-then-not-branch : goal.unreachable-requires-then-not-branch
 unreachable-requires-then-not-branch c =
@@ -46,14 +42,12 @@ unreachable-requires-then-not-branch c =
     let number = c.args.turn in
     let node = c.index-order-turn.result in
     let s = c.index_mut-node_view.result.now in
-    let now = slice_get_read order (length order) number node refl c.requires.more c.index-order-turn.is in
-    let here : c.from.result ≡ node = c.from.ensures ∙ c.number.ensures.value in
-    let seat = turn_seat hs order number node c.args.seats.now.items c.from.result s c.requires.legal now c.requires.seats here c.index_mut-node_view.ensures.value in
-    let may = seat.0 in
+    let seat = seat_read hs order number node c.args.seats.now.items c.from.result s c.requires.legal c.requires.more c.index-order-turn.is c.requires.seats (c.from.ensures ∙ c.number.ensures.value) c.index_mut-node_view.ensures.value in
+    let may = seat.1 in
     let entry = claim_seen c.in-Some.entry in
-    let same : may.claim ≡ entry = same_Some _ _ (sym (ap (λ (x : NodeView). slice_get (history hs node) x.index) seat.1 ∙ may.next) ∙ c.in-Some.ensures.some) in
+    let same : may.claim ≡ entry = same_Some _ _ (sym (ap (λ (x : NodeView). slice_get (history hs node) x.index) seat.2 ∙ may.next) ∙ c.in-Some.ensures.some) in
     let possible : MayCome s.node_model.id s.node_model.nodes s.node_model.node entry =
-    subst (λ (x : NodeView). MayCome x.node_model.id x.node_model.nodes x.node_model.node entry) (sym seat.1) (subst (λ (d : Claim). MayCome node (length hs) (state_of hs node (taken node (before order number))) d) same may.possible) in
+    subst (λ (x : NodeView). MayCome x.node_model.id x.node_model.nodes x.node_model.node entry) (sym seat.2) (subst (λ (d : Claim). MayCome node (length hs) (state_of hs node (taken node (before order number))) d) same may.possible) in
     subst (λ (b : Bool). Taken s.node_model c.take.new.self entry b) c.if-not-branch.true c.in_ok-take.ensures.taken possible
 
 pub returns : goal.returns
@@ -64,9 +58,10 @@ returns c =
     let node = c.index-order-turn.result in
     let past = before order number in
     let s = c.index_mut-node_view.result.now in
-    let now = slice_get_read order (length order) number node refl c.requires.more c.index-order-turn.is in
     let here : c.from.result ≡ node = c.from.ensures ∙ c.number.ensures.value in
-    let is = (turn_seat hs order number node c.args.seats.now.items c.from.result s c.requires.legal now c.requires.seats here c.index_mut-node_view.ensures.value).1 in
+    let seat = seat_read hs order number node c.args.seats.now.items c.from.result s c.requires.legal c.requires.more c.index-order-turn.is c.requires.seats here c.index_mut-node_view.ensures.value in
+    let now = seat.0 in
+    let is = seat.2 in
     let entry = claim_seen c.in-Some.entry in
     let taken_is = subst (λ (b : Bool). Taken s.node_model c.take.new.self entry b) c.if-not-branch.false c.in_ok-take.ensures.taken in
     let new = seat_after hs past node entry s c.take.new.self is c.in-Some.ensures.some c.in_ok-take.ensures.id c.in_ok-take.ensures.nodes taken_is.1 in

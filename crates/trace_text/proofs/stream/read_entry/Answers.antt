@@ -12,8 +12,7 @@ use Rattle.trace_text.proofs.stream.read_entry.Goals as goal
 
 pub returns-in_err-read_members-clause-err : goal.returns-in_err-read_members-clause-err
 returns-in_err-read_members-clause-err c =
-    let is = opened _ _ _ c.if-not-branch.false c.in_ok-open_object.ensures.value in
-    λ refused. no_object_in 124 c.args.reader.now c.open_object.new.reader (omega arith) is (c.in_err-read_members.ensures.err (grind (arith, refused)))
+    λ refused. no_object_in 124 (omega arith) (opened _ _ _ c.if-not-branch.false c.in_ok-open_object.ensures.value) (c.in_err-read_members.ensures.err (grind (arith, refused)))
 
 pub returns-then-not-draft-clause-ok : goal.returns-then-not-draft-clause-ok
 returns-then-not-draft-clause-ok c =

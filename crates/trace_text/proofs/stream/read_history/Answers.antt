@@ -8,13 +8,12 @@ use Rattle.trace_text.proofs.stream.read_history.Goals as goal
 
 pub returns-in_err-entries-clause-err : goal.returns-in_err-entries-clause-err
 returns-in_err-entries-clause-err c =
-    let is = opened _ _ _ c.if-not-branch.false c.in_ok-open_list.ensures.value in
-    λ refused. no_list_in 125 c.args.reader.now c.open_list.new.reader (omega arith) is (c.in_err-entries.ensures.err (grind (arith, refused)))
+    λ refused. no_list_in 125 (omega arith) (opened _ _ _ c.if-not-branch.false c.in_ok-open_list.ensures.value) (c.in_err-entries.ensures.err (grind (arith, refused)))
 
 pub returns-clause-ok : goal.returns-clause-ok
 returns-clause-ok c =
     let node = c.args.node in
     let ts = c.open_list.new.reader in
     let is = opened _ _ _ c.if-not-branch.false c.in_ok-open_list.ensures.value in
-    in_list 125 c.args.reader.now ts (omega arith) is (listed_in node) (λ (ds : Items). Some (entries_from node 0 ds)) (λ ds. refl)
+    in_list 125 (omega arith) is (listed_in node) (λ (ds : Items). Some (entries_from node 0 ds)) (λ ds. refl)
     ∙ mapped_on (entries_from node 0) (λ (x : Listed). Some x) (items_at 124 ts) (listed_by c.in_ok-entries.entries) c.read_entries.new.reader c.in_ok-entries.ensures.ok

@@ -1,27 +1,11 @@
-use Rattle.std.proofs.Common.{◌≡◌, [], ◌∷◌, length, None, ap, ◌∙◌, arith}
-use Rattle.json.specs.Json.{parse_map}
-use Rattle.json.specs.Reads.{token_of}
-use Rattle.serde_json.specs.Find.{as_array}
+use Rattle.std.proofs.Common.{arith}
 use Rattle.trace_text.specs.Fields.{data_of}
-use Rattle.trace_text.specs.Streams.{data_at}
-use Rattle.trace_text.proofs.Firsts.{no_list, nothing_there, told_list}
+use Rattle.trace_text.proofs.Firsts.{no_list, nothing_there}
 use Rattle.trace_text.proofs.values.open_list.Goals as goal
 
 pub returns-in_err-token-clause-value : goal.returns-in_err-token-clause-value
-returns-in_err-token-clause-value c =
-    let empty : c.args.reader.now ≡ [] = grind arith in
-    let none : data_at c.args.depth c.args.reader.now ≡ None = ap (data_at c.args.depth) empty ∙ nothing_there c.args.depth in
-    grind (arith, none)
+returns-in_err-token-clause-value c = let none = nothing_there c.args.depth c.args.reader.now (grind arith) in grind (arith, none)
 
-pub returns : goal.returns
-returns c =
-    let ts = c.next.new.self in
-    let first : c.args.reader.now ≡ token_of c.in_ok-token.token ∷ ts = grind arith in
-    let other = told_list c.in_ok-token.token c.in_default.not-BeginArray in
-    let rest = c.in_ok-read_rest.ensures in
-    let longer = ap length first in
-    let less = rest.shorter in
-    record {
-      value = ap (λ front. parse_map as_array (data_at c.args.depth front)) first ∙ no_list c.args.depth ts (token_of c.in_ok-token.token) (data_of c.in_ok-read_rest.field-0) c.read_rest.new.reader other rest.value;
-      shorter = omega (arith, longer, less);
-    }
+pub returns-clause-value : goal.returns-clause-value
+returns-clause-value c =
+    no_list c.args.depth c.next.new.self c.in_ok-token.token c.args.reader.now (data_of c.in_ok-read_rest.field-0) c.read_rest.new.reader (grind arith) c.in_ok-read_rest.ensures.value c.in_default.not-BeginArray

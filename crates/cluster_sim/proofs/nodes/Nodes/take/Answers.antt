@@ -1,5 +1,9 @@
 use Rattle.std.proofs.Common.{◌≡◌, ℕ, ◌≤◌, length, slice_get, refl, sym, ◌∙◌, subst, arith, None, Some}
 use Rattle.std.proofs.lemmas.Option.{slice_get_past, slice_get_read, slice_get_within}
+use Rattle.sector_disk.specs.Memory.{state_of}
+use Rattle.durable_node.specs.Node.{Stands}
+use Rattle.histories.specs.NodeState.{NodeState}
+use Rattle.runs.specs.World.{World}
 use Rattle.runs.proofs.PublicLaws.{at_place}
 use Rattle.cluster_sim.proofs.Answering.{answers_if, areas_if, idle_areas}
 use Rattle.histories.specs.HistoryEvent.{AreAddressed, brought, IsOf}
@@ -48,23 +52,26 @@ returns-clause-faults c =
     rw (← c.from-place.ensures ∙ c.number.ensures.value)
     (faults_if was.slots c.from-place.result was.nodes.items c.index_mut.result.now c.handle.new.node was.net.network c.handle.new.net.network c.handle.result c.args.self.now c.self.view_is (there c) c.handle.ensures.counted)
 
-pub returns-clause-answers : goal.returns-clause-answers
-returns-clause-answers c = λ w stands.
+-- the node stands for a state
+node_state : (c : goal.After-self-1) (w : World) → StandsFor c.args.self.now w → (s : NodeState) × Stands state_of c.index_mut.result.now s
+node_state c w stands =
     let was = c.self.inside in
     let stood : StandsFor (record { slots = was.slots; nodes = was.nodes.items; net = was.net.network }) w = rw c.self.view_is stands in
     let s = at_place w.states c.from-place.result (omega (arith, stood.count, slice_get_within was.nodes.items c.from-place.result c.index_mut.result.now (there c))) in
-    let node_stands = stood.each c.from-place.result c.index_mut.result.now s.0 (there c) s.1 in
+    (s.0, stood.each c.from-place.result c.index_mut.result.now s.0 (there c) s.1)
+
+pub returns-clause-answers : goal.returns-clause-answers
+returns-clause-answers c = λ w stands.
+    let s = node_state c w stands in
     rw (← c.self.view_is, ← c.from-place.ensures ∙ c.number.ensures.value)
-    (answers_if c.from-place.result was.nodes.items c.args.event.now c.index_mut.result.now c.handle.result (there c) (c.handle.ensures.answers s.0 node_stands))
+    (answers_if c.from-place.result c.self.inside.nodes.items c.args.event.now c.index_mut.result.now c.handle.result (there c) (c.handle.ensures.answers s.0 s.1))
 
 pub returns-clause-areas : goal.returns-clause-areas
 returns-clause-areas c = λ w stands.
     let was = c.self.inside in
-    let stood : StandsFor (record { slots = was.slots; nodes = was.nodes.items; net = was.net.network }) w = rw c.self.view_is stands in
-    let s = at_place w.states c.from-place.result (omega (arith, stood.count, slice_get_within was.nodes.items c.from-place.result c.index_mut.result.now (there c))) in
-    let node_stands = stood.each c.from-place.result c.index_mut.result.now s.0 (there c) s.1 in
+    let s = node_state c w stands in
     areas_if was.slots c.from-place.result was.nodes.items c.index_mut.result.now c.handle.new.node was.net.network c.handle.new.net.network c.handle.result c.args.self.now c.self.view_is (there c)
-    (c.handle.ensures.areas s.0 node_stands)
+    (c.handle.ensures.areas s.0 s.1)
 
 pub returns-then-place-len-clause-areas : goal.returns-then-place-len-clause-areas
 returns-then-place-len-clause-areas c = λ w stands. idle_areas c.args.self.now.nodes _ _ refl (λ bad. cc)

@@ -16,7 +16,7 @@ pub invariant_of-self-2 : goal.invariant_of-self-2
 invariant_of-self-2 c =
     let h = c.self.inside in
     let more : h.turns.clock < length h.plans.clock = subst (λ (v : HeldView). v.turns.clock < length v.plans.clock) (sym c.self.view_is) c.requires.more in
-    let few : length h.history.turns < MOST_ENTRIES = subst (λ (v : HeldView). length v.history < MOST_ENTRIES) (sym c.self.view_is) c.requires.few in
+    let few : length h.site.history.turns < MOST_ENTRIES = subst (λ (v : HeldView). length v.history < MOST_ENTRIES) (sym c.self.view_is) c.requires.few in
     let timer = get_or c.clock.result.now h.turns.clock Check in
     let got = slice_get-get_or h.plans.clock h.turns.clock Check more ∙ ap (λ l. Some (get_or l h.turns.clock Check)) (sym c.clock.ensures) in
     let e = c.in_ok-hand.ensures.taken.0 in

@@ -1,4 +1,4 @@
-use Rattle.std.proofs.Common.{◌∷◌, ◌++◌, ap, [], length}
+use Rattle.std.proofs.Common.{◌∷◌, ◌++◌, ap, []}
 use Rattle.histories.specs.EventOutcomes.{what_of}
 use Rattle.node_lock.specs.Events.{EventsKept}
 use Rattle.node_lock.specs.Kept.{Log}

@@ -1,62 +1,70 @@
-use Rattle.std.proofs.Common.{◌≡◌, ℕ, ◌+◌, List, [], ◌∷◌, ◌++◌, length, map, All, ap, ◌∙◌}
+use Rattle.std.proofs.Common.{◌≡◌, ℕ, ◌+◌, ◌-◌, ◌<◌, ◌≤◌, ◌^◌, List, [], ◌∷◌, ◌++◌, length, map, All, refl, rules, sym, ap, ◌∙◌, subst, arith}
 use Rattle.std.proofs.lemmas.List.{length-append}
+use Rattle.job_model.specs.declared.payload.TheConstants.{PAYLOAD_CAPACITY}
 use Rattle.wire_msg.specs.Envelope.{Envelope}
 use Rattle.trace_check.specs.declared.kept.PackedAction.{PackedAction}
-use Rattle.trace_check.specs.declared.kept.PackedEntry.{PackedEntry}
+use Rattle.trace_check.specs.declared.stored.StoredEntry.{StoredEntry}
 use Rattle.trace_check.specs.declared.trace.TraceAction.{TraceAction}
 use Rattle.trace_check.specs.Claims.{Claim, brought_by}
 use Rattle.trace_check.specs.Traces.{claim}
-use Rattle.trace_check.specs.Kept.{kept_deed, payload_in, claim_said, EntryStands}
-use Rattle.trace_check.proofs.KeptEntries.{kept_entry, claims_more, all_stand_more}
+use Rattle.trace_check.specs.Kept.{kept_deed, payload_in, DeedStands}
+use Rattle.trace_check.specs.Stored.{claim_stored, entry_of, deed_of, IsStored}
+use Rattle.trace_check.proofs.Leftovers.{brings_few}
+use Rattle.trace_check.proofs.KeptEntries.{kept_entry, claims_more, all_stand_more, deed_stands, deed_longer}
 use Rattle.trace_check.proofs.history.History.push.Goals as goal
 
-abbrev kept_at : PackedAction → ℕ → ℕ → PackedEntry
-kept_at d s e = record { deed = d; start = s; end = e }
+-- the lists, once what was done, the messages and the entry stand in them, in this order
+module _ (es0 es es2 : List StoredEntry) (ms0 ms ms1 ms2 : List Envelope) (p0 p p1 : List ℕ) (d : TraceAction) (sent : List Envelope) (deed : PackedAction) (few : length (payload_in d) ≤ PAYLOAD_CAPACITY) (entries : es0 ≡ es) (before : ms0 ≡ ms) (bytes : p0 ≡ p)
+    (brought : ms1 ≡ ms0 ++ brought_by d) (all : ms2 ≡ ms1 ++ sent) (payloads : p1 ≡ p0 ++ payload_in d) (is : deed ≡ kept_deed (length ms0) (length p0) d) where
+  small : length ms + length sent + 1 < 2 ^ 32 → length p + PAYLOAD_CAPACITY < 2 ^ 32 → DeedStands (2 ^ 32 - 1) (2 ^ 32 - 1) deed
+  small messages places =
+      let one = brings_few d in
+      let first = length-append ms0 (brought_by d) in
+      let second = length-append p0 (payload_in d) in
+      let m = ap length before in
+      let b = ap length bytes in
+      subst (λ (x : PackedAction). DeedStands (2 ^ 32 - 1) (2 ^ 32 - 1) x) (sym is)
+      (deed_longer (length (ms0 ++ brought_by d)) (2 ^ 32 - 1) (length (p0 ++ payload_in d)) (2 ^ 32 - 1) (kept_deed (length ms0) (length p0) d) (omega (arith, first, one, m)) (omega (arith, second, b)) (deed_stands ms0 p0 d few))
 
-same_entry : (d d' : PackedAction) (s s' e e' : ℕ) → d ≡ d' → s ≡ s' → e ≡ e' → kept_at d s e ≡ kept_at d' s' e'
-same_entry d d' s s' e e' deed start end =
-    ap (λ (x : PackedAction). kept_at x s e) deed ∙ ap (λ (k : ℕ). kept_at d' k e) start ∙ ap (λ (k : ℕ). kept_at d' s' k) end
+  module _ (e : StoredEntry) (stored : deed_of e.deed ≡ deed) (start : e.start ≡ length ms1) (end : e.end ≡ length ms2) (pushed : es2 ≡ es0 ++ e ∷ []) (stand : All (IsStored (length ms) (length p)) es) where
+    is_kept : entry_of e ≡ kept_entry (length ms) (length p) d sent
+    is_kept =
+        let first : length ms1 ≡ length ms + length (brought_by d) = ap length brought ∙ length-append ms0 (brought_by d) ∙ ap (λ (k : ℕ). k + length (brought_by d)) (ap length before) in
+        let deed_is : deed_of e.deed ≡ kept_deed (length ms) (length p) d =
+        stored ∙ is ∙ ap (λ (xs : List Envelope). kept_deed (length xs) (length p0) d) before ∙ ap (λ (xs : List ℕ). kept_deed (length ms) (length xs) d) bytes in
+        let begins : e.start ≡ length ms + length (brought_by d) = start ∙ first in
+        let ends : e.end ≡ length ms + length (brought_by d) + length sent = end ∙ ap length all ∙ length-append ms1 sent ∙ ap (λ (k : ℕ). k + length sent) first in
+        λ i. record { deed = deed_is i; start = begins i; end = ends i }
 
-claims_by : (es : List PackedEntry) (ms ms' : List Envelope) (p p' : List ℕ) (cs : List Claim) → ms ≡ ms' → p ≡ p' → map (claim_said ms' p') es ≡ cs → map (claim_said ms p) es ≡ cs
-claims_by es ms ms' p p' cs m b is = ap (λ (xs : List Envelope). map (claim_said xs p) es) m ∙ ap (λ (xs : List ℕ). map (claim_said ms' xs) es) b ∙ is
+    whole : ms2 ≡ ms ++ brought_by d ++ sent
+    whole = all ∙ ap (λ (xs : List Envelope). xs ++ sent) (brought ∙ ap (λ (xs : List Envelope). xs ++ brought_by d) before)
 
-all_by : (es es' : List PackedEntry) (ms ms' : List Envelope) (p p' : List ℕ) → es ≡ es' → ms ≡ ms' → p ≡ p' → All (EntryStands (length ms') (length p')) es' → All (EntryStands (length ms) (length p)) es
-all_by es es' ms ms' p p' e m b h = rw (e, m, b) h
+    said : map (claim_stored ms2 p1) es2 ≡ map (claim_stored ms p) es ++ claim d sent ∷ []
+    said = rw (pushed, entries, whole, payloads, bytes) (claims_more es e ms p d sent few is_kept stand)
 
--- what the three lists hold once the deed, the messages and the entry stand in them, in this order
-kept_behind : (es0 es es2 : List PackedEntry) (ms0 ms ms1 ms2 : List Envelope) (p0 p p1 : List ℕ) (d : TraceAction) (sent : List Envelope) (deed : PackedAction) (start end : ℕ) → es0 ≡ es → ms0 ≡ ms → p0 ≡ p → ms1 ≡ ms0 ++ brought_by d
-    → ms2 ≡ ms1 ++ sent → p1 ≡ p0 ++ payload_in d → deed ≡ kept_deed (length ms0) (length p0) d → start ≡ length ms1 → end ≡ length ms2 → es2 ≡ es0 ++ kept_at deed start end ∷ []
-    → (es2 ≡ es ++ kept_entry (length ms) (length p) d sent ∷ []) × (ms2 ≡ ms ++ brought_by d ++ sent) × (p1 ≡ p ++ payload_in d)
-kept_behind es0 es es2 ms0 ms ms1 ms2 p0 p p1 d sent deed start end entries before bytes brought all payloads is from to pushed =
-    let messages : ms1 ≡ ms ++ brought_by d = brought ∙ ap (λ (xs : List Envelope). xs ++ brought_by d) before in
-    let whole : ms2 ≡ ms ++ brought_by d ++ sent = all ∙ ap (λ (xs : List Envelope). xs ++ sent) messages in
-    let kept : deed ≡ kept_deed (length ms) (length p) d = is ∙ ap (λ (xs : List Envelope). kept_deed (length xs) (length p0) d) before ∙ ap (λ (xs : List ℕ). kept_deed (length ms) (length xs) d) bytes in
-    let begins : start ≡ length ms + length (brought_by d) = from ∙ ap (λ (xs : List Envelope). length xs) messages ∙ length-append ms (brought_by d) in
-    let ends : end ≡ length ms + length (brought_by d) + length sent =
-    to ∙ ap (λ (xs : List Envelope). length xs) whole ∙ length-append (ms ++ brought_by d) sent ∙ ap (λ (k : ℕ). k + length sent) (length-append ms (brought_by d)) in (
-      pushed ∙ ap (λ (xs : List PackedEntry). xs ++ kept_at deed start end ∷ []) entries ∙ ap (λ (e : PackedEntry). es ++ e ∷ []) (same_entry _ _ _ _ _ _ kept begins ends),
-      whole,
-      payloads ∙ ap (λ (xs : List ℕ). xs ++ payload_in d) bytes,
-    )
+    all_stand : All (IsStored (length ms2) (length p1)) es2
+    all_stand = rw (pushed, entries, whole, payloads, bytes) (all_stand_more es e ms p d sent few is_kept stand)
+
+pub stored_deed-requires : goal.stored_deed-requires
+stored_deed-requires c =
+    let was = c.self.inside in
+    let room : (c.len.result + length c.args.sent.now + 1 < 2 ^ 32) × (c.len-2.result + PAYLOAD_CAPACITY < 2 ^ 32) = c.is_room.ensures.0 (search rules) in
+    let messages = c.len.ensures in
+    let payloads = c.len-2.ensures in
+    let first = room.0 in
+    let second = room.1 in
+    small was.entries.items was.entries.items was.entries.items _ was.messages.messages _ _ _ was.payloads.items _ c.args.deed.now c.args.sent.now _ c.keep_deed-deed.ensures.few refl c.in_ok-reserve-3.ensures.messages c.in_ok-reserve-2.ensures.items
+    c.keep_deed-deed.ensures.messages c.keep_messages.ensures c.keep_deed-deed.ensures.payloads c.keep_deed-deed.ensures.value (omega (arith, messages, first)) (omega (arith, payloads, second))
 
 pub returns-clause-added : goal.returns-clause-added
 returns-clause-added c =
     let was = c.self.inside in
-    let ms = was.messages.messages in
-    let p = was.payloads.items in
-    let d = c.args.deed.now in
-    let sent = c.args.sent.now in
-    let kept = kept_behind _ was.entries.items _ _ ms _ _ _ p _ d sent _ _ _ c.in_ok-reserve.ensures.items c.in_ok-reserve-3.ensures.messages c.in_ok-reserve-2.ensures.items c.keep_deed-deed.ensures.messages c.keep_messages.ensures
-    c.keep_deed-deed.ensures.payloads c.keep_deed-deed.ensures.value c.len-start.ensures c.len.ensures c.push_reserved.ensures.items in
-    claims_by _ _ _ _ _ (c.args.self.now ++ claim d sent ∷ []) kept.1 kept.2
-    (ap (λ (es : List PackedEntry). map (claim_said (ms ++ brought_by d ++ sent) (p ++ payload_in d)) es) kept.0
-    ∙ claims_more was.entries.items ms p d sent c.keep_deed-deed.ensures.few c.self.invariant ∙ ap (λ (cs : List Claim). cs ++ claim d sent ∷ []) c.self.view_is)
+    said _ was.entries.items _ _ was.messages.messages _ _ _ was.payloads.items _ c.args.deed.now c.args.sent.now _ c.keep_deed-deed.ensures.few c.in_ok-reserve.ensures.items c.in_ok-reserve-3.ensures.messages c.in_ok-reserve-2.ensures.items
+    c.keep_deed-deed.ensures.messages c.keep_messages.ensures c.keep_deed-deed.ensures.payloads c.keep_deed-deed.ensures.value _ c.stored_deed.ensures c.len-start.ensures c.len-3.ensures c.push_reserved.ensures.items c.self.invariant
+    ∙ ap (λ (cs : List Claim). cs ++ claim c.args.deed.now c.args.sent.now ∷ []) c.self.view_is
 
 pub invariant_of-self-2 : goal.invariant_of-self-2
 invariant_of-self-2 c =
     let was = c.self.inside in
-    let d = c.args.deed.now in
-    let sent = c.args.sent.now in
-    let kept = kept_behind _ was.entries.items _ _ was.messages.messages _ _ _ was.payloads.items _ d sent _ _ _ c.in_ok-reserve.ensures.items c.in_ok-reserve-3.ensures.messages c.in_ok-reserve-2.ensures.items c.keep_deed-deed.ensures.messages
-    c.keep_messages.ensures c.keep_deed-deed.ensures.payloads c.keep_deed-deed.ensures.value c.len-start.ensures c.len.ensures c.push_reserved.ensures.items in
-    all_by _ _ _ _ _ _ kept.0 kept.1 kept.2 (all_stand_more was.entries.items was.messages.messages was.payloads.items d sent c.keep_deed-deed.ensures.few c.self.invariant)
+    all_stand _ was.entries.items _ _ was.messages.messages _ _ _ was.payloads.items _ c.args.deed.now c.args.sent.now _ c.keep_deed-deed.ensures.few c.in_ok-reserve.ensures.items c.in_ok-reserve-3.ensures.messages c.in_ok-reserve-2.ensures.items
+    c.keep_deed-deed.ensures.messages c.keep_messages.ensures c.keep_deed-deed.ensures.payloads c.keep_deed-deed.ensures.value _ c.stored_deed.ensures c.len-start.ensures c.len-3.ensures c.push_reserved.ensures.items c.self.invariant

@@ -6,7 +6,7 @@ use Rattle.node_lock.specs.Sending.{SentOn}
 use Rattle.node_lock.specs.Taking.{turn_of}
 use Rattle.node_lock.proofs.Keeping.{sent_since}
 use Rattle.node_lock.proofs.Putting.{ends_same}
-use Rattle.node_lock.proofs.turn.hand.Goals as goal
+use Rattle.node_lock.proofs.turn.Site.hand.Goals as goal
 
 pub returns-clause-taken : goal.returns-clause-taken
 returns-clause-taken c =
@@ -17,10 +17,10 @@ returns-clause-taken c =
         did = c.in_ok-event_outcome.ensures.did;
         id = c.in_ok-event_outcome.ensures.id;
         nodes = c.in_ok-event_outcome.ensures.nodes;
-        sent = sent_since c.in_ok-event_outcome.sent.items c.args.puts.now.items c.make_room.new.puts.items c.send_all.new.puts.items c.make_room.ensures.same (subst (λ (l : List Envelope). SentOn l c.make_room.new.puts.items c.send_all.new.puts.items) c.deref.ensures.value c.send_all.ensures);
+        sent = sent_since c.in_ok-event_outcome.sent.items c.args.self.now.puts.items c.make_room.new.puts.items c.send_all.new.puts.items c.make_room.ensures.same (subst (λ (l : List Envelope). SentOn l c.make_room.new.puts.items c.send_all.new.puts.items) c.deref.ensures.value c.send_all.ensures);
         turns = c.push.ensures ∙ (λ i. c.make_room.ensures.turns i ++ turn_of c.args.worker c.args.index (record { what = what; sent = c.deref-2.ensures.value i }) ∷ []);
       },
     )
 
 pub send_all-requires-clause-ends : goal.send_all-requires-clause-ends
-send_all-requires-clause-ends c = (c.args.node.now.id, ends_same c.args.node.now.id c.args.puts.now.items c.make_room.new.puts.items c.requires.ends c.make_room.ensures.same)
+send_all-requires-clause-ends c = (c.args.self.now.node.id, ends_same c.args.self.now.node.id c.args.self.now.puts.items c.make_room.new.puts.items c.requires.1 c.make_room.ensures.same)

@@ -9,12 +9,12 @@ use Rattle.node_lock.specs.Doing.{TurnDid, WasCrashed}
 use Rattle.node_lock.specs.History.{Turn}
 use Rattle.node_lock.specs.Taking.{turn_of}
 use Rattle.node_lock.proofs.Taking.{nothing_sent}
-use Rattle.node_lock.proofs.turn.operate.Goals as goal
+use Rattle.node_lock.proofs.turn.Site.operate.Goals as goal
 
 -- the bytes that the operator's order leaves
 pub returns-in-Crash-clause-taken : goal.returns-in-Crash-clause-taken
 returns-in-Crash-clause-taken c =
-    let old = c.args.node.now in
+    let old = c.args.self.now.node in
     let new = c.crash.new.self in
     let crashed : WasCrashed c.as_slice.result.now old new = record { there = c.crash.ensures.there; down = c.crash.ensures.down; disk = c.crash.ensures.disk; stands = c.crash.ensures.stands } in
     let did : TurnDid old (asked_in c.args.order.now) Crashed [] new =

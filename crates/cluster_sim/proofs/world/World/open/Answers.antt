@@ -1,5 +1,5 @@
 use Rattle.cluster_sim.proofs.Opening.{starts}
-use Rattle.cluster_sim.proofs.nodes.Nodes.open.Goals as goal
+use Rattle.cluster_sim.proofs.world.World.open.Goals as goal
 
 pub returns-clause-starts : goal.returns-clause-starts
 returns-clause-starts c = starts c.args.slots c.args.nodes c.in_ok-members.members.items c.new.result.network c.in_ok-members.ensures (λ i. (c.new.ensures i).network)
