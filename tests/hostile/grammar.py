@@ -1,11 +1,11 @@
 """Which lines can be read, from docs/SIMULATION.md and docs/FORMATS.md."""
 import re
+from node_model import TIMERS
 from spelling import HAS_PRIORITIES
 from wire import Malformed, decode
 
 GREATEST = 2**64 - 1
 MOST_ACTS = 65_536
-TIMERS = ("check", "merge", "accept", "ready", "coord", "dispatch")
 
 
 def is_number(word, most=GREATEST, least=0):

@@ -3,6 +3,7 @@ ever fails here, but that a trace says so."""
 from wire import decode, encode
 
 DOWN, ELECTION, REORGANIZATION, NORMAL = "Down", "Election", "Reorganization", "Normal"
+TIMERS = ("check", "merge", "accept", "ready", "coord", "dispatch")
 
 
 class Denied(Exception):

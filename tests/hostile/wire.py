@@ -1,8 +1,21 @@
 """Messages, streams and the commands `show` and `answer`, written from docs/FORMATS.md and docs/PROTOCOL.md and not from the program."""
+import os, re
 from spelling import HAS_PRIORITIES
 
-NAMES = {1: "AreYouCoordinator", 2: "Coordinator", 3: "AreYouThere", 4: "Here", 5: "Invitation", 6: "Accept", 7: "Ready", 8: "ReadyAck", 9: "Work", 10: "Done", 11: "Work"}
-LENGTHS = {1: 0, 2: 1, 3: 9, 4: 10, 5: 9, 6: 9, 8: 9, 10: 8}
+PAGE = os.path.join(os.path.dirname(os.path.abspath(__file__)), "../../docs/FORMATS.md")
+
+
+def table():
+    """The rows of the page's table of kinds: number, name, fields and length of the body."""
+    with open(PAGE) as file:
+        return [(int(row[0], 16), *row[1:]) for row in re.findall(r"^\| ([0-9a-f]{2}) \| (\w+) \| ([^|]+) \| ([^|]+) \|", file.read(), re.M)]
+
+
+KINDS = table()
+NAMES = {kind: name for kind, name, _, _ in KINDS}
+LENGTHS = {kind: int(length) for kind, _, _, length in KINDS if length.isdigit()}
+WITH_GROUP = {kind for kind, _, fields, _ in KINDS if re.match("group", fields)}
+WITH_TRUTH = {kind for kind, _, fields, _ in KINDS if re.search("truth$", fields)}
 
 
 class Malformed(Exception):
@@ -23,11 +36,11 @@ def body_of(kind, body):
     if kind in LENGTHS:
         need(len(body) == LENGTHS[kind])
     said = {}
-    if kind in (3, 4, 5, 6, 7, 8, 9, 11):
+    if kind in WITH_GROUP:
         need(len(body) >= 9)
         said["group"] = (body[0], number(body[1:9]))
         need(said["group"][1] >= 1)
-    if kind in (2, 4):
+    if kind in WITH_TRUTH:
         need(body[-1] <= 1)
         said["truth"] = body[-1] == 1
     if kind == 7:

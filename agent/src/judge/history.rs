@@ -6,7 +6,8 @@ use super::{NodeRecord, RecordError};
 use crate::node::{Closing, Group, Phase};
 use serde_json::{json, Map, Value};
 
-const TIMERS: [&str; 7] = ["check", "merge", "accept", "ready", "coord", "dispatch", "recover"];
+/// The requests that are no events. `tick` and `lost` name theirs.
+const NO_EVENTS: [&str; 3] = ["compact", "state", "jobs"];
 
 /// So many groups that a node made without an answer are put into a trace beyond those of its recoveries: one answer names fewer.
 const MAX_UNKNOWN: u64 = 64;
@@ -132,7 +133,7 @@ impl<'a> History<'a> {
         }
         if ["tick", "lost"].contains(&word) {
             events.remove(0); // what stands before was sent before
-        } else if !TIMERS.contains(&word) && !["deliver", "submit", "finish"].contains(&word) {
+        } else if NO_EVENTS.contains(&word) {
             return Some(());
         }
         let count = events.len();

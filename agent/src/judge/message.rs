@@ -30,14 +30,14 @@ pub fn message_of(digits: &str, begins: &[Begin]) -> String {
     let (kind, sender, receiver) = (bytes[1], begin(bytes.get(2)), begin(bytes.get(3)));
     let creator = begin(bytes.get(HEAD));
     match kind {
-        // the group; and of a Work the id that its sender gave the job
-        3..=8 => lower(&mut bytes, HEAD + 1, creator.count),
+        // of a Work the group, and the id that its sender gave the job
         9 | 11 => {
             lower(&mut bytes, HEAD + 1, creator.count);
             lower(&mut bytes, HEAD + 9, sender.id);
         }
         10 => lower(&mut bytes, HEAD, receiver.id),
-        _ => {}
+        // the group, where the body is long enough to name one
+        _ => lower(&mut bytes, HEAD + 1, creator.count),
     }
     hex::encode(bytes)
 }
@@ -51,6 +51,7 @@ mod tests {
         let begins = [Begin { count: 16, id: 3 }, Begin { count: 1, id: 0 }];
         let rows = [
             ("010100010000", "010100010000"),
+            ("0102000100010100000000000000ff", "01020001000101"),
             ("01080001000900000000000000001200ff", "010800010009000000000000000002"),
             ("010601000009010000000000000002", "010601000009010000000000000001"),
             (

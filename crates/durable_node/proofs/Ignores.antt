@@ -84,12 +84,7 @@ few_ignored n why came is = (let none : length came.sent.items ≡ 0 = ap length
 
 -- a node that is down takes memory for no event but Recover that it doesn't refuse first
 spared : (nodes id : ℕ) (event : Event) → event ≢ Recover → takes_memory id event (down id) ≡ true → refusal_of nodes id event (down id) ≡ None → ⊥
-spared nodes id (on.Timer timer.Check) other takes none = cc
-spared nodes id (on.Timer timer.Merge) other takes none = cc
-spared nodes id (on.Timer timer.Accept) other takes none = cc
-spared nodes id (on.Timer timer.Ready) other takes none = cc
-spared nodes id (on.Timer timer.Coord) other takes none = cc
-spared nodes id (on.Timer timer.Dispatch) other takes none = cc
+spared nodes id on.Recover other takes none = absurd (other refl)
 spared nodes id (on.Deliver m) other takes none = by_body m.body takes
   where
     never : (b : Bool) → (b && false) ≡ true → ⊥
@@ -97,19 +92,10 @@ spared nodes id (on.Deliver m) other takes none = by_body m.body takes
     never false takes = cc
 
     by_body : (body : Body) → delivered_takes id m.sender body (down id) ≡ true → ⊥
-    by_body (says.Coordinator agreed) takes = cc
-    by_body (says.Here group agreed) takes = cc
-    by_body (says.Invitation group) takes = cc
-    by_body (says.Accept group) takes = cc
     by_body (says.Ready task) takes = never (is_told id m.sender task (down id)) takes
-    by_body (says.ReadyAck group) takes = cc
-    by_body (says.Work group job work) takes = cc
-    by_body (says.Done job) takes = cc
-    by_body says.AreYouCoordinator takes = cc
-    by_body (says.AreYouThere group) takes = cc
-spared nodes id (on.Submit work) other takes none = cc
-spared nodes id (on.Finish origin job) other takes none = cc
-spared nodes id on.Recover other takes none = absurd (other refl)
+    by_body body takes = cc
+spared nodes id (on.Timer timer.Check) other takes none = cc
+spared nodes id event other takes none = cc
 
 -- what a plan that was refused says at a node that is down
 pub refused_so : (nodes id : ℕ) (event : Event) (s : State) (fault : CoreFault) → s ≡ down id → event ≢ Recover

@@ -1,6 +1,7 @@
 mod Answering
 mod Deliveries
 mod Joins
+mod Pairs
 mod Sessions
 mod Shown
 mod Sents

@@ -1,5 +1,5 @@
 -- Hex lines, put together.
-use Rattle.std.specs.Prelude.{ℕ, ◌+◌, List, [], ◌∷◌, ◌++◌, Option, Some, None, Result, Ok, Err, codes, decimal}
+use Rattle.std.specs.Prelude.{ℕ, ◌+◌, List, [], ◌∷◌, ◌++◌, Option, Some, None, option_map, Result, Ok, Err, codes, decimal}
 use Rattle.line_words.specs.Lines.{bytes_of, lines_of}
 use Rattle.console_text.specs.Ends.{Outcome, refused}
 
@@ -21,6 +21,16 @@ hex_lines_from n (line ∷ lines) = joined n (line_bytes line) (hex_lines_from (
 
 abbrev pub hex_lines_of : List ℕ → Result (List ℕ) ℕ
 hex_lines_of input = hex_lines_from 1 (lines_of input)
+
+-- bytes, and more behind them, where both are there
+abbrev pub then_bytes : Option (List ℕ) → Option (List ℕ) → Option (List ℕ)
+then_bytes None later = None
+then_bytes (Some bytes) later = option_map (λ more. bytes ++ more) later
+
+-- the bytes of all lines, where each can be read
+abbrev pub all_bytes : List (List ℕ) → Option (List ℕ)
+all_bytes [] = Some []
+all_bytes (line ∷ lines) = then_bytes (line_bytes line) (all_bytes lines)
 
 -- what a command prints for the bytes that its lines spell; nothing is run where a line can't be read
 abbrev pub over_read : (List ℕ → Outcome) → Result (List ℕ) ℕ → Outcome

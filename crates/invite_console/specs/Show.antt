@@ -1,37 +1,26 @@
 -- The text of the command `show`.
 use Rattle.std.specs.Prelude.{ℕ, List, [], ◌++◌, codes, decimal, length, true, Option, Some, None, if◌then◌else◌, ◌==◌}
 use Rattle.std.specs.List.{flat_map}
-use Rattle.group_task.specs.Group.{Group}
-use Rattle.group_task.specs.Assignment.{Assignment}
-use Rattle.job_model.specs.declared.work.Work.{Work as JobWork}
 use Rattle.wire_msg.specs.Envelope.{Envelope}
 use Rattle.wire_msg.specs.declared.body.Body.{Body}
-use Rattle.wire_msg.specs.declared.body.Body.TheVariants.{AreYouCoordinator, Coordinator, AreYouThere, Here, Invitation, Accept, Ready, ReadyAck, Work, Done}
+use Rattle.wire_msg.specs.declared.body.Body.TheVariants.{Ready, Work, Done}
+use Rattle.wire_msg.specs.Kinds.{group_in}
 use Rattle.wire_msg.specs.Contents.{messages_in, unfinished_in}
 use Rattle.console_text.specs.Ends.{Outcome, line, refused, before}
 use Rattle.console_text.specs.Words.{work_text}
-use Rattle.node_words.specs.Words.{group_text, ids_text, truth_text}
+use Rattle.node_words.specs.Words.{answer_part, ids_text, kind_word, named_part}
 use Rattle.invite_console.specs.Lines.{over_hex_lines}
 
-abbrev pub task_text : Assignment → List ℕ
-task_text task = codes "Ready " ++ group_text task.group ++ codes " members " ++ ids_text task.members
+-- what a message says beside its kind and its group
+abbrev pub fields_text : Body → List ℕ
+fields_text (Ready task) = codes " members " ++ ids_text task.members
+fields_text (Work g id work) = codes " " ++ decimal id ++ codes " " ++ work_text work.queue work.payload work.priority
+fields_text (Done id) = codes " " ++ decimal id
+fields_text body = answer_part body
 
-abbrev pub order_text : Group → ℕ → JobWork → List ℕ
-order_text g id work =
-    codes "Work " ++ group_text g ++ codes " " ++ decimal id ++ codes " " ++ work_text work.queue work.payload work.priority
-
--- what a message says: its name, and then its fields
+-- what a message says: its kind, the group that it names, and its other fields
 abbrev pub body_text : Body → List ℕ
-body_text AreYouCoordinator = codes "AreYouCoordinator"
-body_text (Coordinator answer) = codes "Coordinator " ++ truth_text answer
-body_text (AreYouThere g) = codes "AreYouThere " ++ group_text g
-body_text (Here g answer) = codes "Here " ++ group_text g ++ codes " " ++ truth_text answer
-body_text (Invitation g) = codes "Invitation " ++ group_text g
-body_text (Accept g) = codes "Accept " ++ group_text g
-body_text (Ready task) = task_text task
-body_text (ReadyAck g) = codes "ReadyAck " ++ group_text g
-body_text (Work g id work) = order_text g id work
-body_text (Done id) = codes "Done " ++ decimal id
+body_text body = kind_word body ++ named_part (group_in body) ++ fields_text body
 
 abbrev pub message_text : Envelope → List ℕ
 message_text m = decimal m.sender ++ codes ">" ++ decimal m.receiver ++ codes " " ++ body_text m.body

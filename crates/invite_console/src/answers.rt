@@ -34,7 +34,8 @@ pub fn answer<R: Read, W: Write>(
     // Refuses: answer_without_its_input, stranger_is_answered, answers_said_again.
     // Promise: `malformed` stands behind the answers before a bad frame, nothing for an unfinished frame; `bad line N` alone for
     // the first line that can't be read; `no memory` alone; the status goes with it.
-    // Refuses: malformed_is_not_printed, unfinished_frame_refused, last_line_dropped, lines_are_miscounted.
+    // Refuses: malformed_is_not_printed, unfinished_frame_refused, last_line_dropped, lines_are_miscounted, odd_line_passed_over,
+    // digits_of_a_piece_dropped.
     ensures prints { Prints (IsFixed (answer_text id nodes)) (R.remaining input.old.reader) (W.contents output.old) (W.contents output.new) result.ending }
     // Promise: What is said to be wrong with an input is said of its first line that can't be read, by the number of that line; of
     // a stream, of what its last line says.

@@ -12,6 +12,7 @@
 mod acts;
 mod answers;
 mod details;
+mod digits;
 mod lines;
 mod printing;
 mod reasons;

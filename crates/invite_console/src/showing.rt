@@ -1,8 +1,7 @@
-ghost use Rattle.std.specs.Prelude.{◌≡◌, ◌≤◌, ◌+◌, ◌++◌, [], IfOk, OnOk, codes};
+ghost use Rattle.std.specs.Prelude.{◌≡◌, ◌≤◌, ◌+◌, ◌++◌, [], IfOk, OnOk};
 ghost use Rattle.console_text.specs.Ends.{line, outcome_of, IsFixed, IsWhy, Prints};
 ghost use Rattle.invite_console.specs.Reasons.{show_flaw};
-ghost use Rattle.invite_console.specs.Show.{body_text, message_text, rest_text, shown_of, show_text, task_text, order_text};
-ghost use Rattle.node_words.specs.Words.{group_text, truth_text};
+ghost use Rattle.invite_console.specs.Show.{body_text, fields_text, message_text, rest_text, shown_of, show_text};
 
 use crate::lines::hex_lines;
 use crate::reasons::{bad_hex, with_reason};
@@ -10,10 +9,8 @@ use console_text::{
     CommandError, Ended, IoTrouble, Output, Source, print_explained, push_named_number,
     push_number, push_text, read_source,
 };
-use group_task::{GroupNo, Task};
-use job_model::Work;
 use line_words::LineFault;
-use node_words::{push_group, push_ids, push_truth, push_work_of};
+use node_words::{kind_word, push_answer, push_ids, push_named, push_work_of};
 use std::alloc::{AllocError, Global};
 use std::io::{Read, Write};
 use wire_msg::{Body, Message, decode_front};
@@ -23,7 +20,7 @@ use wire_msg::{Body, Message, decode_front};
 pub fn show<R: Read, W: Write>(alloc: Global, input: &mut Source<R>, output: &mut W) -> Ended
     // Promise: What `show` writes is the stated text of the bytes that were read: a line for each message, `rest N` behind the
     // last, `malformed` in place of what follows a bad frame; bad lines and memory as above.
-    // Refuses: show_without_its_input, wrong_word_shown, node_words::yes_for_no, short_rest_not_shown.
+    // Refuses: show_without_its_input, node_words::wrong_word_shown, node_words::yes_for_no, group_not_shown, short_rest_not_shown.
     ensures prints { Prints (IsFixed show_text) (R.remaining input.old.reader) (W.contents output.old) (W.contents output.new) result.ending }
     ensures why { IsWhy show_flaw (R.remaining input.old.reader) result.ending result.why.items }
     ensures reads { input.old.left ≤ input.new.left + 16777216 }
@@ -108,52 +105,25 @@ pub(crate) fn push_shown(text: &mut Vec<u8>, message: &Message) -> Result<(), Al
 fn push_body(text: &mut Vec<u8>, body: &Body) -> Result<(), AllocError>
     ensures { OnOk result (text.new.items ≡ text.old.items ++ body_text body.now) }
 {
+    push_text(text, kind_word(body))?;
+    push_named(text, body.group())?;
+    push_fields(text, body)
+}
+
+fn push_fields(text: &mut Vec<u8>, body: &Body) -> Result<(), AllocError>
+    ensures { OnOk result (text.new.items ≡ text.old.items ++ fields_text body.now) }
+{
     match body {
-        Body::AreYouCoordinator => push_text(text, "AreYouCoordinator"),
-        Body::Coordinator(answer) => push_named_truth(text, *answer),
-        Body::AreYouThere(group) => push_named(text, "AreYouThere ", *group),
-        Body::Here(group, answer) => {
-            push_named(text, "Here ", *group)?;
-            push_text(text, " ")?;
-            push_truth(text, *answer)
+        Body::Ready(task) => {
+            push_text(text, " members ")?;
+            push_ids(text, task.members())
         }
-        Body::Invitation(group) => push_named(text, "Invitation ", *group),
-        Body::Accept(group) => push_named(text, "Accept ", *group),
-        Body::Ready(task) => push_task(text, task),
-        Body::ReadyAck(group) => push_named(text, "ReadyAck ", *group),
-        Body::Work { group, id, work } => push_order(text, *group, *id, work),
-        Body::Done(id) => push_named_number(text, "Done ", *id),
+        Body::Work { id, work, .. } => {
+            push_named_number(text, " ", *id)?;
+            push_text(text, " ")?;
+            push_work_of(text, work)
+        }
+        Body::Done(id) => push_named_number(text, " ", *id),
+        _ => push_answer(text, body),
     }
-}
-
-fn push_named_truth(text: &mut Vec<u8>, answer: bool) -> Result<(), AllocError>
-    ensures { OnOk result (text.new.items ≡ text.old.items ++ (codes "Coordinator " ++ truth_text answer)) }
-{
-    push_text(text, "Coordinator ")?;
-    push_truth(text, answer)
-}
-
-/// Adds a message's name, and the group that it is about.
-fn push_named(text: &mut Vec<u8>, name: &str, group: GroupNo) -> Result<(), AllocError>
-    ensures { OnOk result (text.new.items ≡ text.old.items ++ (name.now ++ group_text group)) }
-{
-    push_text(text, name)?;
-    push_group(text, group)
-}
-
-fn push_task(text: &mut Vec<u8>, task: &Task) -> Result<(), AllocError>
-    ensures { OnOk result (text.new.items ≡ text.old.items ++ task_text task.now) }
-{
-    push_named(text, "Ready ", task.group())?;
-    push_text(text, " members ")?;
-    push_ids(text, task.members())
-}
-
-fn push_order(text: &mut Vec<u8>, group: GroupNo, id: u64, work: &Work) -> Result<(), AllocError>
-    ensures { OnOk result (text.new.items ≡ text.old.items ++ order_text group id work.now) }
-{
-    push_named(text, "Work ", group)?;
-    push_named_number(text, " ", id)?;
-    push_text(text, " ")?;
-    push_work_of(text, work)
 }

@@ -5,8 +5,8 @@ use Rattle.std.specs.List.{filter}
 use Rattle.std.proofs.lemmas.Bool.Decides.{nat_tests}
 use Rattle.std.proofs.lemmas.List.{length-append}
 use Rattle.std.proofs.lemmas.Option.{same_Some}
-use Rattle.group_task.specs.Group.{Group, same_group}
-use Rattle.group_task.specs.Ids.{has, with_id, without_id, either_of, ids_below, RisesWithin, IsSet}
+use Rattle.group_task.specs.Group.{Group}
+use Rattle.group_task.specs.Ids.{with_id, without_id, either_of, ids_below, RisesWithin, IsSet}
 use Rattle.group_task.specs.declared.node.TheConstants.{NODES}
 use Rattle.job_model.specs.declared.job.Job.{Job}
 use Rattle.job_model.specs.Durable.{Durable}
@@ -19,13 +19,13 @@ use Rattle.node_core.specs.declared.timer.Timer.{Timer}
 use Rattle.node_core.specs.declared.timer.Timer.TheVariants as timer
 use Rattle.node_core.specs.State.{State, is_down, in_phase}
 use Rattle.node_core.specs.Effect.{Effect, quietly}
-use Rattle.node_core.specs.Words.{letter, to_each, is_empty, leads_in, members_of, owner, holds, own_group, task_of}
+use Rattle.node_core.specs.Words.{letter, to_each, is_empty, leads_in, owner, own_group, task_of}
 use Rattle.node_core.specs.declared.phase.Phase.{Phase}
 use Rattle.node_core.specs.declared.phase.Phase.TheVariants as phase
 use Rattle.node_core.specs.Priorities.{by_priority}
-use Rattle.node_core.specs.Timers.{timed, merges, follows, orders}
+use Rattle.node_core.specs.Timers.{timed, merges, orders}
 use Rattle.node_core.proofs.PublicLaws.{few_by_priority}
-use Rattle.node_core.specs.Messages.{delivered, was_probed, takes_invitation, passed_on, is_told}
+use Rattle.node_core.specs.Messages.{delivered, takes_invitation, passed_on}
 use Rattle.node_core.specs.Effects.{effect_of}
 use Rattle.sector_disk.specs.Memory.{Memory}
 use Rattle.histories.specs.declared.event_outcome.EventOutcome.{EventOutcome}
@@ -204,18 +204,8 @@ module _ (nodes self j : ℕ) (s : State) (up : IsSet s.up) (found : IsSet s.fou
 
   body_once : (from : ℕ) (body : Body) (answer : ℕ) → SendsOnce j (delivered self from body answer s)
   unfolding delivered
-  body_once from says.AreYouCoordinator answer = by (is_down s.phase) _ _ (quiet s) (sends_one s from (says.Coordinator (leads_in phase.Normal self s)))
-  body_once from (says.Coordinator agreed) answer = when (agreed && merges self s) _ (quiet _)
-  body_once from (says.AreYouThere group) answer = by (is_down s.phase) _ _ (quiet s) (sends_one s from (says.Here group (same_group group s.group && s.coordinator == self && has s.up from)))
-  body_once from (says.Here group agreed) answer = when (was_probed from group s) _ (by agreed _ _ (quiet _) (quiet _))
   body_once from (says.Invitation group) answer = when (takes_invitation self group s) _ (record { few = passes group })
-  body_once from (says.Accept group) answer = when (in_phase phase.Election s.phase && s.coordinator == self && same_group group s.group) _ (quiet _)
-  body_once from (says.Ready task) answer = by (is_told self from task s && in_phase phase.Reorganization s.phase) _ _ (sends_one _ from (says.ReadyAck s.group))
-      (when (is_told self from task s && in_phase phase.Normal s.phase) _ (sends_one s from (says.ReadyAck s.group)))
-  body_once from (says.ReadyAck group) answer = when (leads_in phase.Reorganization self s && same_group group s.group) _ (quiet _)
-  body_once from (says.Work group id work) answer =
-      when (in_phase phase.Normal s.phase && same_group group s.group && has (members_of s.task) from && owner s work.queue == self && not (holds s.hand from id)) _ (quiet _)
-  body_once from (says.Done id) answer = quiet s
+  body_once from body answer = search (by, quiet, sends_one)
 
   to_others : length (addressed_to j (to_each self (without_id (ids_below nodes) self) says.AreYouCoordinator)) ≤ 1
   to_others =
@@ -230,9 +220,8 @@ module _ (nodes self j : ℕ) (s : State) (up : IsSet s.up) (found : IsSet s.fou
   timer_once pending timer.Merge answer o = when (merges self s) _ (by (is_empty s.found) _ _ (quiet _)
       (record { few = to_set j self NODES (says.Invitation (own_group self answer)) (either_of s.up s.found) (rises_either 0 NODES s.up s.found up found) }))
   timer_once pending timer.Accept answer o = when (in_phase phase.Election s.phase && s.coordinator == self) _ (record { few = to_set j self NODES (says.Ready (task_of s.group (with_id s.up self))) s.up up })
-  timer_once pending timer.Ready answer o = when (leads_in phase.Reorganization self s) _ (quiet _)
-  timer_once pending timer.Coord answer o = when (follows self s) _ (by s.probing _ _ (quiet _) (sends_one _ s.coordinator (says.AreYouThere s.group)))
   timer_once pending timer.Dispatch answer o = absurd o
+  timer_once pending t answer o = search (by, quiet, sends_one)
 
   finish_once : (origin id : ℕ) (b : Bool) → length (addressed_to j (to_each self (if b then [] else origin ∷ []) (says.Done id))) ≤ 1
   finish_once origin id true = none
@@ -300,16 +289,8 @@ dispatch_fate nodes self n s (event_outcome.RaiseFailed kept) few = omega arith
 dispatch_fate nodes self n s (event_outcome.RaiseRefused kept) few = omega arith
 
 at_most : (n pending : ℕ) (event : Event) → (event ≡ on.Timer timer.Dispatch → n ≤ pending) → (IsSingle event → n ≤ 1) → n ≤ most_from event pending
-at_most n pending (on.Timer timer.Check) all one = one tt
-at_most n pending (on.Timer timer.Merge) all one = one tt
-at_most n pending (on.Timer timer.Accept) all one = one tt
-at_most n pending (on.Timer timer.Ready) all one = one tt
-at_most n pending (on.Timer timer.Coord) all one = one tt
 at_most n pending (on.Timer timer.Dispatch) all one = all refl
-at_most n pending (on.Deliver m) all one = one tt
-at_most n pending (on.Submit work) all one = one tt
-at_most n pending (on.Finish origin id) all one = one tt
-at_most n pending on.Recover all one = one tt
+at_most n pending event all one = one tt
 
 pub sends_few : (old new : Node Memory) (event : Event) (event_outcome : EventOutcome) (sent : List Envelope) → StandsForSome old → Did old event (what_of event event_outcome) sent new → length sent ≤ most_by old.nodes old.kept → IsSet old.state.up × IsSet old.state.found
     → (j : ℕ) → length (addressed_to j sent) ≤ most_to event old.kept

@@ -23,9 +23,7 @@ use Rattle.node_core.specs.declared.fault.CoreFault.TheVariants as core
 use Rattle.node_core.specs.declared.in_hand.InHand.{InHand}
 use Rattle.node_core.specs.declared.phase.Phase.{Phase}
 use Rattle.node_core.specs.declared.phase.Phase.TheVariants as phase
-use Rattle.node_core.specs.declared.timer.Timer.{Timer}
 use Rattle.node_core.specs.declared.timer.Timer.TheVariants as timer
-use Rattle.node_core.specs.TimerWords.{word_of}
 use Rattle.durable_node.specs.declared.fault.NodeFault.{NodeFault}
 use Rattle.durable_node.specs.declared.fault.NodeFault.TheVariants as node
 use Rattle.histories.specs.NodeState.{NodeState}
@@ -227,20 +225,9 @@ turns_made before made self nodes s (turn ∷ turns) =
     both (before turn) (turn_text self nodes s turn ++ turns_text before self nodes t turns) [] (sent_in self nodes s turn ++ sent_turns self nodes t turns) (made turn)
     (both (turn_text self nodes s turn) (turns_text before self nodes t turns) (sent_in self nodes s turn) (sent_turns self nodes t turns) (turn_made self nodes s turn) (turns_made before made self nodes t turns))
 
-timer_line : (t : Timer) → one_line (word_of t)
-timer_line timer.Check = refl
-timer_line timer.Merge = refl
-timer_line timer.Accept = refl
-timer_line timer.Ready = refl
-timer_line timer.Coord = refl
-timer_line timer.Dispatch = refl
-
 event_so : (event : Event) → one_line (event_word event)
-event_so (on.Timer t) = timer_line t
-event_so (on.Deliver m) = refl
-event_so (on.Submit work) = refl
-event_so (on.Finish origin id) = refl
-event_so on.Recover = refl
+event_so (on.Timer timer.Check) = refl
+event_so event = refl
 
 fired_made : (o : Option Event) → IsMade (fired_by o) []
 fired_made None = nothing

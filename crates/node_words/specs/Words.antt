@@ -1,6 +1,8 @@
--- How texts name what a node is in, what it does, and why it refuses.
+-- How texts name what a node is in, what it does and says, and why it refuses.
 use Rattle.std.specs.Prelude.{ℕ, List, [], ◌∷◌, ◌++◌, codes, decimal, Bool, true, false, Option, Some, None}
 use Rattle.group_task.specs.Group.{Group}
+use Rattle.wire_msg.specs.declared.body.Body.{Body}
+use Rattle.wire_msg.specs.declared.body.Body.TheVariants as says
 use Rattle.node_core.specs.declared.event.Event.{Event}
 use Rattle.node_core.specs.declared.event.Event.TheVariants as on
 use Rattle.node_core.specs.declared.fault.CoreFault.{CoreFault}
@@ -44,6 +46,30 @@ event_word (on.Deliver m) = codes "deliver"
 event_word (on.Submit work) = codes "submit"
 event_word (on.Finish origin id) = codes "finish"
 event_word on.Recover = codes "recover"
+
+-- the word of a message's kind
+abbrev pub kind_word : Body → List ℕ
+kind_word says.AreYouCoordinator = codes "AreYouCoordinator"
+kind_word (says.Coordinator answer) = codes "Coordinator"
+kind_word (says.AreYouThere g) = codes "AreYouThere"
+kind_word (says.Here g answer) = codes "Here"
+kind_word (says.Invitation g) = codes "Invitation"
+kind_word (says.Accept g) = codes "Accept"
+kind_word (says.Ready task) = codes "Ready"
+kind_word (says.ReadyAck g) = codes "ReadyAck"
+kind_word (says.Work g id work) = codes "Work"
+kind_word (says.Done id) = codes "Done"
+
+-- the group that a message names, behind its kind
+abbrev pub named_part : Option Group → List ℕ
+named_part None = []
+named_part (Some g) = codes " " ++ group_text g
+
+-- the answer of a message that has one, behind other words
+abbrev pub answer_part : Body → List ℕ
+answer_part (says.Coordinator answer) = codes " " ++ truth_text answer
+answer_part (says.Here g answer) = codes " " ++ truth_text answer
+answer_part body = []
 
 abbrev pub core_name : CoreFault → List ℕ
 core_name core.Stranger = codes "Stranger"

@@ -1,13 +1,14 @@
 ghost use Rattle.std.specs.Prelude.{◌≡◌, ◌++◌, OnOk};
 ghost use Rattle.console_text.specs.Words.{work_text};
 ghost use Rattle.node_core.specs.State.{state_of};
-ghost use Rattle.node_words.specs.Words.{core_name, event_word, group_part, group_text, id_text, ids_text, phase_text, truth_text};
+ghost use Rattle.node_words.specs.Words.{answer_part, core_name, event_word, group_part, group_text, id_text, ids_text, kind_word, named_part, phase_text, truth_text};
 
 use console_text::{push_named_number, push_number, push_text, push_work};
 use group_task::{GroupNo, Members};
 use job_model::Work;
 use node_core::{CoreFault, Event, Phase, Vector};
 use std::alloc::AllocError;
+use wire_msg::Body;
 
 /// Adds `yes` or `no`.
 pub fn push_truth(text: &mut Vec<u8>, answer: bool) -> Result<(), AllocError>
@@ -21,8 +22,7 @@ pub fn push_group(text: &mut Vec<u8>, group: GroupNo) -> Result<(), AllocError>
     ensures { OnOk result (text.new.items ≡ text.old.items ++ group_text group) }
 {
     push_number(text, u64::from(group.creator().number()))?;
-    push_text(text, ":")?;
-    push_number(text, group.count())
+    push_named_number(text, ":", group.count())
 }
 
 /// Adds ids joined by commas; a dash stands for none.
@@ -73,6 +73,51 @@ pub fn event_word(event: &Event) -> &'static str
         Event::Submit(_) => "submit",
         Event::Finish(_, _) => "finish",
         Event::Recover => "recover",
+    }
+}
+
+/// The word of a message's kind.
+#[inline]
+pub fn kind_word(body: &Body) -> &'static str
+    ensures { result.now ≡ kind_word body.now }
+{
+    match body {
+        Body::AreYouCoordinator => "AreYouCoordinator",
+        Body::Coordinator(_) => "Coordinator",
+        Body::AreYouThere(_) => "AreYouThere",
+        Body::Here(_, _) => "Here",
+        Body::Invitation(_) => "Invitation",
+        Body::Accept(_) => "Accept",
+        Body::Ready(_) => "Ready",
+        Body::ReadyAck(_) => "ReadyAck",
+        Body::Work { .. } => "Work",
+        Body::Done(_) => "Done",
+    }
+}
+
+/// Adds the group that a message names, if it names one.
+#[inline]
+pub fn push_named(text: &mut Vec<u8>, group: Option<GroupNo>) -> Result<(), AllocError>
+    ensures { OnOk result (text.new.items ≡ text.old.items ++ named_part group) }
+{
+    let Some(group) = group else {
+        return Ok(());
+    };
+    push_text(text, " ")?;
+    push_group(text, group)
+}
+
+/// Adds the answer of a message, if it has one.
+#[inline]
+pub fn push_answer(text: &mut Vec<u8>, body: &Body) -> Result<(), AllocError>
+    ensures { OnOk result (text.new.items ≡ text.old.items ++ answer_part body.now) }
+{
+    match body {
+        Body::Coordinator(answer) | Body::Here(_, answer) => {
+            push_text(text, " ")?;
+            push_truth(text, *answer)
+        }
+        _ => Ok(()),
     }
 }
 

@@ -1,7 +1,7 @@
 use Rattle.std.proofs.Common.{◌≡◌, ◌+◌, ◌≤◌, length, Some}
 use Rattle.line_words.specs.Lines.{lines_of}
 use Rattle.invite_console.specs.Lines.{hex_lines_from, hex_lines_of, joined}
-use Rattle.invite_console.proofs.lines.hex_lines.Given as goal
+use Rattle.invite_console.proofs.lines.read_apart.Given as goal
 
 abbrev pub invariant-loop-line : goal.invariant-loop-line
 invariant-loop-line l = record {
