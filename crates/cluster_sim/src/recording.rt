@@ -17,7 +17,7 @@ use crate::world::World;
 use durable_node::DurableNode;
 use group_task::{GroupNo, NodeId};
 use histories::{Attempt, Command, CommandKind};
-use job_model::{Job, Work};
+use job_model::{Job, PendingJobs, Work};
 use node_core::{Phase, Vector};
 use runs::{AttemptAt, Outcome};
 use schedule::Act;
@@ -237,7 +237,7 @@ pub(crate) fn mounted_by(
     ensures { option_map mounted_of result ≡ mounting_at id before node.now.mounted }
 {
     let (count, table) = node.mounted()?;
-    copy_jobs(&mut pending, table.pending());
+    copy_jobs(&mut pending, &table.pending());
     pending.shrink_to_fit();
     Some(Mounted {
         node: id,
@@ -249,13 +249,13 @@ pub(crate) fn mounted_by(
 }
 
 /// Copies jobs in the room that is there.
-fn copy_jobs(jobs: &mut Vec<Job>, more: &[Job])
+fn copy_jobs(jobs: &mut Vec<Job>, more: &PendingJobs<'_>)
     requires { vec_len jobs.old + length more.now ≤ vec_capacity jobs.old }
     ensures jobs { jobs.new.items ≡ jobs.old.items ++ more.now }
     ensures room { vec_capacity jobs.new ≡ vec_capacity jobs.old }
 {
-    for job in more {
-        jobs.push_reserved(*job);
+    for job in more.iter() {
+        jobs.push_reserved(job.to_job());
     }
 }
 

@@ -14,8 +14,8 @@ ghost use Rattle.invite_console.specs.Rows.{down_row, head_text, job_ids, jobs_p
 use console_text::{push_named_number, push_number, push_text};
 use durable_node::DurableNode;
 use group_task::NodeId;
-use job_model::{Job, JobTable};
-use node_core::{InHand, Phase, Vector};
+use job_model::{JobTable, PendingJobs};
+use node_core::{HandJobs, Phase, Vector};
 use node_words::{phase_word, push_group_part, push_ids};
 use sector_disk::MemDisk;
 use std::alloc::{AllocError, Global};
@@ -49,7 +49,7 @@ fn push_up_row(
 ) -> Result<(), AllocError>
     ensures { OnOk result (HasRow id (state_of vector.now) (durable_of count table.now) text.old.items text.new.items) }
 {
-    let held = held_in(alloc, vector.hand.jobs())?;
+    let held = held_in(alloc, &vector.hand.jobs())?;
     push_row_of(text, id, vector, count, table, &held)
 }
 
@@ -82,12 +82,12 @@ fn push_down_row(text: &mut Vec<u8>, id: NodeId) -> Result<(), AllocError>
 }
 
 /// The jobs in hand in rising order, as the nodes that keep them and their ids there.
-fn held_in(alloc: Global, hand: &[InHand]) -> Result<Vec<(u8, u64)>, AllocError>
+fn held_in(alloc: Global, hand: &HandJobs<'_>) -> Result<Vec<(u8, u64)>, AllocError>
     ensures { IfOk result (λ held. AreHeld hand.now held.items) }
 {
     let mut held = Vec::with_capacity(alloc, hand.len())?;
-    for job in hand {
-        held.push((job.origin.number(), job.id))?;
+    for job in hand.iter() {
+        held.push((job.origin().number(), job.id()))?;
     }
     held.sort_unstable();
     Ok(held)
@@ -115,19 +115,20 @@ fn push_jobs(text: &mut Vec<u8>, count: u64, table: &JobTable) -> Result<(), All
 {
     push_named_number(text, " count ", count)?;
     push_text(text, " pending ")?;
-    push_job_ids(text, table.pending())
+    push_job_ids(text, &table.pending())
 }
 
 /// Adds the ids of jobs joined by commas.
-fn push_job_ids(text: &mut Vec<u8>, jobs: &[Job]) -> Result<(), AllocError>
+fn push_job_ids(text: &mut Vec<u8>, jobs: &PendingJobs<'_>) -> Result<(), AllocError>
     ensures { OnOk result (text.new.items ≡ text.old.items ++ ids_text (job_ids jobs.now)) }
 {
-    let Some((first, rest)) = jobs.split_first() else {
+    let mut left = jobs.iter();
+    let Some(first) = left.next() else {
         return push_text(text, "-");
     };
-    push_number(text, first.id)?;
-    for job in rest {
-        push_named_number(text, ",", job.id)?;
+    push_number(text, first.id())?;
+    for job in left {
+        push_named_number(text, ",", job.id())?;
     }
     Ok(())
 }

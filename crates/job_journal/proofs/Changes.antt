@@ -7,7 +7,7 @@ use Rattle.job_journal.proofs.Common.{erased_start, slot_same, Stands, CellState
 use Rattle.job_journal.proofs.Common.{jobs_of, jobs_after, id_of, Jobs, Reads, fresh, taken, replay_at, then_slot, replayed, JournalFault, slots_from, sealed_prefix, IsPrefix, first_of}
 use Rattle.job_journal.proofs.Common.{jobs_in, IsSound, IsSoundImage, ImagesSince, InJournal, replay_from, JournalState, Holds, AllHold, IsJournal, first_sector, next_slot, Admitted}
 use Rattle.job_journal.proofs.Common.{BeforeOrAfter, appended, record_for, with_slot, KeepsJobs, HasAppended, IsWritten, records_for, other_sector}
-use Rattle.std.proofs.lemmas.Option.{slice_get-map, slice_get_read}
+use Rattle.std.proofs.lemmas.Option.{slice_get-map}
 use Rattle.std.specs.Prelude.{option_map}
 use borrow.Author.Count.{below_more}
 use Rattle.slot_gate.specs.Stored.{Knows, IsStored, Follows}
@@ -192,12 +192,11 @@ written_seal first slots records filled sealed d c same here so_far =
     }
 
 -- the record behind the first, of the job in the place before
-pub record_behind : (jobs : Jobs) (slot : ℕ) (job : Job) → (slot ≡ 0 → ⊥) → slot ≤ length jobs.pending → job ≡ get_or jobs.pending (slot - 1) job
-    → slice_get (records_for jobs) slot ≡ Some (Record.Keep job)
-record_behind jobs zero job some fits is = absurd (some refl)
-record_behind jobs (suc place) job some fits is =
-    let there : job ≡ get_or jobs.pending place job = is ∙ ap (λ k. get_or jobs.pending k job) (omega arith) in
-    slice_get-map Record.Keep jobs.pending place ∙ ap (λ o. option_map Record.Keep o) (slice_get_read jobs.pending (length jobs.pending) place job refl (omega (arith, fits)) there)
+pub record_behind : (jobs : Jobs) (slot : ℕ) (job : Job) → (slot ≡ 0 → ⊥) → slice_get jobs.pending (slot - 1) ≡ Some job → slice_get (records_for jobs) slot ≡ Some (Record.Keep job)
+record_behind jobs zero job some is = absurd (some refl)
+record_behind jobs (suc place) job some is =
+    let there : slice_get jobs.pending place ≡ Some job = ap (λ k. slice_get jobs.pending k) (omega arith) ∙ is in
+    slice_get-map Record.Keep jobs.pending place ∙ ap (λ o. option_map Record.Keep o) there
 
 -- in an area with all of its records and nothing else the sealed slots are a prefix, and their bodies are the records
 whole_slots : (at n : ℕ) (records : List Record) (c : Image) → length records ≤ n → IsWritten at n records (length records) (length records) c

@@ -144,6 +144,6 @@ fn record_at(table: &JobTable, slot: u64) -> Record
     if slot == 0 {
         Record::Base(table.next())
     } else {
-        Record::Keep(table.pending()[slot as usize - 1])
+        Record::Keep(table.pending().get(slot as usize - 1).unwrap().to_job())
     }
 }

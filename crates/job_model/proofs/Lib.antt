@@ -1,5 +1,7 @@
 mod OrderLaws
+mod Packing
 mod Places
+mod Rows
 mod RecordBytes
 mod RecordSectors
 pub mod PublicLaws

@@ -1,15 +1,13 @@
 -- Where a job stands among jobs whose ids rise, and what is left without it.
-use Rattle.std.proofs.Common.{◌≡◌, ◌+◌, ◌*◌, ◌<◌, ◌≤◌, ⊎_elim, ℕ, zero, suc, true, false, not, cond, eqb, ltb, List, [], ◌∷◌, ◌++◌, length, take, drop, ◌∙◌, sym, subst, ap, refl, arith}
+use Rattle.std.proofs.Common.{◌≡◌, ◌+◌, ◌<◌, ◌≤◌, ⊎_elim, ℕ, zero, suc, true, false, not, cond, eqb, ltb, List, [], ◌∷◌, ◌++◌, length, take, drop, ◌∙◌, sym, ap, refl, arith}
 use Rattle.std.proofs.lemmas.Bool.Decides.{nat_tests, leb_tells}
 use Rattle.std.specs.Prelude.{slice_index_or, ◌||◌}
 use Rattle.std.specs.List.Sorted.{IsNonDecreasingBy, IsPartitionPoint}
 use Rattle.std.proofs.lemmas.Bool.{ltb-true}
-use Rattle.std.proofs.lemmas.List.{get_or_default, drop-append-le, drop-take, drop-drop, length-append, length-take-le}
+use Rattle.std.proofs.lemmas.List.{get_or_default, drop-append-le, drop-take, drop-drop, length-take-le}
 use Rattle.job_model.specs.declared.job.Job.{Job}
 use Rattle.job_model.specs.Fold.{without_job, is_pending}
-use Rattle.job_model.specs.Order.{IdsRise, IsInOrder}
-use Rattle.job_model.specs.Table.{HasPlaces}
-use Rattle.job_model.proofs.OrderLaws.{IdsRise-append}
+use Rattle.job_model.specs.Order.{IdsRise}
 
 -- each id is at least the lowest
 pub least : (low limit : ℕ) (jobs : List Job) (k : ℕ) (d : Job) → IdsRise low limit jobs → k < length jobs → low ≤ (slice_index_or jobs k d).id
@@ -28,7 +26,7 @@ rises low limit (x ∷ xs) (suc i) (suc j) d r le less = rises (x.id + 1) limit 
 other_id : (a b : ℕ) → (a ≡ b → ⊥) → eqb a b ≡ false
 other_id a b differ = grind (arith, nat_tests, differ)
 
-same_id : (a b : ℕ) → a ≡ b → eqb a b ≡ true
+pub same_id : (a b : ℕ) → a ≡ b → eqb a b ≡ true
 same_id a b is = grind (arith, nat_tests, is)
 
 -- none of these jobs has the id
@@ -105,14 +103,3 @@ pub other_at : (limit : ℕ) (jobs : List Job) (id at : ℕ) → IdsRise 0 limit
 other_at limit jobs id at r point differs =
     other_around 0 limit jobs id at r (low_before jobs id at point) (high_from jobs id at point)
     (λ on d is. let e = differs on in e.1 (ap (λ (job : Job). job.id) (get_or_default jobs at e.0 d on) ∙ is))
-
--- one job more behind those that stand below it
-pub placed : (later room capacity start : ℕ) (before after jobs : List Job) (job : Job) → after ≡ before ++ job ∷ [] → start ≤ length before → drop start before ≡ jobs
-    → IsInOrder jobs job.id → job.id < later → capacity ≡ 2 * room → HasPlaces later room after capacity start
-placed later room capacity start before after jobs job is le same rise below twice = record {
-  within = omega (arith, ap (λ (xs : List Job). length xs) is, length-append before (job ∷ []), le);
-  in_order = subst (λ xs. IsInOrder (drop start xs) later) (sym is)
-      (subst (λ xs. IsInOrder xs later) (sym (drop-append-le start before (job ∷ []) le ∙ ap (λ xs. xs ++ job ∷ []) same))
-      (IdsRise-append 0 later jobs job (omega arith) below rise));
-  twice = twice;
-}

@@ -4,4 +4,5 @@ pub mod Fold
 pub mod Order
 pub mod Answer
 pub mod Table
+pub mod JobLists
 pub mod Records

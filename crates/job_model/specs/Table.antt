@@ -1,12 +1,12 @@
 -- What contracts see of a table of jobs.
-use Rattle.std.specs.Prelude.{ℕ, ◌≡◌, ◌<◌, ◌≤◌, ◌-◌, ◌*◌, ◌^◌, true, List, length, drop}
+use Rattle.std.specs.Prelude.{ℕ, ◌≡◌, ◌+◌, ◌<◌, ◌-◌, ◌^◌, ◌++◌, true, List, length, take, drop, Option, is_some, IfSome, IfNone}
 use Rattle.job_model.specs.declared.job.Job.{Job}
 use Rattle.job_model.specs.declared.command.Command.{Command as Given}
 use Rattle.job_model.specs.declared.command.Command.TheVariants.{Put as GivenPut, Done as GivenDone}
 use Rattle.job_model.specs.declared.node_command.NodeCommand.{NodeCommand as Command}
 use Rattle.job_model.specs.declared.node_command.NodeCommand.TheVariants.{Put, Done}
 use Rattle.job_model.specs.Durable.{Durable}
-use Rattle.job_model.specs.Fold.{is_pending}
+use Rattle.job_model.specs.Fold.{is_pending, without_job}
 use Rattle.job_model.specs.Order.{IsInOrder}
 
 -- the id of the next job, the pending jobs in order of id, and for how many there is room
@@ -33,8 +33,8 @@ CanApply table (GivenDone id) = is_pending table.pending id ≡ true
 abbrev pub CanKeep : Table → ℕ → Type 0
 CanKeep table id = IsInOrder table.pending id × (id < table.next)
 
--- The jobs stand in order in the places from start on, and there are twice as many places as there is room for jobs.
-pub record HasPlaces (next room : ℕ) (places : List Job) (capacity start : ℕ) : Type 0 where
-  pub within : start ≤ length places
-  pub in_order : IsInOrder (drop start places) next
-  pub twice : capacity ≡ 2 * room
+-- the place of the job of an id: what is left without that job, which is pending just where it has a place
+pub record IsPlaceOf (jobs : List Job) (id : ℕ) (place : Option ℕ) : Type 0 where
+  pub at_place : IfSome place (λ at. (at < length jobs) × (without_job jobs id ≡ take at jobs ++ drop (at + 1) jobs))
+  pub none : IfNone place (without_job jobs id ≡ jobs)
+  pub pending : is_some place ≡ is_pending jobs id

@@ -12,10 +12,14 @@
 
 mod command;
 mod job;
+mod job_list;
+mod job_ref;
+mod kept_job;
 mod laws;
 mod new_job;
 mod node_command;
 mod payload;
+mod pending;
 mod queue;
 mod record;
 mod table;
@@ -23,10 +27,14 @@ mod work;
 
 pub use command::Command;
 pub use job::Job;
+pub use job_list::{JobList, KeptIter};
+pub use job_ref::JobRef;
+pub use kept_job::KeptJob;
 pub use laws::limits;
 pub use new_job::NewJob;
 pub use node_command::NodeCommand;
 pub use payload::{PAYLOAD_CAPACITY, Payload};
+pub use pending::{PendingIter, PendingJobs};
 pub use queue::{QUEUES, Queue};
 pub use record::{Record, old_records, one_sector};
 pub use table::JobTable;

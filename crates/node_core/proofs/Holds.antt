@@ -1,15 +1,12 @@
 -- What is in hand once a job is taken or given up.
 use Rattle.std.proofs.Common.{◌≡◌, ℕ, zero, suc, ◌+◌, ◌<◌, ◌≤◌, Bool, true, false, not, cond, ◌&&◌, ◌||◌, List, [], ◌∷◌, ◌++◌, length, take, drop, ◌==◌, refl, sym, ap, ◌∙◌, subst, arith, slice_index_or}
 use Rattle.std.proofs.lemmas.Bool.Decides.{nat_tests}
-use Rattle.std.proofs.lemmas.List.{drop-append-le, length-append}
+use Rattle.std.proofs.lemmas.List.{map-append, take-map, drop-map}
+use Rattle.std.specs.List.{filter}
+use Rattle.job_model.specs.declared.kept_job.KeptJob.{KeptJob}
 use Rattle.node_core.specs.declared.in_hand.InHand.{InHand}
-use Rattle.node_core.specs.Held.{holds, without_held}
-use Rattle.node_core.specs.declared.listing.Listing.{Listing}
-use Rattle.node_core.specs.Listing.{AreOnce, IsAt, Lists, HasPlaces}
-
--- whether the job has this keeper and id
-abbrev pub is_of : InHand → ℕ → ℕ → Bool
-is_of job origin id = job.origin == origin && job.id == id
+use Rattle.node_core.specs.Held.{holds, is_of, without_held}
+use Rattle.node_core.specs.Listing.{AreOnce, IsAt, in_hand, in_hand_of}
 
 pub holds_more : (jobs : List InHand) (job : InHand) (origin id : ℕ) → holds (jobs ++ job ∷ []) origin id ≡ (is_of job origin id || holds jobs origin id)
 holds_more [] job origin id = refl
@@ -121,18 +118,22 @@ absent (x ∷ xs) origin id none =
     ap (λ b. b || holds xs origin id) (none zero x (omega arith))
     ∙ absent xs origin id (λ k d less. none (suc k) d (omega (arith, less)))
 
--- one job more behind those that are listed
-pub placed : (before after jobs : List InHand) (job : InHand) (start : ℕ) (listing : Listing) → after ≡ before ++ job ∷ [] → start ≤ length before → drop start before ≡ jobs
-    → Lists listing (jobs ++ job ∷ []) → HasPlaces after start listing
-placed before after jobs job start listing is le same lists = record {
-  within = omega (arith, ap (λ (xs : List InHand). length xs) is, length-append before (job ∷ []), le);
-  lists = subst (λ (xs : List InHand). Lists listing (drop start xs)) (sym is)
-      (subst (λ (xs : List InHand). Lists listing xs) (sym (drop-append-le start before (job ∷ []) le ∙ ap (λ (xs : List InHand). xs ++ job ∷ []) same)) lists);
-}
+-- the jobs of a list without one, as those in hand
+pub in_hand_without : (kept : List KeptJob) (origin id : ℕ)
+    → in_hand (filter (λ (one : KeptJob). not (one.origin == origin && one.job.id == id)) kept) ≡ without_held (in_hand kept) origin id
+in_hand_without [] origin id = refl
+in_hand_without (x ∷ xs) origin id = one (not (is_of (in_hand_of x) origin id)) (in_hand_without xs origin id)
+  where
+    left : List KeptJob
+    left = filter (λ (one : KeptJob). not (one.origin == origin && one.job.id == id)) xs
 
--- the same jobs in other places
-pub moved : (places jobs : List InHand) (start : ℕ) (listing : Listing) → start ≤ length places → drop start places ≡ jobs → Lists listing jobs → HasPlaces places start listing
-moved places jobs start listing le same lists = record {
-  within = le;
-  lists = subst (λ (xs : List InHand). Lists listing xs) (sym same) lists;
-}
+    one : (b : Bool) → in_hand left ≡ without_held (in_hand xs) origin id
+        → in_hand (cond b (x ∷ left) left) ≡ cond b (in_hand_of x ∷ without_held (in_hand xs) origin id) (without_held (in_hand xs) origin id)
+    one true rest = ap (λ ys. in_hand_of x ∷ ys) rest
+    one false rest = rest
+
+pub in_hand_left : (kept : List KeptJob) (at : ℕ) → in_hand (take at kept ++ drop (at + 1) kept) ≡ take at (in_hand kept) ++ drop (at + 1) (in_hand kept)
+in_hand_left kept at =
+    map-append in_hand_of (take at kept) (drop (at + 1) kept)
+    ∙ ap (λ ys. ys ++ in_hand (drop (at + 1) kept)) (sym (take-map in_hand_of at kept))
+    ∙ ap (λ ys. take at (in_hand kept) ++ ys) (sym (drop-map in_hand_of (at + 1) kept))

@@ -3,6 +3,10 @@ use Rattle.std.specs.Prelude.{ℕ, ◌==◌, List, Bool, not, ◌&&◌}
 use Rattle.std.specs.List.{filter, list_any}
 use Rattle.node_core.specs.declared.in_hand.InHand.{InHand}
 
+-- whether it is the job of this keeper and id
+abbrev pub is_of : InHand → ℕ → ℕ → Bool
+is_of job origin id = job.origin == origin && job.id == id
+
 abbrev pub holds : List InHand → ℕ → ℕ → Bool
 holds hand origin id = list_any (λ job. job.origin == origin && job.id == id) hand
 

@@ -1,6 +1,8 @@
 -- The jobs in hand, as they are looked up.
-use Rattle.std.specs.Prelude.{ℕ, ◌≡◌, ◌≤◌, ⊤, true, false, List, [], ◌∷◌, ◌==◌, ◌&&◌, length, drop, slice_index_or}
+use Rattle.std.specs.Prelude.{ℕ, ◌≡◌, ◌<◌, ⊤, true, false, List, [], ◌∷◌, ◌==◌, ◌&&◌, All, map, slice_index_or}
 use Rattle.std.specs.List.{list_any}
+use Rattle.group_task.specs.declared.node.TheConstants.{NODES}
+use Rattle.job_model.specs.declared.kept_job.KeptJob.{KeptJob}
 use Rattle.node_core.specs.declared.in_hand.InHand.{InHand}
 use Rattle.node_core.specs.declared.listing.Listing.{Listing}
 use Rattle.node_core.specs.Held.{holds}
@@ -23,7 +25,18 @@ Lists listing jobs = listing.is_whole ≡ true → AreKeys jobs listing.keys.key
 abbrev pub IsAt : List InHand → ℕ → ℕ → ℕ → Type 0
 IsAt jobs origin id at = (d : InHand) → ((slice_index_or jobs at d).origin ≡ origin) × ((slice_index_or jobs at d).id ≡ id)
 
--- the jobs in the places from start on are listed
-pub record HasPlaces (places : List InHand) (start : ℕ) (listing : Listing) : Type 0 where
-  pub within : start ≤ length places
-  pub lists : Lists listing (drop start places)
+-- a job as it stands in a list of jobs, by the number of the node that keeps it
+abbrev pub in_hand_of : KeptJob → InHand
+in_hand_of kept = record { origin = kept.origin; id = kept.job.id; work = kept.job.work }
+
+abbrev pub in_hand : List KeptJob → List InHand
+in_hand kept = map in_hand_of kept
+
+-- each job is kept by a node
+abbrev pub HasNode : KeptJob → Type 0
+HasNode kept = kept.origin < NODES
+
+-- each job is kept by a node, and the jobs are listed
+pub record IsListed (kept : List KeptJob) (listing : Listing) : Type 0 where
+  pub nodes : All HasNode kept
+  pub lists : Lists listing (in_hand kept)

@@ -6,7 +6,6 @@ ghost use Rattle.node_core.specs.Start.{alone, entering};
 ghost use Rattle.node_core.specs.Consistent.{IsConsistent};
 ghost use Rattle.node_core.specs.Planned.{hand_gain, hand_after};
 
-use crate::in_hand::InHand;
 use crate::phase::Phase;
 use crate::plan::{HandChange, StateChange, write_to_each};
 use crate::vector::Vector;
@@ -84,18 +83,13 @@ pub fn place(
         × (messages.new.items ≡ letter id to (Body.Work vector.old.group_state.group job work.value) ∷ []) }
     ensures consistent { (nodes : ℕ) → IsConsistent nodes id (state_of vector.old) → IsConsistent nodes id (state_of vector.new) }
 {
-    let work = Box::into_inner(work);
     if to.is(id) {
-        vector.hand.push(InHand {
-            origin: id,
-            id: job,
-            work,
-        });
+        vector.hand.push_job(id, job, &work);
     } else {
         let order = Body::Work {
             group: vector.group_state.group,
             id: job,
-            work,
+            work: Box::into_inner(work),
         };
         messages.push_reserved(Message::between(id, to, order));
     }

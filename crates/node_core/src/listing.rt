@@ -2,9 +2,9 @@
 ghost use Rattle.std.specs.Prelude.{◌≡◌, ◌++◌, ◌∷◌, [], true, List};
 ghost use Rattle.node_core.specs.Listing.{Lists};
 ghost use Rattle.node_core.specs.Held.{holds, without_held};
+ghost use Rattle.job_model.specs.declared.work.Work.{Work};
 ghost use Rattle.node_core.specs.declared.in_hand.InHand.{InHand};
 
-use crate::in_hand::InHand;
 use group_task::NodeId;
 use std::alloc::Global;
 use std::collections::HashSet;
@@ -44,14 +44,14 @@ impl Listing {
     }
 
     /// Lists one job more, in the room that is there: it takes no memory.
-    pub(crate) fn note(&mut self, job: &InHand)
-        ensures { (jobs : List InHand) → Lists self.old jobs → Lists self.new (jobs ++ job.now ∷ []) }
+    pub(crate) fn note(&mut self, origin: NodeId, id: u64)
+        ensures { (jobs : List InHand) (work : Work) → Lists self.old jobs → Lists self.new (jobs ++ (record { origin = origin; id = id; work = work }) ∷ []) }
     {
         if self.keys.len() == self.keys.capacity() {
             self.is_whole = false;
             return;
         }
-        match self.keys.insert((job.origin.number(), job.id)) {
+        match self.keys.insert((origin.number(), id)) {
             Ok(true) => {}
             _ => self.is_whole = false,
         }

@@ -7,7 +7,7 @@ use crate::call_outcome::CallOutcome;
 use crate::showing::push_held;
 use console_text::{push_named_number, push_text};
 use group_task::{GroupNo, Members, NodeId};
-use node_core::{Event, Hand, InHand, Phase, Vector};
+use node_core::{Event, Hand, HandJobs, InHandRef, Phase, Vector};
 use node_words::{phase_word, push_group, push_ids};
 use std::alloc::{AllocError, Global};
 use std::marker::Model;
@@ -69,7 +69,7 @@ impl Seen {
         ensures { IfOk result (λ seen. seen ≡ sight_of (state_of vector.now)) }
     {
         let mut held = Vec::with_capacity(alloc, vector.hand.jobs().len())?;
-        push_pairs(&mut held, vector.hand.jobs())?;
+        push_pairs(&mut held, &vector.hand.jobs())?;
         Ok(Seen {
             told: Told::of(vector),
             held,
@@ -86,7 +86,7 @@ impl Seen {
         ensures { (s : State) → self.now ≡ sight_of s → OnOk result (text.new.items ≡ text.old.items ++ changes is_finished s (state_of vector.now)) }
     {
         push_group_news(text, &self.told, &Told::of(vector))?;
-        push_takes(text, &self.held, vector.hand.jobs())?;
+        push_takes(text, &self.held, &vector.hand.jobs())?;
         if is_finished {
             return Ok(());
         }
@@ -121,22 +121,26 @@ fn push_group_line(text: &mut Vec<u8>, told: &Told) -> Result<(), AllocError>
 }
 
 /// Adds the jobs in hand, as the nodes that keep them and their ids there.
-fn push_pairs(pairs: &mut Vec<(NodeId, u64)>, jobs: &[InHand]) -> Result<(), AllocError>
+fn push_pairs(pairs: &mut Vec<(NodeId, u64)>, jobs: &HandJobs<'_>) -> Result<(), AllocError>
     ensures { OnOk result (pairs.new.items ≡ pairs.old.items ++ map held_by jobs.now) }
 {
-    for job in jobs {
-        pairs.push((job.origin, job.id))?;
+    for job in jobs.iter() {
+        pairs.push((job.origin(), job.id()))?;
     }
     Ok(())
 }
 
 /// Adds a line for each job in hand that isn't one of these.
-fn push_takes(text: &mut Vec<u8>, old: &[(NodeId, u64)], jobs: &[InHand]) -> Result<(), AllocError>
+fn push_takes(
+    text: &mut Vec<u8>,
+    old: &[(NodeId, u64)],
+    jobs: &HandJobs<'_>,
+) -> Result<(), AllocError>
     ensures { OnOk result (text.new.items ≡ text.old.items ++ takes old.now jobs.now) }
 {
     let mut next = 0;
-    for job in jobs {
-        next = push_take(text, old, next, job)?;
+    for job in jobs.iter() {
+        next = push_take(text, old, next, &job)?;
     }
     Ok(())
 }
@@ -146,7 +150,7 @@ fn push_take(
     text: &mut Vec<u8>,
     old: &[(NodeId, u64)],
     next: usize,
-    job: &InHand,
+    job: &InHandRef<'_>,
 ) -> Result<usize, AllocError>
     ensures { OnOk result (text.new.items ≡ text.old.items ++ take_news old.now job.now) }
 {
@@ -160,17 +164,17 @@ fn push_take(
 }
 
 /// A place at which the job stands among these. It is looked for at `next` first.
-fn place_of(pairs: &[(NodeId, u64)], next: usize, job: &InHand) -> Option<usize>
+fn place_of(pairs: &[(NodeId, u64)], next: usize, job: &InHandRef<'_>) -> Option<usize>
     ensures { is_some result ≡ pair_in pairs.now job.now.origin job.now.id }
 {
     if let Some(pair) = pairs.get(next) {
-        if pair.0.is(job.origin) && pair.1 == job.id {
+        if pair.0.is(job.origin()) && pair.1 == job.id() {
             return Some(next);
         }
     }
     let mut place: usize = 0;
     for pair in pairs {
-        if pair.0.is(job.origin) && pair.1 == job.id {
+        if pair.0.is(job.origin()) && pair.1 == job.id() {
             return Some(place);
         }
         place = place.saturating_add(1);

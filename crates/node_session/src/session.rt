@@ -435,11 +435,16 @@ impl<D: SectorDisk + Drop> Session<D> {
         ensures { result.phase ≡ self.now.node.state.phase }
     {
         let vector = self.node.vector();
-        let pending = match self.node.durable() {
-            Some((_count, table)) => table.pending(),
-            None => &[],
-        };
-        NodeSnapshot::of(self.id, vector, merge_wait(self.id, vector), pending)
+        let merge_wait = merge_wait(self.id, vector);
+        match self.node.durable() {
+            Some((_count, table)) => NodeSnapshot::of(
+                self.id,
+                vector,
+                merge_wait,
+                &table.pending(),
+            ),
+            None => NodeSnapshot::without_jobs(self.id, vector, merge_wait),
+        }
     }
 
     /// A new group's members have no work in hand: in it the jobs that the node keeps are due at once.

@@ -11,11 +11,11 @@ ghost use Rattle.node_session.specs.Text.{answer_at_once, asks_part, hand_line, 
 use crate::asked::Asked;
 use crate::call_outcome::CallOutcome;
 use crate::closing::{push_bad, push_ok, push_refused};
-use console_text::{push_named_number, push_number, push_text};
+use console_text::{push_named_number, push_number, push_text, push_work};
 use durable_node::DurableNode;
-use job_model::{Job, JobTable};
-use node_core::{Event, InHand, Phase, Vector};
-use node_words::{phase_word, push_group_part, push_ids, push_truth, push_work_of};
+use job_model::{JobRef, JobTable, PendingJobs};
+use node_core::{Event, HandJobs, InHandRef, Phase, Vector};
+use node_words::{phase_word, push_group_part, push_ids, push_truth};
 use sector_disk::SectorDisk;
 use std::alloc::AllocError;
 
@@ -57,8 +57,8 @@ fn push_all_jobs<D: SectorDisk>(text: &mut Vec<u8>, node: &DurableNode<D>) -> Re
     let vector = node.vector();
     match node.durable() {
         Some((_count, table)) if !matches!(vector.group_state.phase, Phase::Down) => {
-            push_pending(text, table.pending())?;
-            push_hand(text, vector.hand.jobs())
+            push_pending(text, &table.pending())?;
+            push_hand(text, &vector.hand.jobs())
         }
         _ => Ok(()),
     }
@@ -100,43 +100,43 @@ fn push_durable(text: &mut Vec<u8>, count: u64, table: &JobTable) -> Result<(), 
     push_text(text, "\n")
 }
 
-fn push_pending(text: &mut Vec<u8>, jobs: &[Job]) -> Result<(), AllocError>
+fn push_pending(text: &mut Vec<u8>, jobs: &PendingJobs<'_>) -> Result<(), AllocError>
     ensures { OnOk result (text.new.items ≡ text.old.items ++ flat_map pending_line jobs.now) }
 {
-    for job in jobs {
-        push_kept(text, job)?;
+    for job in jobs.iter() {
+        push_kept(text, &job)?;
     }
     Ok(())
 }
 
-fn push_kept(text: &mut Vec<u8>, job: &Job) -> Result<(), AllocError>
+fn push_kept(text: &mut Vec<u8>, job: &JobRef<'_>) -> Result<(), AllocError>
     ensures { OnOk result (text.new.items ≡ text.old.items ++ pending_line job.now) }
 {
-    push_named_number(text, "pending ", job.id)?;
+    push_named_number(text, "pending ", job.id())?;
     push_text(text, " ")?;
-    push_work_of(text, &job.work)?;
+    push_work(text, job.queue().number(), job.payload(), job.priority())?;
     push_text(text, "\n")
 }
 
-fn push_hand(text: &mut Vec<u8>, jobs: &[InHand]) -> Result<(), AllocError>
+fn push_hand(text: &mut Vec<u8>, jobs: &HandJobs<'_>) -> Result<(), AllocError>
     ensures { OnOk result (text.new.items ≡ text.old.items ++ flat_map hand_line jobs.now) }
 {
-    for job in jobs {
+    for job in jobs.iter() {
         push_text(text, "hand ")?;
-        push_held(text, job)?;
+        push_held(text, &job)?;
         push_text(text, "\n")?;
     }
     Ok(())
 }
 
 /// Adds a job in hand: the node that keeps it, its id there, and its work.
-pub(crate) fn push_held(text: &mut Vec<u8>, job: &InHand) -> Result<(), AllocError>
+pub(crate) fn push_held(text: &mut Vec<u8>, job: &InHandRef<'_>) -> Result<(), AllocError>
     ensures { OnOk result (text.new.items ≡ text.old.items ++ held_text job.now) }
 {
-    push_number(text, u64::from(job.origin.number()))?;
-    push_named_number(text, " ", job.id)?;
+    push_number(text, u64::from(job.origin().number()))?;
+    push_named_number(text, " ", job.id())?;
     push_text(text, " ")?;
-    push_work_of(text, &job.work)
+    push_work(text, job.queue().number(), job.payload(), job.priority())
 }
 
 fn push_up(

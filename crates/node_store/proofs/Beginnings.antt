@@ -1,5 +1,5 @@
 -- What the images of a disk stand for on which a store is begun.
-use Rattle.std.proofs.Common.{[], zero, suc, refl, length, get_or, replicate, ◌==◌, if◌then◌else◌, ◌≡◌, ◌+◌, ◌*◌, ◌<◌, ◌⊎◌, inl, inr, ⊎_elim, ℕ, List, Option, Some, None, false, is_some, ◌∙◌, ap, subst, arith}
+use Rattle.std.proofs.Common.{[], zero, suc, refl, length, get_or, replicate, ◌==◌, if◌then◌else◌, ◌≡◌, ◌+◌, ◌*◌, ◌<◌, ◌⊎◌, inl, inr, ⊎_elim, ℕ, List, Option, Some, None, false, is_some, ◌∙◌, ap, arith}
 use Rattle.sector_disk.specs.Disk.{Image, DiskState, IsImage, SameBut, sector_at}
 use Rattle.sector_disk.specs.Memory.{blank, state_of}
 use Rattle.sector_disk.specs.Run.{Run, Each}

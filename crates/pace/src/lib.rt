@@ -6,7 +6,7 @@
 //! ```
 //! let mut policy = TimerPolicy::new(TimerSettings::measured(50), id, seed);
 //! policy.pass(now);                                                // milliseconds of any clock that doesn't fall back
-//! if let Some(event) = policy.tick(&NodeSnapshot::of(id, &vector, merge_wait, pending)) {
+//! if let Some(event) = policy.tick(&NodeSnapshot::of(id, &vector, merge_wait, &table.pending())) {
 //!     node.step(&event)?;
 //! }
 //! ```

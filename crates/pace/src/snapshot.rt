@@ -1,9 +1,9 @@
-ghost use Rattle.std.specs.Prelude.{◌≡◌};
+ghost use Rattle.std.specs.Prelude.{◌≡◌, []};
 ghost use Rattle.node_core.specs.State.{state_of};
 ghost use Rattle.pace.specs.Snapshots.{oldest_of, snapshot_of};
 
 use group_task::{GroupNo, Members, NodeId};
-use job_model::Job;
+use job_model::PendingJobs;
 use node_core::{Phase, Vector};
 
 /// What a policy sees of a node.
@@ -26,8 +26,23 @@ pub struct NodeSnapshot {
 
 impl NodeSnapshot {
     /// What is seen of a node by its state vector, its [`merge_wait`](node_core::NodeCore::merge_wait) and the jobs that it keeps, by rising id.
-    pub fn of(id: NodeId, vector: &Vector, merge_wait: Option<u64>, pending: &[Job]) -> NodeSnapshot
+    pub fn of(
+        id: NodeId,
+        vector: &Vector,
+        merge_wait: Option<u64>,
+        pending: &PendingJobs<'_>,
+    ) -> NodeSnapshot
         ensures { result ≡ snapshot_of id (state_of vector.now) merge_wait pending.now }
+    {
+        let mut snapshot = NodeSnapshot::without_jobs(id, vector, merge_wait);
+        snapshot.oldest = oldest(pending);
+        snapshot.pending = pending.len() as u64;
+        snapshot
+    }
+
+    /// What is seen of a node that keeps no jobs.
+    pub fn without_jobs(id: NodeId, vector: &Vector, merge_wait: Option<u64>) -> NodeSnapshot
+        ensures { result ≡ snapshot_of id (state_of vector.now) merge_wait [] }
     {
         let group_state = &vector.group_state;
         let members = match &group_state.task {
@@ -42,17 +57,15 @@ impl NodeSnapshot {
             checking: group_state.checking,
             probing: group_state.probing,
             merge_wait,
-            oldest: oldest(pending),
-            pending: pending.len() as u64,
+            oldest: None,
+            pending: 0,
         }
     }
 }
 
-fn oldest(pending: &[Job]) -> Option<u64>
+fn oldest(pending: &PendingJobs<'_>) -> Option<u64>
     ensures { result ≡ oldest_of pending.now }
 {
-    match pending {
-        [] => None,
-        [first, ..] => Some(first.id),
-    }
+    let first = pending.get(0)?;
+    Some(first.id())
 }

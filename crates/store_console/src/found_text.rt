@@ -10,7 +10,7 @@ use crate::found::{Counter, Owner};
 use crate::text::push_jobs;
 use console_text::{Output, push_named_number, push_text};
 use job_journal::JobJournal;
-use job_model::{Job, JobTable, QUEUES};
+use job_model::{JobTable, PendingJobs, QUEUES};
 use std::alloc::{AllocError, Global};
 
 /// What is printed of a file with too few sectors.
@@ -49,7 +49,7 @@ pub fn jobs_alone(alloc: Global, journal: &Result<JobJournal, u64>) -> Result<Ou
 {
     let mut text = Vec::new(alloc);
     match journal {
-        Ok(journal) => push_jobs(&mut text, journal.table().pending())?,
+        Ok(journal) => push_jobs(&mut text, &journal.table().pending())?,
         Err(sector) => push_named(&mut text, "damaged_journal", *sector)?,
     }
     Ok(Output {
@@ -126,12 +126,12 @@ fn push_table(text: &mut Vec<u8>, table: &JobTable) -> Result<(), AllocError>
 {
     push_named(text, "next", table.next())?;
     push_named(text, "jobs", table.pending().len() as u64)?;
-    push_queues(text, table.pending())
+    push_queues(text, &table.pending())
 }
 
 /// Adds a line for each queue that has jobs.
 #[tactic(auto, unfolding(crate::specs::Printed::all_queues_text))]
-fn push_queues(text: &mut Vec<u8>, jobs: &[Job]) -> Result<(), AllocError>
+fn push_queues(text: &mut Vec<u8>, jobs: &PendingJobs<'_>) -> Result<(), AllocError>
     ensures { OnOk result (text.new.items ≡ text.old.items ++ all_queues_text jobs.now) }
 {
     for queue in 0..QUEUES {
@@ -152,12 +152,12 @@ fn push_queue(text: &mut Vec<u8>, queue: u8, count: u64) -> Result<(), AllocErro
 }
 
 /// How many jobs there are in a queue.
-fn jobs_in_queue(jobs: &[Job], queue: u8) -> u64
+fn jobs_in_queue(jobs: &PendingJobs<'_>, queue: u8) -> u64
     ensures { result ≡ jobs_in_queue jobs.now queue }
 {
     let mut count = 0;
     for at in 0..jobs.len() {
-        if jobs[at].work.queue.number() == queue {
+        if jobs.get(at).unwrap().queue().number() == queue {
             count += 1;
         }
     }

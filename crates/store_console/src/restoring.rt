@@ -73,7 +73,7 @@ fn take_line(
     if !table.can_keep(job.id) {
         return Err(LineFault::BadLine(number));
     }
-    if slots < table.pending().len() as u64 + 3 {
+    if slots - 2 <= table.pending().len() as u64 {
         return Err(LineFault::BadLine(number));
     }
     table.keep(job);

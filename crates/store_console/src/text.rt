@@ -8,7 +8,7 @@ ghost use Rattle.store_console.specs.Replies.{bar_text, fault_text, job_text, li
 use crate::reply::{Bar, Reply};
 use console_text::{push_named_number, push_text, push_work};
 use file_disk::FileDisk;
-use job_model::{Job, JobTable};
+use job_model::{JobRef, JobTable, PendingJobs};
 use node_store::{NodeStore, StoreFault};
 use std::alloc::AllocError;
 
@@ -81,30 +81,24 @@ fn push_list(text: &mut Vec<u8>, count: u64, table: &JobTable) -> Result<(), All
     push_named_number(text, "count ", count)?;
     push_named_number(text, " next ", table.next())?;
     push_text(text, "\n")?;
-    push_jobs(text, table.pending())
+    push_jobs(text, &table.pending())
 }
 
 /// Adds a line for each of these jobs.
-pub fn push_jobs(text: &mut Vec<u8>, jobs: &[Job]) -> Result<(), AllocError>
+pub fn push_jobs(text: &mut Vec<u8>, jobs: &PendingJobs<'_>) -> Result<(), AllocError>
     ensures { OnOk result (text.new.items ≡ text.old.items ++ flat_map (λ job. line (job_text job)) jobs.now) }
 {
-    for job in jobs {
-        push_job(text, job)?;
+    for job in jobs.iter() {
+        push_job(text, &job)?;
     }
     Ok(())
 }
 
-fn push_job(text: &mut Vec<u8>, job: &Job) -> Result<(), AllocError>
+fn push_job(text: &mut Vec<u8>, job: &JobRef<'_>) -> Result<(), AllocError>
     ensures { OnOk result (text.new.items ≡ text.old.items ++ line (job_text job.now)) }
 {
-    push_named_number(text, "job ", job.id)?;
+    push_named_number(text, "job ", job.id())?;
     push_text(text, " ")?;
-    let work = &job.work;
-    push_work(
-        text,
-        work.queue.number(),
-        work.payload.as_slice(),
-        work.priority,
-    )?;
+    push_work(text, job.queue().number(), job.payload(), job.priority())?;
     push_text(text, "\n")
 }

@@ -1,4 +1,4 @@
-ghost use Rattle.std.specs.Prelude.{◌≡◌, ◌≢◌, ◌<◌, ◌-◌, ◌^◌, ◌↔◌, ℕ, [], length, IfOk, OnOk, OnErr, IsTrue};
+ghost use Rattle.std.specs.Prelude.{◌≡◌, ◌≢◌, ◌<◌, ◌-◌, ◌^◌, ◌↔◌, ℕ, [], IfOk, OnOk, OnErr, IsTrue};
 ghost use Rattle.job_model.specs.Answer.{answer_to};
 ghost use Rattle.job_model.specs.declared.node_command.NodeCommand.TheVariants.{Put, Done};
 ghost use Rattle.job_model.specs.Fold.{after_wanted, after_command};
@@ -14,7 +14,6 @@ use std::marker::Model;
 /// What a node's disk keeps: the counter of groups and the pending jobs. It takes room as it is needed.
 #[derive(Drop)]
 pub(crate) struct DurableState {
-    alloc: Global,
     counter: u64,
     table: JobTable,
 }
@@ -34,7 +33,6 @@ impl DurableState {
         ensures { IfOk result (λ durable_state. durable_state ≡ record { counter = 1; next = 0; pending = [] }) }
     {
         Ok(DurableState {
-            alloc,
             counter: 1,
             table: JobTable::with_room(alloc, 0)?,
         })
@@ -73,7 +71,7 @@ impl DurableState {
                 self.counter += 1;
                 Ok(self.counter)
             }
-            WantedRef::Put(work) => put(self.alloc, &mut self.table, work),
+            WantedRef::Put(work) => put(&mut self.table, work),
             WantedRef::Done(id) => {
                 done(&mut self.table, *id);
                 Ok(*id)
@@ -83,18 +81,15 @@ impl DurableState {
 }
 
 /// Makes a job pending, and gives its id.
-fn put(alloc: Global, table: &mut JobTable, work: &Work) -> Result<u64, AllocError>
+fn put(table: &mut JobTable, work: &Work) -> Result<u64, AllocError>
     requires { table.old.next ≢ 2 ^ 64 - 1 }
     ensures id { IfOk result (λ id. id ≡ table.old.next) }
     ensures step { OnOk result ((counter : ℕ) → durable_of counter table.new ≡ after_command (durable_of counter table.old) (Put work.now)) }
     ensures refused { OnErr result (table.new ≡ table.old) }
 {
     let id = table.next();
-    let command = Command::Put(*work);
-    if !table.can_apply(&command) {
-        *table = grown(alloc, table)?;
-    }
-    table.apply(command);
+    table.reserve(1)?;
+    table.put(work);
     Ok(id)
 }
 
@@ -105,19 +100,4 @@ fn done(table: &mut JobTable, id: u64)
     if table.contains(id) {
         table.apply(Command::Done(id));
     }
-}
-
-/// The same jobs in a table with more room.
-fn grown(alloc: Global, table: &JobTable) -> Result<JobTable, AllocError>
-    ensures next { IfOk result (λ new. new.next ≡ table.now.next) }
-    ensures pending { IfOk result (λ new. new.pending ≡ table.now.pending) }
-    ensures room { IfOk result (λ new. length new.pending < new.room) }
-{
-    let jobs = table.pending();
-    let mut new = JobTable::with_room(alloc, jobs.len() * 2 + 4)?;
-    new.restart(table.next());
-    for job in jobs {
-        new.keep(*job);
-    }
-    Ok(new)
 }

@@ -71,7 +71,12 @@ fn check_jobs(rt: &impl Abort, alloc: Global, disk: &mut MemDisk, next: u64, job
     disk.arm(u64::MAX);
     let journal = mount(alloc, disk, 4).expect(rt, "a mounted journal");
     let table = journal.table();
-    assert!(rt; table.next() == next && table.pending() == jobs);
+    let pending = table.pending();
+    assert!(rt; table.next() == next && pending.len() == jobs.len());
+    for at in 0..jobs.len() {
+        let job = pending.get(at).expect(rt, "a pending job");
+        assert!(rt; job.to_job() == jobs[at]);
+    }
 }
 
 // Mounts in so many device calls at most: the next id, and how many jobs are pending.

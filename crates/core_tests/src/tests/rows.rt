@@ -83,7 +83,12 @@ impl Node {
         assert!(rt; group_state.up == want.up && group_state.task == want.task);
         assert!(rt; group_state.found == want.found && group_state.unready == want.unready);
         assert!(rt; group_state.checking == want.checking && group_state.probing == want.probing);
-        assert!(rt; self.core.vector().hand.jobs() == hand);
+        let mut jobs = self.core.vector().hand.jobs().iter();
+        for want in hand {
+            let job = jobs.next().map(|job| job.to_in_hand());
+            assert!(rt; job == Some(*want));
+        }
+        assert!(rt; jobs.next().is_none());
     }
 }
 

@@ -1,6 +1,6 @@
 use Rattle.std.proofs.Common.{◌-◌, ◌≡◌, ◌+◌, ◌≤◌, ◌<◌, ℕ, false, length, slice_index_or}
 use Rattle.node_core.specs.declared.in_hand.InHand.{InHand}
-use Rattle.node_core.proofs.Holds.{is_of}
+use Rattle.node_core.specs.Held.{is_of}
 use Rattle.node_core.proofs.hand.place_of.Given as goal
 
 abbrev pub invariant-loop-low : goal.invariant-loop-low

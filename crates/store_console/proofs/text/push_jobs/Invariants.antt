@@ -1,7 +1,7 @@
-use Rattle.std.proofs.Common.{◌≡◌, ◌++◌, drop, flat_map}
+use Rattle.std.proofs.Common.{◌≡◌, ◌++◌, flat_map}
 use Rattle.console_text.specs.Ends.{line}
 use Rattle.store_console.specs.Replies.{job_text}
 use Rattle.store_console.proofs.text.push_jobs.Given as goal
 
 abbrev pub invariant-loop-job : goal.invariant-loop-job
-invariant-loop-job l = l.text.items ++ flat_map (λ job. line (job_text job)) (drop l.job-index l.jobs) ≡ l.fn.text.items ++ flat_map (λ job. line (job_text job)) l.jobs
+invariant-loop-job l = l.text.items ++ flat_map (λ job. line (job_text job)) l.job-iterator ≡ l.fn.text.items ++ flat_map (λ job. line (job_text job)) l.jobs

@@ -1,20 +1,27 @@
-use Rattle.std.proofs.Common.{◌≡◌, ◌+◌, ◌++◌, ◌∙◌, take, drop, subst, sym, ap}
+use Rattle.std.proofs.Common.{◌≡◌, List, ◌∙◌, subst, sym, ap}
+use Rattle.std.specs.Prelude.{Some}
 use Rattle.job_model.specs.Fold.{without_job}
-use Rattle.job_model.specs.Table.{Table}
+use Rattle.job_model.specs.JobLists.{JobRoom, jobs_of}
 use Rattle.job_model.specs.Order.{IsInOrder}
+use Rattle.job_model.specs.Table.{IsPlaceOf, Table}
+use Rattle.job_model.specs.declared.job.Job.{Job}
 use Rattle.job_model.proofs.OrderLaws.{IdsRise-without_job}
+use Rattle.job_model.proofs.Rows.{jobs_left}
 use Rattle.job_model.proofs.table.JobTable.done.Goals as goal
 
 pub invariant_of-self : goal.invariant_of-self
 invariant_of-self c =
     let was = c.self.inside in
     let id = c.args.id in
-    let at = c.in-Some.at in
-    let jobs = drop was.start was.places.items in
-    let without_is : without_job jobs id ≡ take at jobs ++ drop (at + 1) jobs =
-    subst (λ xs. without_job xs id ≡ take at xs ++ drop (at + 1) xs) (c.pending.ensures.value ∙ sym (ap (λ (t : Table). t.pending) c.self.view_is)) c.in-Some.ensures.at_place.1 in
-    record {
-      within = c.take_out.ensures.within;
-      in_order = subst (λ xs. IsInOrder xs was.next) (without_is ∙ sym c.take_out.ensures.jobs) (IdsRise-without_job 0 was.next jobs id c.self.invariant.in_order);
-      twice = c.take_out.ensures.capacity ∙ c.self.invariant.twice;
-    }
+    let there : IsPlaceOf (jobs_of was.jobs.jobs) id (Some c.in-Some.place) = subst (λ place. IsPlaceOf (jobs_of was.jobs.jobs) id place) c.in-Some.is (c.place_of.ensures was.next c.self.invariant) in
+    let left_is : jobs_of c.remove.new.self.jobs ≡ without_job (jobs_of was.jobs.jobs) id = ap (λ (list : JobRoom). jobs_of list.jobs) c.remove.ensures ∙ jobs_left was.jobs.jobs id c.in-Some.place there in
+    subst (λ jobs. IsInOrder jobs was.next) (sym left_is) (IdsRise-without_job 0 was.next (jobs_of was.jobs.jobs) id c.self.invariant)
+
+pub returns-in-Some : goal.returns-in-Some
+returns-in-Some c =
+    let was = c.self.inside in
+    let id = c.args.id in
+    let there : IsPlaceOf (jobs_of was.jobs.jobs) id (Some c.in-Some.place) = subst (λ place. IsPlaceOf (jobs_of was.jobs.jobs) id place) c.in-Some.is (c.place_of.ensures was.next c.self.invariant) in
+    ap (λ (list : JobRoom). record { next = was.next; pending = jobs_of list.jobs; room = list.room }) c.remove.ensures
+    ∙ ap (λ (jobs : List Job). record { next = was.next; pending = jobs; room = was.jobs.room }) (jobs_left was.jobs.jobs id c.in-Some.place there)
+    ∙ ap (λ (t : Table). record t { pending = without_job t.pending id }) c.self.view_is
