@@ -1,5 +1,5 @@
 -- Words of bits and rising lists stand for each other.
-use Rattle.std.proofs.Common.{◌≡◌, ℕ, zero, suc, ◌+◌, ◌*◌, ◌/◌, ◌%◌, ◌^◌, ◌<◌, ◌≤◌, true, false, cond, eqb, ltb, ◌||◌, List, [], ◌∷◌, ◌++◌, length, not, refl, sym, ap, ◌∙◌, subst, arith, inl, inr}
+use Rattle.std.proofs.Common.{◌≡◌, ℕ, zero, suc, ◌+◌, ◌-◌, ◌*◌, ◌/◌, ◌%◌, ◌^◌, ◌<◌, ◌≤◌, true, false, cond, eqb, ltb, ◌||◌, List, [], ◌∷◌, ◌++◌, length, not, refl, sym, ap, ◌∙◌, subst, arith, inl, inr}
 use Rattle.std.specs.Int.{bit_at, bit_not, w128, trailing_zeros}
 use Rattle.std.specs.Int.Bits.{bit_and, bit_or}
 use Rattle.std.specs.Int.Count.{ones, count_trailing_zeros}
@@ -9,7 +9,7 @@ use Rattle.std.proofs.lemmas.Cmp.{nat_list_eq_equiv}
 use Rattle.std.proofs.lemmas.Bool.{false≢true, ne_eqb, cond_both, and_parts, false_from_ne_true, cases_eq, cases_lt, cases_order, eq-eqb, eqb-false, eqb-true, ltb-true, ltb-false}
 use Rattle.std.proofs.lemmas.Bool.Decides.{nat_tests}
 use Rattle.std.proofs.lemmas.Nat.{or_lt, pow_pos, ones_cat}
-use Rattle.std.proofs.lemmas.Nat.Bits.{bit_at_or, bit_at-lt, bit_at_lowest, bit_at-suc, shr_and_one, bit_at-trailing_zeros, bit_at_set_same, bit_at_set_other, bit_at_clear_same, bit_at_clear_other}
+use Rattle.std.proofs.lemmas.Nat.Bits.{bit_at_and, bit_at_or, bit_at-lt, bit_at_lowest, bit_at-suc, shr_and_one, bit_at-trailing_zeros, bit_at_set_same, bit_at_set_other, bit_at_clear_same, bit_at_clear_other}
 use Rattle.std.proofs.Math.Nat.{div-div-eq-div-mul, pow-suc, div-eq_of_lt}
 use Rattle.group_task.specs.declared.node.TheConstants.{NODES}
 use Rattle.group_task.specs.Bits.{ids_from, ids_of, word_of, word_of-ids_of}
@@ -164,6 +164,50 @@ remove_word w i xs within e =
     by_bits (bit_and w (bit_not w128 (1 * 2 ^ i % 2 ^ NODES))) (without_id (ids_of w) i) (RisesWithin-without_id i 0 NODES (ids_of w) (IsSet-ids_of w))
     (λ j inside. grind (arith, nat_tests, has-without_id i j (ids_of w), has-ids_of j w inside, bit_at_clear_same w128 w i within, bit_at_clear_other w128 w i within j inside))
     ∙ ap (λ ids. without_id ids i) e
+
+-- the number before one whose lowest bit is at t has none there, and the same bits above
+below_it : (t w : ℕ) → bit_at w t ≡ 1 → ((j : ℕ) → j < t → bit_at w j ≡ 0) → bit_at (w - 1) t ≡ 0
+below_it zero w one none = grind (arith, bit_at_lowest w, bit_at_lowest (w - 1))
+below_it (suc t) w one none =
+    let even : w % 2 ≡ 0 = sym (bit_at_lowest w) ∙ none 0 (omega arith) in
+    let half : (w - 1) / 2 ≡ w / 2 - 1 = grind (arith) in
+    bit_at-suc (w - 1) t ∙ ap (λ n. bit_at n t) half ∙ below_it t (w / 2) (sym (bit_at-suc w t) ∙ one) (λ j lt. sym (bit_at-suc w j) ∙ none (suc j) (omega arith))
+
+above_it : (t w i : ℕ) → bit_at w t ≡ 1 → ((j : ℕ) → j < t → bit_at w j ≡ 0) → t < i → bit_at (w - 1) i ≡ bit_at w i
+above_it t w zero one none lt = absurd (omega arith)
+above_it zero w (suc i) one none lt =
+    let odd : w % 2 ≡ 1 = sym (bit_at_lowest w) ∙ one in
+    let half : (w - 1) / 2 ≡ w / 2 = grind (arith) in
+    bit_at-suc (w - 1) i ∙ ap (λ n. bit_at n i) half ∙ sym (bit_at-suc w i)
+above_it (suc t) w (suc i) one none lt =
+    let even : w % 2 ≡ 0 = sym (bit_at_lowest w) ∙ none 0 (omega arith) in
+    let half : (w - 1) / 2 ≡ w / 2 - 1 = grind (arith) in
+    bit_at-suc (w - 1) i ∙ ap (λ n. bit_at n i) half ∙ above_it t (w / 2) i (sym (bit_at-suc w t) ∙ one) (λ j below. sym (bit_at-suc w j) ∙ none (suc j) (omega arith)) (omega arith)
+    ∙ sym (bit_at-suc w i)
+
+-- so both together have all bits but the lowest
+lowest_gone : (t w : ℕ) → bit_at w t ≡ 1 → ((j : ℕ) → j < t → bit_at w j ≡ 0) → bit_at (bit_and w (w - 1)) t ≡ 0
+lowest_gone t w one none = grind (arith, bit_at_and w (w - 1) t, below_it t w one none)
+
+others_stay : (t w i : ℕ) → bit_at w t ≡ 1 → ((j : ℕ) → j < t → bit_at w j ≡ 0) → (i ≡ t → ⊥) → bit_at (bit_and w (w - 1)) i ≡ bit_at w i
+others_stay t w i one none other = elim (cases_order i t) [
+  | inl same ↦ absurd (other same)
+  | inr (inl below) ↦ grind (arith, bit_at_and w (w - 1) i, none i below)
+  | inr (inr above) ↦ grind (arith, bit_at_and w (w - 1) i, above_it t w i one none above)
+]
+
+-- the word without its lowest bit is the set without its first member
+pub pop_word : (w id : ℕ) (xs : List ℕ) → w < 2 ^ NODES → ids_of w ≡ xs → xs ≡ id ∷ without_id xs id → (0 < w) × (ids_of (bit_and w (w - 1)) ≡ without_id xs id)
+pop_word w id xs lt e is =
+    let head = at_head w id (without_id xs id) lt (e ∙ is) in
+    let pos : 0 < w = omega (arith, word_of-ids_of w lt, ap word_of (e ∙ is), pow_pos id) in
+    let t = trailing_zeros w128 w in
+    let lowest = bit_at-trailing_zeros w128 w pos lt in (
+      pos,
+      by_bits (bit_and w (w - 1)) (without_id (ids_of w) t) (RisesWithin-without_id t 0 NODES (ids_of w) (IsSet-ids_of w))
+          (λ j inside. grind (arith, nat_tests, has-without_id t j (ids_of w), has-ids_of j w inside, lowest_gone t w lowest.1 lowest.2, others_stay t w j lowest.1 lowest.2))
+          ∙ ap (λ ids. without_id ids t) e ∙ ap (λ i. without_id xs i) head.1,
+    )
 
 pub set_word : (w : ℕ) (xs : List ℕ) → ids_of w ≡ xs → IsSet xs
 set_word w xs e = subst IsSet e (IsSet-ids_of w)

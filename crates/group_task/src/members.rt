@@ -156,12 +156,14 @@ impl Members {
     }
 
     /// Takes the node of the least identifier out.
+    #[tactic(auto, using(crate::proofs::Words::pop_word))]
     #[inline]
     pub fn pop_first(&mut self) -> Option<NodeId>
         ensures { MatchOption result ((self.old ≡ []) × (self.new ≡ [])) (λ id. self.old ≡ id ∷ self.new) }
     {
         let first = self.first()?;
-        self.remove(first);
+        // the lowest bit is the first node's
+        self.word &= self.word - 1;
         Some(first)
     }
 

@@ -1,7 +1,7 @@
 mod OrderLaws
 mod Packing
+mod Padding
 mod Places
 mod Rows
 mod RecordBytes
 mod RecordSectors
-pub mod PublicLaws

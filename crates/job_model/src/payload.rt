@@ -1,8 +1,9 @@
 ghost use Rattle.std.specs.Prelude.{◌≡◌, ◌<◌, ◌≤◌, ◌↔◌, IsNone, IfSome, IsTrue, [], length};
-ghost use Rattle.job_model.specs.Padded.{padded};
+ghost use Rattle.job_model.specs.Padded.{padded, IsPadded};
 ghost use Rattle.job_model.specs.declared.payload.TheConstants.{PAYLOAD_CAPACITY};
 
 use std::marker::Model;
+use std::mem;
 
 /// How many bytes a payload has at most.
 pub const PAYLOAD_CAPACITY: usize = 400;
@@ -37,7 +38,9 @@ impl Payload {
     #[inline]
     pub fn new(bytes: &[u8]) -> Option<Payload>
         // Promise: A payload is made of any 0 to 400 bytes and of no more; it is those bytes.
-        // Refuses: longest_payload_refused, payload_dropped.
+        // Also: Payload::empty, Payload::set.
+        // Refuses: longest_payload_refused, payload_dropped, old_bytes_stay_behind, set_keeps_the_old_length,
+        // empty_payload_of_one_zero.
         ensures value { IfSome result (λ payload. payload ≡ bytes.now) }
         ensures none { IsNone result ↔ (PAYLOAD_CAPACITY < length bytes.now) }
     {
@@ -48,6 +51,27 @@ impl Payload {
             bytes: padded(bytes),
             len: bytes.len(),
         })
+    }
+
+    /// A payload of no bytes.
+    #[inline]
+    pub fn empty() -> Payload
+        ensures { result ≡ [] }
+    {
+        Payload {
+            bytes: [0; PAYLOAD_CAPACITY],
+            len: 0,
+        }
+    }
+
+    /// Makes it these bytes, in its place.
+    #[inline]
+    pub fn set(&mut self, bytes: &[u8])
+        requires { length bytes.now ≤ PAYLOAD_CAPACITY }
+        ensures { self.new ≡ bytes.now }
+    {
+        let old_len = mem::replace(&mut self.len, bytes.len());
+        write_over(&mut self.bytes, old_len, bytes);
     }
 
     /// How many bytes it has.
@@ -89,6 +113,20 @@ fn padded(bytes: &[u8]) -> [u8; PAYLOAD_CAPACITY]
     let mut cells = [0; PAYLOAD_CAPACITY];
     cells[..bytes.len()].copy_from_slice(bytes);
     cells
+}
+
+// Writes these bytes over so many, behind which zeros stand. Only what is left of the old ones is written behind them.
+#[inline]
+fn write_over(cells: &mut [u8; PAYLOAD_CAPACITY], old_len: usize, bytes: &[u8])
+    requires fits { length bytes.now ≤ PAYLOAD_CAPACITY }
+    requires zeros { IsPadded PAYLOAD_CAPACITY old_len cells.old }
+    ensures { cells.new ≡ padded PAYLOAD_CAPACITY bytes.now }
+{
+    let len = bytes.len();
+    cells[..len].copy_from_slice(bytes);
+    if len < old_len {
+        cells[len..old_len].fill(0);
+    }
 }
 
 impl PartialEq for Payload {

@@ -86,6 +86,7 @@ impl JobTable {
         // much yet, and changes nothing then.
         // Refuses: room_for_half_of_the_pending_jobs.
         ensures jobs { (self.new.next ≡ self.old.next) × (self.new.pending ≡ self.old.pending) }
+        ensures kept { self.old.room ≤ self.new.room }
         ensures room { OnOk result (length self.old.pending + more ≤ self.new.room) }
         ensures refused { OnErr result ((0 < more) × (self.old.room < length self.old.pending + more)) }
         ensures unchanged { OnErr result (self.new ≡ self.old) }

@@ -14,6 +14,7 @@ mod lines;
 mod places;
 mod reading;
 
+pub use digits::decode_pairs;
 pub use laws::numbers;
 pub use lines::{LineFault, bytes, cut_line, line_numbered, push_bytes};
 pub use reading::{cut_word, first_word, is_word, number};

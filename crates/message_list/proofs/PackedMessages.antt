@@ -15,7 +15,7 @@ use Rattle.message_list.specs.declared.opened.Opened.{Opened}
 use Rattle.message_list.specs.declared.packed_message.PackedMessage.{PackedMessage}
 use Rattle.message_list.specs.declared.packed_message.PackedWork.{PackedWork}
 use Rattle.message_list.specs.PackedMessages.{letter_by, letter_of, task_kept, work_kept, payload_kept, work_at, payload_of, work_said, shape_by, shape_kept, message_of, HasBody, CanBeRead, HasPayload, AreRead}
-use Rattle.message_list.specs.Lent.{shape_opened, IsOpened}
+use Rattle.message_list.specs.Lent.{shape_opened, message_opened, IsOpened}
 use Rattle.std.specs.Prelude.{IsTrue, ◌↔◌}
 
 -- ---- more is kept, and a packed message says what it said
@@ -175,3 +175,9 @@ bodies_if one other same h k is =
       λ yes. ap body_of (is.0 yes),
       λ equal. is.1 (sym (shape_back one.tasks.now one.works.now one.payloads.now a.kind a h.body) ∙ ap shape_of equal ∙ shape_back other.tasks.now other.works.now other.payloads.now b.kind b k.body),
     )
+
+-- the message of a packed message that can be read has the shape that is kept
+pub lent_shape : (o : Opened) → IsOpened o → (m : Envelope) → m ≡ message_opened o → shape_opened o ≡ shape_in m
+lent_shape o h m is =
+    let l = o.packed_message.now in
+    sym (shape_back o.tasks.now o.works.now o.payloads.now l.kind l h.body) ∙ ap (λ (e : Envelope). shape_in e) (sym is)

@@ -1,5 +1,5 @@
 -- Messages as they are lent, known apart by the numbers that they say.
-use Rattle.std.specs.Prelude.{◌≡◌, ◌==◌, ℕ, ◌+◌, ◌*◌, ◌^◌, Bool, List, ◌∷◌, ◌++◌, length, All, IsTrue, nat_eq, slice_index_or, if◌then◌else◌}
+use Rattle.std.specs.Prelude.{◌≡◌, ◌≢◌, ◌==◌, ℕ, ◌+◌, ◌*◌, ◌^◌, Bool, List, ◌∷◌, ◌++◌, length, All, IsTrue, nat_eq, slice_index_or, if◌then◌else◌}
 use Rattle.std.specs.Hash as fed
 use Rattle.std.specs.Cmp.Lexicographic.{pointwise, bytes_decides}
 use Rattle.std.specs.Ordering.{on}
@@ -66,5 +66,6 @@ message_opened o = message_of o.tasks.now o.works.now o.payloads.now o.packed_me
 
 -- it can be read
 pub record IsOpened (o : Opened) : Type 0 where
+  pub ends : o.packed_message.now.sender ≢ o.packed_message.now.receiver
   pub body : HasBody (length o.tasks.now) (length o.works.now) o.packed_message.now.kind o.packed_message.now
   pub payloads : All (HasPayload (length o.payloads.now)) o.works.now

@@ -4,7 +4,7 @@ ghost use Rattle.message_list.specs.Lent.{message_at, message_opened, IsOpened};
 ghost use Rattle.message_list.specs.PackedMessages.{ends_of};
 
 use crate::lent::LentMessage;
-use crate::opened::Opened;
+use crate::opened::{Opened, keep_lent_payload, keep_lent_task, keep_lent_work, lent_letter_of};
 use crate::packed_message::{
     PackedMessage, PackedWork, is_message, keep_payload, keep_task, keep_work, letter_of,
     read_letter,
@@ -108,8 +108,9 @@ impl MessageList {
     pub fn push(&mut self, message: &Message)
         requires { 0 < self.old.room }
         // Promise: A message that is put in comes last, the others stay, and one place of the room is used up. In the room that is
-        // there it can't be refused.
-        // Refuses: payload_of_the_first_work, room_not_used_up.
+        // there it can't be refused. So it is with one that is lent by another list, and none is made for it.
+        // Also: MessageList::push_lent.
+        // Refuses: payload_of_the_first_work, room_not_used_up, lent_work_keeps_its_place, lent_payload_left_out.
         ensures { self.new ≡ record { messages = self.old.messages ++ message.now ∷ []; room = self.old.room - 1 } }
     {
         let body = message.body();
@@ -119,6 +120,32 @@ impl MessageList {
         keep_payload(&mut self.payloads, body);
         self.letters.push_reserved(packed_message);
         self.room -= 1;
+    }
+
+    /// Adds a message of another list in the room that is there, as it is kept. None is made for it.
+    pub fn push_lent(&mut self, message: &LentMessage<'_>)
+        requires { 0 < self.old.room }
+        ensures { self.new ≡ record { messages = self.old.messages ++ message.now ∷ []; room = self.old.room - 1 } }
+    {
+        let lent = message.list.opened(message.place);
+        let packed_message = lent_letter_of(&lent, self.tasks.len(), self.works.len());
+        keep_lent_task(&mut self.tasks, &lent);
+        keep_lent_work(&mut self.works, self.payloads.len(), &lent);
+        keep_lent_payload(&mut self.payloads, &lent);
+        self.letters.push_reserved(packed_message);
+        self.room -= 1;
+    }
+
+    /// Takes all messages out. The memory that they took stays the list's.
+    pub fn clear(&mut self)
+        // Promise: Once it is cleared, a list has no message, and the room that it had.
+        // Refuses: cleared_but_for_the_first.
+        ensures { self.new ≡ record { messages = []; room = self.old.room } }
+    {
+        self.letters.clear();
+        self.tasks.clear();
+        self.works.clear();
+        self.payloads.clear();
     }
 
     /// The message at a place, counted from 0.

@@ -1,7 +1,8 @@
 //! A message as it is kept, with the lists beside it, in which its longer parts stand.
 
-ghost use Rattle.std.specs.Prelude.{◌≡◌, ◌↔◌, IsTrue, length};
-ghost use Rattle.message_list.specs.PackedMessages.{HasPayload, work_said};
+ghost use Rattle.std.specs.Prelude.{◌≡◌, ◌+◌, ◌<◌, ◌≤◌, ◌++◌, ◌↔◌, IsTrue, length, vec_len, vec_capacity};
+ghost use Rattle.job_model.specs.declared.payload.TheConstants.{PAYLOAD_CAPACITY};
+ghost use Rattle.message_list.specs.PackedMessages.{letter_of, task_kept, work_kept, payload_kept, CanBeRead, HasPayload, work_said};
 ghost use Rattle.wire_msg.specs.Kinds.{body_of};
 ghost use Rattle.message_list.specs.Lent.{shape_opened, message_opened, mark_by, mark_of, count_of, IsOpened};
 
@@ -15,6 +16,72 @@ pub struct Opened<'a> {
     pub works: &'a [PackedWork],
     pub payloads: &'a [u8],
     pub packed_message: &'a PackedMessage,
+}
+
+/// The packed message of the message in another list, where so many tasks and works are kept before it.
+pub fn lent_letter_of(one: &Opened<'_>, tasks: usize, works: usize) -> PackedMessage
+    requires { IsOpened one.now }
+    ensures value { result ≡ letter_of tasks works (message_opened one.now) }
+    ensures can_be_read { CanBeRead (tasks + 1) (works + 1) result }
+{
+    let (sender, receiver) = (one.packed_message.sender, one.packed_message.receiver);
+    let kind = one.packed_message.kind;
+    let beside = |place: usize| PackedMessage {
+        sender,
+        receiver,
+        kind,
+        answer: false,
+        creator: sender,
+        number: place as u64,
+    };
+    match kind {
+        PackedKind::Short(_) => *one.packed_message,
+        PackedKind::Ready => beside(tasks),
+        PackedKind::Work => beside(works),
+    }
+}
+
+/// Keeps the task of a Ready in another list, in the room that is there.
+pub fn keep_lent_task(tasks: &mut Vec<Task>, one: &Opened<'_>)
+    requires opened { IsOpened one.now }
+    requires room { vec_len tasks.old < vec_capacity tasks.old }
+    ensures tasks { tasks.new.items ≡ tasks.old.items ++ task_kept (shape_opened one.now) }
+    ensures few { vec_len tasks.new ≤ vec_len tasks.old + 1 }
+    ensures room { vec_capacity tasks.new ≡ vec_capacity tasks.old }
+{
+    if let PackedKind::Ready = one.packed_message.kind {
+        tasks.push_reserved(one.tasks[one.packed_message.number as usize]);
+    }
+}
+
+/// Keeps a Work in another list, where its payload begins here, in the room that is there.
+pub fn keep_lent_work(works: &mut Vec<PackedWork>, start: usize, one: &Opened<'_>)
+    requires opened { IsOpened one.now }
+    requires room { vec_len works.old < vec_capacity works.old }
+    ensures works { works.new.items ≡ works.old.items ++ work_kept start (shape_opened one.now) }
+    ensures few { vec_len works.new ≤ vec_len works.old + 1 }
+    ensures room { vec_capacity works.new ≡ vec_capacity works.old }
+{
+    if let PackedKind::Work = one.packed_message.kind {
+        let work = one.works[one.packed_message.number as usize];
+        works.push_reserved(PackedWork { start, ..work });
+    }
+}
+
+/// Keeps the payload of a Work in another list, in the room that is there.
+pub fn keep_lent_payload(payloads: &mut Vec<u8>, one: &Opened<'_>)
+    requires opened { IsOpened one.now }
+    requires room { vec_len payloads.old + PAYLOAD_CAPACITY ≤ vec_capacity payloads.old }
+    ensures payloads { payloads.new.items ≡ payloads.old.items ++ payload_kept (shape_opened one.now) }
+    ensures fits { length (payload_kept (shape_opened one.now)) ≤ PAYLOAD_CAPACITY }
+    ensures few { vec_len payloads.new ≤ vec_len payloads.old + PAYLOAD_CAPACITY }
+    ensures room { vec_capacity payloads.old ≤ vec_capacity payloads.new }
+{
+    if let PackedKind::Work = one.packed_message.kind {
+        let work = &one.works[one.packed_message.number as usize];
+        let bytes = &one.payloads[work.start..work.start + work.len];
+        let _ = payloads.extend_from_slice(bytes);
+    }
 }
 
 /// Whether they are one message.

@@ -6,9 +6,9 @@ ghost use Rattle.message_list.specs.PackedMessages.{letter_of, task_kept, work_k
 ghost use Rattle.job_model.specs.declared.payload.TheConstants.{PAYLOAD_CAPACITY};
 
 use group_task::{GroupNo, NodeId, Task, share};
-use job_model::{PAYLOAD_CAPACITY, Payload, Queue, Work};
+use job_model::{PAYLOAD_CAPACITY, Queue, Work};
 use std::mem::size_of;
-use wire_msg::{Body, Form, Kind, Message, Short};
+use wire_msg::{Body, Form, Kind, LentWork, Message, Short};
 
 /// Whether a packed message is the whole message, whose body has a short form of this kind, or a task or a work is kept beside it.
 #[derive(Clone, Copy, PartialEq, Eq)]
@@ -172,8 +172,8 @@ fn read_ready(task: &Task, sender: NodeId, receiver: NodeId, message: &mut Messa
     message.set(sender, receiver, Body::Ready(share(group, members)));
 }
 
-/// Makes `message` the Work that is kept. It stands apart, since each call of a function pays for the size of its locals, and here a
-/// whole message is one.
+/// Makes `message` the Work that is kept, in its place. It stands apart, since each call of a function pays for the size of its locals, and
+/// where `message` is no Work a whole body is one.
 #[inline(never)]
 fn read_work(
     payloads: &[u8],
@@ -186,25 +186,14 @@ fn read_work(
     requires payload { HasPayload (length payloads.now) work.now }
     ensures { message.new ≡ record { sender = sender; receiver = receiver; body = body_of (work_said payloads.now work.now) } }
 {
-    let body = work_said(payloads, work);
-    message.set(sender, receiver, body);
-}
-
-/// A Work with its payload.
-fn work_said(payloads: &[u8], work: &PackedWork) -> Body
-    requires { HasPayload (length payloads.now) work.now }
-    ensures { result ≡ body_of (work_said payloads.now work.now) }
-{
-    let bytes = &payloads[work.start..work.start + work.len];
-    Body::Work {
+    let lent = LentWork {
         group: work.group,
         id: work.id,
-        work: Work {
-            queue: work.queue,
-            priority: work.priority,
-            payload: Payload::new(bytes).unwrap(),
-        },
-    }
+        queue: work.queue,
+        priority: work.priority,
+        payload: &payloads[work.start..work.start + work.len],
+    };
+    message.set_work(sender, receiver, &lent);
 }
 
 /// Whether a packed message's message is this one. None is made for it.

@@ -27,10 +27,12 @@ use wire_msg::{Body, Message};
 /// What an event makes of a node: the row of the event, where it is not refused.
 pub fn plan_event(
     alloc: Global,
+    room: Vec<Message>,
     node_view: &NodeView<'_>,
     event: &Event,
     table: &JobTable,
 ) -> Result<Plan, CoreFault>
+    requires room { room.items ≡ [] }
     ensures plan { IfOk result (λ plan. IsPlanOf node_view.now plan
         (wants_of node_view.now.id table.now.pending event.now (state_at node_view.now))
         (λ answer. effect_of node_view.now.nodes node_view.now.id table.now.pending event.now answer (state_at node_view.now))) }
@@ -42,9 +44,9 @@ pub fn plan_event(
     ensures spares { SparesMemory (takes_memory node_view.now.id event.now (state_at node_view.now)) result }
 {
     match event {
-        Event::Timer(timer) => Ok(plan_timer(alloc, node_view, *timer, table)?),
-        Event::Recover => Ok(operator::recovery(Vec::new(alloc), node_view)),
-        Event::Deliver(message) => plan_delivery(alloc, Vec::new(alloc), node_view, message, table),
+        Event::Timer(timer) => Ok(plan_timer(alloc, room, node_view, *timer, table)?),
+        Event::Recover => Ok(operator::recovery(room, node_view)),
+        Event::Deliver(message) => plan_delivery(alloc, room, node_view, message, table),
         Event::Submit(work) => {
             let group_state = &node_view.vector.group_state;
             match group_state.phase {
@@ -55,7 +57,7 @@ pub fn plan_event(
             if !group_state.coordinator.is(node_view.id) {
                 return Err(CoreFault::NotCoordinator(group_state.coordinator));
             }
-            Ok(operator::submit(alloc, node_view, work)?)
+            Ok(operator::submit(alloc, room, node_view, work)?)
         }
         Event::Finish(origin, job) => {
             if matches!(node_view.vector.group_state.phase, Phase::Down) {
@@ -64,7 +66,7 @@ pub fn plan_event(
             if !node_view.vector.hand.contains(*origin, *job) {
                 return Err(CoreFault::UnknownJob);
             }
-            Ok(operator::finish(alloc, node_view, *origin, *job, table)?)
+            Ok(operator::finish(alloc, room, node_view, *origin, *job, table)?)
         }
     }
 }
@@ -72,10 +74,12 @@ pub fn plan_event(
 /// What a timer makes of a node.
 fn plan_timer(
     alloc: Global,
+    room: Vec<Message>,
     node_view: &NodeView<'_>,
     timer: Timer,
     table: &JobTable,
 ) -> Result<Plan, AllocError>
+    requires room { room.items ≡ [] }
     ensures row { IfOk result (λ plan. IsPlanOf node_view.now plan
         (wants_of node_view.now.id table.now.pending (on.Timer timer) (state_at node_view.now))
         (λ answer. timed node_view.now.nodes node_view.now.id table.now.pending timer answer (state_at node_view.now))) }
@@ -83,12 +87,12 @@ fn plan_timer(
     ensures memory { Spares (takes_memory node_view.now.id (on.Timer timer) (state_at node_view.now)) result }
 {
     match timer {
-        Timer::Check => timers::check_timer(alloc, node_view),
-        Timer::Merge => timers::merge_timer(alloc, node_view),
-        Timer::Accept => timers::accept_timer(alloc, node_view),
-        Timer::Ready => Ok(timers::ready_timer(alloc, node_view)),
-        Timer::Coord => timers::coord_timer(alloc, node_view),
-        Timer::Dispatch => dispatch::dispatch_timer(alloc, node_view, table),
+        Timer::Check => timers::check_timer(room, node_view),
+        Timer::Merge => timers::merge_timer(alloc, room, node_view),
+        Timer::Accept => timers::accept_timer(room, node_view),
+        Timer::Ready => Ok(timers::ready_timer(room, node_view)),
+        Timer::Coord => timers::coord_timer(alloc, room, node_view),
+        Timer::Dispatch => dispatch::dispatch_timer(alloc, room, node_view, table),
     }
 }
 
@@ -143,7 +147,7 @@ fn plan_message(
         Body::Coordinator(agreed) => Ok(messages::answered_coordinator(
             room, node_view, from, *agreed,
         )),
-        Body::Invitation(group) => messages::invited(alloc, room, node_view, *group),
+        Body::Invitation(group) => messages::invited(room, node_view, *group),
         Body::Accept(group) => Ok(messages::accepted(room, node_view, from, *group)),
         Body::Ready(task) => messages::told_ready(room, node_view, from, *task),
         Body::ReadyAck(group) => Ok(messages::acknowledged(room, node_view, from, *group)),

@@ -19,7 +19,7 @@ use crate::operator::recovery;
 use crate::others::{with_other, without_other};
 use crate::phase::Phase;
 use crate::plan::{
-    HandChange, Plan, PlannedEffect, changed, marked, nothing, quietly, reply, with_room,
+    HandChange, Plan, PlannedEffect, changed, copied, marked, nothing, quietly, reply, with_room,
     write_to_each,
 };
 use crate::state_update::StateUpdate;
@@ -46,7 +46,7 @@ pub fn asked_coordinator(
     if matches!(node_view.vector.group_state.phase, Phase::Down) {
         return Ok(nothing(room));
     }
-    let messages = with_room(room)?;
+    let messages = with_room(room, 1)?;
     let answer = Message::between(node_view.id, from, Body::Coordinator(leads(node_view)));
     Ok(reply(PlannedEffect::Stay(None), messages, answer))
 }
@@ -77,7 +77,6 @@ pub fn answered_coordinator(
 /// Invitation: a Normal node stops its work and joins, and a coordinator passes the invitation on to its members.
 #[tactic(auto, using(crate::proofs::Sets::other_sets), unfolding(crate::specs::Messages::delivered))]
 pub fn invited(
-    alloc: Global,
     room: Vec<Message>,
     node_view: &NodeView<'_>,
     group: GroupNo,
@@ -95,7 +94,7 @@ pub fn invited(
     let creator = group.creator();
     let members = passed_on(node_view, group);
     let with_creator = with_other(node_view, members, creator);
-    let mut messages = Vec::with_capacity(alloc, with_creator.len())?;
+    let mut messages = with_room(room, with_creator.len())?;
     write_to_each(
         &mut messages,
         node_view.id,
@@ -183,20 +182,13 @@ pub fn told_ready(
         Phase::Normal => PlannedEffect::Stay(None),
         _ => return Ok(nothing(room)),
     };
-    let messages = with_room(room)?;
+    let messages = with_room(room, 1)?;
     let answer = Message::between(
         node_view.id,
         from,
         Body::ReadyAck(copied(group_state.group)),
     );
     Ok(reply(act, messages, answer))
-}
-
-/// The same group, made of its parts: a message that is made of it is then written once, and isn't copied.
-fn copied(group: GroupNo) -> GroupNo
-    ensures { result ≡ group }
-{
-    GroupNo::numbered(group.creator(), group.count())
 }
 
 /// Whether the task is that of the node's group, told by its coordinator, and makes it a member.
@@ -254,7 +246,7 @@ pub fn asked_there(
     let here = group.is(group_state.group)
         && group_state.coordinator.is(node_view.id)
         && group_state.up.contains(from);
-    let messages = with_room(room)?;
+    let messages = with_room(room, 1)?;
     let answer = Message::between(node_view.id, from, Body::Here(group, here));
     Ok(reply(PlannedEffect::Stay(None), messages, answer))
 }

@@ -157,17 +157,18 @@ impl NodeCore {
     /// may be made again.
     pub fn plan_step(&mut self, event: &Event, table: &JobTable) -> Result<Plan, CoreFault>
         // Promise: Planning changes nothing but room; a refused plan changes nothing at all.
-        // Also: unchanged.
+        // Also: unchanged, NodeCore::plan_in.
         // Refuses: room_for_fewer.
         ensures kept { self.new ≡ record self.old { room = self.new.room } }
         // Promise: A plan is that of the event: its command, its effect for every answer, its number of messages, and all memory
         // that its commit needs.
+        // Also: NodeCore::plan_in.
         // Refuses: no_room_for_the_gain, room_for_half_of_the_gain, done_job_forgotten.
         ensures plan { IfOk result (IsPlanFor self.new table.now.pending event.now) }
         ensures done { IfOk result (λ _. refusal_of self.old.nodes self.old.id event.now self.old.state ≡ None) }
         // Promise: A planned event is refused exactly where the table says, in its order; a refusal of the table comes before want
         // of memory.
-        // Also: memory, done.
+        // Also: memory, done, NodeCore::plan_in.
         // Refuses: message_for_another_taken, member_outside_the_cluster, coordinator_takes_no_job.
         ensures refused { IfSome (refusal_of self.old.nodes self.old.id event.now self.old.state)
             (λ fault. result ≡ Err fault) }
@@ -176,12 +177,36 @@ impl NodeCore {
         // Promise: Want of memory refuses only an event that takes memory by the table `takes_memory`: never ReadyTimer, Recover,
         // Coordinator, Accept, ReadyAck, Done, a Here that says no, a probe without an answer, or an event whose guard doesn't
         // hold.
-        // Also: NodeCore::plan_delivery.
+        // Also: NodeCore::plan_in, NodeCore::plan_delivery.
         // Refuses: ready_timer_refused.
         ensures spares { result ≡ Err CoreFault.NoMemory → takes_memory self.old.id event.now self.old.state ≡ true }
         ensures unchanged { OnErr result (self.new ≡ self.old) }
     {
-        let plan = plan_event(self.alloc, &self.node_view(), event, table)?;
+        self.plan_in(event, table, Vec::new(self.alloc))
+    }
+
+    /// The plan of an event. Its messages are written into `room`, an empty list, so that who plans one event after another takes memory
+    /// for a list once.
+    pub fn plan_in(
+        &mut self,
+        event: &Event,
+        table: &JobTable,
+        room: Vec<Message>,
+    ) -> Result<Plan, CoreFault>
+        requires { room.items ≡ [] }
+        ensures kept { self.new ≡ record self.old { room = self.new.room } }
+        // Promise: A plan's messages are written into the caller's list, where it is empty.
+        // Refuses: messages_of_a_timer_dropped.
+        ensures plan { IfOk result (IsPlanFor self.new table.now.pending event.now) }
+        ensures done { IfOk result (λ _. refusal_of self.old.nodes self.old.id event.now self.old.state ≡ None) }
+        ensures refused { IfSome (refusal_of self.old.nodes self.old.id event.now self.old.state)
+            (λ fault. result ≡ Err fault) }
+        ensures memory { IfErr result (λ fault. fault ≢ CoreFault.NoMemory
+            → refusal_of self.old.nodes self.old.id event.now self.old.state ≡ Some fault) }
+        ensures spares { result ≡ Err CoreFault.NoMemory → takes_memory self.old.id event.now self.old.state ≡ true }
+        ensures unchanged { OnErr result (self.new ≡ self.old) }
+    {
+        let plan = plan_event(self.alloc, room, &self.node_view(), event, table)?;
         self.make_room(&plan)?;
         Ok(plan)
     }

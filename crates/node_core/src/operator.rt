@@ -14,7 +14,7 @@ ghost use Rattle.node_core.specs.Planned.{IsPlanOf, plan_sends, gain_of};
 
 use crate::guards::owner_in;
 use crate::node_view::NodeView;
-use crate::plan::{HandChange, Plan, PlannedEffect, changed};
+use crate::plan::{HandChange, Plan, PlannedEffect, changed, with_room};
 use group_task::NodeId;
 use job_model::{JobTable, Work};
 use std::alloc::{AllocError, Global};
@@ -35,13 +35,19 @@ pub fn recovery(room: Vec<Message>, node_view: &NodeView<'_>) -> Plan
 }
 
 /// A coordinator keeps a new job, and takes it in hand or sends it to its owner.
-pub fn submit(alloc: Global, node_view: &NodeView<'_>, work: &Work) -> Result<Plan, AllocError>
+pub fn submit(
+    alloc: Global,
+    room: Vec<Message>,
+    node_view: &NodeView<'_>,
+    work: &Work,
+) -> Result<Plan, AllocError>
+    requires room { room.items ≡ [] }
     requires normal { in_phase Normal node_view.now.vector.now.group_state.phase ≡ true }
     ensures row { (pending : List Job) → IfOk result (λ plan. IsPlanOf node_view.now plan (Some (Put work.now))
         (λ answer. effect_of node_view.now.nodes node_view.now.id pending (on.Submit work.now) answer (state_at node_view.now))) }
     ensures few { IfOk result (λ plan. plan_sends node_view.now.id plan < node_view.now.nodes) }
 {
-    let messages = Vec::with_capacity(alloc, 1)?;
+    let messages = with_room(room, 1)?;
     let owner = owner_in(node_view, work.queue);
     Ok(Plan {
         act: PlannedEffect::Place(owner, Box::new(alloc, *work)?),
@@ -53,18 +59,20 @@ pub fn submit(alloc: Global, node_view: &NodeView<'_>, work: &Work) -> Result<Pl
 #[tactic(auto, using(crate::proofs::Sets::kept_from, crate::proofs::Sets::held_within))]
 pub fn finish(
     alloc: Global,
+    room: Vec<Message>,
     node_view: &NodeView<'_>,
     origin: NodeId,
     job: u64,
     table: &JobTable,
 ) -> Result<Plan, AllocError>
+    requires room { room.items ≡ [] }
     requires held { holds node_view.now.vector.now.hand.jobs origin job ≡ true }
     ensures row { IfOk result (λ plan. IsPlanOf node_view.now plan
         (if origin == node_view.now.id && is_pending table.now.pending job then Some (Done job) else None)
         (λ answer. effect_of node_view.now.nodes node_view.now.id table.now.pending (on.Finish origin job) answer (state_at node_view.now))) }
     ensures few { IfOk result (λ plan. plan_sends node_view.now.id plan < node_view.now.nodes) }
 {
-    let mut messages = Vec::new(alloc);
+    let mut messages = room;
     let mut done = None;
     if origin.is(node_view.id) {
         if table.contains(job) {

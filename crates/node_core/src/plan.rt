@@ -9,7 +9,7 @@ use crate::in_hand::InHand;
 use crate::node_view::NodeView;
 use crate::state_update::StateUpdate;
 use crate::wanted::{Wanted, WantedRef};
-use group_task::{Members, NodeId};
+use group_task::{GroupNo, Members, NodeId};
 use job_model::Work;
 use std::alloc::{AllocError, Global};
 use wire_msg::{Body, Message};
@@ -154,18 +154,21 @@ pub fn write_to_each(messages: &mut Vec<Message>, id: NodeId, receivers: Members
     }
 }
 
-/// A message to each of these other nodes.
+/// A message to each of these other nodes, written into an empty list. It stands in each row that calls it, so that a body that is known
+/// there isn't copied.
+#[inline(always)]
 pub fn letters(
-    alloc: Global,
+    room: Vec<Message>,
     node_view: &NodeView<'_>,
     receivers: Members,
     body: &Body,
 ) -> Result<Vec<Message>, AllocError>
-    requires { AreOthers node_view.now.nodes node_view.now.id receivers }
+    requires room { room.items ≡ [] }
+    requires others { AreOthers node_view.now.nodes node_view.now.id receivers }
     ensures value { IfOk result (λ messages. messages.items ≡ to_each node_view.now.id receivers body.now) }
     ensures few { IfOk result (λ messages. length messages.items < node_view.now.nodes) }
 {
-    let mut messages = Vec::with_capacity(alloc, receivers.len())?;
+    let mut messages = with_room(room, receivers.len())?;
     write_to_each(&mut messages, node_view.id, receivers, body);
     Ok(messages)
 }
@@ -222,14 +225,21 @@ pub fn quietly(room: Vec<Message>, change: Box<StateChange>) -> Plan
     }
 }
 
-/// Room for one message, in an empty list.
-pub fn with_room(mut room: Vec<Message>) -> Result<Vec<Message>, AllocError>
+/// Room for so many messages, in an empty list.
+pub fn with_room(mut room: Vec<Message>, many: usize) -> Result<Vec<Message>, AllocError>
     requires { room.items ≡ [] }
     ensures empty { IfOk result (λ messages. messages.items ≡ []) }
-    ensures room { IfOk result (λ messages. 1 ≤ vec_capacity messages) }
+    ensures room { IfOk result (λ messages. many ≤ vec_capacity messages) }
 {
-    room.reserve_exact(1)?;
+    room.reserve_exact(many)?;
     Ok(room)
+}
+
+/// The same group, made of its parts: a message that is made of it is then written once, and isn't copied.
+pub fn copied(group: GroupNo) -> GroupNo
+    ensures { result ≡ group }
+{
+    GroupNo::numbered(group.creator(), group.count())
 }
 
 /// One message is sent, in the room that is there.

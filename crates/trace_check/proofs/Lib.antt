@@ -1,6 +1,7 @@
 mod Furthest
 mod Followed
 mod Prefixes
+mod Pushed
 mod Leftovers
 mod Bundles
 mod Turning

@@ -1,7 +1,8 @@
 -- What a node model's invariant says after an event.
-use Rattle.std.proofs.Common.{◌≡◌, ℕ, Bool, true, false, List, Option, None, inl, inr, refl, sym, ap, ◌∙◌, subst}
+use Rattle.std.proofs.Common.{◌≡◌, ℕ, Bool, true, false, List, [], ◌++◌, length, Option, None, inl, inr, refl, sym, ap, ◌∙◌, subst, arith}
 use Rattle.std.proofs.lemmas.Bool.{cases_Bool}
-use Rattle.std.specs.Prelude.{◌↔◌, IsTrue}
+use Rattle.std.proofs.lemmas.List.{append-nil, length-append, nil_from_length}
+use Rattle.std.specs.Prelude.{◌↔◌, IsTrue, if◌then◌else◌}
 use Rattle.job_model.specs.declared.node_command.NodeCommand.{NodeCommand as Command}
 use Rattle.job_model.specs.Durable.{Durable}
 use Rattle.job_model.specs.declared.job.Job.{Job}
@@ -9,22 +10,27 @@ use Rattle.job_model.specs.Answer.{answer_to}
 use Rattle.job_model.specs.Fold.{after_wanted}
 use Rattle.wire_msg.specs.Envelope.{Envelope}
 use Rattle.node_core.specs.declared.event.Event.{Event}
+use Rattle.node_core.specs.declared.event.Event.TheVariants.{Timer}
+use Rattle.node_core.specs.declared.in_hand.InHand.{InHand}
+use Rattle.node_core.specs.declared.phase.Phase.TheVariants.{Normal}
 use Rattle.node_core.specs.declared.plan.Plan.{Plan}
+use Rattle.node_core.specs.declared.timer.Timer.TheVariants.{Dispatch}
 use Rattle.node_core.specs.Core.{Core, IsPlanFor}
-use Rattle.node_core.specs.Effect.{Effect}
+use Rattle.node_core.specs.Effect.{Effect, quietly}
 use Rattle.node_core.specs.Effects.{effect_of}
 use Rattle.node_core.specs.NodeStep.{IsSpent}
 use Rattle.node_core.specs.Planned.{plan_wants}
 use Rattle.node_core.specs.Refusals.{refusal_of}
 use Rattle.node_core.specs.Start.{down}
-use Rattle.node_core.specs.State.{State, is_down}
+use Rattle.node_core.specs.State.{State, in_phase, is_down}
+use Rattle.node_core.specs.Timers.{timed}
 use Rattle.node_core.specs.Wants.{wants_of}
-use Rattle.histories.specs.NodeState.{wants_at, effect_at}
+use Rattle.histories.specs.NodeState.{NodeState, wants_at, effect_at}
 use Rattle.histories.specs.Possible.{IsForNode, Takes}
 use Rattle.histories.specs.declared.history_event.HistoryEvent.{HistoryEvent}
 use Rattle.histories.specs.declared.history_event.HistoryEvent.TheVariants.{Did}
 use Rattle.histories.proofs.PublicLaws.{at_down, stays_up}
-use Rattle.trace_check.specs.Twins.{Twin, twin, IsTwin, Judged}
+use Rattle.trace_check.specs.Twins.{Twin, twin, IsTwin, Judged, RestsAt}
 
 clash : (b : Bool) → b ≡ true → b ≡ false → ⊥
 clash true t f = absurd cc
@@ -103,3 +109,30 @@ handled t event core left pending plan wants doubt answer durable sent id nodes 
 pub judged_same : (t new : Twin) (what : HistoryEvent) (made sent : List Envelope) (b : Bool) → Judged t new what made true → (IsTrue b ↔ (made ≡ sent)) → Judged t new what sent b
 judged_same t new what made sent true is same = ((is.0.0, sym (same.0 refl) ∙ is.0.1), is.1)
 judged_same t new what made sent false is same = λ comes. let yes : false ≡ true = same.1 (is.0.1 ∙ sym comes.1) in cc
+
+-- a hand that grew by jobs, and is as long as it was, is as it was
+none_taken : (s : State) (jobs : List InHand) → length (s.hand ++ jobs) ≡ length s.hand → record s { hand = s.hand ++ jobs } ≡ s
+none_taken s jobs same =
+    let none : jobs ≡ [] = nil_from_length jobs (omega (arith, length-append s.hand jobs, same)) in
+    ap (λ (hand : List InHand). record s { hand = hand }) (ap (λ (more : List InHand). s.hand ++ more) none ∙ append-nil s.hand)
+
+-- by whether the node is Normal
+none_taken_by : (b : Bool) (s : State) (jobs : List InHand) (sent : List Envelope) → length (if b then record { state = record s { hand = s.hand ++ jobs }; sent = sent } else quietly s).state.hand ≡ length s.hand
+    → (if b then record { state = record s { hand = s.hand ++ jobs }; sent = sent } else quietly s).state ≡ s
+none_taken_by true s jobs sent same = none_taken s jobs same
+none_taken_by false s jobs sent same = refl
+
+-- a dispatch after which the hand is as long as it was leaves the state as it was
+dispatch_rests : (nodes self : ℕ) (pending : List Job) (answer : ℕ) (s : State) → length (timed nodes self pending Dispatch answer s).state.hand ≡ length s.hand → (timed nodes self pending Dispatch answer s).state ≡ s
+unfolding timed
+dispatch_rests nodes self pending answer s same = none_taken_by (in_phase Normal s.phase) s _ _ same
+
+-- so the next one has nothing to do, where that one sent nothing
+pub rests : (t new : Twin) (event : Event) (sent : List Envelope) → event ≡ Timer Dispatch → Judged t new (Did event) sent true → new.id ≡ t.id → new.nodes ≡ t.nodes → length sent ≡ 0 → length new.node.state.hand ≡ length t.node.state.hand → RestsAt new
+rests t new event sent dispatch judged id nodes none long =
+    let is : Judged t new (Did (Timer Dispatch)) sent true = subst (λ (e : Event). Judged t new (Did e) sent true) dispatch judged in
+    let state : (effect_at t.id t.nodes t.node (Timer Dispatch)).state ≡ t.node.state =
+    dispatch_rests t.nodes t.id t.node.durable.pending _ t.node.state (ap (λ (n : NodeState). length n.state.hand) (sym is.1) ∙ long) in
+    let same : new.node ≡ t.node = is.1 ∙ ap (λ (s : State). record { state = s; durable = t.node.durable; doubt = t.node.doubt }) state in
+    let all : new ≡ t = λ i. record { id = id i; nodes = nodes i; node = same i } in
+    subst RestsAt (sym all) (record { comes = (is.0.0, sym (nil_from_length sent none) ∙ is.0.1); stays = sym same ∙ is.1 })

@@ -3,6 +3,7 @@ pub mod Searches
 pub mod Followed
 pub mod Kept
 pub mod Leftovers
+pub mod LentActions
 pub mod Orders
 pub mod Posts
 pub mod Runs

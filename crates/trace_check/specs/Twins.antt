@@ -1,10 +1,12 @@
 -- What contracts see of a node model, and what it says of an entry.
-use Rattle.std.specs.Prelude.{ℕ, ◌≡◌, ◌<◌, ◌≤◌, Bool, true, false, List, Option, Some, None}
+use Rattle.std.specs.Prelude.{ℕ, ◌≡◌, ◌<◌, ◌≤◌, Bool, true, false, List, [], Option, Some, None}
 use Rattle.job_model.specs.declared.node_command.NodeCommand.{NodeCommand as Command}
 use Rattle.job_model.specs.Durable.{Durable}
 use Rattle.wire_msg.specs.Envelope.{Envelope}
 use Rattle.group_task.specs.declared.node.TheConstants.{NODES}
 use Rattle.node_core.specs.declared.event.Event.{Event}
+use Rattle.node_core.specs.declared.event.Event.TheVariants.{Timer}
+use Rattle.node_core.specs.declared.timer.Timer.TheVariants.{Dispatch}
 use Rattle.node_core.specs.declared.wanted.Wanted.{Wanted}
 use Rattle.node_core.specs.Core.{Core}
 use Rattle.node_core.specs.Planned.{wanted_by}
@@ -48,6 +50,11 @@ Comes t what sent = IsPossible t.id t.nodes t.node what × (sent ≡ sent_at t.i
 abbrev pub Judged : Twin → Twin → HistoryEvent → List Envelope → Bool → Type 0
 Judged old new what sent true = Comes old what sent × (new.node ≡ after old.id old.nodes old.node what)
 Judged old new what sent false = Comes old what sent → ⊥
+
+-- a dispatch has nothing to do: it may come, sends nothing, and leaves the node in the same state
+pub record RestsAt (t : Twin) : Type 0 where
+  pub comes : Comes t (Did (Timer Dispatch)) []
+  pub stays : t.node ≡ after t.id t.nodes t.node (Did (Timer Dispatch))
 
 -- what comes of an event that is handled, or else in whose command the device failed
 abbrev pub came : Bool → Event → HistoryEvent

@@ -7,13 +7,12 @@ ghost use Rattle.trace_check.specs.Verdicts.{AreTaken, IsVerdict, IsOrderOf, Dec
 
 use crate::leaving::leftovers;
 use crate::leftover::Leftover;
-use crate::node_model::NodeModel;
+use crate::node_model::{EntryRoom, NodeModel};
 use crate::search::{Judgement, NodeView, Search, first_left, turn};
 use crate::sent_messages::SentMessages;
 use crate::trace::{Trace, Verdict};
 use group_task::{Members, NodeId};
 use std::alloc::{AllocError, Global};
-use wire_msg::Message;
 
 /// Whether some order of all entries is a run. At each turn the least node whose next entry is possible takes it.
 pub fn check(alloc: Global, trace: &Trace) -> Result<Verdict, AllocError>
@@ -100,7 +99,7 @@ pub(crate) fn open<'a>(alloc: Global, trace: &'a Trace) -> Result<Search<'a>, Al
         ready: Members::below(nodes),
         stopped: Members::new(),
         posted: SentMessages::with_room(alloc, entries)?,
-        message: Message::blank(),
+        room: EntryRoom::new(),
         order: Vec::with_capacity(alloc, entries)?,
     })
 }

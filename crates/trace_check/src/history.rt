@@ -3,10 +3,12 @@ ghost use Rattle.wire_msg.specs.Envelope.{Envelope};
 ghost use Rattle.wire_msg.specs.Spelling.{Spells};
 ghost use Rattle.trace_check.specs.Claims.{Claim, brought_by};
 ghost use Rattle.trace_check.specs.Kept.{part};
+ghost use Rattle.trace_check.specs.LentActions.{FitsPayload, action_lent};
 ghost use Rattle.trace_check.specs.Traces.{claim, claim_seen};
 ghost use Rattle.trace_check.specs.Views.{Stands, claim_kept};
 
-use crate::kept::{PackedEntry, brought_at, deed_said, keep_deed};
+use crate::kept::{PackedEntry, brought_at, deed_said, keep_deed, keep_lent_deed};
+use crate::lent_action::ActionRef;
 use crate::stored::{StoredEntry, stored_deed};
 use crate::trace::TraceAction;
 use group_task::NodeId;
@@ -65,9 +67,9 @@ impl History {
     /// could come to 2^32 messages or bytes of payloads.
     pub fn push(&mut self, deed: &TraceAction, sent: &[Message]) -> Result<(), AllocError>
         // Promise: A history is the list of its entries, each as it was put in; want of memory leaves it as it was.
-        // Also: History::entry.
+        // Also: History::push_lent, History::entry.
         // Refuses: payload_read_from_the_start, entry_keeps_what_it_was_brought_as_sent, halves_of_an_id_swapped,
-        // failed_command_stored_as_handled.
+        // failed_command_stored_as_handled, first_lent_message_left_out.
         ensures added { OnOk result (self.new ≡ self.old ++ claim deed.now sent.now ∷ []) }
         ensures refused { OnErr result (self.new ≡ self.old) }
     {
@@ -80,6 +82,29 @@ impl History {
         let deed = keep_deed(&mut self.messages, &mut self.payloads, deed);
         let start = self.messages.len();
         keep_messages(&mut self.messages, sent);
+        self.entries.push_reserved(StoredEntry {
+            deed: stored_deed(deed),
+            start: start as u32,
+            end: self.messages.len() as u32,
+        });
+        Ok(())
+    }
+
+    /// Adds an entry as `push` does, but what was done is lent, and so is what was sent: neither an event nor a message is made.
+    pub fn push_lent(&mut self, deed: &ActionRef<'_>, sent: &Sent<'_>) -> Result<(), AllocError>
+        requires { FitsPayload deed.now }
+        ensures added { OnOk result (self.new ≡ self.old ++ claim (action_lent deed.now) sent.now ∷ []) }
+        ensures refused { OnErr result (self.new ≡ self.old) }
+    {
+        if !is_room(self.messages.len(), sent.len(), self.payloads.len()) {
+            return Err(AllocError);
+        }
+        self.entries.reserve(1)?;
+        self.payloads.reserve(PAYLOAD_CAPACITY)?;
+        self.messages.reserve(sent.len() + 1)?;
+        let deed = keep_lent_deed(&mut self.messages, &mut self.payloads, deed);
+        let start = self.messages.len();
+        keep_sent(&mut self.messages, sent);
         self.entries.push_reserved(StoredEntry {
             deed: stored_deed(deed),
             start: start as u32,
@@ -152,6 +177,19 @@ pub fn keep_messages(messages: &mut MessageList, sent: &[Message])
 {
     for message in sent {
         messages.push(message);
+    }
+}
+
+// The same for messages that are lent: none is made for it.
+fn keep_sent(messages: &mut MessageList, sent: &Sent<'_>)
+    requires { length sent.now ≤ messages.old.room }
+    ensures { messages.new.messages ≡ messages.old.messages ++ sent.now }
+{
+    for place in 0..sent.len() {
+        let Some(message) = sent.lend(place) else {
+            unreachable!()
+        };
+        messages.push_lent(&message);
     }
 }
 

@@ -3,10 +3,13 @@
 
 ghost use Rattle.std.specs.Prelude.{◌≡◌, ◌≤◌, ◌<◌, ◌+◌, ◌++◌, length, vec_len, vec_capacity, Some};
 ghost use Rattle.job_model.specs.declared.payload.TheConstants.{PAYLOAD_CAPACITY};
+ghost use Rattle.node_core.specs.declared.event.Event.TheVariants as on;
 ghost use Rattle.histories.specs.HistoryEvent.{brought};
 ghost use Rattle.trace_check.specs.Claims.{brought_by};
+ghost use Rattle.trace_check.specs.LentActions.{FitsEvent, FitsPayload, action_lent, event_lent};
 ghost use Rattle.trace_check.specs.Kept.{kept_event, kept_deed, payload_of, payload_in, event_said, deed_said, delivered_at, brought_at, EventStands, DeedStands};
 
+use crate::lent_action::{ActionRef, EventRef};
 use crate::trace::{RecoverFault, TraceAction};
 use group_task::NodeId;
 use job_model::{PAYLOAD_CAPACITY, Payload, Queue, Work};
@@ -68,6 +71,32 @@ pub fn keep_deed(
     }
 }
 
+/// The same for what was done as it is lent.
+pub fn keep_lent_deed(
+    messages: &mut MessageList,
+    payloads: &mut Vec<u8>,
+    deed: &ActionRef<'_>,
+) -> PackedAction
+    requires room { 1 ≤ messages.old.room }
+    requires bytes { vec_len payloads.old + PAYLOAD_CAPACITY ≤ vec_capacity payloads.old }
+    requires fits { FitsPayload deed.now }
+    ensures value { result ≡ kept_deed (length messages.old.messages) (length payloads.old.items) (action_lent deed.now) }
+    ensures messages { messages.new.messages ≡ messages.old.messages ++ brought_by (action_lent deed.now) }
+    ensures left { messages.old.room ≤ messages.new.room + 1 }
+    ensures payloads { payloads.new.items ≡ payloads.old.items ++ payload_in (action_lent deed.now) }
+{
+    match deed {
+        ActionRef::Nothing => PackedAction::Nothing,
+        ActionRef::Done(event) => PackedAction::Done(keep_lent_event(messages, payloads, event)),
+        ActionRef::Faulted(event) => PackedAction::Faulted(keep_lent_event(
+            messages, payloads, event,
+        )),
+        ActionRef::Crashed => PackedAction::Crashed,
+        ActionRef::Recovered(kept) => PackedAction::Recovered(*kept),
+        ActionRef::NotRecovered(kept, fault) => PackedAction::NotRecovered(*kept, *fault),
+    }
+}
+
 /// Keeps an event, in the room that is there.
 pub fn keep_event(messages: &mut MessageList, payloads: &mut Vec<u8>, event: &Event) -> PackedEvent
     requires room { 1 ≤ messages.old.room }
@@ -80,20 +109,46 @@ pub fn keep_event(messages: &mut MessageList, payloads: &mut Vec<u8>, event: &Ev
     ensures long { vec_len payloads.new ≤ vec_len payloads.old + PAYLOAD_CAPACITY }
     ensures capacity { vec_capacity payloads.old ≤ vec_capacity payloads.new }
 {
+    let lent = match event {
+        Event::Timer(timer) => EventRef::Timer(*timer),
+        Event::Deliver(message) => EventRef::Deliver(message),
+        Event::Submit(work) => EventRef::Submit(work.queue, work.priority, work.payload.as_slice()),
+        Event::Finish(origin, id) => EventRef::Finish(*origin, *id),
+        Event::Recover => EventRef::Recover,
+    };
+    keep_lent_event(messages, payloads, &lent)
+}
+
+/// The same for an event that is lent.
+fn keep_lent_event(
+    messages: &mut MessageList,
+    payloads: &mut Vec<u8>,
+    event: &EventRef<'_>,
+) -> PackedEvent
+    requires room { 1 ≤ messages.old.room }
+    requires bytes { vec_len payloads.old + PAYLOAD_CAPACITY ≤ vec_capacity payloads.old }
+    requires fits { FitsEvent event.now }
+    ensures value { result ≡ kept_event (length messages.old.messages) (length payloads.old.items) (event_lent event.now) }
+    ensures messages { messages.new.messages ≡ messages.old.messages ++ brought (Some (event_lent event.now)) }
+    ensures left { messages.old.room ≤ messages.new.room + 1 }
+    ensures payloads { payloads.new.items ≡ payloads.old.items ++ payload_of (event_lent event.now) }
+    ensures long { vec_len payloads.new ≤ vec_len payloads.old + PAYLOAD_CAPACITY }
+    ensures capacity { vec_capacity payloads.old ≤ vec_capacity payloads.new }
+{
     match event {
-        Event::Timer(timer) => PackedEvent::Timer(*timer),
-        Event::Deliver(message) => {
+        EventRef::Timer(timer) => PackedEvent::Timer(*timer),
+        EventRef::Deliver(message) => {
             let place = messages.len();
             messages.push(message);
             PackedEvent::Deliver(place)
         }
-        Event::Submit(work) => {
+        EventRef::Submit(queue, priority, payload) => {
             let start = payloads.len();
-            let _ = payloads.extend_from_slice(work.payload.as_slice());
-            PackedEvent::Submit(work.queue, work.priority, work.payload.len() as u16, start)
+            let _ = payloads.extend_from_slice(payload);
+            PackedEvent::Submit(*queue, *priority, payload.len() as u16, start)
         }
-        Event::Finish(origin, id) => PackedEvent::Finish(*origin, *id),
-        Event::Recover => PackedEvent::Recover,
+        EventRef::Finish(origin, id) => PackedEvent::Finish(*origin, *id),
+        EventRef::Recover => PackedEvent::Recover,
     }
 }
 
@@ -122,29 +177,63 @@ pub fn event_said(messages: &MessageList, payloads: &[u8], event: PackedEvent) -
     said
 }
 
-/// Makes `said` an event, read back, in place, since an event is long.
+/// Makes `said` an event, read back, in place, since an event is long: of one of its kind no more is written than it says.
 pub fn read_event(messages: &MessageList, payloads: &[u8], event: PackedEvent, said: &mut Event)
     requires { EventStands (length messages.now.messages) (length payloads.now) event }
     ensures { said.new ≡ event_said messages.now.messages payloads.now event }
 {
     match event {
-        PackedEvent::Timer(timer) => *said = Event::Timer(timer),
+        PackedEvent::Timer(timer) => set_timer(said, timer),
         PackedEvent::Deliver(place) => match messages.get(place) {
             Some(message) => *said = Event::Deliver(message),
             None => unreachable!(),
         },
         PackedEvent::Submit(queue, priority, len, start) => {
             let bytes = &payloads[start..start + usize::from(len)];
-            let payload = Payload::new(bytes).unwrap();
-            *said = Event::Submit(Work {
-                queue,
-                priority,
-                payload,
-            });
+            set_submit(said, queue, priority, bytes);
         }
-        PackedEvent::Finish(origin, id) => *said = Event::Finish(origin, id),
+        PackedEvent::Finish(origin, id) => set_finish(said, origin, id),
         PackedEvent::Recover => *said = Event::Recover,
     }
+}
+
+fn set_timer(said: &mut Event, timer: Timer)
+    ensures { said.new ≡ on.Timer timer }
+{
+    if let Event::Timer(old) = said {
+        *old = timer;
+        return;
+    }
+    *said = Event::Timer(timer);
+}
+
+fn set_submit(said: &mut Event, queue: Queue, priority: u8, payload: &[u8])
+    requires { length payload.now ≤ PAYLOAD_CAPACITY }
+    ensures { said.new ≡ on.Submit (record { queue = queue; priority = priority; payload = payload.now }) }
+{
+    if !matches!(said, Event::Submit(_)) {
+        *said = Event::Submit(Work {
+            queue,
+            priority,
+            payload: Payload::empty(),
+        });
+    }
+    if let Event::Submit(work) = said {
+        work.queue = queue;
+        work.priority = priority;
+        work.payload.set(payload);
+    }
+}
+
+fn set_finish(said: &mut Event, origin: NodeId, id: u64)
+    ensures { said.new ≡ on.Finish origin id }
+{
+    if let Event::Finish(node, job) = said {
+        *node = origin;
+        *job = id;
+        return;
+    }
+    *said = Event::Finish(origin, id);
 }
 
 /// Where the message stands that a deed was brought, if it was brought one.

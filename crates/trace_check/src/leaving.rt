@@ -10,12 +10,11 @@ ghost use Rattle.trace_check.specs.Traces.{claim_seen};
 
 use crate::history::EntryView;
 use crate::leftover::{Holdup, Leftover};
-use crate::node_model::{NodeModel, same};
+use crate::node_model::{EntryRoom, NodeModel, same};
 use crate::search::{NodeView, Search};
 use crate::trace::{Trace, TraceAction};
 use group_task::NodeId;
 use std::alloc::{AllocError, Global};
-use wire_msg::Message;
 
 /// The next entry of each node that has entries left, with what holds it up, once no entry more can be taken. The node models are of no
 /// more use then.
@@ -131,12 +130,12 @@ fn replayed(
     ensures { IfOk result (λ node_model. node_model ≡ twin_after trace.now node many) }
 {
     let mut node_model = NodeModel::new(alloc, node, trace.nodes())?;
-    let mut message = Message::blank();
+    let mut room = EntryRoom::new();
     for place in 0..many {
         let Some(kept) = trace.kept(node, place) else {
             unreachable!()
         };
-        if !node_model.take_kept(&kept, &mut message)? {
+        if !node_model.take_kept(&kept, &mut room)? {
             unreachable!()
         }
     }

@@ -17,6 +17,7 @@ mod kept;
 mod laws;
 mod leaving;
 mod leftover;
+mod lent_action;
 mod node_model;
 mod order;
 mod search;
@@ -33,6 +34,7 @@ pub use laws::{
     verdicts_decide,
 };
 pub use leftover::{Holdup, Leftover};
+pub use lent_action::{ActionRef, EventRef};
 pub use node_model::NodeModel;
 pub use order::Order;
 pub use trace::{RecoverFault, Trace, TraceAction, Verdict};

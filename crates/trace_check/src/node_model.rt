@@ -21,7 +21,7 @@ use crate::history::{EntryView, KeptView, Sent};
 use crate::kept::{PackedAction, PackedEvent, read_event};
 use crate::trace::{RecoverFault, TraceAction};
 use group_task::NodeId;
-use node_core::{CoreFault, Event, NodeCore, Phase, Vector, Wanted, WantedRef};
+use node_core::{CoreFault, Event, NodeCore, Phase, Timer, Vector, Wanted, WantedRef};
 use std::alloc::{AllocError, Global};
 use std::marker::Model;
 use std::mem;
@@ -35,20 +35,39 @@ pub struct NodeModel {
     core: NodeCore,
     durable_state: DurableState,
     doubt: Wanted,
-    // the list of the last answers to a message, which is kept for its room
+    // the list of the messages that were made last, which is kept for its room
     room: Vec<Message>,
+    // whether a dispatch is known to have nothing to do: it sends nothing and leaves the node as it is
+    rested: bool,
+}
+
+/// Where a message that was delivered, or another event, is read in place of the one before it: either takes over 400 bytes.
+#[derive(Drop)]
+pub(crate) struct EntryRoom {
+    message: Message,
+    event: Event,
+}
+
+impl EntryRoom {
+    pub(crate) fn new() -> EntryRoom {
+        EntryRoom {
+            message: Message::blank(),
+            event: Event::Recover,
+        }
+    }
 }
 
 impl Model for NodeModel {
-    ghost use Rattle.std.specs.Prelude.{◌≡◌, []};
+    ghost use Rattle.std.specs.Prelude.{◌≡◌, [], true};
     ghost use Rattle.node_core.specs.Planned.{wanted_by};
-    ghost use Rattle.trace_check.specs.Twins.{Twin, IsReplica, twin};
+    ghost use Rattle.trace_check.specs.Twins.{Twin, IsReplica, RestsAt, twin};
 
     ghost Value = { Twin };
 
     ghost view = { λ a. twin a.core a.durable_state (wanted_by a.doubt) };
 
-    ghost invariant = { λ a. IsReplica a.nodes (twin a.core a.durable_state (wanted_by a.doubt)) × (a.room.items ≡ []) };
+    ghost invariant = { λ a. IsReplica a.nodes (twin a.core a.durable_state (wanted_by a.doubt)) × (a.room.items ≡ [])
+        × (a.rested ≡ true → RestsAt (twin a.core a.durable_state (wanted_by a.doubt))) };
 }
 
 impl NodeModel {
@@ -65,6 +84,7 @@ impl NodeModel {
             durable_state: DurableState::new(alloc)?,
             doubt: Wanted::None,
             room: Vec::new(alloc),
+            rested: false,
         })
     }
 
@@ -95,12 +115,11 @@ impl NodeModel {
         }
     }
 
-    /// Takes an entry as it is kept, as `take` does. No deed is made of it: one that has a message would be a copy of it. A
-    /// message that is delivered is read in place of `message`.
+    /// Takes an entry as it is kept, as `take` does. No deed is made of it: one that has a message would be a copy of it.
     pub(crate) fn take_kept(
         &mut self,
         kept: &KeptView<'_>,
-        message: &mut Message,
+        room: &mut EntryRoom,
     ) -> Result<bool, AllocError>
         requires { Stands kept.now }
         ensures id { self.new.id ≡ self.old.id }
@@ -111,13 +130,20 @@ impl NodeModel {
         match kept.entry.deed {
             PackedAction::Nothing => Ok(sent.is_empty()),
             PackedAction::Done(PackedEvent::Deliver(place)) => {
-                if !kept.messages.read(place, message) {
+                if !kept.messages.read(place, &mut room.message) {
                     unreachable!()
                 }
-                self.deliver(message, &sent)
+                self.deliver(&room.message, &sent)
             }
-            PackedAction::Done(event) => self.take_said(kept, event, true, &sent),
-            PackedAction::Faulted(event) => self.take_said(kept, event, false, &sent),
+            PackedAction::Done(PackedEvent::Timer(Timer::Dispatch)) if self.rested => {
+                Ok(sent.is_empty())
+            }
+            PackedAction::Done(event) => {
+                self.take_said(kept, event, true, &sent, &mut room.event)
+            }
+            PackedAction::Faulted(event) => {
+                self.take_said(kept, event, false, &sent, &mut room.event)
+            }
             PackedAction::Crashed => Ok(self.crash(&sent)),
             PackedAction::Recovered(kept) => self.recover(kept, &sent),
             PackedAction::NotRecovered(kept, fault) => self.not_recover(kept, fault, &sent),
@@ -140,27 +166,25 @@ impl NodeModel {
         }
     }
 
-    /// An event as it is kept, which is handled, or in whose command the device failed. It stands apart, since an event takes over
-    /// 400 bytes.
-    #[inline(never)]
+    /// An event as it is kept, which is handled, or in whose command the device failed. It is read in place of `said`.
     fn take_said(
         &mut self,
         kept: &KeptView<'_>,
         event: PackedEvent,
         is_done: bool,
         sent: &Sent<'_>,
+        said: &mut Event,
     ) -> Result<bool, AllocError>
         requires { EventStands (length kept.now.messages.now.messages) (length kept.now.payloads.now) event }
         ensures id { self.new.id ≡ self.old.id }
         ensures nodes { self.new.nodes ≡ self.old.nodes }
         ensures judged { IfOk result (Judged self.old self.new (came is_done (event_said kept.now.messages.now.messages kept.now.payloads.now event)) sent.now) }
     {
-        let mut said = Event::Recover;
-        read_event(kept.messages, kept.payloads, event, &mut said);
+        read_event(kept.messages, kept.payloads, event, said);
         if is_done {
-            return self.handle(&said, sent);
+            return self.handle(said, sent);
         }
-        self.fault(&said, sent)
+        self.fault(said, sent)
     }
 
     /// Recover, at a node that is down or isn't.
@@ -209,22 +233,50 @@ impl NodeModel {
         ensures judged { IfOk result (Judged self.old self.new (Did event.now) sent.now) }
     {
         match self.handled(event)? {
-            Some(made) => Ok(same(&made, sent)),
+            Some(made) => Ok(self.has_made(made, sent)),
             None => Ok(false),
         }
     }
 
-    /// The messages that an event sends that is handled. None where it isn't taken.
+    /// The messages that an event sends that is handled. None where it isn't taken. A dispatch that is known to have nothing to do
+    /// isn't planned, since a plan of it walks over the pending jobs.
+    #[tactic(auto, using(crate::proofs::Twins::rests))]
     fn handled(&mut self, event: &Event) -> Result<Option<Vec<Message>>, AllocError>
         ensures id { self.new.id ≡ self.old.id }
         ensures nodes { self.new.nodes ≡ self.old.nodes }
         ensures made { IfOk result (λ made. MatchOption made (IsPossible self.old.id self.old.nodes self.old.node (Did event.now) → ⊥)
             (λ messages. Judged self.old self.new (Did event.now) messages.items true)) }
     {
+        let Event::Timer(Timer::Dispatch) = event else {
+            return self.stepped(event);
+        };
+        if self.rested {
+            return Ok(Some(Vec::new(self.alloc)));
+        }
+        let had = self.in_hand();
+        let made = self.stepped(event)?;
+        if let Some(messages) = &made
+            && messages.is_empty()
+            && self.in_hand() == had
+        {
+            self.rested = true;
+        }
+        Ok(made)
+    }
+
+    /// So of an event of any kind: it is planned and carried out.
+    fn stepped(&mut self, event: &Event) -> Result<Option<Vec<Message>>, AllocError>
+        ensures id { self.new.id ≡ self.old.id }
+        ensures nodes { self.new.nodes ≡ self.old.nodes }
+        ensures made { IfOk result (λ made. MatchOption made (IsPossible self.old.id self.old.nodes self.old.node (Did event.now) → ⊥)
+            (λ messages. Judged self.old self.new (Did event.now) messages.items true)) }
+    {
+        self.rested = false;
         if !self.is_for_node(event) {
             return Ok(None);
         }
-        let plan = match self.core.plan_step(event, self.durable_state.table()) {
+        let room = mem::replace(&mut self.room, Vec::new(self.alloc));
+        let plan = match self.core.plan_in(event, self.durable_state.table(), room) {
             Ok(plan) => plan,
             Err(CoreFault::NoMemory) => return Err(AllocError),
             Err(_) => return Ok(None),
@@ -279,6 +331,7 @@ impl NodeModel {
         ensures nodes { self.new.nodes ≡ self.old.nodes }
         ensures judged { IfOk result (Judged self.old self.new (Did (Deliver message.now)) sent.now) }
     {
+        self.rested = false;
         let room = mem::replace(&mut self.room, Vec::new(self.alloc));
         let plan = match self
             .core
@@ -293,11 +346,19 @@ impl NodeModel {
             return Ok(false);
         }
         let answer = self.durable_state.take(&wants)?;
-        let mut made = self.core.commit_step(plan, answer);
+        let made = self.core.commit_step(plan, answer);
+        Ok(self.has_made(made, sent))
+    }
+
+    /// Whether the messages that were made are those that the entry sent. Their list is kept for its room.
+    fn has_made(&mut self, mut made: Vec<Message>, sent: &Sent<'_>) -> bool
+        ensures unchanged { self.new ≡ self.old }
+        ensures value { IsTrue result ↔ (made.items ≡ sent.now) }
+    {
         let as_sent = same(&made, sent);
         made.clear();
         self.room = made;
-        Ok(as_sent)
+        as_sent
     }
 
     /// An event in whose command the device failed.
@@ -353,6 +414,7 @@ impl NodeModel {
         requires { IsSpent self.old.node.durable (wanted_by doubt) → ⊥ }
         ensures { self.new ≡ record self.old { node = record self.old.node { state = down self.old.id; doubt = wanted_by doubt } } }
     {
+        self.rested = false;
         self.doubt = doubt;
         self.core = NodeCore::down(self.alloc, self.core.id(), self.nodes);
     }
@@ -370,6 +432,7 @@ impl NodeModel {
         {
             return Ok(false);
         }
+        self.rested = false;
         let count = self.durable_state.take(&WantedRef::Raise)?;
         self.core = NodeCore::new(self.alloc, self.core.id(), self.nodes, count);
         Ok(true)
@@ -388,6 +451,7 @@ impl NodeModel {
         {
             return Ok(false);
         }
+        self.rested = false;
         self.doubt = Wanted::Raise;
         Ok(true)
     }
@@ -399,6 +463,7 @@ impl NodeModel {
         ensures nodes { self.new.nodes ≡ self.old.nodes }
         ensures settled { IfOk result (Settled self.old self.new kept) }
     {
+        self.rested = false;
         if kept {
             if matches!(self.doubt, Wanted::None) {
                 return Ok(false);
@@ -417,6 +482,13 @@ impl NodeModel {
             Event::Recover => !self.is_down(),
             _ => true,
         }
+    }
+
+    /// How many jobs the node has in hand.
+    fn in_hand(&self) -> usize
+        ensures { result ≡ length self.now.node.state.hand }
+    {
+        self.core.vector().hand.jobs().len()
     }
 
     /// Whether the node is down.

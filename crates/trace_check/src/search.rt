@@ -6,12 +6,11 @@ ghost use Rattle.trace_check.specs.Searches.{AreAtPlaces, IsTurn, Judges, PostsA
 ghost use Rattle.trace_check.specs.Verdicts.{IsFirstLeft};
 
 use crate::history::Sent;
-use crate::node_model::NodeModel;
+use crate::node_model::{EntryRoom, NodeModel};
 use crate::sent_messages::SentMessages;
 use crate::trace::Trace;
 use group_task::{Members, NodeId};
 use std::alloc::AllocError;
-use wire_msg::Message;
 
 /// A node of the trace: its node model, and the index of its next entry.
 #[derive(Drop)]
@@ -29,8 +28,8 @@ pub(crate) struct Search<'a> {
     /// The nodes whose next entry isn't possible, whatever is sent. Their node models are spoiled.
     pub(crate) stopped: Members,
     pub(crate) posted: SentMessages<'a>,
-    /// The message that was delivered last, in whose place the next one is read, since a message is long.
-    pub(crate) message: Message,
+    /// Where the next entry's message or event is read.
+    pub(crate) room: EntryRoom,
     /// The nodes in the order in which their entries were taken.
     pub(crate) order: Vec<NodeId>,
 }
@@ -48,7 +47,7 @@ pub(crate) enum Judgement {
 pub(crate) fn judge<'a>(
     trace: &'a Trace,
     posted: &SentMessages<'a>,
-    message: &mut Message,
+    room: &mut EntryRoom,
     node_view: &mut NodeView,
     id: NodeId,
 ) -> Result<Judgement, AllocError>
@@ -66,7 +65,7 @@ pub(crate) fn judge<'a>(
             return Ok(Judgement::Waits);
         }
     }
-    if !node_view.node_model.take_kept(&kept, message)? {
+    if !node_view.node_model.take_kept(&kept, room)? {
         return Ok(Judgement::Stops);
     }
     node_view.place += 1;
@@ -84,7 +83,7 @@ pub(crate) fn turn<'a>(
 {
     let node_view = &mut search.seats[usize::from(id.number())];
     let place = node_view.place;
-    match judge(trace, &search.posted, &mut search.message, node_view, id)? {
+    match judge(trace, &search.posted, &mut search.room, node_view, id)? {
         Judgement::Stops => Ok(Judgement::Stops),
         Judgement::Waits => Ok(Judgement::Waits),
         Judgement::Takes => {

@@ -9,7 +9,7 @@ use Rattle.trace_text.specs.Fields.{fields_by}
 use Rattle.trace_text.specs.Streams.{Drafted, Judged, Listed, Parted}
 
 abbrev pub drafted_by : Draft → Drafted
-drafted_by d = (fields_by d.fields, if d.has_sent then Some d.sent.items else None)
+drafted_by d = (fields_by d.fields, if d.has_sent then Some d.sent.messages else None)
 
 -- what was read, unless an entry was bad
 abbrev pub unless_bad : {A : Type 0} → Option Location → List A → Result (List A) (Option Location)

@@ -1,6 +1,7 @@
 -- What was read into a place.
-use Rattle.std.specs.Prelude.{◌≡◌, Bool, true, false, Option, Some, None, option_map, option_and_then}
+use Rattle.std.specs.Prelude.{ℕ, ◌≡◌, Bool, true, false, Option, Some, None, option_map, option_and_then}
 use Rattle.node_core.specs.declared.event.Event.{Event}
+use Rattle.node_core.specs.declared.event.Event.TheVariants as on
 use Rattle.trace_text.specs.Fields.{FieldData}
 use Rattle.trace_text.specs.Entries.{done_in, device_in}
 use Rattle.trace_check.specs.declared.trace.TraceAction.{TraceAction}
@@ -19,6 +20,9 @@ recovery_said r = said r.0 r.1
     said : Bool → Option RecoverFault → TraceAction
     said kept None = deed.Recovered kept
     said kept (Some fault) = deed.NotRecovered kept fault
+
+abbrev pub finish_said : ℕ × ℕ → Event
+finish_said f = on.Finish f.0 f.1
 
 -- the event was handled, or the device failed in it
 abbrev pub with_device : FieldData → Option Event → Option TraceAction

@@ -1,21 +1,22 @@
-ghost use Rattle.std.specs.Prelude.{◌≡◌, codes, IfOk, length, option_map, option_and_then, Some, None, false};
+ghost use Rattle.std.specs.Prelude.{◌≡◌, codes, IfOk, IfSome, length, option_map, option_and_then, Some, None, false};
 ghost use Rattle.std.specs.Result.{result_ok};
 ghost use Rattle.std.specs.Str.{bytes_eq};
 ghost use Rattle.serde_json.specs.Find.{as_str};
 ghost use Rattle.hex.specs.Hex.{decode_of};
 ghost use Rattle.group_task.specs.declared.node.TheConstants.{NODES};
 ghost use Rattle.job_model.specs.declared.queue.TheConstants.{QUEUES};
+ghost use Rattle.trace_check.specs.LentActions.{FitsEvent, FitsPayload, action_lent, event_lent};
 ghost use Rattle.trace_text.specs.Fields.{data_of, fields_by};
 ghost use Rattle.trace_text.specs.Entries.{below, bytes_in, spelled_in, message_in, number_in, priority_in, deliver_in, submit_in, finish_in, event_in, device_in, recover_in, deed_named, deed_in};
-ghost use Rattle.trace_text.specs.Places.{IsRead, recovery_said, with_device};
+ghost use Rattle.trace_text.specs.Places.{IsRead, finish_said, recovery_said, with_device};
 
 use crate::fields::{Field, Fields};
 use group_task::{NODES, NodeId};
-use job_model::{Payload, QUEUES, Queue, Work};
-use line_words::is_word;
-use node_core::{Event, Timer};
+use job_model::{PAYLOAD_CAPACITY, QUEUES, Queue};
+use line_words::{decode_pairs, is_word};
+use node_core::Timer;
 use std::alloc::AllocError;
-use trace_check::{RecoverFault, TraceAction};
+use trace_check::{ActionRef, EventRef, RecoverFault};
 use wire_msg::{Message, decode_into};
 
 /// The text of a field.
@@ -49,10 +50,14 @@ fn bytes_of<'a>(
 fn read_bytes<'a>(room: &'a mut Vec<u8>, text: &[u8]) -> Result<Option<&'a [u8]>, AllocError>
     ensures { IfOk result (λ bytes. option_map (λ b. b.now) bytes ≡ result_ok (decode_of text.now)) }
 {
+    if text.len() % 2 == 1 {
+        return Ok(None);
+    }
     let front = lend_front(room, text.len() / 2)?;
-    match hex::decode_to_slice(text, front) {
-        Ok(()) => Ok(Some(front)),
-        Err(_) => Ok(None),
+    if decode_pairs(text, front) {
+        Ok(Some(front))
+    } else {
+        Ok(None)
     }
 }
 
@@ -93,84 +98,83 @@ fn read_spelled(room: &mut Vec<u8>, text: &[u8], message: &mut Message) -> Resul
     }
 }
 
-/// What was done, in place of another deed. False where the fields say none.
-pub(crate) fn read_deed(
-    room: &mut Vec<u8>,
-    message: &mut Message,
+/// What was done, lent from the room and the message in whose place it is read. None where the fields say none.
+pub(crate) fn read_deed<'a>(
+    room: &'a mut Vec<u8>,
+    message: &'a mut Message,
     fields: &Fields<'_>,
-    deed: &mut TraceAction,
-) -> Result<bool, AllocError>
-    ensures { IfOk result (λ some. IsRead some deed.new (deed_in (fields_by fields.now))) }
+) -> Result<Option<ActionRef<'a>>, AllocError>
+    ensures deed { IfOk result (λ deed. option_map action_lent deed ≡ deed_in (fields_by fields.now)) }
+    ensures fits { IfOk result (λ deed. IfSome deed FitsPayload) }
 {
     match text_of(fields.name) {
-        Some(name) => read_named(room, message, fields, name, deed),
-        None => Ok(false),
+        Some(name) => read_named(room, message, fields, name),
+        None => Ok(None),
     }
 }
 
 /// What was done, by its name.
 #[tactic(auto, using(crate::proofs::Named::deliver_named))]
-fn read_named(
-    room: &mut Vec<u8>,
-    message: &mut Message,
+fn read_named<'a>(
+    room: &'a mut Vec<u8>,
+    message: &'a mut Message,
     fields: &Fields<'_>,
     name: &[u8],
-    deed: &mut TraceAction,
-) -> Result<bool, AllocError>
-    ensures { IfOk result (λ some. IsRead some deed.new (deed_named (fields_by fields.now) name.now)) }
+) -> Result<Option<ActionRef<'a>>, AllocError>
+    ensures deed { IfOk result (λ deed. option_map action_lent deed ≡ deed_named (fields_by fields.now) name.now) }
+    ensures fits { IfOk result (λ deed. IfSome deed FitsPayload) }
 {
     if is_word(name, "deliver") {
-        return read_deliver(room, message, fields, deed);
+        return read_deliver(room, message, fields);
     }
-    read_other(room, fields, name, deed)
+    read_other(room, fields, name)
 }
 
 /// What was done other than a delivery, by its name.
-fn read_other(
-    room: &mut Vec<u8>,
+fn read_other<'a>(
+    room: &'a mut Vec<u8>,
     fields: &Fields<'_>,
     name: &[u8],
-    deed: &mut TraceAction,
-) -> Result<bool, AllocError>
+) -> Result<Option<ActionRef<'a>>, AllocError>
     requires { bytes_eq name.now (codes "deliver") ≡ false }
-    ensures { IfOk result (λ some. IsRead some deed.new (deed_named (fields_by fields.now) name.now)) }
+    ensures deed { IfOk result (λ deed. option_map action_lent deed ≡ deed_named (fields_by fields.now) name.now) }
+    ensures fits { IfOk result (λ deed. IfSome deed FitsPayload) }
 {
     if is_word(name, "none") {
-        *deed = TraceAction::Nothing;
-        return Ok(true);
+        return Ok(Some(ActionRef::Nothing));
     }
     if is_word(name, "crash") {
-        *deed = TraceAction::Crashed;
-        return Ok(true);
+        return Ok(Some(ActionRef::Crashed));
     }
     if is_word(name, "recover") {
-        return Ok(read_recover(fields, deed));
+        return match recovery_of(fields) {
+            Some((kept, None)) => Ok(Some(ActionRef::Recovered(kept))),
+            Some((kept, Some(fault))) => Ok(Some(ActionRef::NotRecovered(kept, fault))),
+            None => Ok(None),
+        };
     }
-    read_done(room, fields, name, deed)
+    read_done(room, fields, name)
 }
 
-/// An event that was handled or in which the device failed, by its name, in place of another deed. It stands apart, as a whole event
-/// is one of its locals.
-#[inline(never)]
-fn read_done(
-    room: &mut Vec<u8>,
+/// An event that was handled or in which the device failed, by its name.
+fn read_done<'a>(
+    room: &'a mut Vec<u8>,
     fields: &Fields<'_>,
     name: &[u8],
-    deed: &mut TraceAction,
-) -> Result<bool, AllocError>
+) -> Result<Option<ActionRef<'a>>, AllocError>
     requires { bytes_eq name.now (codes "deliver") ≡ false }
-    ensures { IfOk result (λ some. IsRead some deed.new (with_device (fields_by fields.now) (event_in (fields_by fields.now) name.now))) }
+    ensures deed { IfOk result (λ deed. option_map action_lent deed ≡ with_device (fields_by fields.now) (event_in (fields_by fields.now) name.now)) }
+    ensures fits { IfOk result (λ deed. IfSome deed FitsPayload) }
 {
-    let mut event = Event::Recover;
-    if !read_event(room, fields, name, &mut event)? {
-        return Ok(false);
+    match read_event(room, fields, name) {
+        Ok(Some(event)) => match read_device(fields.fault) {
+            Some(true) => Ok(Some(ActionRef::Faulted(event))),
+            Some(false) => Ok(Some(ActionRef::Done(event))),
+            None => Ok(None),
+        },
+        Ok(None) => Ok(None),
+        Err(e) => Err(e),
     }
-    match read_device(fields.fault) {
-        Some(true) => *deed = TraceAction::Faulted(event),
-        Some(false) => *deed = TraceAction::Done(event),
-        None => return Ok(false),
-    }
-    Ok(true)
 }
 
 /// Whether the device failed.
@@ -185,20 +189,6 @@ fn read_device(fault: Option<Field<'_>>) -> Option<bool>
     } else {
         None
     }
-}
-
-/// A recovery, in place of another deed.
-fn read_recover(fields: &Fields<'_>, deed: &mut TraceAction) -> bool
-    ensures { IsRead result deed.new (recover_in (fields_by fields.now)) }
-{
-    let Some((kept, fault)) = recovery_of(fields) else {
-        return false;
-    };
-    *deed = match fault {
-        None => TraceAction::Recovered(kept),
-        Some(fault) => TraceAction::NotRecovered(kept, fault),
-    };
-    true
 }
 
 /// What a recovery says: whether the command in doubt was kept, and how it failed.
@@ -219,89 +209,77 @@ fn recovery_of(fields: &Fields<'_>) -> Option<(bool, Option<RecoverFault>)>
     None
 }
 
-/// An event other than a delivery, by its name, in place of another. False where the fields say none.
-fn read_event(
-    room: &mut Vec<u8>,
+/// An event other than a delivery, by its name. None where the fields say none.
+fn read_event<'a>(
+    room: &'a mut Vec<u8>,
     fields: &Fields<'_>,
     name: &[u8],
-    event: &mut Event,
-) -> Result<bool, AllocError>
+) -> Result<Option<EventRef<'a>>, AllocError>
     requires { bytes_eq name.now (codes "deliver") ≡ false }
-    ensures { IfOk result (λ some. IsRead some event.new (event_in (fields_by fields.now) name.now)) }
+    ensures event { IfOk result (λ event. option_map event_lent event ≡ event_in (fields_by fields.now) name.now) }
+    ensures fits { IfOk result (λ event. IfSome event FitsEvent) }
 {
     if let Some(timer) = Timer::from_word(name) {
-        *event = Event::Timer(timer);
-    } else if is_word(name, "submit") {
-        return read_submit(room, fields, event);
-    } else if is_word(name, "finish") {
-        return Ok(read_finish(fields, event));
-    } else {
-        return Ok(false);
+        return Ok(Some(EventRef::Timer(timer)));
     }
-    Ok(true)
+    if is_word(name, "submit") {
+        return read_submit(room, fields);
+    }
+    if !is_word(name, "finish") {
+        return Ok(None);
+    }
+    match finish_of(fields) {
+        Some((origin, id)) => Ok(Some(EventRef::Finish(origin, id))),
+        None => Ok(None),
+    }
 }
 
-/// A delivery, in place of another deed: its message is read where the last one was delivered, or in the place of another first. False
-/// where the fields say none.
-fn read_deliver(
+/// A delivery, whose message is read in the place of another. None where the fields say none.
+fn read_deliver<'a>(
     room: &mut Vec<u8>,
-    message: &mut Message,
+    message: &'a mut Message,
     fields: &Fields<'_>,
-    deed: &mut TraceAction,
-) -> Result<bool, AllocError>
-    ensures { IfOk result (λ some. IsRead some deed.new (with_device (fields_by fields.now) (deliver_in (fields_by fields.now)))) }
+) -> Result<Option<ActionRef<'a>>, AllocError>
+    ensures deed { IfOk result (λ deed. option_map action_lent deed ≡ with_device (fields_by fields.now) (deliver_in (fields_by fields.now))) }
+    ensures fits { IfOk result (λ deed. IfSome deed FitsPayload) }
 {
     let Some(failed) = read_device(fields.fault) else {
-        return Ok(false);
+        return Ok(None);
     };
     let Some(field) = fields.message else {
-        return Ok(false);
+        return Ok(None);
     };
-    if !failed {
-        if let TraceAction::Done(Event::Deliver(delivered)) = deed {
-            return read_message(room, field, delivered);
-        }
-    }
     if !read_message(room, field, message)? {
-        return Ok(false);
+        return Ok(None);
     }
-    *deed = if failed {
-        TraceAction::Faulted(Event::Deliver(*message))
+    if failed {
+        Ok(Some(ActionRef::Faulted(EventRef::Deliver(message))))
     } else {
-        TraceAction::Done(Event::Deliver(*message))
-    };
-    Ok(true)
+        Ok(Some(ActionRef::Done(EventRef::Deliver(message))))
+    }
 }
 
-/// It stands apart, as a whole payload is one of its locals.
-#[inline(never)]
-fn read_submit(
-    room: &mut Vec<u8>,
+/// A job that was brought: its payload stands in the room.
+fn read_submit<'a>(
+    room: &'a mut Vec<u8>,
     fields: &Fields<'_>,
-    event: &mut Event,
-) -> Result<bool, AllocError>
-    ensures { IfOk result (λ some. IsRead some event.new (submit_in (fields_by fields.now))) }
+) -> Result<Option<EventRef<'a>>, AllocError>
+    ensures event { IfOk result (λ event. option_map event_lent event ≡ submit_in (fields_by fields.now)) }
+    ensures fits { IfOk result (λ event. IfSome event FitsEvent) }
 {
     let Some(queue) = queue_of(number_of(fields.queue)) else {
-        return Ok(false);
+        return Ok(None);
     };
     let Some(priority) = priority_of(fields.priority) else {
-        return Ok(false);
+        return Ok(None);
     };
-    let Some(bytes) = bytes_of(room, fields.payload)? else {
-        return Ok(false);
+    let Some(payload) = bytes_of(room, fields.payload)? else {
+        return Ok(None);
     };
-    match Payload::new(bytes) {
-        Some(payload) => {
-            *event = Event::Submit(Work {
-                queue,
-                priority,
-                payload,
-            });
-            Ok(true)
-        }
-        None => Ok(false),
+    if payload.len() > PAYLOAD_CAPACITY {
+        return Ok(None);
     }
+    Ok(Some(EventRef::Submit(queue, priority, payload)))
 }
 
 // A priority is left out where it is 0.
@@ -319,17 +297,13 @@ fn priority_of(priority: Option<Field<'_>>) -> Option<u8>
     }
 }
 
-fn read_finish(fields: &Fields<'_>, event: &mut Event) -> bool
-    ensures { IsRead result event.new (finish_in (fields_by fields.now)) }
+/// The job that a node finished: the node where it was brought, and its id.
+fn finish_of(fields: &Fields<'_>) -> Option<(NodeId, u64)>
+    ensures { option_map finish_said result ≡ finish_in (fields_by fields.now) }
 {
-    let Some(origin) = node_of(number_of(fields.origin)) else {
-        return false;
-    };
-    let Some(id) = number_of(fields.id) else {
-        return false;
-    };
-    *event = Event::Finish(origin, id);
-    true
+    let origin = node_of(number_of(fields.origin))?;
+    let id = number_of(fields.id)?;
+    Some((origin, id))
 }
 
 fn queue_of(number: Option<u64>) -> Option<Queue>

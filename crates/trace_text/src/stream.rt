@@ -21,9 +21,10 @@ use crate::values::{open_list, open_object, read_field};
 use group_task::NODES;
 use json::{Invalid, Reader, Scratch};
 use line_words::is_word;
+use message_list::MessageList;
 use std::alloc::{AllocError, Global};
 use std::str;
-use trace_check::{History, Trace, TraceAction};
+use trace_check::{History, Sent, Trace};
 use wire_msg::Message;
 
 /// Why the reading stopped.
@@ -62,11 +63,10 @@ pub struct Draft<'a> {
     pub fields: Fields<'a>,
     /// Whether it has a field `sent`, and that is a list of messages.
     pub has_sent: bool,
-    pub sent: Vec<Message>,
+    pub sent: MessageList,
     /// The bytes of a text of hex digits, and the message that they spell.
     pub room: Vec<u8>,
     pub message: Message,
-    pub deed: TraceAction,
 }
 
 /// The entries of a list, as far as they were read.
@@ -218,10 +218,9 @@ fn read_lists(alloc: Global, reader: &mut Reader<'_>) -> Result<Histories, Halt>
     let mut draft = Draft {
         fields: Fields::new(),
         has_sent: false,
-        sent: Vec::new(alloc),
+        sent: MessageList::new(alloc),
         room: Vec::new(alloc),
         message: Message::blank(),
-        deed: TraceAction::Nothing,
     };
     let mut all_lists = true;
     let mut histories = Vec::new(alloc);
@@ -310,16 +309,15 @@ fn read_entry<'a>(
     if !draft.has_sent {
         return Ok(false);
     }
-    if !read_deed(
-        &mut draft.room,
-        &mut draft.message,
-        &draft.fields,
-        &mut draft.deed,
-    )? {
-        return Ok(false);
+    match read_deed(&mut draft.room, &mut draft.message, &draft.fields) {
+        Ok(Some(deed)) => {
+            let sent = Sent::part(&draft.sent, 0, draft.sent.len());
+            history.push_lent(&deed, &sent)?;
+            Ok(true)
+        }
+        Ok(None) => Ok(false),
+        Err(_) => Err(Halt::NoMemory),
     }
-    history.push(&draft.deed, &draft.sent)?;
-    Ok(true)
 }
 
 /// The members of an entry, from behind its brace on.
@@ -356,9 +354,9 @@ fn read_sent(
     reader: &mut Reader<'_>,
     room: &mut Vec<u8>,
     message: &mut Message,
-    sent: &mut Vec<Message>,
+    sent: &mut MessageList,
 ) -> Result<bool, Halt>
-    ensures ok { IfOk result (λ some. parse_map sent_in (data_at 123 reader.old) ≡ Some (if some then Some sent.new.items else None, reader.new)) }
+    ensures ok { IfOk result (λ some. parse_map sent_in (data_at 123 reader.old) ≡ Some (if some then Some sent.new.messages else None, reader.new)) }
     ensures err { result ≡ Err Halt.NoJson → data_at 123 reader.old ≡ None }
     ensures shorter { OnOk result (length reader.new < length reader.old) }
 {
@@ -373,9 +371,9 @@ fn read_messages(
     reader: &mut Reader<'_>,
     room: &mut Vec<u8>,
     message: &mut Message,
-    sent: &mut Vec<Message>,
+    sent: &mut MessageList,
 ) -> Result<bool, Halt>
-    ensures ok { IfOk result (λ some. parse_map messages_in (items_at 122 reader.old) ≡ Some (if some then Some sent.new.items else None, reader.new)) }
+    ensures ok { IfOk result (λ some. parse_map messages_in (items_at 122 reader.old) ≡ Some (if some then Some sent.new.messages else None, reader.new)) }
     ensures err { result ≡ Err Halt.NoJson → items_at 122 reader.old ≡ None }
     ensures shorter { OnOk result (length reader.new ≤ length reader.old) }
 {
@@ -385,7 +383,7 @@ fn read_messages(
         let field = read_field(reader, 122)?;
         if read_message(room, field, message)? {
             sent.reserve(1)?;
-            sent.push_reserved(*message);
+            sent.push(message);
         } else {
             all = false;
         }

@@ -7,6 +7,7 @@ use Rattle.wire_msg.specs.declared.body.Body.{Body}
 use Rattle.wire_msg.specs.declared.body.Body.TheVariants as says
 use Rattle.wire_msg.specs.declared.body.Form.{Form}
 use Rattle.wire_msg.specs.declared.body.Form.TheVariants as form
+use Rattle.wire_msg.specs.declared.body.LentWork.{LentWork}
 use Rattle.wire_msg.specs.declared.short.Kind.{Kind}
 use Rattle.wire_msg.specs.declared.short.Kind.TheVariants as kind
 use Rattle.wire_msg.specs.declared.short.Short.{Short}
@@ -82,6 +83,10 @@ group_of s = record { creator = s.creator; count = s.number }
 -- the body that a short form says
 abbrev pub said : Short → Body
 said s = said_by s.kind (group_of s) s.answer
+
+-- the Work whose payload is lent
+abbrev pub given : LentWork → Body
+given w = says.Work w.group w.id (record { queue = w.queue; priority = w.priority; payload = w.payload.now })
 
 -- the body of this shape
 abbrev pub body_of : Shape → Body

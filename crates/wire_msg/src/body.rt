@@ -1,9 +1,10 @@
-ghost use Rattle.std.specs.Prelude.{◌≡◌, IfSome};
-ghost use Rattle.wire_msg.specs.Kinds.{group_in, shape_of, short_of, body_of, IsShort, IsForm};
+ghost use Rattle.std.specs.Prelude.{◌≡◌, ◌≤◌, IfSome, length};
+ghost use Rattle.job_model.specs.declared.payload.TheConstants.{PAYLOAD_CAPACITY};
+ghost use Rattle.wire_msg.specs.Kinds.{group_in, shape_of, short_of, body_of, given, IsShort, IsForm};
 
 use crate::short::{Kind, Short};
 use group_task::{GroupNo, NodeId, Task};
-use job_model::Work;
+use job_model::{Payload, Queue, Work};
 
 /// How many bytes the body of a message has at most: that of a Work with a priority and the longest payload. Its whole spelling
 /// has six more.
@@ -41,6 +42,16 @@ pub enum Form<'a> {
     Short(Short),
     Ready(&'a Task),
     Work(GroupNo, u64, &'a Work),
+}
+
+/// What a Work says, with the bytes of its payload lent.
+#[derive(Clone, Copy)]
+pub struct LentWork<'a> {
+    pub group: GroupNo,
+    pub id: u64,
+    pub queue: Queue,
+    pub priority: u8,
+    pub payload: &'a [u8],
 }
 
 impl Body {
@@ -109,5 +120,33 @@ impl Body {
             Body::Ready(_) | Body::Work { .. } => return None,
         };
         Some(short)
+    }
+}
+
+impl LentWork<'_> {
+    /// Makes `body` this Work. It is written in place, since a body is long: where it is a Work already, no more than what it says.
+    #[inline(always)]
+    pub fn write_to(&self, body: &mut Body)
+        requires { length self.now.payload.now ≤ PAYLOAD_CAPACITY }
+        ensures { body.new ≡ given self.now }
+    {
+        if !matches!(body, Body::Work { .. }) {
+            *body = Body::Work {
+                group: self.group,
+                id: self.id,
+                work: Work {
+                    queue: self.queue,
+                    priority: self.priority,
+                    payload: Payload::empty(),
+                },
+            };
+        }
+        if let Body::Work { group, id, work } = body {
+            *group = self.group;
+            *id = self.id;
+            work.queue = self.queue;
+            work.priority = self.priority;
+            work.payload.set(self.payload);
+        }
     }
 }

@@ -22,7 +22,7 @@ mod stream;
 mod version;
 mod writing;
 
-pub use body::{BODY_CAPACITY, Body, Form};
+pub use body::{BODY_CAPACITY, Body, Form, LentWork};
 pub use cutting::decode_front;
 pub use fault::WireFault;
 pub use laws::{any_cutting, limits, message_of_spelling, one_reading, one_spelling};

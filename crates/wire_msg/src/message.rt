@@ -1,10 +1,11 @@
-ghost use Rattle.std.specs.Prelude.{◌≡◌, ◌≢◌, option_map};
+ghost use Rattle.std.specs.Prelude.{◌≡◌, ◌≢◌, ◌≤◌, length, option_map};
+ghost use Rattle.job_model.specs.declared.payload.TheConstants.{PAYLOAD_CAPACITY};
 ghost use Rattle.wire_msg.specs.Envelope.{envelope};
-ghost use Rattle.wire_msg.specs.Kinds.{said, IsCounted};
+ghost use Rattle.wire_msg.specs.Kinds.{said, given, IsCounted};
 ghost use Rattle.wire_msg.specs.Reading.{whole_at};
 ghost use Rattle.wire_msg.specs.declared.body.Body.TheVariants.{AreYouCoordinator};
 
-use crate::body::Body;
+use crate::body::{Body, LentWork};
 use crate::reading::read;
 use crate::short::Short;
 use group_task::NodeId;
@@ -36,9 +37,10 @@ impl Message {
     #[inline]
     pub fn new(sender: NodeId, receiver: NodeId, body: Body) -> Option<Message>
         // Promise: A message's sender and receiver differ: `new` answers None exactly where they are equal; `sender`, `receiver`,
-        // `body` give its parts; `set` makes it another one in its place.
-        // Also: Message::between, Message::set, Message::sender, Message::receiver, Message::body.
-        // Refuses: equal_ends_made, receiver_for_sender, sender_for_receiver, between_one_node, sender_stays.
+        // `body` give its parts; `set` makes it another one in its place, and `set_work` a Work.
+        // Also: Message::between, Message::set, Message::set_work, LentWork::write_to, Message::sender, Message::receiver, Message::body.
+        // Refuses: equal_ends_made, receiver_for_sender, sender_for_receiver, between_one_node, sender_stays, given_work_turned_round,
+        // old_payload_stays, old_id_stays.
         ensures { result ≡ envelope sender receiver body }
     {
         if sender == receiver {
@@ -119,6 +121,17 @@ impl Message {
     {
         (self.sender, self.receiver) = (sender, receiver);
         short.write_to(&mut self.body);
+    }
+
+    /// The same for this Work, whose payload is lent.
+    #[inline]
+    pub fn set_work(&mut self, sender: NodeId, receiver: NodeId, work: &LentWork<'_>)
+        requires ends { sender ≢ receiver }
+        requires fits { length work.now.payload.now ≤ PAYLOAD_CAPACITY }
+        ensures { self.new ≡ record { sender = sender; receiver = receiver; body = given work.now } }
+    {
+        (self.sender, self.receiver) = (sender, receiver);
+        work.write_to(&mut self.body);
     }
 
     /// Some message, in whose place others are read one after another.

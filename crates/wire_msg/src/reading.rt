@@ -8,13 +8,13 @@ ghost use Rattle.wire_msg.specs.Kinds.{names_group};
 ghost use Rattle.wire_msg.specs.Spelling.{Spells};
 ghost use Rattle.wire_msg.specs.Reading.{seen, byte_at, number_at, below_at, truth_at, group_at, members_at, task_at, payload_at, priority_at, work_at, named_at, answer_at, short_at, body_at, whole_at};
 
-use crate::body::Body;
+use crate::body::{Body, LentWork};
 use crate::fault::WireFault;
 use crate::message::Message;
 use crate::short::{Kind, Short};
 use crate::version::version_of;
 use group_task::{GroupNo, Members, NodeId, Task, share};
-use job_model::{PAYLOAD_CAPACITY, Payload, Queue, Work};
+use job_model::{PAYLOAD_CAPACITY, Queue};
 
 /// What is left to read. After a `None` it isn't read any further.
 #[derive(Drop)]
@@ -168,19 +168,15 @@ impl<'a> Reader<'a> {
         let id = self.u64()?;
         let queue = self.queue()?;
         let priority = self.priority(with_priority)?;
-        let bytes = self.payload()?;
-        let Some(payload) = Payload::new(bytes) else {
-            return None;
-        };
-        *body = Body::Work {
+        let payload = self.payload()?;
+        let work = LentWork {
             group,
             id,
-            work: Work {
-                queue,
-                priority,
-                payload,
-            },
+            queue,
+            priority,
+            payload,
         };
+        work.write_to(body);
         Some(())
     }
 
