@@ -84,12 +84,12 @@ pub(crate) fn handle<D: SectorDisk>(
 
 /// What an event will make of the core. The plan of a delivery is made apart: most events are deliveries, and each call of a function
 /// pays for the size of its locals, of which the other events have many.
-fn planned(
+fn planned<'a>(
     alloc: Global,
     core: &mut NodeCore,
-    event: &Event,
+    event: &'a Event,
     table: &JobTable,
-) -> Result<Plan, CoreFault>
+) -> Result<Plan<'a>, CoreFault>
     ensures kept { core.new ≡ record core.old { room = core.new.room } }
     ensures plan { IfOk result (IsPlanFor core.new table.now.pending event.now) }
     ensures done { IfOk result (λ _. refusal_of core.old.nodes core.old.id event.now core.old.state ≡ None) }

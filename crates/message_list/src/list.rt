@@ -1,4 +1,5 @@
-ghost use Rattle.std.specs.Prelude.{◌≡◌, ◌-◌, ◌+◌, ◌<◌, ◌≤◌, ◌↔◌, [], ◌∷◌, ◌++◌, length, max, option_map, slice_get, Some, None, IfSome, IsTrue, MatchBool, OnOk, OnErr};
+ghost use Rattle.std.specs.Prelude.{◌≡◌, ◌-◌, ◌+◌, ◌*◌, ◌<◌, ◌≤◌, ◌↔◌, [], ◌∷◌, ◌++◌, length, max, option_map, slice_get, Some, None, IfSome, IsTrue, MatchBool, OnOk, OnErr};
+ghost use Rattle.job_model.specs.declared.payload.TheConstants.{PAYLOAD_CAPACITY};
 ghost use Rattle.wire_msg.specs.Spelling.{spelling, IsMessage};
 ghost use Rattle.message_list.specs.Lent.{message_at, message_opened, IsOpened};
 ghost use Rattle.message_list.specs.PackedMessages.{ends_of};
@@ -28,7 +29,12 @@ pub struct MessageList {
     payloads: Vec<u8>,
     // for so many more messages there is room, whatever they say
     room: usize,
+    // and for so many there is memory
+    spare: usize,
 }
+
+// memory is taken for so many messages at once, where as many are kept
+const AHEAD: usize = 16;
 
 impl Model for MessageList {
     ghost use Rattle.std.specs.Prelude.{map};
@@ -56,6 +62,7 @@ impl MessageList {
             works: Vec::new(alloc),
             payloads: Vec::new(alloc),
             room: 0,
+            spare: 0,
         }
     }
 
@@ -73,7 +80,7 @@ impl MessageList {
     pub fn reserve(&mut self, more: usize) -> Result<(), AllocError>
         // Promise: `reserve(n)` makes room for n more messages whatever they say. It is refused only where there isn't that much
         // room yet, and then nothing is changed.
-        // Refuses: room_for_empty_payloads.
+        // Refuses: room_for_empty_payloads, spare_without_memory.
         ensures messages { self.new.messages ≡ self.old.messages }
         ensures room { OnOk result (self.new.room ≡ max self.old.room more) }
         ensures refused { OnErr result (self.old.room < more) }
@@ -82,10 +89,15 @@ impl MessageList {
         if more <= self.room {
             return Ok(());
         }
+        if more <= self.spare {
+            self.room = more;
+            return Ok(());
+        }
         self.grow(more)
     }
 
-    // Makes room for more messages than there is room for. It stands apart, so that the question whether there is room is short.
+    // Takes memory for more messages than there is memory for, and for some that may come behind them. It stands apart, so that the
+    // question whether there is room is short.
     #[inline(never)]
     fn grow(&mut self, more: usize) -> Result<(), AllocError>
         requires { self.old.room < more }
@@ -93,13 +105,15 @@ impl MessageList {
         ensures room { OnOk result (self.new.room ≡ more) }
         ensures unchanged { OnErr result (self.new ≡ self.old) }
     {
-        let Some(bytes) = more.checked_mul(PAYLOAD_CAPACITY) else {
+        let many = more.max(self.letters.len().min(AHEAD));
+        let Some(bytes) = many.checked_mul(PAYLOAD_CAPACITY) else {
             return Err(AllocError);
         };
-        self.letters.reserve(more)?;
-        self.tasks.reserve(more)?;
-        self.works.reserve(more)?;
+        self.letters.reserve(many)?;
+        self.tasks.reserve(many)?;
+        self.works.reserve(many)?;
         self.payloads.reserve(bytes)?;
+        self.spare = many;
         self.room = more;
         Ok(())
     }
@@ -120,6 +134,7 @@ impl MessageList {
         keep_payload(&mut self.payloads, body);
         self.letters.push_reserved(packed_message);
         self.room -= 1;
+        self.spare -= 1;
     }
 
     /// Adds a message of another list in the room that is there, as it is kept. None is made for it.
@@ -134,18 +149,28 @@ impl MessageList {
         keep_lent_payload(&mut self.payloads, &lent);
         self.letters.push_reserved(packed_message);
         self.room -= 1;
+        self.spare -= 1;
     }
 
     /// Takes all messages out. The memory that they took stays the list's.
     pub fn clear(&mut self)
         // Promise: Once it is cleared, a list has no message, and the room that it had.
-        // Refuses: cleared_but_for_the_first.
+        // Refuses: cleared_but_for_the_first, payloads_left_out_of_what_fits.
         ensures { self.new ≡ record { messages = []; room = self.old.room } }
     {
         self.letters.clear();
         self.tasks.clear();
         self.works.clear();
         self.payloads.clear();
+        let fitting = fitting(
+            self.letters.capacity(),
+            self.tasks.capacity(),
+            self.works.capacity(),
+            self.payloads.capacity(),
+        );
+        if self.spare < fitting {
+            self.spare = fitting;
+        }
     }
 
     /// The message at a place, counted from 0.
@@ -278,4 +303,15 @@ impl MessageList {
         }
         spell_message(bytes, &message)
     }
+}
+
+// For how many messages there is memory in an empty list: each may want a place in all four.
+fn fitting(letters: usize, tasks: usize, works: usize, payloads: usize) -> usize
+    ensures lists { (result ≤ letters) × (result ≤ tasks) × (result ≤ works) }
+    ensures payloads { PAYLOAD_CAPACITY * result ≤ payloads }
+{
+    letters
+        .min(tasks)
+        .min(works)
+        .min(payloads / PAYLOAD_CAPACITY)
 }

@@ -9,11 +9,8 @@ use Rattle.node_core.specs.declared.wanted.Wanted.{Wanted}
 use Rattle.node_core.specs.declared.wanted.Wanted.TheVariants as wanted
 use Rattle.node_core.specs.declared.wanted.WantedRef.{WantedRef}
 use Rattle.node_core.specs.declared.wanted.WantedRef.TheVariants as lent
-use Rattle.node_core.specs.declared.in_hand.InHand.{InHand}
-use Rattle.node_core.specs.declared.plan.HandChange.{HandChange}
-use Rattle.node_core.specs.declared.plan.HandChange.TheVariants.{Keep, Clear, Lose, Gain}
 use Rattle.node_core.specs.declared.plan.PlannedEffect.{PlannedEffect}
-use Rattle.node_core.specs.declared.plan.PlannedEffect.TheVariants.{Stay, Mark, Apply, Invite, Recover, Place}
+use Rattle.node_core.specs.declared.plan.PlannedEffect.TheVariants.{Stay, Mark, Apply, Invite, Recover, Place, Finish}
 use Rattle.node_core.specs.declared.plan.Plan.{Plan}
 use Rattle.node_core.specs.declared.node_view.NodeView.{NodeView}
 use Rattle.node_core.specs.declared.phase.Phase.TheVariants.{Election}
@@ -25,25 +22,21 @@ use Rattle.node_core.specs.Start.{alone, entering}
 use Rattle.node_core.specs.Consistent.{IsConsistent}
 use Rattle.node_core.specs.NodeView.{state_at}
 
-abbrev pub hand_after : HandChange → List InHand → List InHand
-hand_after Keep hand = hand
-hand_after Clear hand = []
-hand_after (Lose origin id) hand = without_held hand origin id
-hand_after (Gain jobs) hand = hand ++ jobs.items
-
 -- what carrying out the plan makes of the state, where answer is the new count or the new id
 abbrev pub carried : ℕ → PlannedEffect → ℕ → State → Effect → Effect
 carried self (Stay job) answer s ready = ready
 carried self (Mark note) answer s ready = record ready { state = noted note s }
 carried self (Apply change) answer s ready =
-    record ready { state = with_standing change.value.group_state (hand_after change.value.hand s.hand) }
+    record ready { state = with_standing change.value.group_state (s.hand ++ change.value.gains.items) }
 carried self (Invite receivers) answer s ready =
     tells self (entering Election (own_group self answer)) receivers (Invitation (own_group self answer))
 carried self Recover answer s ready = quietly (alone self answer)
 carried self (Place to work) answer s ready =
     if to == self
-    then quietly (record s { hand = s.hand ++ (record { origin = self; id = answer; work = work.value }) ∷ [] })
-    else tells self s (to ∷ []) (Work s.group answer work.value)
+    then quietly (record s { hand = s.hand ++ (record { origin = self; id = answer; work = work.now }) ∷ [] })
+    else tells self s (to ∷ []) (Work s.group answer work.now)
+carried self (Finish origin id job) answer s ready =
+    record ready { state = record s { hand = without_held s.hand origin id } }
 
 abbrev pub planned_effect : ℕ → Plan → ℕ → State → Effect
 planned_effect self plan answer s = carried self plan.act answer s (record { state = s; sent = plan.messages.items })
@@ -57,10 +50,11 @@ done_wanted (Some id) = Some (Done id)
 abbrev pub act_wants : PlannedEffect → Option Command
 act_wants (Stay job) = done_wanted job
 act_wants (Mark note) = None
-act_wants (Apply change) = done_wanted change.value.done
+act_wants (Apply change) = None
 act_wants (Invite receivers) = Some Raise
 act_wants Recover = Some Raise
-act_wants (Place to work) = Some (Put work.value)
+act_wants (Place to work) = Some (Put work.now)
+act_wants (Finish origin id job) = done_wanted job
 
 -- the command that a plan wants
 abbrev pub plan_wants : Plan → Option Command
@@ -88,34 +82,31 @@ act_sends self (Apply change) messages = length messages
 act_sends self (Invite receivers) messages = length receivers
 act_sends self Recover messages = 0
 act_sends self (Place to work) messages = if to == self then 0 else 1
+act_sends self (Finish origin id job) messages = length messages
 
 abbrev pub plan_sends : ℕ → Plan → ℕ
 plan_sends self plan = act_sends self plan.act plan.messages.items
 
 -- by how many jobs the hand may grow
-abbrev pub hand_gain : HandChange → ℕ
-hand_gain Keep = 0
-hand_gain Clear = 0
-hand_gain (Lose origin id) = 0
-hand_gain (Gain jobs) = vec_len jobs
-
 abbrev pub gain_of : PlannedEffect → ℕ
 gain_of (Stay job) = 0
 gain_of (Mark note) = 0
-gain_of (Apply change) = hand_gain change.value.hand
+gain_of (Apply change) = vec_len change.value.gains
 gain_of (Invite receivers) = 0
 gain_of Recover = 0
 gain_of (Place to work) = 1
+gain_of (Finish origin id job) = 0
 
 -- the plan can be carried out without growth, and leaves a consistent state
 abbrev pub CanAct : ℕ → ℕ → State → PlannedEffect → List Envelope → ℕ → Type 0
 CanAct nodes self s (Stay job) sent room = Unit {0}
 CanAct nodes self s (Mark note) sent room = IsConsistent nodes self (noted note s)
 CanAct nodes self s (Apply change) sent room =
-    IsConsistent nodes self (with_standing change.value.group_state (hand_after change.value.hand s.hand))
+    IsConsistent nodes self (with_standing change.value.group_state (s.hand ++ change.value.gains.items))
 CanAct nodes self s (Invite receivers) sent room = (sent ≡ []) × (length receivers ≤ room) × AreOthers nodes self receivers
 CanAct nodes self s Recover sent room = sent ≡ []
 CanAct nodes self s (Place to work) sent room = (sent ≡ []) × (1 ≤ room)
+CanAct nodes self s (Finish origin id job) sent room = IsConsistent nodes self (record s { hand = without_held s.hand origin id })
 
 -- the plan makes this effect, for every answer, and wants this command
 pub record IsPlanOf (node_view : NodeView) (plan : Plan) (wants : Option Command) (effect : ℕ → Effect) : Type 0 where

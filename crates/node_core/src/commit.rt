@@ -1,34 +1,24 @@
-ghost use Rattle.std.specs.Prelude.{◌≡◌, ◌≢◌, ◌≤◌, ◌<◌, ◌+◌, length, None, false, [], ◌∷◌, ◌++◌, ℕ, vec_capacity};
+ghost use Rattle.std.specs.Prelude.{◌≡◌, ◌≢◌, ◌≤◌, ◌<◌, ◌+◌, length, None, false, [], ◌∷◌, ◌++◌, ℕ, vec_capacity, vec_len};
 ghost use Rattle.group_task.specs.Ids.{has};
 ghost use Rattle.node_core.specs.State.{state_of, with_standing};
 ghost use Rattle.node_core.specs.Words.{own_group, letter, to_each};
 ghost use Rattle.node_core.specs.Start.{alone, entering};
 ghost use Rattle.node_core.specs.Consistent.{IsConsistent};
-ghost use Rattle.node_core.specs.Planned.{hand_gain, hand_after};
 
 use crate::phase::Phase;
-use crate::plan::{HandChange, StateChange, write_to_each};
+use crate::plan::{StateChange, write_to_each};
 use crate::vector::Vector;
 use group_task::{GroupNo, Members, NodeId, share};
 use job_model::Work;
 use wire_msg::{Body, Message};
 
-/// Takes a new standing, and changes the work in hand within its room.
+/// Takes a new standing, and jobs in hand within its room.
 pub fn apply(vector: &mut Vector, change: Box<StateChange>)
-    requires { length vector.old.hand.jobs + hand_gain change.value.hand ≤ vector.old.hand.room }
-    ensures { state_of vector.new ≡ with_standing change.value.group_state (hand_after change.value.hand vector.old.hand.jobs) }
+    requires { length vector.old.hand.jobs + vec_len change.value.gains ≤ vector.old.hand.room }
+    ensures { state_of vector.new ≡ with_standing change.value.group_state (vector.old.hand.jobs ++ change.value.gains.items) }
 {
-    let StateChange {
-        group_state,
-        hand,
-        ..
-    } = Box::into_inner(change);
-    match hand {
-        HandChange::Keep => {}
-        HandChange::Clear => vector.hand.clear(),
-        HandChange::Lose(origin, id) => vector.hand.remove(origin, id),
-        HandChange::Gain(jobs) => vector.hand.append(jobs),
-    }
+    let StateChange { group_state, gains } = Box::into_inner(change);
+    vector.hand.append(gains);
     vector.group_state = group_state;
 }
 
@@ -70,26 +60,26 @@ pub fn place(
     id: NodeId,
     to: NodeId,
     job: u64,
-    work: Box<Work>,
+    work: &Work,
 )
     requires hand { to ≡ id → length vector.old.hand.jobs < vector.old.hand.room }
     requires empty { messages.old.items ≡ [] }
     requires room { 1 ≤ vec_capacity messages.old }
     ensures own { to ≡ id → (state_of vector.new ≡ record (state_of vector.old) {
-      hand = vector.old.hand.jobs ++ (record { origin = id; id = job; work = work.value }) ∷ [];
+      hand = vector.old.hand.jobs ++ (record { origin = id; id = job; work = work.now }) ∷ [];
     })
         × (messages.new.items ≡ []) }
     ensures other { to ≢ id → (state_of vector.new ≡ state_of vector.old)
-        × (messages.new.items ≡ letter id to (Body.Work vector.old.group_state.group job work.value) ∷ []) }
+        × (messages.new.items ≡ letter id to (Body.Work vector.old.group_state.group job work.now) ∷ []) }
     ensures consistent { (nodes : ℕ) → IsConsistent nodes id (state_of vector.old) → IsConsistent nodes id (state_of vector.new) }
 {
     if to.is(id) {
-        vector.hand.push_job(id, job, &work);
+        vector.hand.push_job(id, job, work);
     } else {
         let order = Body::Work {
             group: vector.group_state.group,
             id: job,
-            work: Box::into_inner(work),
+            work: *work,
         };
         messages.push_reserved(Message::between(id, to, order));
     }

@@ -25,13 +25,13 @@ use std::alloc::{AllocError, Global};
 use wire_msg::{Body, Message};
 
 /// What an event makes of a node: the row of the event, where it is not refused.
-pub fn plan_event(
+pub fn plan_event<'a>(
     alloc: Global,
     room: Vec<Message>,
     node_view: &NodeView<'_>,
-    event: &Event,
+    event: &'a Event,
     table: &JobTable,
-) -> Result<Plan, CoreFault>
+) -> Result<Plan<'a>, CoreFault>
     requires room { room.items ≡ [] }
     ensures plan { IfOk result (λ plan. IsPlanOf node_view.now plan
         (wants_of node_view.now.id table.now.pending event.now (state_at node_view.now))
@@ -57,7 +57,7 @@ pub fn plan_event(
             if !group_state.coordinator.is(node_view.id) {
                 return Err(CoreFault::NotCoordinator(group_state.coordinator));
             }
-            Ok(operator::submit(alloc, room, node_view, work)?)
+            Ok(operator::submit(room, node_view, work)?)
         }
         Event::Finish(origin, job) => {
             if matches!(node_view.vector.group_state.phase, Phase::Down) {
@@ -66,7 +66,7 @@ pub fn plan_event(
             if !node_view.vector.hand.contains(*origin, *job) {
                 return Err(CoreFault::UnknownJob);
             }
-            Ok(operator::finish(alloc, room, node_view, *origin, *job, table)?)
+            Ok(operator::finish(room, node_view, *origin, *job, table)?)
         }
     }
 }
@@ -78,7 +78,7 @@ fn plan_timer(
     node_view: &NodeView<'_>,
     timer: Timer,
     table: &JobTable,
-) -> Result<Plan, AllocError>
+) -> Result<Plan<'static>, AllocError>
     requires room { room.items ≡ [] }
     ensures row { IfOk result (λ plan. IsPlanOf node_view.now plan
         (wants_of node_view.now.id table.now.pending (on.Timer timer) (state_at node_view.now))
@@ -103,7 +103,7 @@ pub fn plan_delivery(
     node_view: &NodeView<'_>,
     message: &Message,
     table: &JobTable,
-) -> Result<Plan, CoreFault>
+) -> Result<Plan<'static>, CoreFault>
     requires room { room.items ≡ [] }
     ensures plan { IfOk result (λ plan. IsPlanOf node_view.now plan
         (wants_of node_view.now.id table.now.pending (on.Deliver message.now) (state_at node_view.now))
@@ -131,7 +131,7 @@ fn plan_message(
     from: NodeId,
     body: &Body,
     table: &JobTable,
-) -> Result<Plan, AllocError>
+) -> Result<Plan<'static>, AllocError>
     requires room { room.items ≡ [] }
     requires other { node_view.now.id ≢ from }
     requires known { from < node_view.now.nodes }

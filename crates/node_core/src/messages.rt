@@ -19,8 +19,7 @@ use crate::operator::recovery;
 use crate::others::{with_other, without_other};
 use crate::phase::Phase;
 use crate::plan::{
-    HandChange, Plan, PlannedEffect, changed, copied, marked, nothing, quietly, reply, with_room,
-    write_to_each,
+    Plan, PlannedEffect, changed, copied, marked, nothing, quietly, reply, with_room, write_to_each,
 };
 use crate::state_update::StateUpdate;
 use group_task::{GroupNo, Members, NodeId, Task, owner};
@@ -34,7 +33,7 @@ pub fn asked_coordinator(
     room: Vec<Message>,
     node_view: &NodeView<'_>,
     from: NodeId,
-) -> Result<Plan, AllocError>
+) -> Result<Plan<'static>, AllocError>
     requires room { room.items ≡ [] }
     requires other { node_view.now.id ≢ from }
     requires known { from < node_view.now.nodes }
@@ -58,7 +57,7 @@ pub fn answered_coordinator(
     node_view: &NodeView<'_>,
     from: NodeId,
     agreed: bool,
-) -> Plan
+) -> Plan<'static>
     requires room { room.items ≡ [] }
     requires other { node_view.now.id ≢ from }
     requires known { from < node_view.now.nodes }
@@ -80,7 +79,7 @@ pub fn invited(
     room: Vec<Message>,
     node_view: &NodeView<'_>,
     group: GroupNo,
-) -> Result<Plan, AllocError>
+) -> Result<Plan<'static>, AllocError>
     requires room { room.items ≡ [] }
     requires known { group.creator < node_view.now.nodes }
     ensures row { (from : ℕ) → IfOk result (λ plan. IsPlanOf node_view.now plan None
@@ -137,7 +136,12 @@ fn passed_on(node_view: &NodeView<'_>, group: GroupNo) -> Members
 
 /// Accept: the coordinator of a new group notes who joined.
 #[tactic(auto, unfolding(crate::specs::Messages::delivered))]
-pub fn accepted(room: Vec<Message>, node_view: &NodeView<'_>, from: NodeId, group: GroupNo) -> Plan
+pub fn accepted(
+    room: Vec<Message>,
+    node_view: &NodeView<'_>,
+    from: NodeId,
+    group: GroupNo,
+) -> Plan<'static>
     requires room { room.items ≡ [] }
     requires other { node_view.now.id ≢ from }
     requires known { from < node_view.now.nodes }
@@ -163,7 +167,7 @@ pub fn told_ready(
     node_view: &NodeView<'_>,
     from: NodeId,
     task: Task,
-) -> Result<Plan, AllocError>
+) -> Result<Plan<'static>, AllocError>
     requires room { room.items ≡ [] }
     requires other { node_view.now.id ≢ from }
     requires known { from < node_view.now.nodes }
@@ -209,7 +213,7 @@ pub fn acknowledged(
     node_view: &NodeView<'_>,
     from: NodeId,
     group: GroupNo,
-) -> Plan
+) -> Plan<'static>
     requires room { room.items ≡ [] }
     ensures row { IsPlanOf node_view.now result None (λ answer. delivered node_view.now.id from (says.ReadyAck group) answer (state_at node_view.now)) }
     ensures none { plan_sends node_view.now.id result ≡ 0 }
@@ -230,7 +234,7 @@ pub fn asked_there(
     node_view: &NodeView<'_>,
     from: NodeId,
     group: GroupNo,
-) -> Result<Plan, AllocError>
+) -> Result<Plan<'static>, AllocError>
     requires room { room.items ≡ [] }
     requires other { node_view.now.id ≢ from }
     requires known { from < node_view.now.nodes }
@@ -260,7 +264,7 @@ pub fn answered_there(
     from: NodeId,
     group: GroupNo,
     agreed: bool,
-) -> Result<Plan, AllocError>
+) -> Result<Plan<'static>, AllocError>
     requires room { room.items ≡ [] }
     ensures row { IfOk result (λ plan. IsPlanOf node_view.now plan
         (if was_probed from group (state_at node_view.now) && not agreed then Some Raise else None)
@@ -277,7 +281,7 @@ pub fn answered_there(
             probing: false,
             ..*group_state
         };
-        let change = changed(alloc, next, HandChange::Keep, None)?;
+        let change = changed(alloc, next, Vec::new(alloc))?;
         return Ok(quietly(room, change));
     }
     Ok(recovery(room, node_view))
@@ -293,7 +297,7 @@ pub fn got_work(
     group: GroupNo,
     job: u64,
     work: &Work,
-) -> Result<Plan, AllocError>
+) -> Result<Plan<'static>, AllocError>
     requires room { room.items ≡ [] }
     requires known { from < node_view.now.nodes }
     ensures row { IfOk result (λ plan. IsPlanOf node_view.now plan None
@@ -320,13 +324,18 @@ pub fn got_work(
         id: job,
         work: *work,
     })?;
-    let change = changed(alloc, *group_state, HandChange::Gain(gains), None)?;
+    let change = changed(alloc, *group_state, gains)?;
     Ok(quietly(room, change))
 }
 
 /// Done: the node that keeps a job marks it as done. The vector stays.
 #[tactic(auto, unfolding(crate::specs::Messages::delivered))]
-pub fn told_done(room: Vec<Message>, node_view: &NodeView<'_>, job: u64, table: &JobTable) -> Plan
+pub fn told_done(
+    room: Vec<Message>,
+    node_view: &NodeView<'_>,
+    job: u64,
+    table: &JobTable,
+) -> Plan<'static>
     requires room { room.items ≡ [] }
     ensures row { (from : ℕ) → IsPlanOf node_view.now result
         (if not (is_down node_view.now.vector.now.group_state.phase) && is_pending table.now.pending job then Some (Done job) else None)

@@ -155,7 +155,11 @@ impl NodeCore {
     /// What an event will make of this node, over the table of the jobs that it keeps, with all memory that this takes.
     /// Nothing but room changes. NoMemory comes after all other refusals, and only of an event that takes memory; the same call
     /// may be made again.
-    pub fn plan_step(&mut self, event: &Event, table: &JobTable) -> Result<Plan, CoreFault>
+    pub fn plan_step<'a>(
+        &mut self,
+        event: &'a Event,
+        table: &JobTable,
+    ) -> Result<Plan<'a>, CoreFault>
         // Promise: Planning changes nothing but room; a refused plan changes nothing at all.
         // Also: unchanged, NodeCore::plan_in.
         // Refuses: room_for_fewer.
@@ -187,12 +191,12 @@ impl NodeCore {
 
     /// The plan of an event. Its messages are written into `room`, an empty list, so that who plans one event after another takes memory
     /// for a list once.
-    pub fn plan_in(
+    pub fn plan_in<'a>(
         &mut self,
-        event: &Event,
+        event: &'a Event,
         table: &JobTable,
         room: Vec<Message>,
-    ) -> Result<Plan, CoreFault>
+    ) -> Result<Plan<'a>, CoreFault>
         requires { room.items ≡ [] }
         ensures kept { self.new ≡ record self.old { room = self.new.room } }
         // Promise: A plan's messages are written into the caller's list, where it is empty.
@@ -218,7 +222,7 @@ impl NodeCore {
         message: &Message,
         table: &JobTable,
         room: Vec<Message>,
-    ) -> Result<Plan, CoreFault>
+    ) -> Result<Plan<'static>, CoreFault>
         requires { room.items ≡ [] }
         // Promise: A message that stays where it is is planned as the event that delivers it is; the caller's list, where it is
         // empty, takes the answers.
@@ -252,7 +256,7 @@ impl NodeCore {
     }
 
     /// Makes room for the jobs that a plan takes in hand.
-    fn make_room(&mut self, plan: &Plan) -> Result<(), AllocError>
+    fn make_room(&mut self, plan: &Plan<'_>) -> Result<(), AllocError>
         ensures kept { self.new ≡ record self.old { room = self.new.room } }
         ensures grown { self.old.room ≤ self.new.room }
         ensures room { OnOk result (length self.old.state.hand + gain_of plan.now.act ≤ self.new.room) }
@@ -266,21 +270,21 @@ impl NodeCore {
     /// the command: the new count of a Raise, the new id of a Put, else any number.
     #[tactic(auto, using(crate::proofs::Sets::other_sets, crate::proofs::Sets::more_from, crate::proofs::Sets::one_from))]
     #[inline(always)]
-    pub fn commit_step(&mut self, plan: Plan, answer: u64) -> Vec<Message>
+    pub fn commit_step(&mut self, plan: Plan<'_>, answer: u64) -> Vec<Message>
         requires last { CanCarry self.old plan }
         requires count { plan_wants plan ≡ Some Raise → 1 ≤ answer }
         // Promise: A commit makes the table's new state and messages for the answer handed in; it takes no memory (it has no error,
         // and calls nothing that has one but to append or to list a job in the room that is there).
         // Also: kept.
         // Refuses: deaf_node, applied_without_its_task, invitations_dropped, job_for_its_owner_dropped,
-        // recovered_node_is_not_normal.
-        ensures step { (pending : List Job) (event : Event) → IsPlanFor self.old pending event plan
+        // recovered_node_is_not_normal, finished_job_stays_in_hand.
+        ensures step { (pending : List Job) (event : Event) → IsPlanFor self.old pending event plan.entry
             → effect_of self.old.nodes self.old.id pending event answer self.old.state
             ≡ record { state = self.new.state; sent = result.items } }
         // Promise: No step sends more messages than `most`.
         // Also: NodeCore::most.
         // Refuses: most_forgets_the_jobs.
-        ensures few { (pending : List Job) (event : Event) → IsPlanFor self.old pending event plan
+        ensures few { (pending : List Job) (event : Event) → IsPlanFor self.old pending event plan.entry
             → length result.items ≤ most_of self.old.nodes pending }
         ensures kept { self.new ≡ record self.old { state = self.new.state; room = self.new.room } }
     {
@@ -302,6 +306,7 @@ impl NodeCore {
             PlannedEffect::Place(to, work) => {
                 place(&mut self.vector, &mut messages, self.id, to, answer, work);
             }
+            PlannedEffect::Finish(origin, job, _) => self.vector.hand.remove(origin, job),
         }
         messages
     }

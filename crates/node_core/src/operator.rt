@@ -14,14 +14,14 @@ ghost use Rattle.node_core.specs.Planned.{IsPlanOf, plan_sends, gain_of};
 
 use crate::guards::owner_in;
 use crate::node_view::NodeView;
-use crate::plan::{HandChange, Plan, PlannedEffect, changed, with_room};
+use crate::plan::{Plan, PlannedEffect, with_room};
 use group_task::NodeId;
 use job_model::{JobTable, Work};
-use std::alloc::{AllocError, Global};
+use std::alloc::AllocError;
 use wire_msg::{Body, Message};
 
 /// The node recovers: it is alone in a new group.
-pub fn recovery(room: Vec<Message>, node_view: &NodeView<'_>) -> Plan
+pub fn recovery(room: Vec<Message>, node_view: &NodeView<'_>) -> Plan<'static>
     requires room { room.items ≡ [] }
     ensures row { IsPlanOf node_view.now result (Some Raise)
         (λ answer. quietly (alone node_view.now.id answer)) }
@@ -35,12 +35,11 @@ pub fn recovery(room: Vec<Message>, node_view: &NodeView<'_>) -> Plan
 }
 
 /// A coordinator keeps a new job, and takes it in hand or sends it to its owner.
-pub fn submit(
-    alloc: Global,
+pub fn submit<'a>(
     room: Vec<Message>,
     node_view: &NodeView<'_>,
-    work: &Work,
-) -> Result<Plan, AllocError>
+    work: &'a Work,
+) -> Result<Plan<'a>, AllocError>
     requires room { room.items ≡ [] }
     requires normal { in_phase Normal node_view.now.vector.now.group_state.phase ≡ true }
     ensures row { (pending : List Job) → IfOk result (λ plan. IsPlanOf node_view.now plan (Some (Put work.now))
@@ -50,7 +49,7 @@ pub fn submit(
     let messages = with_room(room, 1)?;
     let owner = owner_in(node_view, work.queue);
     Ok(Plan {
-        act: PlannedEffect::Place(owner, Box::new(alloc, *work)?),
+        act: PlannedEffect::Place(owner, work),
         messages,
     })
 }
@@ -58,13 +57,12 @@ pub fn submit(
 /// A job in hand is finished: the node that keeps it is told, or marks it as done where it is this one.
 #[tactic(auto, using(crate::proofs::Sets::kept_from, crate::proofs::Sets::held_within))]
 pub fn finish(
-    alloc: Global,
     room: Vec<Message>,
     node_view: &NodeView<'_>,
     origin: NodeId,
     job: u64,
     table: &JobTable,
-) -> Result<Plan, AllocError>
+) -> Result<Plan<'static>, AllocError>
     requires room { room.items ≡ [] }
     requires held { holds node_view.now.vector.now.hand.jobs origin job ≡ true }
     ensures row { IfOk result (λ plan. IsPlanOf node_view.now plan
@@ -81,9 +79,8 @@ pub fn finish(
     } else {
         messages.push(Message::between(node_view.id, origin, Body::Done(job)))?;
     }
-    let lost = HandChange::Lose(origin, job);
     Ok(Plan {
-        act: PlannedEffect::Apply(changed(alloc, node_view.vector.group_state, lost, done)?),
+        act: PlannedEffect::Finish(origin, job, done),
         messages,
     })
 }

@@ -2,7 +2,7 @@ ghost use Rattle.std.specs.Prelude.{◌≡◌, ◌+◌, ◌≤◌, ◌<◌, ◌+
 ghost use Rattle.group_task.specs.Ids.{has};
 ghost use Rattle.group_task.specs.Others.{AreOthers};
 ghost use Rattle.node_core.specs.Words.{to_each};
-ghost use Rattle.node_core.specs.Planned.{gain_of, hand_gain, done_wanted, lent_by, plan_wants, wanted_by};
+ghost use Rattle.node_core.specs.Planned.{gain_of, done_wanted, lent_by, plan_wants, wanted_by};
 
 use crate::group_state::GroupState;
 use crate::in_hand::InHand;
@@ -14,27 +14,16 @@ use job_model::Work;
 use std::alloc::{AllocError, Global};
 use wire_msg::{Body, Message};
 
-/// What happens to the work in hand.
-#[derive(Drop)]
-pub enum HandChange {
-    Keep,
-    Clear,
-    Lose(NodeId, u64),
-    Gain(Vec<InHand>),
-}
-
-/// What a step changes.
+/// What a step changes: the standing, and the jobs that come in hand.
 #[derive(Drop)]
 pub struct StateChange {
     pub group_state: GroupState,
-    pub hand: HandChange,
-    /// The job that is done on the disk.
-    pub done: Option<u64>,
+    pub gains: Vec<InHand>,
 }
 
 /// What a plan does. What takes much room stands apart, since a plan is moved often.
 #[derive(Drop)]
-pub enum PlannedEffect {
+pub enum PlannedEffect<'a> {
     /// Leaves the node as it is. Where there is an id, the job is done.
     Stay(Option<u64>),
     /// Makes the change that is noted.
@@ -46,7 +35,9 @@ pub enum PlannedEffect {
     /// Makes a new group of this node alone.
     Recover,
     /// Makes a job pending, and takes it in hand or sends it to its owner.
-    Place(NodeId, Box<Work>),
+    Place(NodeId, &'a Work),
+    /// Takes a job out of the hand. Where there is an id, it is done.
+    Finish(NodeId, u64, Option<u64>),
 }
 
 /// What an event will make of a node, with the memory that this takes.
@@ -54,12 +45,12 @@ pub enum PlannedEffect {
 /// Its messages come out by [`NodeCore::commit_step`](crate::NodeCore::commit_step) alone, so a caller can't send them before that.
 #[derive(Drop)]
 // Promise: A plan's messages come out by its commit alone: the fields of a `Plan` can't be named outside of the crate.
-pub struct Plan {
-    pub(crate) act: PlannedEffect,
+pub struct Plan<'a> {
+    pub(crate) act: PlannedEffect<'a>,
     pub(crate) messages: Vec<Message>,
 }
 
-impl Plan {
+impl<'a> Plan<'a> {
     /// The command that is to be carried out on the disk before the plan is committed.
     pub fn wants(&self) -> Wanted
         // Promise: The command that a plan wants is the table's.
@@ -68,25 +59,26 @@ impl Plan {
     {
         match &self.act {
             PlannedEffect::Stay(done) => done_wanted(*done),
-            PlannedEffect::Mark(_) => Wanted::None,
-            PlannedEffect::Apply(change) => done_wanted(change.done),
+            PlannedEffect::Mark(_) | PlannedEffect::Apply(_) => Wanted::None,
             PlannedEffect::Invite(_) | PlannedEffect::Recover => Wanted::Raise,
             PlannedEffect::Place(_, work) => Wanted::Put(**work),
+            PlannedEffect::Finish(_, _, done) => done_wanted(*done),
         }
     }
 
     /// The same command, with the job where the plan has it.
     pub fn wanted(&self) -> WantedRef<'_>
         // Promise: The same command is lent, its job where the plan has it; `DurableNode` carries it out from there.
-        // Refuses: raise_lent_for_a_job.
+        // Refuses: raise_lent_for_a_job, done_of_a_finish_not_lent.
         ensures { lent_by result ≡ plan_wants self.now }
     {
         match &self.act {
             PlannedEffect::Stay(done) => done_lent(*done),
             PlannedEffect::Mark(_) => done_lent(None),
-            PlannedEffect::Apply(change) => done_lent(change.done),
+            PlannedEffect::Apply(_) => done_lent(None),
             PlannedEffect::Invite(_) | PlannedEffect::Recover => WantedRef::Raise,
             PlannedEffect::Place(_, work) => WantedRef::Put(work),
+            PlannedEffect::Finish(_, _, done) => done_lent(*done),
         }
     }
 
@@ -95,23 +87,13 @@ impl Plan {
         ensures { result ≡ gain_of self.now.act }
     {
         match &self.act {
-            PlannedEffect::Apply(change) => change.hand.gain(),
+            PlannedEffect::Apply(change) => change.gains.len(),
             PlannedEffect::Place(_, _) => 1,
             PlannedEffect::Stay(_)
             | PlannedEffect::Mark(_)
             | PlannedEffect::Invite(_)
-            | PlannedEffect::Recover => 0,
-        }
-    }
-}
-
-impl HandChange {
-    fn gain(&self) -> usize
-        ensures { result ≡ hand_gain self.now }
-    {
-        match self {
-            HandChange::Gain(jobs) => jobs.len(),
-            HandChange::Keep | HandChange::Clear | HandChange::Lose(_, _) => 0,
+            | PlannedEffect::Recover
+            | PlannedEffect::Finish(_, _, _) => 0,
         }
     }
 }
@@ -174,7 +156,7 @@ pub fn letters(
 }
 
 /// Nothing changes, and nothing is sent.
-pub fn nothing(room: Vec<Message>) -> Plan
+pub fn nothing(room: Vec<Message>) -> Plan<'static>
     requires { room.items ≡ [] }
     ensures { (result.act ≡ PlannedEffect.Stay None) × (result.messages.items ≡ []) }
 {
@@ -184,27 +166,19 @@ pub fn nothing(room: Vec<Message>) -> Plan
     }
 }
 
-/// A new standing, the change of the work in hand, and the job that is done.
+/// A new standing, and the jobs that come in hand.
 pub fn changed(
     alloc: Global,
     group_state: GroupState,
-    hand: HandChange,
-    done: Option<u64>,
+    gains: Vec<InHand>,
 ) -> Result<Box<StateChange>, AllocError>
-    ensures { IfOk result (λ change. change.value ≡ record { group_state = group_state; hand = hand; done = done }) }
+    ensures { IfOk result (λ change. change.value ≡ record { group_state = group_state; gains = gains }) }
 {
-    Ok(Box::new(
-        alloc,
-        StateChange {
-            group_state,
-            hand,
-            done,
-        },
-    )?)
+    Ok(Box::new(alloc, StateChange { group_state, gains })?)
 }
 
 /// The change that is noted, and nothing is sent.
-pub fn marked(room: Vec<Message>, note: StateUpdate) -> Plan
+pub fn marked(room: Vec<Message>, note: StateUpdate) -> Plan<'static>
     requires { room.items ≡ [] }
     ensures { (result.act ≡ PlannedEffect.Mark note) × (result.messages.items ≡ []) }
 {
@@ -215,7 +189,7 @@ pub fn marked(room: Vec<Message>, note: StateUpdate) -> Plan
 }
 
 /// A change, and nothing is sent.
-pub fn quietly(room: Vec<Message>, change: Box<StateChange>) -> Plan
+pub fn quietly(room: Vec<Message>, change: Box<StateChange>) -> Plan<'static>
     requires { room.items ≡ [] }
     ensures { (result.act ≡ PlannedEffect.Apply change) × (result.messages.items ≡ []) }
 {
@@ -243,10 +217,14 @@ pub fn copied(group: GroupNo) -> GroupNo
 }
 
 /// One message is sent, in the room that is there.
-pub fn reply(act: PlannedEffect, mut messages: Vec<Message>, message: Message) -> Plan
+pub fn reply(
+    act: PlannedEffect<'static>,
+    mut messages: Vec<Message>,
+    message: Message,
+) -> Plan<'static>
     requires empty { messages.items ≡ [] }
     requires room { 1 ≤ vec_capacity messages }
-    ensures { (result.act ≡ act) × (result.messages.items ≡ message ∷ []) }
+    ensures { (result.act ≡ act.entry) × (result.messages.items ≡ message ∷ []) }
 {
     messages.push_reserved(message);
     Plan { act, messages }

@@ -60,7 +60,6 @@ pub fn examine(alloc: Global, trace: &Trace) -> Result<Examined, AllocError>
 }
 
 /// A check at its end: no entry more can be taken.
-#[tactic(auto, using(crate::proofs::Turns::desk_rests))]
 fn taken<'a>(alloc: Global, trace: &'a Trace) -> Result<Search<'a>, AllocError>
     ensures fits { IfOk result (Fits trace.now) }
     ensures none { IfOk result (λ search. search.ready ≡ []) }

@@ -1,4 +1,5 @@
-ghost use Rattle.std.specs.Prelude.{◌≡◌, ◌≤◌, ◌<◌, ◌+◌, ◌-◌, ◌^◌, [], ◌∷◌, ◌++◌, length, slice_get, option_map, Some, None, IfSome, IsNone, IsTrue, ◌↔◌, OnOk, OnErr};
+ghost use Rattle.std.specs.Prelude.{◌≡◌, ◌≤◌, ◌<◌, ◌+◌, ◌-◌, ◌^◌, [], ◌∷◌, ◌++◌, length, slice_get, option_map, Some, None, IfSome, IsNone, IsTrue, ◌↔◌, OnOk, OnErr, vec_len, vec_capacity};
+ghost use Rattle.job_model.specs.declared.payload.TheConstants.{PAYLOAD_CAPACITY};
 ghost use Rattle.wire_msg.specs.Envelope.{Envelope};
 ghost use Rattle.wire_msg.specs.Spelling.{Spells};
 ghost use Rattle.trace_check.specs.Claims.{Claim, brought_by};
@@ -73,12 +74,12 @@ impl History {
         ensures added { OnOk result (self.new ≡ self.old ++ claim deed.now sent.now ∷ []) }
         ensures refused { OnErr result (self.new ≡ self.old) }
     {
-        if !is_room(self.messages.len(), sent.len(), self.payloads.len()) {
-            return Err(AllocError);
-        }
-        self.entries.reserve(1)?;
-        self.payloads.reserve(PAYLOAD_CAPACITY)?;
-        self.messages.reserve(sent.len() + 1)?;
+        make_room(
+            &mut self.entries,
+            &mut self.messages,
+            &mut self.payloads,
+            sent.len(),
+        )?;
         let deed = keep_deed(&mut self.messages, &mut self.payloads, deed);
         let start = self.messages.len();
         keep_messages(&mut self.messages, sent);
@@ -96,12 +97,12 @@ impl History {
         ensures added { OnOk result (self.new ≡ self.old ++ claim (action_lent deed.now) sent.now ∷ []) }
         ensures refused { OnErr result (self.new ≡ self.old) }
     {
-        if !is_room(self.messages.len(), sent.len(), self.payloads.len()) {
-            return Err(AllocError);
-        }
-        self.entries.reserve(1)?;
-        self.payloads.reserve(PAYLOAD_CAPACITY)?;
-        self.messages.reserve(sent.len() + 1)?;
+        make_room(
+            &mut self.entries,
+            &mut self.messages,
+            &mut self.payloads,
+            sent.len(),
+        )?;
         let deed = keep_lent_deed(&mut self.messages, &mut self.payloads, deed);
         let start = self.messages.len();
         keep_sent(&mut self.messages, sent);
@@ -161,6 +162,36 @@ impl History {
         };
         Some(kept.brought())
     }
+}
+
+/// Makes room for an entry that sent so many messages. It is refused where memory is short, or where the history could come to 2^32
+/// messages or bytes of payloads.
+#[inline(always)]
+fn make_room(
+    entries: &mut Vec<StoredEntry>,
+    messages: &mut MessageList,
+    payloads: &mut Vec<u8>,
+    sent: usize,
+) -> Result<(), AllocError>
+    ensures entries { entries.new.items ≡ entries.old.items }
+    ensures messages { messages.new.messages ≡ messages.old.messages }
+    ensures payloads { payloads.new.items ≡ payloads.old.items }
+    ensures place { OnOk result (vec_len entries.new < vec_capacity entries.new) }
+    ensures room { OnOk result (sent < messages.new.room) }
+    ensures bytes { OnOk result (vec_len payloads.new + PAYLOAD_CAPACITY ≤ vec_capacity payloads.new) }
+    ensures few { OnOk result (length messages.old.messages + sent + 1 < 2 ^ 32) }
+    ensures short { OnOk result (length payloads.old.items + PAYLOAD_CAPACITY < 2 ^ 32) }
+{
+    if !is_room(messages.len(), sent, payloads.len()) {
+        return Err(AllocError);
+    }
+    if entries.len() == entries.capacity() {
+        entries.reserve(1)?;
+    }
+    if payloads.capacity() - payloads.len() < PAYLOAD_CAPACITY {
+        payloads.reserve(PAYLOAD_CAPACITY)?;
+    }
+    messages.reserve(sent + 1)
 }
 
 // whether one message more and these, and the payload of one job, still have places of 32 bits

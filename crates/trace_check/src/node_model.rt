@@ -41,10 +41,11 @@ pub struct NodeModel {
     rested: bool,
 }
 
-/// Where a message that was delivered, or another event, is read in place of the one before it: either takes over 400 bytes.
+/// Where a message that was delivered, a submit, or another event, is read in place of the one before it: each takes over 400 bytes.
 #[derive(Drop)]
 pub(crate) struct EntryRoom {
     message: Message,
+    submitted: Event,
     event: Event,
 }
 
@@ -52,6 +53,7 @@ impl EntryRoom {
     pub(crate) fn new() -> EntryRoom {
         EntryRoom {
             message: Message::blank(),
+            submitted: Event::Recover,
             event: Event::Recover,
         }
     }
@@ -99,7 +101,8 @@ impl NodeModel {
     /// open. Where it isn't possible, the node model may be spoiled, and is of no more use.
     pub fn take(&mut self, entry: &EntryView<'_>) -> Result<bool, AllocError>
         // Promise: An entry is taken exactly where it is possible, and the copy of the node is then in the state after it.
-        // Refuses: doubt_kept_the_wrong_way, doubt_forgotten, kept_not_read, sent_not_compared, each_timer_handled_as_check.
+        // Refuses: doubt_kept_the_wrong_way, doubt_forgotten, kept_not_read, sent_not_compared, each_timer_handled_as_check,
+        // submits_never_taken.
         ensures id { self.new.id ≡ self.old.id }
         ensures nodes { self.new.nodes ≡ self.old.nodes }
         ensures taken { IfOk result (Taken self.old self.new (claim_seen entry.now)) }
@@ -138,12 +141,8 @@ impl NodeModel {
             PackedAction::Done(PackedEvent::Timer(Timer::Dispatch)) if self.rested => {
                 Ok(sent.is_empty())
             }
-            PackedAction::Done(event) => {
-                self.take_said(kept, event, true, &sent, &mut room.event)
-            }
-            PackedAction::Faulted(event) => {
-                self.take_said(kept, event, false, &sent, &mut room.event)
-            }
+            PackedAction::Done(event) => { self.take_said(kept, event, true, &sent, room) }
+            PackedAction::Faulted(event) => { self.take_said(kept, event, false, &sent, room) }
             PackedAction::Crashed => Ok(self.crash(&sent)),
             PackedAction::Recovered(kept) => self.recover(kept, &sent),
             PackedAction::NotRecovered(kept, fault) => self.not_recover(kept, fault, &sent),
@@ -166,8 +165,29 @@ impl NodeModel {
         }
     }
 
-    /// An event as it is kept, which is handled, or in whose command the device failed. It is read in place of `said`.
+    /// An event as it is kept, which is handled, or in whose command the device failed. It is read in place of one of its kind, where
+    /// there is one: that is the least work.
     fn take_said(
+        &mut self,
+        kept: &KeptView<'_>,
+        event: PackedEvent,
+        is_done: bool,
+        sent: &Sent<'_>,
+        room: &mut EntryRoom,
+    ) -> Result<bool, AllocError>
+        requires { EventStands (length kept.now.messages.now.messages) (length kept.now.payloads.now) event }
+        ensures id { self.new.id ≡ self.old.id }
+        ensures nodes { self.new.nodes ≡ self.old.nodes }
+        ensures judged { IfOk result (Judged self.old self.new (came is_done (event_said kept.now.messages.now.messages kept.now.payloads.now event)) sent.now) }
+    {
+        if let PackedEvent::Submit(_, _, _, _) = event {
+            return self.take_read(kept, event, is_done, sent, &mut room.submitted);
+        }
+        self.take_read(kept, event, is_done, sent, &mut room.event)
+    }
+
+    /// The same for an event that is read in place of `said`.
+    fn take_read(
         &mut self,
         kept: &KeptView<'_>,
         event: PackedEvent,

@@ -23,6 +23,7 @@ use group_task::NodeId;
 use itoa::Buffer;
 use json::{Error, Reader, Scratch, Token, Value, Writer};
 use line_words::{cut_word, is_word, number, numbers};
+use simdutf8::basic::from_utf8;
 use std::alloc::{AllocError, Global};
 use trace_check::{Order, Trace};
 
@@ -41,7 +42,7 @@ pub fn read_order(alloc: Global, text: &[u8]) -> Result<Option<Order>, AllocErro
     // Refuses: order_under_another_key, first_of_equal_orders_counts, dash_read_as_message_0.
     ensures { IfOk result (λ order. option_map ordered_by order ≡ order_of text.now) }
 {
-    let Ok(text) = std::str::from_utf8(text) else {
+    let Ok(text) = from_utf8(text) else {
         return Ok(None);
     };
     let mut scratch = Scratch::new(alloc);

@@ -22,8 +22,8 @@ use group_task::NODES;
 use json::{Invalid, Reader, Scratch};
 use line_words::is_word;
 use message_list::MessageList;
+use simdutf8::basic::from_utf8;
 use std::alloc::{AllocError, Global};
-use std::str;
 use trace_check::{History, Sent, Trace};
 use wire_msg::Message;
 
@@ -64,8 +64,10 @@ pub struct Draft<'a> {
     /// Whether it has a field `sent`, and that is a list of messages.
     pub has_sent: bool,
     pub sent: MessageList,
-    /// The bytes of a text of hex digits, and the message that they spell.
+    /// The bytes of a text of hex digits.
     pub room: Vec<u8>,
+    /// Where the message that was brought is read, and where each that was sent: one of the kind of the last one takes less.
+    pub brought: Message,
     pub message: Message,
 }
 
@@ -102,7 +104,7 @@ pub fn read(alloc: Global, text: &[u8]) -> Result<Trace, TraceFault>
     ensures ok { IfOk result (λ trace. trace_of text.now ≡ Ok trace) }
     ensures err { IfErr result (IsFaultOf (trace_of text.now)) }
 {
-    let Ok(text) = str::from_utf8(text) else {
+    let Ok(text) = from_utf8(text) else {
         return Err(TraceFault::BadTrace(None));
     };
     let mut scratch = Scratch::new(alloc);
@@ -220,6 +222,7 @@ fn read_lists(alloc: Global, reader: &mut Reader<'_>) -> Result<Histories, Halt>
         has_sent: false,
         sent: MessageList::new(alloc),
         room: Vec::new(alloc),
+        brought: Message::blank(),
         message: Message::blank(),
     };
     let mut all_lists = true;
@@ -309,7 +312,7 @@ fn read_entry<'a>(
     if !draft.has_sent {
         return Ok(false);
     }
-    match read_deed(&mut draft.room, &mut draft.message, &draft.fields) {
+    match read_deed(&mut draft.room, &mut draft.brought, &draft.fields) {
         Ok(Some(deed)) => {
             let sent = Sent::part(&draft.sent, 0, draft.sent.len());
             history.push_lent(&deed, &sent)?;

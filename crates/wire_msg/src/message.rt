@@ -40,7 +40,7 @@ impl Message {
         // `body` give its parts; `set` makes it another one in its place, and `set_work` a Work.
         // Also: Message::between, Message::set, Message::set_work, LentWork::write_to, Message::sender, Message::receiver, Message::body.
         // Refuses: equal_ends_made, receiver_for_sender, sender_for_receiver, between_one_node, sender_stays, given_work_turned_round,
-        // old_payload_stays, old_id_stays.
+        // old_payload_stays, old_id_stays, old_answer_stays, old_group_of_a_here_stays.
         ensures { result ≡ envelope sender receiver body }
     {
         if sender == receiver {

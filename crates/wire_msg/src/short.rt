@@ -108,13 +108,34 @@ impl Short {
                     *body = Body::AreYouCoordinator;
                 }
             }
-            Kind::Coordinator => *body = Body::Coordinator(self.answer),
-            Kind::AreYouThere => *body = Body::AreYouThere(group()),
-            Kind::Here => *body = Body::Here(group(), self.answer),
-            Kind::Invitation => *body = Body::Invitation(group()),
-            Kind::Accept => *body = Body::Accept(group()),
-            Kind::ReadyAck => *body = Body::ReadyAck(group()),
-            Kind::Done => *body = Body::Done(self.number),
+            Kind::Coordinator => match body {
+                Body::Coordinator(answer) => *answer = self.answer,
+                _ => *body = Body::Coordinator(self.answer),
+            },
+            Kind::AreYouThere => match body {
+                Body::AreYouThere(old) => *old = group(),
+                _ => *body = Body::AreYouThere(group()),
+            },
+            Kind::Here => match body {
+                Body::Here(old, answer) => (*old, *answer) = (group(), self.answer),
+                _ => *body = Body::Here(group(), self.answer),
+            },
+            Kind::Invitation => match body {
+                Body::Invitation(old) => *old = group(),
+                _ => *body = Body::Invitation(group()),
+            },
+            Kind::Accept => match body {
+                Body::Accept(old) => *old = group(),
+                _ => *body = Body::Accept(group()),
+            },
+            Kind::ReadyAck => match body {
+                Body::ReadyAck(old) => *old = group(),
+                _ => *body = Body::ReadyAck(group()),
+            },
+            Kind::Done => match body {
+                Body::Done(id) => *id = self.number,
+                _ => *body = Body::Done(self.number),
+            },
         }
     }
 

@@ -30,3 +30,9 @@ returns-then-not-is_device-clause-answers g c =
     let carried = c.in-Err-carry.ensures.refused (λ e. clash c.is_device.result (c.is_device.ensures.1 e) c.if-not-is_device.true) in
     let so = (rw carried.0 at c.refusal.ensures) _ carried.1 in
     rw (c.silent-then-not-is_device.ensures.event_outcome, so, ← carried.1.is_shown, rw (c.requires.over.of.nodes, c.requires.over.of.id) at c.in-Ok.ensures.done, ← wants) (inr (same_fault _ _ _ c.in-Err-carry.fault c.in-Err-carry.ensures.answers))
+
+pub returns-in-Err-carry-clause-answers : goal.returns-in-Err-carry-clause-answers
+returns-in-Err-carry-clause-answers g c =
+    let wants = wanted_so _ _ c.args.core.now c.planned.new.core c.args.setting.id c.args.event.now c.table.result.now c.args.store.now.journal.table c.wanted-wants.ensures c.in-Ok.ensures.plan.wants_is c.planned.ensures.kept c.requires.over.of.id c.table.ensures in
+    let device = c.is_device.ensures.0 c.if-not-is_device.false in
+    rw (c.silent-in-Err-carry.ensures.event_outcome, ← device, rw (c.requires.over.of.nodes, c.requires.over.of.id) at c.in-Ok.ensures.done, ← wants) (inr (same_fault _ _ _ c.in-Err-carry.fault c.in-Err-carry.ensures.answers))

@@ -38,10 +38,11 @@ invariant_of-self c =
     let payloads : c.keep_lent_payload.new.payloads.items ≡ p ++ payload_kept (shape_of m.body) = c.keep_lent_payload.ensures.payloads ∙ ap (λ (s : Shape). p ++ payload_kept s) shape in
     record {
       read = rw (letters, tasks, works, payloads) (all_read_more was.letters.items t w p m c.self.invariant.read can few);
-      letters = omega (arith, c.self.invariant.letters, c.push_reserved.ensures.len, c.push_reserved.ensures.capacity, c.requires);
-      tasks = omega (arith, c.self.invariant.tasks, c.keep_lent_task.ensures.few, c.keep_lent_task.ensures.room, c.requires);
-      works = omega (arith, c.self.invariant.works, c.keep_lent_work.ensures.few, c.keep_lent_work.ensures.room, c.requires);
-      payloads = omega (arith, c.self.invariant.payloads, c.keep_lent_payload.ensures.few, c.keep_lent_payload.ensures.room, c.requires);
+      letters = omega (arith, c.self.invariant.room, c.self.invariant.letters, c.push_reserved.ensures.len, c.push_reserved.ensures.capacity, c.requires);
+      tasks = omega (arith, c.self.invariant.room, c.self.invariant.tasks, c.keep_lent_task.ensures.few, c.keep_lent_task.ensures.room, c.requires);
+      works = omega (arith, c.self.invariant.room, c.self.invariant.works, c.keep_lent_work.ensures.few, c.keep_lent_work.ensures.room, c.requires);
+      payloads = omega (arith, c.self.invariant.payloads, c.self.invariant.room, c.keep_lent_payload.ensures.few, c.keep_lent_payload.ensures.room, c.requires);
+      room = omega (arith, c.self.invariant.room, c.requires);
     }
 
 pub returns : goal.returns

@@ -1,5 +1,4 @@
 use Rattle.std.proofs.Common.{subst, sym}
-use Rattle.node_core.specs.declared.in_hand.InHand.{InHand}
 use Rattle.node_core.specs.Listing.{Lists, in_hand}
 use Rattle.node_core.proofs.hand.Hand.remove.Goals as goal
 
