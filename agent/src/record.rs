@@ -2,15 +2,19 @@
 //!
 //! A file begins with a line `# dumgerok record 1 node N of M part P cluster NAME`. Then stand `start` where a process of the node began, each
 //! request behind `> `, and the lines of its answer. A request is asked once the one before it is answered, and stands in the file before that;
-//! an answer stands there before anything that it says is done.
+//! an answer stands there before anything that it says is done. An agent that is started anew goes on in the last file where that has room, so that
+//! however often it is started no more is kept than the configuration says.
 
 use crate::config::Config;
 use log::warn;
 use std::fs::{self, File, OpenOptions};
-use std::io::{self, BufWriter, ErrorKind, Write};
+use std::io::{self, BufRead, BufReader, BufWriter, ErrorKind, Read, Seek, SeekFrom, Write};
 use std::path::{Path, PathBuf};
 
 const MEGABYTE: u64 = 1_000_000;
+
+/// A line of the record is shorter.
+const MAX_LINE: u64 = 128 * 1024;
 
 pub struct Record {
     path: PathBuf,
@@ -25,26 +29,40 @@ pub struct Record {
 }
 
 impl Record {
-    /// Goes on with the record at a path, in a new part.
+    /// Goes on with the record at a path: in its last part where that has room, else in a new one.
     pub fn open(path: &Path, config: &Config) -> io::Result<Record> {
-        let part = 1 + last_part(path)?;
-        let mut record = Record {
-            path: path.to_path_buf(),
-            node: format!("node {} of {}", config.id, config.nodes.len()),
-            cluster: config.cluster.clone(),
-            part,
-            max_bytes: config.record_mb * MEGABYTE,
-            max_files: u64::from(config.record_files),
-            file: BufWriter::new(open(&part_of(path, part))?),
-            written: 0,
+        let node = format!("node {} of {}", config.id, config.nodes.len());
+        let (cluster, max_bytes) = (config.cluster.clone(), config.record_mb * MEGABYTE);
+        let last = parts(path)?.into_iter().max().unwrap_or(0);
+        let begun = match last {
+            0 => None,
+            _ => go_on(&part_of(path, last), &head(&node, last, &cluster))?.filter(|(_, written)| *written < max_bytes),
         };
-        record.begin()?;
+        let is_new = begun.is_none();
+        let part = last + u64::from(is_new);
+        let (file, written) = match begun {
+            Some(begun) => begun,
+            None => (create(&part_of(path, part))?, 0),
+        };
+        let (path, file, max_files) = (path.to_path_buf(), BufWriter::new(file), u64::from(config.record_files));
+        let mut record = Record { path, node, cluster, part, max_bytes, max_files, file, written };
+        if is_new {
+            record.begin()?;
+        }
         Ok(record)
     }
 
+    /// Writes the first line of a part, and deletes the parts that are too many then.
     fn begin(&mut self) -> io::Result<()> {
-        let line = format!("# dumgerok record 1 {} part {} cluster {}", self.node, self.part, self.cluster);
-        self.put(&line)
+        self.put(&head(&self.node, self.part, &self.cluster))?;
+        let kept = self.max_files.min(self.part);
+        for old in parts(&self.path)?.into_iter().filter(|part| *part <= self.part - kept) {
+            match fs::remove_file(part_of(&self.path, old)) {
+                Err(error) if error.kind() != ErrorKind::NotFound => warn!("{}: {error}", self.path.display()),
+                _ => {}
+            }
+        }
+        Ok(())
     }
 
     fn put(&mut self, line: &str) -> io::Result<()> {
@@ -66,21 +84,44 @@ impl Record {
 
     fn rotate(&mut self) -> io::Result<()> {
         self.part += 1;
-        self.file = BufWriter::new(open(&part_of(&self.path, self.part))?);
+        self.file = BufWriter::new(create(&part_of(&self.path, self.part))?);
         self.written = 0;
         self.begin()?;
-        if let Some(oldest) = self.part.checked_sub(self.max_files) {
-            match fs::remove_file(part_of(&self.path, oldest)) {
-                Err(error) if error.kind() != ErrorKind::NotFound => warn!("{}: {error}", self.path.display()),
-                _ => {}
-            }
-        }
         self.file.flush()
     }
 }
 
-fn open(path: &Path) -> io::Result<File> {
-    OpenOptions::new().create(true).append(true).open(path)
+fn head(node: &str, part: u64, cluster: &str) -> String {
+    format!("# dumgerok record 1 {node} part {part} cluster {cluster}")
+}
+
+fn create(path: &Path) -> io::Result<File> {
+    OpenOptions::new().create_new(true).append(true).open(path)
+}
+
+/// Opens a part that was begun, and its length. A last line without a line feed, of an agent that was killed, is cut off. None where it has another first
+/// line, or is another user's.
+fn go_on(path: &Path, head: &str) -> io::Result<Option<(File, u64)>> {
+    let mut file = match OpenOptions::new().read(true).append(true).open(path) {
+        Err(error) if error.kind() == ErrorKind::PermissionDenied => return Ok(None),
+        opened => opened?,
+    };
+    let mut first = Vec::new();
+    BufReader::new(&file).take(MAX_LINE).read_until(b'\n', &mut first)?;
+    if first != format!("{head}\n").as_bytes() {
+        return Ok(None);
+    }
+    let length = file.metadata()?.len();
+    let from = length.saturating_sub(MAX_LINE);
+    let mut tail = Vec::new();
+    file.seek(SeekFrom::Start(from))?;
+    (&file).take(MAX_LINE).read_to_end(&mut tail)?;
+    let whole = match tail.iter().rposition(|byte| *byte == b'\n') {
+        Some(end) => from + end as u64 + 1,
+        None => return Ok(None),
+    };
+    file.set_len(whole)?;
+    Ok(Some((file, whole)))
 }
 
 fn part_of(path: &Path, part: u64) -> PathBuf {
@@ -89,41 +130,72 @@ fn part_of(path: &Path, part: u64) -> PathBuf {
     name.into()
 }
 
-/// The number of the last part that is there, or 0.
-fn last_part(path: &Path) -> io::Result<u64> {
+/// The numbers of the parts that are there.
+fn parts(path: &Path) -> io::Result<Vec<u64>> {
     let folder = path.parent().filter(|folder| !folder.as_os_str().is_empty()).unwrap_or_else(|| Path::new("."));
     let name = path.file_name().unwrap_or_default().to_string_lossy().into_owned() + ".";
-    let mut last = 0;
+    let mut parts = Vec::new();
     for entry in fs::read_dir(folder)? {
         let entry = entry?.file_name().to_string_lossy().into_owned();
-        let part = entry.strip_prefix(&name).and_then(|part| part.parse().ok());
-        last = last.max(part.unwrap_or(0));
+        let part = entry.strip_prefix(&name).and_then(|part| part.parse::<u64>().ok());
+        parts.extend(part.filter(|part| part.to_string().len() + name.len() == entry.len()));
     }
-    Ok(last)
+    Ok(parts)
 }
 
 #[cfg(test)]
 mod tests {
     use super::*;
 
-    #[test]
-    fn it_rotates_and_goes_on_behind_the_last_part() {
-        let folder = std::env::temp_dir().join(format!("dumgerok-record-{}", std::process::id()));
+    const TEXT: &str =
+        "cluster = \"c\"\nid = 1\nnodes = [\"a:1\", \"b:1\"]\nfile = \"f\"\nrecord_mb = 1\nrecord_files = 2\n";
+
+    fn folder(name: &str) -> PathBuf {
+        let folder = std::env::temp_dir().join(format!("dumgerok-{name}-{}", std::process::id()));
         fs::create_dir_all(&folder).unwrap();
-        let text =
-            "cluster = \"c\"\nid = 1\nnodes = [\"a:1\", \"b:1\"]\nfile = \"f\"\nrecord_mb = 1\nrecord_files = 2\n";
-        let config = Config::parse(text).unwrap();
+        folder
+    }
+
+    fn names(folder: &Path) -> Vec<String> {
+        let name = |entry: io::Result<fs::DirEntry>| entry.unwrap().file_name().into_string().unwrap();
+        let mut names: Vec<String> = fs::read_dir(folder).unwrap().map(name).collect();
+        names.sort();
+        names
+    }
+
+    #[test]
+    fn it_rotates_and_keeps_no_more_than_it_may() {
+        let (folder, config) = (folder("record"), Config::parse(TEXT).unwrap());
         let path = folder.join("record");
         let mut record = Record::open(&path, &config).unwrap();
         let line = "x".repeat(400_000);
         (0..9).for_each(|_| record.write([line.as_str()]).unwrap());
-        let mut names: Vec<_> = fs::read_dir(&folder).unwrap().map(|entry| entry.unwrap().file_name()).collect();
-        names.sort();
-        assert_eq!(names, ["record.3", "record.4"]);
+        assert_eq!(names(&folder), ["record.3", "record.4"]);
         drop(record);
+        // a part of another node there, and older ones than those that are kept
+        ["record.1", "record.2"].iter().for_each(|old| fs::write(folder.join(old), "old\n").unwrap());
+        fs::write(folder.join("record.4"), "# dumgerok record 1 node 0 of 2 part 4 cluster c\n").unwrap();
         Record::open(&path, &config).unwrap().write([]).unwrap();
+        assert_eq!(names(&folder), ["record.4", "record.5"]);
         let first = fs::read_to_string(folder.join("record.5")).unwrap();
         assert_eq!(first, "# dumgerok record 1 node 1 of 2 part 5 cluster c\n");
+        fs::remove_dir_all(&folder).unwrap();
+    }
+
+    #[test]
+    fn an_agent_that_is_started_anew_goes_on_in_the_last_part() {
+        let (folder, config) = (folder("again"), Config::parse(TEXT).unwrap());
+        let path = folder.join("record");
+        for start in 0..9 {
+            Record::open(&path, &config).unwrap().write(["start", "> recover"]).unwrap();
+            // killed in the middle of a line
+            let mut file = OpenOptions::new().append(true).open(folder.join("record.1")).unwrap();
+            file.write_all(if start % 2 == 0 { b"ok" } else { b"" }).unwrap();
+        }
+        assert_eq!(names(&folder), ["record.1"]);
+        let head = "# dumgerok record 1 node 1 of 2 part 1 cluster c\n".to_string();
+        let text = fs::read_to_string(folder.join("record.1")).unwrap();
+        assert_eq!(text, head + &"start\n> recover\n".repeat(9) + "ok");
         fs::remove_dir_all(&folder).unwrap();
     }
 }

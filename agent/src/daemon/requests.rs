@@ -105,7 +105,10 @@ impl Daemon {
         if on == self.node.is_recorded() {
             return Reply::ok();
         }
-        let beside = self.config.file.with_extension("record");
+        // the whole name, by which nodes whose files are in one folder have records of their own
+        let mut beside = self.config.file.clone().into_os_string();
+        beside.push(".record");
+        let beside = beside.into();
         let path = self.config.record.as_ref().unwrap_or(&beside);
         let record = if on { Record::open(path, &self.config).map(Some) } else { Ok(None) };
         match record {
