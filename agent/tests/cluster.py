@@ -201,8 +201,28 @@ def addresses(bed):
     agents.until(lambda: "nothing was taken of it" in open(agents.path(0, "log")).read())
     check("one that can't be read changes nothing", agents.one_group() > 0)
     judged(bed, agents, "changed addresses")
+    moved(bed)
     no_address(bed)
     ipv6(bed)
+
+
+def moved(bed):
+    """A node that has another name and port since, and is heard: what is sent to it goes there, too."""
+    agents, ports = bed.agents("moved", count=2), [free_port() for _ in range(3)]
+    names = ["127.0.0.1:%d" % ports[0], "localhost:%d" % ports[1], "localhost:%d" % ports[2]]
+    for i in range(2):
+        agents.write(i, nodes=names[:2], listen="127.0.0.1:%d" % ports[i])
+    agents.start_all()
+    agents.one_group()
+    agents.kill(1)
+    agents.write(1, nodes=[names[0], names[2]], listen="127.0.0.1:%d" % ports[2])
+    agents.start(1)
+    heard = lambda: agents.ask(0, do="members")["members"][1]["heard_ms"]
+    agents.until(lambda: (agents.status(1) or {}).get("up_ms", 0) > 1000 and heard() < 1000)
+    agents.write(0, nodes=[names[0], names[2]], listen="127.0.0.1:%d" % ports[0])
+    agents.processes[0].send_signal(signal.SIGHUP)
+    bed.tally.check("a name that is taken by SIGHUP is looked up though its node is heard", agents.one_group() > 0)
+    judged(bed, agents, "a node that moved")
 
 
 def no_address(bed):

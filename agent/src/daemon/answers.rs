@@ -7,6 +7,7 @@ use crate::protocol::Reply;
 use crate::service::Given as GivenJob;
 use log::{error, info};
 use serde::Serialize;
+use std::net::SocketAddr;
 use std::time::Instant;
 
 /// A job, as `jobs` has it.
@@ -99,7 +100,7 @@ impl Daemon {
         match answer.asker {
             Asker::Start => self.started(&answer.closing),
             Asker::Tick => self.clock.ticked(due_of(&answer.lines), now),
-            Asker::Datagram { sender, kind } => self.delivered(sender, kind, &answer.closing, now),
+            Asker::Datagram { sender, from, kind } => self.delivered((sender, from), kind, &answer.closing, now),
             Asker::Submission { serial } => {
                 self.outbox.own_answered(serial);
                 self.tried(serial, given_of(answer.closing, self.config.id), now);
@@ -122,10 +123,10 @@ impl Daemon {
         }
     }
 
-    fn delivered(&mut self, sender: u8, kind: &str, closing: &Closing, now: Instant) {
+    fn delivered(&mut self, (sender, from): (u8, SocketAddr), kind: &str, closing: &Closing, now: Instant) {
         match closing {
             Closing::Ok(_) => {
-                self.peers.hear(sender, now);
+                self.peers.hear(sender, from, now);
                 self.metrics.messages_in.with_label_values(&[kind]).inc();
             }
             Closing::Bad => self.metrics.refused.with_label_values(&["NoMessage"]).inc(),

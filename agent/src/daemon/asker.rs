@@ -4,14 +4,16 @@ use crate::forward::Token;
 use crate::node::{JobKey, Lane};
 use crate::protocol::Tag;
 use crate::service::ClientId;
+use std::net::SocketAddr;
 
 #[derive(Clone, Debug)]
 pub enum Asker {
     Start,
     Tick,
-    /// A message that names `sender`, of this kind.
+    /// A message that names `sender` and came from this address, of this kind.
     Datagram {
         sender: u8,
+        from: SocketAddr,
         kind: &'static str,
     },
     /// A submission of a local client, by its number in the outbox.

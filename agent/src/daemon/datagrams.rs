@@ -7,6 +7,7 @@ use crate::metrics::kind_of;
 use crate::net::MAX_DATAGRAM;
 use crate::node::Lane;
 use log::{info, warn};
+use std::net::SocketAddr;
 use std::time::Instant;
 
 /// So many datagrams are taken at a time.
@@ -16,26 +17,26 @@ impl Daemon {
     pub(super) fn receive(&mut self, now: Instant) {
         let mut bytes = [0; MAX_DATAGRAM];
         for _ in 0..MAX_AT_A_TIME {
-            let datagram = match self.link.receive(&mut bytes) {
-                Some(datagram) => datagram.to_vec(),
+            let (datagram, from) = match self.link.receive(&mut bytes) {
+                Some((datagram, from)) => (datagram.to_vec(), from),
                 None => return,
             };
             if is_of_agents(&datagram) {
                 self.take_of_agent(&datagram, now);
             } else if self.node.has_room(Lane::Network) {
-                self.deliver(&datagram);
+                self.deliver(&datagram, from);
             } else {
                 self.metrics.dropped.with_label_values(&["NoRoom"]).inc();
             }
         }
     }
 
-    fn deliver(&mut self, message: &[u8]) {
+    fn deliver(&mut self, message: &[u8], from: SocketAddr) {
         if message.is_empty() {
             return self.metrics.dropped.with_label_values(&["Empty"]).inc();
         }
         let sender = message.get(2).copied().unwrap_or(u8::MAX);
-        let asker = Asker::Datagram { sender, kind: kind_of(message) };
+        let asker = Asker::Datagram { sender, from, kind: kind_of(message) };
         self.ask(asker, format!("deliver {}", hex::encode(message)));
     }
 

@@ -46,12 +46,12 @@ impl Link {
         self.is_readable
     }
 
-    /// The next datagram that came, if any.
-    pub fn receive<'a>(&mut self, bytes: &'a mut [u8; MAX_DATAGRAM]) -> Option<&'a [u8]> {
+    /// The next datagram that came, if any, and from where.
+    pub fn receive<'a>(&mut self, bytes: &'a mut [u8; MAX_DATAGRAM]) -> Option<(&'a [u8], SocketAddr)> {
         let tries = if self.is_readable { MAX_ERRORS } else { 0 };
         for _ in 0..tries {
             match self.socket.recv_from(bytes) {
-                Ok((count, _)) => return Some(&bytes[..count]),
+                Ok((count, from)) => return Some((&bytes[..count], from)),
                 Err(error) if error.kind() == ErrorKind::WouldBlock => break,
                 // an answer of the network to a datagram that was sent, as "connection refused"
                 Err(_) => {}

@@ -13,6 +13,8 @@ pub struct Peer {
     /// When the node last took a message that names this one as its sender.
     pub heard: Option<Instant>,
     looked_up: Option<Instant>,
+    /// Where that came from.
+    heard_from: Option<SocketAddr>,
     /// Whether the last look-up found an address; None before the first.
     was_found: Option<bool>,
 }
@@ -35,8 +37,14 @@ pub struct Peers {
 
 impl Peers {
     pub fn new(own: u8, names: &[String], is_ipv6: bool) -> Peers {
-        let peer =
-            |name: &String| Peer { name: name.clone(), address: None, heard: None, looked_up: None, was_found: None };
+        let peer = |name: &String| Peer {
+            name: name.clone(),
+            address: None,
+            heard: None,
+            looked_up: None,
+            heard_from: None,
+            was_found: None,
+        };
         let mut peers = Peers { own: usize::from(own), is_ipv6, peers: names.iter().map(peer).collect() };
         (0..peers.peers.len()).for_each(|at| peers.take_literal(at));
         peers
@@ -50,9 +58,10 @@ impl Peers {
         self.peers.get(usize::from(node)).and_then(|peer| peer.address)
     }
 
-    pub fn hear(&mut self, node: u8, now: Instant) {
+    /// The node took a message that names this one as its sender, and that came from this address.
+    pub fn hear(&mut self, node: u8, from: SocketAddr, now: Instant) {
         if let Some(peer) = self.peers.get_mut(usize::from(node)) {
-            peer.heard = Some(now);
+            (peer.heard, peer.heard_from) = (Some(now), Some(from));
         }
     }
 
@@ -83,25 +92,32 @@ impl Peers {
         }
     }
 
-    /// The next peer whose name is to be looked up now: one that is silent, and not by an address that is spelled out.
+    /// The next peer whose name is to be looked up now: one that is silent, or heard from elsewhere, and not by an address that is spelled out. One that
+    /// is heard may have moved: then what is sent to it doesn't reach it.
     pub fn next_look_up(&mut self, now: Instant) -> Option<(usize, String)> {
         let is_old = |at: Option<Instant>| at.map_or(true, |at| now.saturating_duration_since(at) >= SILENCE);
         let own = self.own;
         let mut others = self.peers.iter_mut().enumerate().filter(|(at, _)| *at != own);
+        let is_doubtful = |peer: &Peer| is_old(peer.heard) || peer.heard_from != peer.address;
         let is_wanted =
-            |peer: &Peer| is_old(peer.heard) && is_old(peer.looked_up) && peer.name.parse::<SocketAddr>().is_err();
+            |peer: &Peer| is_doubtful(peer) && is_old(peer.looked_up) && peer.name.parse::<SocketAddr>().is_err();
         let (at, peer) = others.find(|(_, peer)| is_wanted(peer))?;
         peer.looked_up = Some(now);
+        if is_old(peer.heard) {
+            peer.heard_from = None;
+        }
         Some((at, peer.name.clone()))
     }
 
-    /// What a name was found to mean. Where it means nothing now, the last address stays.
+    /// What a name was found to mean: of its addresses the one that the peer is heard from, else the first. Where it means nothing now, the last address
+    /// stays.
     pub fn found(&mut self, at: usize, name: &str, addresses: &[SocketAddr]) -> News {
-        let usable = addresses.iter().find_map(|address| self.usable(*address));
+        let all: Vec<SocketAddr> = addresses.iter().filter_map(|address| self.usable(*address)).collect();
         let peer = match self.peers.get_mut(at).filter(|peer| peer.name == name) {
             Some(peer) => peer,
             None => return News::Nothing,
         };
+        let usable = peer.heard_from.filter(|from| all.contains(from)).or_else(|| all.first().copied());
         let was_found = peer.was_found.replace(usable.is_some());
         match usable {
             Some(address) if peer.address != usable => {
@@ -138,13 +154,42 @@ mod tests {
         assert_eq!(peers.found(1, "b:2", &["[::1]:2".parse().unwrap(), found]), News::At(found));
         assert_eq!(peers.found(1, "b:2", &[found]), News::Nothing);
         assert_eq!(peers.address(1), Some("10.0.0.2:2".parse().unwrap()));
-        peers.hear(1, now + SILENCE);
+        peers.hear(1, found, now + SILENCE);
         assert_eq!(peers.next_look_up(now + SILENCE), None);
         assert!(peers.next_look_up(now + SILENCE * 2).is_some());
         assert_eq!(peers.found(1, "b:2", &[]), News::NoAddress);
         assert_eq!(peers.found(1, "b:2", &[]), News::Nothing, "which is no news any more");
         assert_eq!(peers.found(1, "c:2", &[]), News::Nothing);
         assert_eq!(peers.address(1), Some("10.0.0.2:2".parse().unwrap()));
+    }
+
+    #[test]
+    fn one_that_is_heard_from_elsewhere_is_looked_up_anew() {
+        let now = Instant::now();
+        let mut peers = Peers::new(0, &names(), false);
+        let [old, new, third] = ["10.0.0.2:2", "10.0.0.3:2", "10.0.0.4:2"].map(|at| at.parse::<SocketAddr>().unwrap());
+        peers.next_look_up(now);
+        peers.found(1, "b:2", &[old]);
+        let later = now + SILENCE;
+        peers.hear(1, new, later);
+        assert!(peers.next_look_up(later).is_some(), "it may have moved");
+        assert_eq!(peers.found(1, "b:2", &[third, new]), News::At(new), "to where it is heard from");
+        peers.hear(1, new, later + SILENCE);
+        assert_eq!(peers.next_look_up(later + SILENCE), None);
+        assert!(peers.next_look_up(later + SILENCE * 2).is_some(), "which is silent now");
+        assert_eq!(peers.found(1, "b:2", &[third, new]), News::At(third));
+    }
+
+    #[test]
+    fn another_name_is_looked_up_whatever_is_heard() {
+        let now = Instant::now();
+        let mut peers = Peers::new(0, &names(), false);
+        let old = "127.0.0.1:1".parse().unwrap();
+        peers.rename(&["x:1", "127.0.0.1:1", "[::1]:3"].map(str::to_string));
+        peers.hear(1, old, now);
+        peers.rename(&["x:1", "c:2", "[::1]:3"].map(str::to_string));
+        peers.hear(1, "127.0.0.2:2".parse().unwrap(), now);
+        assert_eq!(peers.next_look_up(now), Some((1, "c:2".to_string())));
     }
 
     #[test]
