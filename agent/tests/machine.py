@@ -143,12 +143,62 @@ def files(bed):
     check("no file: 7", status == 7 and "no such file" in said, said)
     agents.write(1, nodes=agents.relay.peers(1)[:1], record=None)
     check("a configuration that can't be read: 2", ends(agents, 1)[0] == 2)
+    agents.write(1, listen="7000", record=None)
+    status, said = ends(agents, 1)
+    check("an address that is none: 2", status == 2 and "listen" in said, (status, said))
     agents.write(1, key=agents.path(1, "toml"), record=None)
     check("a key that can't be read: 6", ends(agents, 1)[0] == 6)
+    named_by_mistake(agents, check)
     if os.geteuid() == 0 and shutil.which("setpriv"):
         no_permission(agents, check)
     else:
         bed.tally.left_out("a file without permission", "this isn't root, or there is no setpriv")
+    agents.stop()
+
+
+def named_by_mistake(agents, check):
+    """A socket and a file that are something else."""
+    file = agents.path(1, "node")
+    with open(file, "rb") as before:
+        held = before.read()
+    agents.write(1, socket=file, record=None)
+    status, said = ends(agents, 1)
+    with open(file, "rb") as after:
+        check("a file where the socket should be stays as it is", status == 1 and "no socket" in said and after.read() == held, (status, said))
+    agents.write(1, file=agents.path(1, "pipe"), record=None)
+    os.mkfifo(agents.path(1, "pipe"))
+    status, said = ends(agents, 1)
+    check("a file that is no regular one: 7", status == 7, (status, said))
+    agents.write(1, file=agents.folder, record=None)
+    status, said = ends(agents, 1)
+    check("a folder: 7", status == 7, (status, said))
+
+
+def at_once(bed):
+    """A signal to all processes of an agent, and agents that begin at the same time where one was killed."""
+    agents, check = bed.agents("at_once", count=1, record=None, http=None), bed.tally.check
+
+    def begin():
+        return subprocess.Popen([agents.daemon, agents.path(0, "toml")], stderr=subprocess.DEVNULL, start_new_session=True)
+
+    for number in (signal.SIGTERM, signal.SIGINT) * 5:
+        agents.processes[0] = begin()
+        agents.one_group()
+        os.killpg(agents.processes[0].pid, number)
+        status = agents.processes[0].wait(PATIENCE)
+        if not check("a signal to the agent and its node ends it with 0", status == 0, (number, status)):
+            return
+    agents.processes[0] = begin()
+    agents.one_group()
+    for _ in range(3):
+        agents.kill(0)
+        check("a killed agent leaves its socket", os.path.exists(agents.path(0, "sock")))
+        both = [begin() for _ in range(4)]
+        agents.until(lambda: sum(one.poll() is not None for one in both) >= 3)
+        agents.processes = [one for one in both if one.poll() is None]
+        if not check("of agents that begin at the same time one stays, and the others end with 1", sorted(one.poll() or 0 for one in both) == [0, 1, 1, 1]):
+            return
+        agents.one_group()
     agents.stop()
 
 

@@ -21,7 +21,7 @@ use crate::node::{Answer, Lane, NodeProcess};
 use crate::notify::Notify;
 use crate::record::Record;
 use crate::resolver::Resolver;
-use crate::service::{Changes, Clients, Hand};
+use crate::service::{is_left, Changes, Clients, Hand};
 use crate::view::View;
 use anyhow::Context;
 use log::{info, warn};
@@ -87,10 +87,12 @@ impl Daemon {
         let signals = Signals::register(registry, SIGNALS)?;
         let waker = Arc::new(Waker::new(registry, WAKER)?);
         let seal = seal_of(&config)?;
-        let clients = Clients::listen(&config.socket, registry, LISTENER, FIRST_CLIENT)
-            .with_context(|| config.socket.display().to_string())?;
+        let socket = || format!("socket {}", config.socket.display());
+        is_left(&config.socket).with_context(socket)?;
+        // of two agents that begin at the same time one has the port, and the other one leaves its socket alone
         let link = Link::bind(config.listens_at(), registry, LINK)
             .with_context(|| format!("datagrams can't be received at {}", config.listens_at()))?;
+        let clients = Clients::listen(&config.socket, registry, LISTENER, FIRST_CLIENT).with_context(socket)?;
         let http = http_of(&config, &waker)?;
         Ok(Daemon {
             node: node_of(&config, registry)?,
@@ -129,15 +131,17 @@ impl Daemon {
             for event in &events {
                 self.wake(event);
             }
-            if self.node.is_readable() && !self.hear() {
-                let status = self.node.end(PATIENCE_AT_END)?;
-                return Ok(self.ended(status));
-            }
+            let has_ended = self.node.is_readable() && !self.hear();
+            let status = if has_ended { Some(self.node.end(PATIENCE_AT_END)?) } else { None };
+            // a signal to all processes of the agent ends its node, too
             if self.signals.take_end() {
                 self.notify.stopping();
                 self.node.end(PATIENCE_AT_END)?;
                 info!("ended by a signal");
                 return Ok(0);
+            }
+            if let Some(status) = status {
+                return Ok(self.ended(status));
             }
             self.work(Instant::now());
         }
@@ -260,7 +264,9 @@ fn whole_ms(sleep: Duration) -> Duration {
 
 fn seal_of(config: &Config) -> anyhow::Result<Seal> {
     match &config.key {
-        Some(key) => Seal::read(key, &config.cluster, config.nodes.len()).with_context(|| key.display().to_string()),
+        Some(key) => {
+            Seal::read(key, &config.cluster, config.nodes.len()).with_context(|| format!("key {}", key.display()))
+        }
         None => Ok(Seal::default()),
     }
 }
@@ -273,9 +279,9 @@ fn http_of(config: &Config, waker: &Arc<Waker>) -> anyhow::Result<Option<Server>
 /// The node, and its record where the configuration has one.
 fn node_of(config: &Config, registry: &Registry) -> anyhow::Result<NodeProcess<Asker>> {
     let mut node = NodeProcess::start(config, registry, NODE_INPUT, NODE_OUTPUT)
-        .with_context(|| config.program.display().to_string())?;
+        .with_context(|| format!("program {}", config.program.display()))?;
     if let Some(path) = &config.record {
-        node.set_record(Some(Record::open(path, config).with_context(|| path.display().to_string())?));
+        node.set_record(Some(Record::open(path, config).with_context(|| format!("record {}", path.display()))?));
         node.write_down(["start"]);
     }
     Ok(node)

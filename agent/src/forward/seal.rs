@@ -17,7 +17,7 @@ type HmacSha256 = Hmac<Sha256>;
 
 #[derive(Debug, Error)]
 pub enum KeyError {
-    #[error("{0}")]
+    #[error("it can't be read")]
     Unreadable(#[from] std::io::Error),
     #[error("a key file has one or two lines of 64 hex digits")]
     NoKey,

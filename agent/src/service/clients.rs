@@ -3,13 +3,13 @@
 use super::client::{Client, Next};
 use crate::protocol::{Reply, Tag};
 use log::{debug, warn};
-use mio::net::UnixListener;
+use mio::net::{UnixListener, UnixStream};
 use mio::{Interest, Registry, Token};
 use std::collections::{BTreeMap, VecDeque};
 use std::fs::{self, Permissions};
 use std::io::{self, ErrorKind};
 use std::ops::Bound::{Excluded, Unbounded};
-use std::os::unix::fs::PermissionsExt;
+use std::os::unix::fs::{FileTypeExt, MetadataExt, PermissionsExt};
 use std::path::{Path, PathBuf};
 use std::time::{Duration, Instant};
 
@@ -36,6 +36,8 @@ pub struct Waiting {
 
 pub struct Clients {
     path: PathBuf,
+    /// The device and the number of the socket at the path, by which it is known again.
+    own: (u64, u64),
     listener: UnixListener,
     /// Whether more clients may be waiting to be taken; not before this time where one couldn't be.
     has_more: bool,
@@ -55,18 +57,15 @@ pub struct Clients {
 impl Clients {
     /// Listens at a path, in place of a socket that an agent left there.
     pub fn listen(path: &Path, registry: &Registry, token: Token, first: ClientId) -> io::Result<Clients> {
-        if std::os::unix::net::UnixStream::connect(path).is_ok() {
-            return Err(io::Error::new(ErrorKind::AddrInUse, format!("another agent listens at {}", path.display())));
-        }
-        match fs::remove_file(path) {
-            Err(error) if error.kind() != ErrorKind::NotFound => return Err(error),
-            _ => {}
+        if is_left(path)? {
+            fs::remove_file(path)?;
         }
         let mut listener = UnixListener::bind(path)?;
         fs::set_permissions(path, Permissions::from_mode(0o660))?;
         registry.register(&mut listener, token, Interest::READABLE)?;
         Ok(Clients {
             path: path.to_path_buf(),
+            own: identity(path)?,
             listener,
             has_more: true,
             not_before: None,
@@ -269,8 +268,32 @@ impl Clients {
 
 impl Drop for Clients {
     fn drop(&mut self) {
-        if let Err(error) = fs::remove_file(&self.path) {
-            debug!("{}: {error}", self.path.display());
+        let is_own = identity(&self.path).map_or(false, |found| found == self.own);
+        if is_own {
+            if let Err(error) = fs::remove_file(&self.path) {
+                debug!("{}: {error}", self.path.display());
+            }
         }
+    }
+}
+
+fn identity(path: &Path) -> io::Result<(u64, u64)> {
+    fs::symlink_metadata(path).map(|found| (found.dev(), found.ino()))
+}
+
+/// Whether an agent that is gone left its socket at a path. An error where an agent listens there, and where anything else is there, as a node's file that
+/// was named by mistake.
+pub fn is_left(path: &Path) -> io::Result<bool> {
+    match fs::symlink_metadata(path) {
+        Ok(found) if found.file_type().is_socket() => {}
+        Ok(_) => return Err(io::Error::new(ErrorKind::AlreadyExists, "this is there, and is no socket")),
+        Err(error) if error.kind() == ErrorKind::NotFound => return Ok(false),
+        Err(error) => return Err(error),
+    }
+    match UnixStream::connect(path) {
+        Err(error) if error.kind() == ErrorKind::ConnectionRefused => Ok(true),
+        // where more wait to be taken than the system keeps somebody is there, too
+        Err(error) if error.kind() != ErrorKind::WouldBlock => Err(error),
+        _ => Err(io::Error::new(ErrorKind::AddrInUse, "another agent listens there")),
     }
 }

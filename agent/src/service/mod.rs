@@ -6,6 +6,6 @@ mod hand;
 mod watch;
 
 pub use client::Client;
-pub use clients::{ClientId, Clients, Waiting};
+pub use clients::{is_left, ClientId, Clients, Waiting};
 pub use hand::{Given, Hand};
 pub use watch::Changes;
