@@ -99,7 +99,7 @@ impl Config {
         let rows = [
             ("nodes", (1..=128).contains(&self.nodes.len()), "is a list of 1 to 128 strings HOST:PORT".to_string()),
             ("id", usize::from(self.id) < self.nodes.len(), format!("is a number below {}", self.nodes.len())),
-            ("cluster", (1..=64).contains(&self.cluster.len()), "is a name of 1 to 64 bytes".to_string()),
+            ("cluster", is_name(&self.cluster), "is a name of 1 to 64 bytes, without control characters".to_string()),
             ("http", self.http.map_or(true, |at| at.ip().is_loopback()), "is an address of the loopback".to_string()),
             ("round_trip_ms", (1..=60_000).contains(&self.round_trip_ms), "is a number from 1 to 60000".to_string()),
             ("record_mb", (1..=4096).contains(&self.record_mb), "is a number from 1 to 4096".to_string()),
@@ -108,8 +108,11 @@ impl Config {
         if let Some((setting, _, why)) = rows.into_iter().find(|(_, is_right, _)| !is_right) {
             return Err(ConfigError::Setting { setting, why });
         }
+        if let Some(listen) = &self.listen {
+            host_and_port("listen", listen)?;
+        }
         for (at, node) in self.nodes.iter().enumerate() {
-            host_and_port(node)?;
+            host_and_port("nodes", node)?;
             if self.nodes[..at].contains(node) {
                 return Err(ConfigError::Setting { setting: "nodes", why: format!("{node:?} stands there twice") });
             }
@@ -134,11 +137,16 @@ impl Config {
     }
 }
 
-fn host_and_port(node: &str) -> Result<(), ConfigError> {
+/// It stands in the first line of a record, and is a word of a command line.
+fn is_name(cluster: &str) -> bool {
+    (1..=64).contains(&cluster.len()) && !cluster.chars().any(char::is_control)
+}
+
+fn host_and_port(setting: &'static str, node: &str) -> Result<(), ConfigError> {
     let parts = node.rsplit_once(':').filter(|(host, _)| !host.is_empty());
     match parts.and_then(|(_, port)| port.parse::<u16>().ok()) {
         Some(port) if port > 0 => Ok(()),
-        _ => Err(ConfigError::Setting { setting: "nodes", why: format!("{node:?} is no HOST:PORT") }),
+        _ => Err(ConfigError::Setting { setting, why: format!("{node:?} is no HOST:PORT") }),
     }
 }
 
@@ -167,11 +175,16 @@ mod tests {
             ("[part]\n", "unknown field `part`"),
             ("round_trip_ms = 0\n", "round_trip_ms: is a number from 1 to 60000"),
             ("http = \"10.0.0.1:80\"\n", "http: is an address of the loopback"),
+            ("listen = \"7000\"\n", "listen: \"7000\" is no HOST:PORT"),
         ] {
             let error = Config::parse(&format!("{WHOLE}{more}")).unwrap_err().to_string();
             assert!(error.contains(said), "{more}: {error}");
         }
         assert!(Config::parse("cluster = \"c\"\n").unwrap_err().to_string().contains("missing field"));
+        for cluster in ["", "a\\nb", "\\u0000", &"x".repeat(65)] {
+            let error = Config::parse(&WHOLE.replace("prod", cluster)).unwrap_err().to_string();
+            assert!(error.starts_with("cluster: is a name of 1 to 64 bytes"), "{cluster}: {error}");
+        }
         let twice = Config::parse(&WHOLE.replace("[::1]:2", "a:1")).unwrap_err().to_string();
         assert_eq!(twice, "nodes: \"a:1\" stands there twice");
         for node in ["a", ":7", "a:0", "a:x", "a:70000"] {

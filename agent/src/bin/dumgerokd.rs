@@ -10,6 +10,7 @@ use dumgerok_agent::file_cache::drop_cache;
 use dumgerok_agent::forward::KeyError;
 use dumgerok_agent::log_lines::LogLines;
 use log::{error, info, LevelFilter};
+use rustix::fs::fstat;
 use std::fs::{File, OpenOptions};
 use std::io::{ErrorKind, Write};
 use std::path::{Path, PathBuf};
@@ -26,7 +27,7 @@ const UNUSABLE: u8 = 7;
 /// 4 another process has the file open, 5 the file is another node's or was never formatted, 6 the key can't be read, 7 the file isn't there,
 /// may not be opened, or is no file.
 #[derive(Parser)]
-#[command(version)]
+#[command(name = "dumgerokd", version)]
 struct Arguments {
     /// The configuration, as /etc/dumgerok/node.toml
     config: PathBuf,
@@ -42,7 +43,7 @@ fn log_as(level: LogLevel, lines: LogLines) {
     };
     let mut builder = env_logger::Builder::new();
     builder.filter_level(filter).target(env_logger::Target::Pipe(Box::new(lines)));
-    if std::env::var_os("JOURNAL_STREAM").is_some() {
+    if is_read_by_journal() {
         builder.format(|out, record| {
             let priority = [3, 3, 4, 6, 7, 7][record.level() as usize];
             writeln!(out, "<{priority}>{}", record.args())
@@ -53,11 +54,18 @@ fn log_as(level: LogLevel, lines: LogLines) {
     builder.init();
 }
 
+/// Whether standard error goes to the journal: what names its stream is inherited by processes whose output goes elsewhere, too.
+fn is_read_by_journal() -> bool {
+    let own = fstat(std::io::stderr()).map(|found| format!("{}:{}", found.st_dev, found.st_ino));
+    matches!((std::env::var("JOURNAL_STREAM"), own), (Ok(stream), Ok(own)) if stream == own)
+}
+
 /// Opens the file, or answers the status to end with: so the node isn't blamed for what the machine doesn't permit. None where the node is to say what is
 /// wrong with it.
 fn opened(path: &Path) -> Result<Option<File>, u8> {
     match OpenOptions::new().read(true).write(true).open(path) {
-        Ok(file) => Ok(Some(file)),
+        Ok(file) if file.metadata().map_or(false, |found| found.is_file()) => Ok(Some(file)),
+        Ok(_) => Ok(None),
         Err(why) if why.kind() == ErrorKind::NotFound => {
             error!("{}: there is no such file: `dumgerokctl format` makes it", path.display());
             Err(UNUSABLE)
