@@ -1,5 +1,5 @@
 """Clients that don't read, that send rubbish, that are many."""
-import json, os, random, socket, stat, threading, time
+import json, os, random, signal, socket, stat, threading, time
 
 from bed import PATIENCE
 from cluster import judged, metric, page
@@ -26,7 +26,18 @@ def odd_clients(bed):
     memory = agents.figures(0)["agent"][1]
     check("the agent stays small", memory < 64_000, memory)
     pages(agents, check)
+    long_words(agents, check)
     judged(bed, agents, "odd clients")
+
+
+def long_words(agents, check):
+    """A request that is too long, and an agent that says nothing."""
+    done = agents.ctl(0, "submit", "0", "x" * 120_000)
+    check("dumgerokctl says what the agent says of a request that is too long", done.returncode == 1 and "TooLong" in done.stderr, done)
+    agents.processes[0].send_signal(signal.SIGSTOP)
+    done = agents.ctl(0, "status")
+    agents.processes[0].send_signal(signal.SIGCONT)
+    check("an agent that was stopped isn't waited for without an end: 3", done.returncode == 3 and "says nothing" in done.stderr, done)
 
 
 def rubbish(agents, check):
@@ -148,6 +159,11 @@ def many(agents, check):
     more = [agents.connect(0) for _ in range(60)]
     agents.until(lambda: any(is_told(link, b"TooManyClients") for link in more))
     check("more than 256 are told that there are too many", True)
+    for words in (["status"], ["watch"], ["take"]):
+        for _ in range(5):
+            done = agents.ctl(0, *words)
+            if not check("dumgerokctl %s says so" % words[0], done.returncode == 1 and "TooManyClients" in done.stderr, done):
+                break
     for link in links + more:
         link.close()
     agents.until(lambda: (agents.status(0) or {}).get("ok"))

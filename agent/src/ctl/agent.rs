@@ -4,6 +4,7 @@ use serde_json::Value;
 use std::io::{self, BufRead, BufReader, ErrorKind, Write};
 use std::os::unix::net::UnixStream;
 use std::path::{Path, PathBuf};
+use std::time::Duration;
 
 pub struct Agent {
     stream: UnixStream,
@@ -31,10 +32,14 @@ impl Agent {
     /// The next line of the agent.
     pub fn hear(&mut self) -> io::Result<Value> {
         let mut line = String::new();
-        if self.lines.read_line(&mut line)? == 0 {
-            return Err(io::Error::new(ErrorKind::UnexpectedEof, "the agent ended the connection"));
+        match self.lines.read_line(&mut line) {
+            Ok(0) => Err(io::Error::new(ErrorKind::UnexpectedEof, "the agent ended the connection")),
+            Ok(_) => Ok(serde_json::from_str(&line)?),
+            Err(why) if why.kind() == ErrorKind::WouldBlock => {
+                Err(io::Error::new(ErrorKind::TimedOut, "it is there, and says nothing"))
+            }
+            Err(why) => Err(why),
         }
-        Ok(serde_json::from_str(&line)?)
     }
 
     /// A second one that hears the same connection, for a thread; then this one hears nothing more.
@@ -44,8 +49,16 @@ impl Agent {
         Ok(Agent { stream, lines })
     }
 
+    /// The answer to a request. An agent that ends the connection before it has the whole request says why.
     pub fn ask(&mut self, request: &Value) -> io::Result<Value> {
-        self.say(request)?;
-        self.hear()
+        match self.say(request) {
+            Ok(()) => self.hear(),
+            Err(why) => self.hear().map_err(|_| why),
+        }
+    }
+
+    /// From now on a line that takes longer than this to come is an error.
+    pub fn be_patient_for(&mut self, patience: Duration) -> io::Result<()> {
+        self.stream.set_read_timeout(Some(patience))
     }
 }

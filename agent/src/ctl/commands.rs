@@ -8,6 +8,10 @@ use clap::CommandFactory;
 use serde_json::{json, Value};
 use std::io::{self, ErrorKind, Write};
 use std::path::Path;
+use std::time::Duration;
+
+/// What an agent answers by itself comes at once; one that was stopped says nothing.
+const PATIENCE: Duration = Duration::from_secs(10);
 
 /// Writes text; a reader that went away ends the command without a word.
 fn print(text: &str) -> Result<(), Failure> {
@@ -83,29 +87,40 @@ fn silent(_: &Value) -> String {
 }
 
 fn ask(socket: &Path, is_json: bool, request: &Value, shown: fn(&Value) -> String) -> Result<(), Failure> {
-    let reply = Agent::connect(socket)?.ask(request)?;
+    let mut agent = Agent::connect(socket)?;
+    if ["status", "members"].iter().any(|by_itself| request["do"] == *by_itself) {
+        agent.be_patient_for(PATIENCE)?;
+    }
+    let reply = agent.ask(request)?;
     if is_json {
         print(&format!("{reply}\n"))?;
     } else if reply["ok"] == true {
         print(&shown(&reply))?;
     }
-    if reply["ok"] == true {
-        return Ok(());
+    match reply["ok"] == true {
+        true => Ok(()),
+        false => Err(refused(&reply)),
     }
+}
+
+fn refused(reply: &Value) -> Failure {
     let why = reply["why"].as_str().map_or(String::new(), |why| format!(" ({why})"));
     let maybe = if reply["may_be_kept"] == true { ", it may be kept all the same" } else { "" };
-    Err(Failure::Refused(format!("{}{maybe}{why}", reply["error"].as_str().unwrap_or("?"))))
+    Failure::Refused(format!("{}{maybe}{why}", reply["error"].as_str().unwrap_or("?")))
 }
 
 fn watch(socket: &Path, is_json: bool, since: Option<u64>) -> Result<(), Failure> {
     let mut agent = Agent::connect(socket)?;
-    agent.say(&json!({"do": "watch", "since": since}))?;
+    let mut line = agent.ask(&json!({"do": "watch", "since": since}))?;
+    if line["ok"] == false {
+        return Err(refused(&line));
+    }
     loop {
-        let line = agent.hear()?;
         if is_json {
             print(&format!("{line}\n"))?;
         } else if !line["event"].is_null() {
             print(&show::event(&line))?;
         }
+        line = agent.hear()?;
     }
 }

@@ -23,11 +23,23 @@ fn call(config: &Config, words: &[OsString]) -> Result<(), Failure> {
     }
 }
 
+/// A clock that shows less than this, in milliseconds, was never set: so long ago there was no Dumgerok.
+const EARLIEST: u64 = 1_750_000_000_000;
+
+const CLOCK: &str = "the clock of this machine isn't set, and the numbers of the file are to begin behind those of an older one: set it, or give --first";
+
+fn first_by(now: SystemTime) -> Option<u64> {
+    let since = now.duration_since(UNIX_EPOCH).ok()?.as_millis();
+    u64::try_from(since).ok().filter(|since| *since >= EARLIEST)
+}
+
 /// Makes the node's file. Its counts and ids begin behind the time, so that a machine which lost its file gives no number again.
 pub fn format(path: &Path, slots: u32, first: Option<u64>, jobs: Option<&Path>) -> Result<(), Failure> {
     let config = read(path)?;
-    let since = SystemTime::now().duration_since(UNIX_EPOCH).map_err(|why| Failure::Usage(why.to_string()))?;
-    let first = first.unwrap_or(since.as_millis() as u64);
+    let first = match first {
+        Some(first) => first,
+        None => first_by(SystemTime::now()).ok_or_else(|| Failure::Usage(CLOCK.to_string()))?,
+    };
     let numbers = [u64::from(slots), u64::from(config.id), config.nodes.len() as u64, first];
     let mut words: Vec<OsString> = vec!["format".into(), config.file.clone().into()];
     words.extend(numbers.iter().map(|number| number.to_string().into()));
@@ -67,5 +79,21 @@ pub fn judge(files: &[PathBuf], program: &Path) -> Result<(), Failure> {
     match child.wait().map_err(named)?.code().and_then(|code| u8::try_from(code).ok()) {
         Some(0) => Ok(()),
         code => Err(Failure::Program(code.unwrap_or(1))),
+    }
+}
+
+#[cfg(test)]
+mod tests {
+    use super::*;
+    use std::time::Duration;
+
+    #[test]
+    fn a_clock_that_was_never_set_gives_no_numbers() {
+        for (seconds, first) in
+            [(0, None), (86_400, None), (1_749_999_999, None), (1_764_000_000, Some(1_764_000_000_000))]
+        {
+            assert_eq!(first_by(UNIX_EPOCH + Duration::from_secs(seconds)), first);
+        }
+        assert_eq!(first_by(UNIX_EPOCH - Duration::from_secs(1)), None);
     }
 }

@@ -46,15 +46,15 @@ fn take(queue: Option<u8>) -> Value {
 
 /// Waits for the next job. Events of jobs before it are passed over.
 pub fn next_job(agent: &mut Agent, queue: Option<u8>) -> Result<Value, Failure> {
-    agent.say(&take(queue))?;
+    let mut line = agent.ask(&take(queue))?;
     loop {
-        let line = agent.hear()?;
         if line["ok"] == true && !line["origin"].is_null() {
             return Ok(line);
         }
         if line["ok"] == false {
             return Err(Failure::Refused(line["error"].as_str().unwrap_or("?").to_string()));
         }
+        line = agent.hear()?;
     }
 }
 
