@@ -1,9 +1,10 @@
 //! The record of a node: what it was asked and answered, in files that rotate. `dumgerokctl judge` makes a trace of the records of all nodes.
 //!
-//! A file begins with a line `# dumgerok record 1 node N of M part P cluster NAME`. Then stand `start` where a process of the node began, each
-//! request behind `> `, and the lines of its answer. A request is asked once the one before it is answered, and stands in the file before that;
-//! an answer stands there before anything that it says is done. An agent that is started anew goes on in the last file where that has room, so that
-//! however often it is started no more is kept than the configuration says.
+//! A file begins with a line `# dumgerok record 1 node N of M part P cluster NAME`. Then stand `start MS` where a process of the node began, with the
+//! Unix time by then, each request behind `> `, and the lines of its answer. A request is asked once the one before it is answered, and stands in the
+//! file before that; an answer stands there before anything that it says is done. An agent that is started anew goes on in the last file where that has
+//! room, so that however often it is started no more is kept than the configuration says. Where the record ends while the node runs on, `off` stands
+//! there.
 
 use crate::config::Config;
 use log::warn;
@@ -12,6 +13,8 @@ use std::io::{self, BufRead, BufReader, BufWriter, ErrorKind, Read, Seek, SeekFr
 use std::path::{Path, PathBuf};
 
 const MEGABYTE: u64 = 1_000_000;
+
+const OFF: &[u8] = b"off\n";
 
 /// A line of the record is shorter.
 const MAX_LINE: u64 = 128 * 1024;
@@ -26,6 +29,8 @@ pub struct Record {
     max_files: u64,
     file: BufWriter<File>,
     written: u64,
+    /// So much of it is with the system.
+    whole: u64,
 }
 
 impl Record {
@@ -45,7 +50,7 @@ impl Record {
             None => (create(&part_of(path, part))?, 0),
         };
         let (path, file, max_files) = (path.to_path_buf(), BufWriter::new(file), u64::from(config.record_files));
-        let mut record = Record { path, node, cluster, part, max_bytes, max_files, file, written };
+        let mut record = Record { path, node, cluster, part, max_bytes, max_files, file, written, whole: written };
         if is_new {
             record.begin()?;
         }
@@ -75,19 +80,32 @@ impl Record {
         for line in lines {
             self.put(line)?;
         }
-        self.file.flush()?;
+        self.flush()?;
         if self.written >= self.max_bytes {
             self.rotate()?;
         }
         Ok(())
     }
 
+    fn flush(&mut self) -> io::Result<()> {
+        self.file.flush()?;
+        self.whole = self.written;
+        Ok(())
+    }
+
+    /// Ends it while the node runs on. Where a write failed, as on a device that is full, that stands in place of what wasn't written whole.
+    pub fn end(self) -> io::Result<()> {
+        let (mut file, _unwritten) = self.file.into_parts();
+        file.set_len(self.whole)?;
+        file.write_all(OFF)
+    }
+
     fn rotate(&mut self) -> io::Result<()> {
         self.part += 1;
         self.file = BufWriter::new(create(&part_of(&self.path, self.part))?);
-        self.written = 0;
+        (self.written, self.whole) = (0, 0);
         self.begin()?;
-        self.file.flush()
+        self.flush()
     }
 }
 
@@ -196,6 +214,21 @@ mod tests {
         let head = "# dumgerok record 1 node 1 of 2 part 1 cluster c\n".to_string();
         let text = fs::read_to_string(folder.join("record.1")).unwrap();
         assert_eq!(text, head + &"start\n> recover\n".repeat(9) + "ok");
+        fs::remove_dir_all(&folder).unwrap();
+    }
+
+    #[test]
+    fn where_it_ends_stands_in_place_of_what_was_not_written_whole() {
+        let (folder, config) = (folder("off"), Config::parse(TEXT).unwrap());
+        let mut record = Record::open(&folder.join("record"), &config).unwrap();
+        record.write(["start"]).unwrap();
+        record.put("a line that stays in memory").unwrap();
+        // and one of which a part came through
+        let mut file = OpenOptions::new().append(true).open(folder.join("record.1")).unwrap();
+        file.write_all(b"> subm").unwrap();
+        record.end().unwrap();
+        let text = fs::read_to_string(folder.join("record.1")).unwrap();
+        assert_eq!(text, "# dumgerok record 1 node 1 of 2 part 1 cluster c\nstart\noff\n");
         fs::remove_dir_all(&folder).unwrap();
     }
 }

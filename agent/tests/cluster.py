@@ -11,6 +11,12 @@ def judged(bed, agents, name):
     done = agents.ctl(0, "judge", "--program", agents.program, *files)
     bed.tally.check("%s: the records are judged Run" % name, done.returncode == 0 and done.stdout.startswith("Run"),
                     (done.returncode, done.stdout[-200:], done.stderr[-200:]))
+    trace = json.loads(agents.ctl(0, "judge", "--trace", *files).stdout)
+    bed.tally.check("%s: and give an order" % name, "order" in trace)
+    if agents.settings.get("key") and "order" in trace:
+        brought = [entry for history in trace["histories"] for entry in history if entry["do"] == "deliver"]
+        known = sum(number != "-" for number in trace["order"].split()[1::2])
+        bed.tally.check("%s: by which it is known of each message that was brought which one it was" % name, known == len(brought), (known, len(brought)))
 
 
 def spoiled(bed, agents):

@@ -36,7 +36,7 @@ use std::path::PathBuf;
 use std::process::ExitStatus;
 use std::sync::Arc;
 use std::thread;
-use std::time::{Duration, Instant};
+use std::time::{Duration, Instant, SystemTime, UNIX_EPOCH};
 
 const NODE_INPUT: Token = Token(0);
 const NODE_OUTPUT: Token = Token(1);
@@ -82,7 +82,7 @@ pub struct Daemon {
 impl Daemon {
     /// Starts the node of a configuration that was read at this path.
     pub fn start(config: Config, path: PathBuf) -> anyhow::Result<Daemon> {
-        let (now, poll, nodes) = (Instant::now(), Poll::new()?, config.nodes.len());
+        let (now, begin, poll, nodes) = (Instant::now(), SystemTime::now(), Poll::new()?, config.nodes.len());
         let (registry, life) = (poll.registry(), forward::new_life()?);
         let signals = Signals::register(registry, SIGNALS)?;
         let waker = Arc::new(Waker::new(registry, WAKER)?);
@@ -95,7 +95,7 @@ impl Daemon {
         let clients = Clients::listen(&config.socket, registry, LISTENER, FIRST_CLIENT).with_context(socket)?;
         let http = http_of(&config, &waker)?;
         Ok(Daemon {
-            node: node_of(&config, registry)?,
+            node: node_of(&config, registry, begin)?,
             clock: Clock::new(config.round_trip_ms, now),
             peers: Peers::new(config.id, &config.nodes, link.is_ipv6()),
             link,
@@ -277,12 +277,13 @@ fn http_of(config: &Config, waker: &Arc<Waker>) -> anyhow::Result<Option<Server>
 }
 
 /// The node, and its record where the configuration has one.
-fn node_of(config: &Config, registry: &Registry) -> anyhow::Result<NodeProcess<Asker>> {
+fn node_of(config: &Config, registry: &Registry, begin: SystemTime) -> anyhow::Result<NodeProcess<Asker>> {
     let mut node = NodeProcess::start(config, registry, NODE_INPUT, NODE_OUTPUT)
         .with_context(|| format!("program {}", config.program.display()))?;
     if let Some(path) = &config.record {
-        node.set_record(Some(Record::open(path, config).with_context(|| format!("record {}", path.display()))?));
-        node.write_down(["start"]);
+        node.begin_record(Record::open(path, config).with_context(|| format!("record {}", path.display()))?);
+        let since = begin.duration_since(UNIX_EPOCH).unwrap_or_default();
+        node.write_down([format!("start {}", since.as_millis()).as_str()]);
     }
     Ok(node)
 }

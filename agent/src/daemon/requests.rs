@@ -110,10 +110,13 @@ impl Daemon {
         beside.push(".record");
         let beside = beside.into();
         let path = self.config.record.as_ref().unwrap_or(&beside);
-        let record = if on { Record::open(path, &self.config).map(Some) } else { Ok(None) };
-        match record {
+        if !on {
+            self.node.end_record();
+            return Reply::ok().with("record", path);
+        }
+        match Record::open(path, &self.config) {
             Ok(record) => {
-                self.node.set_record(record);
+                self.node.begin_record(record);
                 Reply::ok().with("record", path)
             }
             Err(why) => Reply::refused("NoRecord").with("why", format!("{}: {why}", path.display())),

@@ -5,6 +5,7 @@ use super::order::Turn;
 use super::{NodeRecord, RecordError};
 use crate::node::{Closing, Group, Phase};
 use serde_json::{json, Map, Value};
+use std::collections::HashMap;
 
 /// The requests that are no events. `tick` and `lost` name theirs.
 const NO_EVENTS: [&str; 3] = ["compact", "state", "jobs"];
@@ -16,6 +17,12 @@ const MAX_UNKNOWN: u64 = 64;
 struct Event<'a> {
     name: &'a str,
     lines: Vec<&'a str>,
+}
+
+impl<'a> Event<'a> {
+    fn sent(&self) -> impl Iterator<Item = &'a str> + '_ {
+        self.lines.iter().filter_map(|line| line.strip_prefix("send ")?.split(' ').nth(1))
+    }
 }
 
 /// What the node's file keeps: the count of groups, the next id, how many jobs.
@@ -32,10 +39,14 @@ pub struct History<'a> {
     entries: Vec<Value>,
     /// What an order needs to know of each entry.
     turns: Vec<Turn>,
-    /// The node's clock as it was told last, over all its processes.
+    /// The node's clock as it was told last: the time of the machine where the record has it, else what its processes took.
     time: u64,
     /// What that clock was when this process began.
     began: u64,
+    /// From this turn on they have no time yet: the node is told it behind all else that it is asked.
+    untimed: usize,
+    /// Of each message that was sent the last turn that sent it, and its place there.
+    sent: HashMap<String, (usize, usize)>,
     kept: Kept,
     is_up: bool,
     leads: bool,
@@ -57,6 +68,8 @@ impl<'a> History<'a> {
             turns: Vec::new(),
             time: 0,
             began: 0,
+            untimed: 0,
+            sent: HashMap::new(),
             kept: Kept { count: 1, next: 0, pending: 0 },
             is_up: false,
             leads: true,
@@ -71,8 +84,9 @@ impl<'a> History<'a> {
                 request = Some(asked);
                 answer.clear();
                 history.told(asked);
-            } else if line == "start" {
-                history.began = history.time;
+            } else if let Some(start) = line.strip_prefix("start") {
+                history.began = start.trim().parse().unwrap_or(history.time);
+                history.untimed = history.turns.len();
                 history.killed(request.take());
             } else if let Some(closing) = Closing::read(line) {
                 let fault = || RecordError::Line { node: record.node, line: line.clone() };
@@ -93,6 +107,8 @@ impl<'a> History<'a> {
     fn told(&mut self, request: &str) {
         if let Some(Ok(ms)) = request.strip_prefix("tick ").map(str::parse::<u64>) {
             self.time = self.time.max(self.began.saturating_add(ms));
+            self.turns[self.untimed..].iter_mut().for_each(|turn| turn.time = self.time);
+            self.untimed = self.turns.len();
         }
     }
 
@@ -100,15 +116,29 @@ impl<'a> History<'a> {
     fn put(&mut self, name: &str, request: &str, sent: &[&str], fields: Map<String, Value>) {
         let mut entry = fields;
         let messages: Vec<String> = sent.iter().map(|digits| message_of(digits, self.begins)).collect();
+        let turn = self.turns.len();
+        self.sent.extend(messages.iter().cloned().zip((0..).map(|place| (turn, place))));
         entry.insert("do".to_string(), json!(name));
         entry.insert("sent".to_string(), json!(messages));
         self.entries.push(Value::Object(entry));
         let brought = if name == "deliver" { request.split(' ').nth(1) } else { None };
         self.turns.push(Turn {
             time: self.time,
-            sent: sent.iter().map(|digits| digits.to_string()).collect(),
+            sent: sent.iter().map(|digits| vec![digits.to_string()]).collect(),
             brought: brought.map(str::to_string),
         });
+    }
+
+    /// A message that is sent again, under another seal, is that of the turn that sent it.
+    fn sent_again(&mut self, event: &Event) {
+        for digits in event.sent() {
+            if let Some((turn, place)) = self.sent.get(&message_of(digits, self.begins)) {
+                let copies = &mut self.turns[*turn].sent[*place];
+                if copies[0] != digits {
+                    copies.push(digits.to_string());
+                }
+            }
+        }
     }
 
     /// The process ended, with this request unanswered.
@@ -132,7 +162,7 @@ impl<'a> History<'a> {
             events.last_mut()?.lines.push(line);
         }
         if ["tick", "lost"].contains(&word) {
-            events.remove(0); // what stands before was sent before
+            self.sent_again(&events.remove(0)); // what stands before was sent before
         } else if NO_EVENTS.contains(&word) {
             return Some(());
         }
@@ -141,6 +171,9 @@ impl<'a> History<'a> {
             if matches!(closing, Closing::Ok(_)) || place + 1 < count {
                 self.event(&event, request)?;
             }
+        }
+        if word == "tick" {
+            self.untimed = self.turns.len();
         }
         match closing {
             Closing::Ok(Some(id)) => {
@@ -158,8 +191,7 @@ impl<'a> History<'a> {
             let keeps = event.lines.iter().find_map(|line| line.strip_prefix("keeps "))?;
             self.recovered(keeps)?;
         } else {
-            let sent = event.lines.iter().filter_map(|line| line.strip_prefix("send ")?.split(' ').nth(1));
-            let sent: Vec<&str> = sent.collect();
+            let sent: Vec<&str> = event.sent().collect();
             let fields = self.fields_of(event.name, request)?;
             self.put(event.name, request, &sent, fields);
         }
@@ -226,6 +258,8 @@ impl<'a> History<'a> {
             has_counted = false;
             self.put("crash", doubt, &[], Map::new());
         }
+        // so the process ended when the node was told the time last
+        self.untimed = self.turns.len();
         if raised > self.recoveries.saturating_add(MAX_UNKNOWN) {
             return None;
         }

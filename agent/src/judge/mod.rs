@@ -26,11 +26,39 @@ pub fn trace_of(records: &[NodeRecord]) -> Result<Value, RecordError> {
 /// What the file of a node kept when its record began: a trace begins with count 1 and id 0.
 fn begin_of(record: &NodeRecord) -> Result<Begin, RecordError> {
     let fault = |what| RecordError::NoBegin { node: record.node, what };
+    if record.lines.first().map_or(false, |first| !first.starts_with("start")) {
+        return Err(fault("the node ran already"));
+    }
+    if record.lines.iter().any(|line| line == "off") {
+        return Err(RecordError::Ended { node: record.node });
+    }
     let keeps = record.lines.iter().find_map(|line| line.strip_prefix("keeps "));
     let numbers: Vec<u64> = keeps.unwrap_or_default().split(' ').filter_map(|word| word.parse().ok()).collect();
     match numbers.as_slice() {
         [count, next, 0] => Ok(Begin { count: count.saturating_sub(1), id: *next }),
         [_, _, _] => Err(fault("the node kept jobs already")),
         _ => Err(fault("it has no start of the node")),
+    }
+}
+
+#[cfg(test)]
+mod tests {
+    use super::*;
+
+    fn said(lines: &str) -> String {
+        let record = NodeRecord { node: 0, lines: lines.lines().map(str::to_string).collect() };
+        trace_of(&[record]).map_or_else(|why| why.to_string(), |trace| trace["nodes"].to_string())
+    }
+
+    #[test]
+    fn a_record_that_lacks_a_part_of_the_run_is_not_judged() {
+        let start = "start\n> recover\ngroup Normal 0 0:101 0\nkeeps 101 5 0\nok 1\n";
+        assert_eq!(said(start), "1");
+        let begin = |what: &str| format!("the record of node 0 can't be judged: {what} where it begins");
+        assert_eq!(said(&format!("> tick 9\nok 7\n{start}")), begin("the node ran already"));
+        assert_eq!(said(&start.replace("5 0", "5 1")), begin("the node kept jobs already"));
+        assert_eq!(said(""), begin("it has no start of the node"));
+        let ended = "the record of node 0 can't be judged: it ends somewhere, and the node ran on";
+        assert_eq!(said(&format!("{start}off\n{start}")), ended);
     }
 }

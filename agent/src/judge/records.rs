@@ -19,6 +19,8 @@ pub enum RecordError {
     Gap { node: usize, part: u64 },
     #[error("the record of node {node} can't be judged: {what} where it begins")]
     NoBegin { node: usize, what: &'static str },
+    #[error("the record of node {node} can't be judged: it ends somewhere, and the node ran on")]
+    Ended { node: usize },
     #[error("the record of node {node}: {line:?} can't be read")]
     Line { node: usize, line: String },
 }

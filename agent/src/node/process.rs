@@ -133,9 +133,16 @@ impl<A> NodeProcess<A> {
         }
     }
 
-    /// Begins or ends the record. Where requests are on their way it begins behind them.
-    pub fn set_record(&mut self, record: Option<Record>) {
-        self.record = record;
+    /// Begins the record. Where requests are on their way it begins behind them.
+    pub fn begin_record(&mut self, record: Record) {
+        self.record = Some(record);
+    }
+
+    /// Ends the record.
+    pub fn end_record(&mut self) {
+        if let Some(Err(why)) = self.record.take().map(Record::end) {
+            warn!("the record has no end: {why}");
+        }
     }
 
     pub fn is_recorded(&self) -> bool {
@@ -146,7 +153,7 @@ impl<A> NodeProcess<A> {
     pub fn write_down<'a>(&mut self, lines: impl IntoIterator<Item = &'a str>) {
         if let Some(Err(why)) = self.record.as_mut().map(|record| record.write(lines)) {
             error!("the record ends: {why}");
-            self.record = None;
+            self.end_record();
         }
     }
 
