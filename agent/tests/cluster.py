@@ -4,8 +4,8 @@ import http.client, json, os, re, signal, socket, subprocess, time, urllib.reque
 from bed import PATIENCE, free_port
 
 
-def judged(bed, agents, name):
-    """The records of all nodes are those of a run."""
+def judged(bed, agents, name, are_sealed=False):
+    """The records of all nodes are those of a run, and give an order of it; where messages are sealed it is known which one came."""
     files = [os.path.join(agents.folder, file) for file in os.listdir(agents.folder) if ".record." in file]
     agents.stop()
     done = agents.ctl(0, "judge", "--program", agents.program, *files)
@@ -13,7 +13,7 @@ def judged(bed, agents, name):
                     (done.returncode, done.stdout[-200:], done.stderr[-200:]))
     trace = json.loads(agents.ctl(0, "judge", "--trace", *files).stdout)
     bed.tally.check("%s: and give an order" % name, "order" in trace)
-    if agents.settings.get("key") and "order" in trace:
+    if are_sealed and "order" in trace:
         brought = [entry for history in trace["histories"] for entry in history if entry["do"] == "deliver"]
         known = sum(number != "-" for number in trace["order"].split()[1::2])
         bed.tally.check("%s: by which it is known of each message that was brought which one it was" % name, known == len(brought), (known, len(brought)))

@@ -96,7 +96,7 @@ def forged(bed):
     spoiled_bits(agents, bed.tally.timed)
     foreign(bed, agents, bed.tally.timed)
     recorded(agents, bed.tally.timed)
-    judged(bed, agents, "forged datagrams")
+    judged(bed, agents, "forged datagrams", are_sealed=True)
 
 
 def spoiled_bits(agents, timed):
