@@ -10,6 +10,7 @@ use crate::config::Config;
 use log::warn;
 use std::fs::{self, File, OpenOptions};
 use std::io::{self, BufRead, BufReader, BufWriter, ErrorKind, Read, Seek, SeekFrom, Write};
+use std::os::unix::fs::OpenOptionsExt;
 use std::path::{Path, PathBuf};
 
 const MEGABYTE: u64 = 1_000_000;
@@ -114,7 +115,7 @@ fn head(node: &str, part: u64, cluster: &str) -> String {
 }
 
 fn create(path: &Path) -> io::Result<File> {
-    OpenOptions::new().create_new(true).append(true).open(path)
+    OpenOptions::new().create_new(true).append(true).mode(0o640).open(path)
 }
 
 /// Opens a part that was begun, and its length. A last line without a line feed, of an agent that was killed, is cut off. None where it has another first

@@ -165,6 +165,16 @@ def named_by_mistake(agents, check):
     status, said = ends(agents, 1)
     with open(file, "rb") as after:
         check("a file where the socket should be stays as it is", status == 1 and "no socket" in said and after.read() == held, (status, said))
+    for how in (os.remove, lambda path: os.rename(path + ".other", path)):
+        shutil.copy(file, file + ".own")
+        shutil.copy(file, file + ".other")
+        agents.write(1, record=None)
+        agents.start(1)
+        agents.until(lambda: (agents.status(1) or {}).get("alive"))
+        how(file)
+        status, log = agents.processes[1].wait(PATIENCE), open(agents.path(1, "log")).read()
+        check("a file that is removed, or whose name another one takes: 7", status == 7 and "it was removed" in log.splitlines()[-1], (status, log))
+        os.replace(file + ".own", file)
     agents.write(1, file=agents.path(1, "pipe"), record=None)
     os.mkfifo(agents.path(1, "pipe"))
     status, said = ends(agents, 1)

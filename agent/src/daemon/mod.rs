@@ -4,6 +4,7 @@ mod answers;
 mod asker;
 mod datagrams;
 mod forwarding;
+mod guard;
 mod looks;
 mod pages;
 mod requests;
@@ -24,7 +25,8 @@ use crate::resolver::Resolver;
 use crate::service::{is_left, Changes, Clients, Hand};
 use crate::view::View;
 use anyhow::Context;
-use log::{info, warn};
+use guard::Guard;
+use log::{error, info, warn};
 use looks::Looks;
 use mio::event::Event;
 use mio::{Events, Poll, Registry, Token, Waker};
@@ -47,6 +49,9 @@ const WAKER: Token = Token(5);
 /// Tokens from this one on are clients'.
 const FIRST_CLIENT: usize = 16;
 
+/// The status of an agent whose node's file is gone.
+const FILE_GONE: u8 = 7;
+
 /// A node whose input ended may take so long to end: SIGTERM ends the agent within a second.
 const PATIENCE_AT_END: Duration = Duration::from_millis(700);
 
@@ -58,6 +63,7 @@ pub struct Daemon {
     path: PathBuf,
     poll: Poll,
     node: NodeProcess<Asker>,
+    guard: Guard,
     looks: Looks,
     clock: Clock,
     link: Link,
@@ -95,6 +101,7 @@ impl Daemon {
         let clients = Clients::listen(&config.socket, registry, LISTENER, FIRST_CLIENT).with_context(socket)?;
         let http = http_of(&config, &waker)?;
         Ok(Daemon {
+            guard: Guard::start(&config.file, Arc::clone(&waker))?,
             node: node_of(&config, registry, begin)?,
             clock: Clock::new(config.round_trip_ms, now),
             peers: Peers::new(config.id, &config.nodes, link.is_ipv6()),
@@ -142,6 +149,11 @@ impl Daemon {
             }
             if let Some(status) = status {
                 return Ok(self.ended(status));
+            }
+            if self.guard.is_gone() {
+                error!("{}: it was removed, or another file has its name", self.config.file.display());
+                self.node.end(PATIENCE_AT_END)?;
+                return Ok(FILE_GONE);
             }
             self.work(Instant::now());
         }
