@@ -9,7 +9,6 @@ ghost use Rattle.wire_msg.specs.Contents.{Feeds};
 
 use crate::fault::WireFault;
 use crate::message::Message;
-use std::alloc::AllocError;
 use std::slice;
 
 /// Reads the message of the frame at the front in place of `message`, and answers what is behind the frame, or none where it
@@ -68,7 +67,9 @@ fn read_piece(rest: &mut Vec<u8>, piece: &[u8], out: &mut Vec<Message>) -> Resul
     ensures no_memory { result ≡ Err NoMemory → take (length out.old.items) out.new.items ≡ out.old.items }
 {
     let taken = take_frames(piece, out)?;
-    rest.extend_from_slice(&piece[taken..])?;
+    let Ok(()) = rest.extend_from_slice(&piece[taken..]) else {
+        return Err(WireFault::NoMemory);
+    };
     Ok(())
 }
 
@@ -78,7 +79,9 @@ fn read_joined(rest: &mut Vec<u8>, piece: &[u8], out: &mut Vec<Message>) -> Resu
     ensures malformed { result ≡ Err Malformed → Feeds (Some rest.old.items) piece.now out.old.items out.new.items None }
     ensures no_memory { result ≡ Err NoMemory → (take (length rest.old.items) rest.new.items ≡ rest.old.items) × (take (length out.old.items) out.new.items ≡ out.old.items) }
 {
-    rest.extend_from_slice(piece)?;
+    let Ok(()) = rest.extend_from_slice(piece) else {
+        return Err(WireFault::NoMemory);
+    };
     let taken = take_frames(rest, out)?;
     remove_front(rest, taken);
     Ok(())
@@ -131,7 +134,9 @@ fn take_frame(frame: &[u8], blank: &Message, out: &mut Vec<Message>) -> Result<(
     ensures err { OnErr result (out.new.items ≡ out.old.items) }
 {
     let place = out.len();
-    out.extend_from_slice(slice::from_ref(blank))?;
+    let Ok(()) = out.extend_from_slice(slice::from_ref(blank)) else {
+        return Err(WireFault::NoMemory);
+    };
     if !read_frame(frame, &mut out[place]) {
         out.truncate(place);
         return Err(WireFault::Malformed);

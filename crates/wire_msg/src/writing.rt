@@ -212,7 +212,7 @@ pub fn encode(alloc: Global, message: &Message) -> Result<Vec<u8>, WireFault>
     ensures fault { IfErr result (λ e. e ≡ WireFault.NoMemory) }
 {
     let mut bytes = Vec::new(alloc);
-    spell(&mut bytes, message)?;
+    spell(&mut bytes, message).map_err(|_| WireFault::NoMemory)?;
     Ok(bytes)
 }
 

@@ -19,7 +19,7 @@ pub returns-clause-ok : goal.returns-clause-ok
 returns-clause-ok c =
     let e = c.in_ok-taken.ensures.ok in
     let left : c.extend_from_slice.new.self.items ≡ drop c.in_ok-taken.taken c.args.piece.now =
-    c.in_ok-extend_from_slice.ensures.items ∙ ap (λ (r : List ℕ). r ++ take (length c.args.piece.now - c.in_ok-taken.taken) (drop c.in_ok-taken.taken c.args.piece.now)) c.requires ∙ take_rest c.args.piece.now c.in_ok-taken.taken in
+    c.in-Ok.ensures.items ∙ ap (λ (r : List ℕ). r ++ take (length c.args.piece.now - c.in_ok-taken.taken) (drop c.in_ok-taken.taken c.args.piece.now)) c.requires ∙ take_rest c.args.piece.now c.in_ok-taken.taken in
     fed c.args.rest.now.items c.args.piece.now c.args.piece.now e.1 c.args.out.now.items c.take_frames.new.out.items (Some c.extend_from_slice.new.self.items)
     (ap (λ (r : List ℕ). r ++ c.args.piece.now) (sym c.requires))
     (subst (λ (b : List ℕ). IsAt c.args.piece.now e.1 (Some b)) (sym left) e.3) e.2

@@ -15,6 +15,6 @@ returns-clause-ok c =
       m,
       c.read_frame.ensures.read (cc),
       put_last c.args.out.now.items c.extend_from_slice.new.self.items c.args.blank.now m c.len-place.result
-          (c.in_ok-extend_from_slice.ensures.items ∙ ap (λ (ms : List Envelope). c.args.out.now.items ++ ms) c.from_ref.ensures.value)
+          (c.in-Ok.ensures.items ∙ ap (λ (ms : List Envelope). c.args.out.now.items ++ ms) c.from_ref.ensures.value)
           (omega (arith, c.len-place.ensures)),
     )
