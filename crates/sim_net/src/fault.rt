@@ -1,9 +1,5 @@
 //! Why the network did not do what was asked for.
 
-ghost use Rattle.std.specs.Prelude.{◌≡◌};
-ghost use Rattle.sim_net.specs.declared.fault.NetFault.TheVariants.{NoMemory};
-
-use std::alloc::AllocError;
 use thiserror::Error;
 
 /// Why a call of the network was refused. A refusal changes nothing.
@@ -21,12 +17,4 @@ pub enum NetFault {
     /// Memory ran out.
     #[error("no memory")]
     NoMemory,
-}
-
-impl From<AllocError> for NetFault {
-    ghost from_gives = { λ _ e. e ≡ NoMemory };
-
-    fn from(_e: AllocError) -> NetFault {
-        NetFault::NoMemory
-    }
 }

@@ -62,8 +62,8 @@ impl Net {
         ensures fault { IfErr result (λ e. e ≡ NetFault.NoMemory) }
         ensures refused { OnErr result ((self.old.room < more) × (self.new ≡ self.old)) }
     {
-        self.lost.reserve(more)?;
-        self.sent.reserve(more)?;
+        self.lost.reserve(more).map_err(|_| NetFault::NoMemory)?;
+        self.sent.reserve(more).map_err(|_| NetFault::NoMemory)?;
         Ok(())
     }
 
