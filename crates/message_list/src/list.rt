@@ -5,10 +5,11 @@ ghost use Rattle.message_list.specs.Lent.{message_at, message_opened, IsOpened};
 ghost use Rattle.message_list.specs.PackedMessages.{ends_of};
 
 use crate::lent::LentMessage;
-use crate::opened::{Opened, keep_lent_payload, keep_lent_task, keep_lent_work, lent_letter_of};
+use crate::opened::{
+    Opened, is_message, keep_lent_payload, keep_lent_task, keep_lent_work, lent_letter_of,
+};
 use crate::packed_message::{
-    PackedMessage, PackedWork, is_message, keep_payload, keep_task, keep_work, letter_of,
-    read_letter,
+    PackedMessage, PackedWork, keep_payload, keep_task, keep_work, letter_of, read_letter,
 };
 use crate::spelling::{spell_letter, spell_message};
 use group_task::{NodeId, Task};
@@ -214,16 +215,7 @@ impl MessageList {
         // Refuses: held_at_its_neighbour, task_of_the_first_ready_held.
         ensures { IsTrue result ↔ (slice_get self.now.messages place ≡ Some message.now) }
     {
-        match self.letters.get(place) {
-            Some(packed_message) => is_message(
-                &self.tasks,
-                &self.works,
-                &self.payloads,
-                packed_message,
-                message,
-            ),
-            None => false,
-        }
+        place < self.letters.len() && is_message(&self.opened(place), message)
     }
 
     /// The message at a place, counted from 0, lent as it is kept.

@@ -3,11 +3,13 @@
 ghost use Rattle.std.specs.Prelude.{◌≡◌, ◌+◌, ◌<◌, ◌≤◌, ◌++◌, ◌↔◌, IsTrue, length, vec_len, vec_capacity};
 ghost use Rattle.job_model.specs.declared.payload.TheConstants.{PAYLOAD_CAPACITY};
 ghost use Rattle.message_list.specs.PackedMessages.{letter_of, task_kept, work_kept, payload_kept, CanBeRead, HasPayload, work_said};
-ghost use Rattle.wire_msg.specs.Kinds.{body_of};
+ghost use Rattle.wire_msg.specs.Kinds.{body_of, shape_of, Gives};
 ghost use Rattle.message_list.specs.Lent.{shape_opened, message_opened, mark_by, mark_of, count_of, IsOpened};
 
 use crate::packed_message::{PackedKind, PackedMessage, PackedWork};
-use group_task::Task;
+use group_task::{GroupNo, Task};
+use job_model::Work;
+use wire_msg::{Body, Form, Message};
 
 /// A packed message, lent with what is kept beside it.
 #[derive(Clone, Copy)]
@@ -26,18 +28,10 @@ pub fn lent_letter_of(one: &Opened<'_>, tasks: usize, works: usize) -> PackedMes
 {
     let (sender, receiver) = (one.packed_message.sender, one.packed_message.receiver);
     let kind = one.packed_message.kind;
-    let beside = |place: usize| PackedMessage {
-        sender,
-        receiver,
-        kind,
-        answer: false,
-        creator: sender,
-        number: place as u64,
-    };
     match kind {
         PackedKind::Short(_) => *one.packed_message,
-        PackedKind::Ready => beside(tasks),
-        PackedKind::Work => beside(works),
+        PackedKind::Ready => PackedMessage::beside(sender, receiver, kind, tasks),
+        PackedKind::Work => PackedMessage::beside(sender, receiver, kind, works),
     }
 }
 
@@ -82,6 +76,53 @@ pub fn keep_lent_payload(payloads: &mut Vec<u8>, one: &Opened<'_>)
         let bytes = &one.payloads[work.start..work.start + work.len];
         let _ = payloads.extend_from_slice(bytes);
     }
+}
+
+/// Whether the message that is kept is this one. None is made for it.
+#[tactic(auto, using(crate::proofs::PackedMessages::body_if))]
+pub fn is_message(one: &Opened<'_>, message: &Message) -> bool
+    requires { IsOpened one.now }
+    ensures { IsTrue result ↔ (message_opened one.now ≡ message.now) }
+{
+    one.packed_message.sender == message.sender()
+        && one.packed_message.receiver == message.receiver()
+        && has_shape(one, message.body())
+}
+
+/// Whether it says what this body does.
+fn has_shape(one: &Opened<'_>, body: &Body) -> bool
+    requires { IsOpened one.now }
+    ensures { IsTrue result ↔ (shape_opened one.now ≡ shape_of body.now) }
+{
+    let packed_message = one.packed_message;
+    match body.form() {
+        Form::Short(short) => packed_message.kind == PackedKind::Short(short.kind)
+            && packed_message.answer == short.answer
+            && packed_message.creator == short.creator
+            && packed_message.number == short.number,
+        Form::Ready(task) => packed_message.kind == PackedKind::Ready
+            && one.tasks[packed_message.number as usize] == *task,
+        Form::Work(group, id, work) => packed_message.kind == PackedKind::Work
+            && is_work(
+                one.payloads,
+                &one.works[packed_message.number as usize],
+                group,
+                id,
+                work,
+            ),
+    }
+}
+
+/// Whether a Work that is kept is this one.
+fn is_work(payloads: &[u8], kept: &PackedWork, group: GroupNo, id: u64, work: &Work) -> bool
+    requires { HasPayload (length payloads.now) kept.now }
+    ensures { IsTrue result ↔ (work_said payloads.now kept.now ≡ Gives group id work.now) }
+{
+    kept.group == group
+        && kept.id == id
+        && kept.queue == work.queue
+        && kept.priority == work.priority
+        && &payloads[kept.start..kept.start + kept.len] == work.payload.as_slice()
 }
 
 /// Whether they are one message.

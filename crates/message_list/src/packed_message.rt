@@ -1,12 +1,12 @@
 //! Messages as they are kept: 16 bytes for each, and what is longer in lists beside it.
 
-ghost use Rattle.std.specs.Prelude.{◌≡◌, ◌≢◌, ◌+◌, ◌<◌, ◌≤◌, ◌++◌, ◌↔◌, IsTrue, length, vec_len, vec_capacity, All};
-ghost use Rattle.wire_msg.specs.Kinds.{shape_of, body_of, Gives};
-ghost use Rattle.message_list.specs.PackedMessages.{letter_of, task_kept, work_kept, payload_kept, shape_kept, message_of, HasBody, CanBeRead, HasPayload, work_said};
+ghost use Rattle.std.specs.Prelude.{◌≡◌, ◌≢◌, ◌+◌, ◌<◌, ◌≤◌, ◌++◌, length, vec_len, vec_capacity, All, false};
+ghost use Rattle.wire_msg.specs.Kinds.{shape_of, body_of};
+ghost use Rattle.message_list.specs.PackedMessages.{letter_of, task_kept, work_kept, payload_kept, message_of, HasBody, CanBeRead, HasPayload, work_said};
 ghost use Rattle.job_model.specs.declared.payload.TheConstants.{PAYLOAD_CAPACITY};
 
 use group_task::{GroupNo, NodeId, Task, share};
-use job_model::{PAYLOAD_CAPACITY, Queue, Work};
+use job_model::{PAYLOAD_CAPACITY, Queue};
 use std::mem::size_of;
 use wire_msg::{Body, Form, Kind, LentWork, Message, Short};
 
@@ -30,6 +30,23 @@ pub struct PackedMessage {
     pub number: u64,
 }
 
+impl PackedMessage {
+    /// One whose task or work is kept beside, at this place.
+    #[inline]
+    pub fn beside(sender: NodeId, receiver: NodeId, kind: PackedKind, place: usize) -> PackedMessage
+        ensures { result ≡ record { sender = sender; receiver = receiver; kind = kind; answer = false; creator = sender; number = place } }
+    {
+        PackedMessage {
+            sender,
+            receiver,
+            kind,
+            answer: false,
+            creator: sender,
+            number: place as u64,
+        }
+    }
+}
+
 // a long list takes about what the spellings of its messages take
 const _: () = prove!(size_of::<PackedMessage>() == 16);
 
@@ -50,14 +67,6 @@ pub fn letter_of(message: &Message, tasks: usize, works: usize) -> PackedMessage
     ensures can_be_read { CanBeRead (tasks + 1) (works + 1) result }
 {
     let (sender, receiver) = (message.sender(), message.receiver());
-    let beside = |kind: PackedKind, place: usize| PackedMessage {
-        sender,
-        receiver,
-        kind,
-        answer: false,
-        creator: sender,
-        number: place as u64,
-    };
     match message.body().form() {
         Form::Short(short) => PackedMessage {
             sender,
@@ -67,8 +76,8 @@ pub fn letter_of(message: &Message, tasks: usize, works: usize) -> PackedMessage
             creator: short.creator,
             number: short.number,
         },
-        Form::Ready(_) => beside(PackedKind::Ready, tasks),
-        Form::Work(_, _, _) => beside(PackedKind::Work, works),
+        Form::Ready(_) => PackedMessage::beside(sender, receiver, PackedKind::Ready, tasks),
+        Form::Work(_, _, _) => PackedMessage::beside(sender, receiver, PackedKind::Work, works),
     }
 }
 
@@ -194,64 +203,4 @@ fn read_work(
         payload: &payloads[work.start..work.start + work.len],
     };
     message.set_work(sender, receiver, &lent);
-}
-
-/// Whether a packed message's message is this one. None is made for it.
-#[tactic(auto, using(crate::proofs::PackedMessages::body_if))]
-pub fn is_message(
-    tasks: &[Task],
-    works: &[PackedWork],
-    payloads: &[u8],
-    packed_message: &PackedMessage,
-    message: &Message,
-) -> bool
-    requires body { HasBody (length tasks.now) (length works.now) packed_message.now.kind packed_message.now }
-    requires payloads { All (HasPayload (length payloads.now)) works.now }
-    ensures { IsTrue result ↔ (message_of tasks.now works.now payloads.now packed_message.now ≡ message.now) }
-{
-    packed_message.sender == message.sender()
-        && packed_message.receiver == message.receiver()
-        && has_shape(tasks, works, payloads, packed_message, message.body())
-}
-
-/// Whether a packed message says what this body does.
-fn has_shape(
-    tasks: &[Task],
-    works: &[PackedWork],
-    payloads: &[u8],
-    packed_message: &PackedMessage,
-    body: &Body,
-) -> bool
-    requires body { HasBody (length tasks.now) (length works.now) packed_message.now.kind packed_message.now }
-    requires payloads { All (HasPayload (length payloads.now)) works.now }
-    ensures { IsTrue result ↔ (shape_kept tasks.now works.now payloads.now packed_message.now ≡ shape_of body.now) }
-{
-    match body.form() {
-        Form::Short(short) => packed_message.kind == PackedKind::Short(short.kind)
-            && packed_message.answer == short.answer
-            && packed_message.creator == short.creator
-            && packed_message.number == short.number,
-        Form::Ready(task) => packed_message.kind == PackedKind::Ready
-            && tasks[packed_message.number as usize] == *task,
-        Form::Work(group, id, work) => packed_message.kind == PackedKind::Work
-            && is_work(
-                payloads,
-                &works[packed_message.number as usize],
-                group,
-                id,
-                work,
-            ),
-    }
-}
-
-/// Whether a Work that is kept is this one.
-fn is_work(payloads: &[u8], kept: &PackedWork, group: GroupNo, id: u64, work: &Work) -> bool
-    requires { HasPayload (length payloads.now) kept.now }
-    ensures { IsTrue result ↔ (work_said payloads.now kept.now ≡ Gives group id work.now) }
-{
-    kept.group == group
-        && kept.id == id
-        && kept.queue == work.queue
-        && kept.priority == work.priority
-        && &payloads[kept.start..kept.start + kept.len] == work.payload.as_slice()
 }
