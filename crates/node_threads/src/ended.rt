@@ -35,9 +35,10 @@ pub(crate) fn take_all(
         let lock = locks.next().ok_or(ThreadsFault::Unpaired)?;
         let run = size.run(NodeId::numbered(node as u8));
         let (history, ends) = take_out(lock, run, &plans[node])?;
-        histories.reserve(1)?;
+        let (Ok(()), Ok(())) = (histories.reserve(1), left.reserve(1)) else {
+            return Err(ThreadsFault::NoMemory);
+        };
         histories.push_reserved(history);
-        left.reserve(1)?;
         left.push_reserved(ends);
     }
     Ok((histories, left))

@@ -1,11 +1,7 @@
 //! Why a run wasn't gathered.
 
-ghost use Rattle.std.specs.Prelude.{◌≡◌};
-ghost use Rattle.node_threads.specs.declared.fault.ThreadsFault.TheVariants.{NoMemory};
-
 use group_task::NodeId;
 use node_lock::Worker;
-use std::alloc::AllocError;
 use thiserror::Error;
 
 /// Why a run wasn't gathered. Of several reasons that of the first worker counts: by its node, and then Intake, Clock, Operator. What
@@ -25,12 +21,4 @@ pub enum ThreadsFault {
     /// that ends so.
     #[error("Unpaired")]
     Unpaired,
-}
-
-impl From<AllocError> for ThreadsFault {
-    ghost from_gives = { λ _ e. e ≡ NoMemory };
-
-    fn from(_e: AllocError) -> ThreadsFault {
-        ThreadsFault::NoMemory
-    }
 }

@@ -34,7 +34,7 @@ fn gather_sender(
             let Ok(link) = gather(put, take) else {
                 return Err(ThreadsFault::Unpaired);
             };
-            links.reserve(1)?;
+            links.reserve(1).map_err(|_| ThreadsFault::NoMemory)?;
             links.push_reserved(link);
         }
     }

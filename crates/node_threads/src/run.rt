@@ -16,7 +16,7 @@ use crate::wiring::{lock_nodes, wire};
 use crate::workers::run_workers;
 use link_ring::LinkEnd;
 use node_lock::{Gate, History, Plans};
-use std::alloc::Global;
+use std::alloc::{AllocError, Global};
 use std::sync::Wait;
 use std::thread::Threads;
 
@@ -70,9 +70,10 @@ pub fn run_threads<R: Threads + Wait + Sync, G: Gate + Send>(
     // Refuses: gate_shut_invented, first_reason_passed_over.
     ensures reason { IfErr result (λ fault. IsReason G.may_shut plans.now fault) }
 {
-    let ends = wire(alloc, size.nodes, size.capacity)?;
-    let locks = lock_nodes(alloc, size, ends, plans)?;
-    if let Some(stopped) = run_workers(rt, alloc, &locks, gate)? {
+    let no_memory = |_: AllocError| ThreadsFault::NoMemory;
+    let ends = wire(alloc, size.nodes, size.capacity).map_err(no_memory)?;
+    let locks = lock_nodes(alloc, size, ends, plans).map_err(no_memory)?;
+    if let Some(stopped) = run_workers(rt, alloc, &locks, gate).map_err(no_memory)? {
         return Err(reason_of(size, locks, plans, stopped));
     }
     let (histories, left) = match take_all(alloc, size, locks, plans) {

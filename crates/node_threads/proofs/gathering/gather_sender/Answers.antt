@@ -3,7 +3,7 @@ use Rattle.link_ring.specs.declared.gathering.LinkEnd.{LinkEnd}
 use Rattle.node_threads.specs.Links.{TookEnds}
 use Rattle.node_threads.proofs.Links.{IsGathering, gathers, gathers_past, gathered_more, end_of}
 use Rattle.node_threads.proofs.gathering.gather_sender.Goals as goal
-use Rattle.node_threads.proofs.gathering.gather_sender.Goals.{then-receiver-sender+in_ok-put+in-Ok+in_ok-reserve, else-receiver-sender}
+use Rattle.node_threads.proofs.gathering.gather_sender.Goals.{then-receiver-sender+in_ok-put+in-Ok+in_ok-map_err, else-receiver-sender}
 
 pub loop-receiver-preserved : goal.loop-receiver-preserved
 loop-receiver-preserved c =
@@ -12,7 +12,7 @@ loop-receiver-preserved c =
     let left = c.loop-receiver.left.items in
     let links = c.loop-receiver.links.items in
     elim c.if-receiver-sender.branch [
-      | then-receiver-sender+in_ok-put+in-Ok+in_ok-reserve w ↦
+      | then-receiver-sender+in_ok-put+in-Ok+in_ok-map_err w ↦
           let p = w.in_ok-put.put in
           let t = w.in_ok-put.take in
           let link = w.in-Ok.link in
