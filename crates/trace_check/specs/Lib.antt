@@ -1,6 +1,7 @@
 pub mod Claims
 pub mod Searches
 pub mod Followed
+pub mod Given
 pub mod Kept
 pub mod Leftovers
 pub mod LentActions

@@ -3,12 +3,13 @@ ghost use Rattle.job_model.specs.declared.payload.TheConstants.{PAYLOAD_CAPACITY
 ghost use Rattle.wire_msg.specs.Envelope.{Envelope};
 ghost use Rattle.wire_msg.specs.Spelling.{Spells};
 ghost use Rattle.trace_check.specs.Claims.{Claim, brought_by};
-ghost use Rattle.trace_check.specs.Kept.{part};
+ghost use Rattle.trace_check.specs.Kept.{kept_deed, part, payload_in};
 ghost use Rattle.trace_check.specs.LentActions.{FitsPayload, action_lent};
+ghost use Rattle.trace_check.specs.Given.{FitsGiven, deed_given, sent_given};
 ghost use Rattle.trace_check.specs.Traces.{claim, claim_seen};
 ghost use Rattle.trace_check.specs.Views.{Stands, claim_kept};
 
-use crate::kept::{PackedEntry, brought_at, deed_said, keep_deed, keep_lent_deed};
+use crate::kept::{PackedAction, PackedEntry, brought_at, deed_said, keep_deed, keep_lent_deed};
 use crate::lent_action::ActionRef;
 use crate::stored::{StoredEntry, stored_deed};
 use crate::trace::TraceAction;
@@ -74,21 +75,7 @@ impl History {
         ensures added { OnOk result (self.new ≡ self.old ++ claim deed.now sent.now ∷ []) }
         ensures refused { OnErr result (self.new ≡ self.old) }
     {
-        make_room(
-            &mut self.entries,
-            &mut self.messages,
-            &mut self.payloads,
-            sent.len(),
-        )?;
-        let deed = keep_deed(&mut self.messages, &mut self.payloads, deed);
-        let start = self.messages.len();
-        keep_messages(&mut self.messages, sent);
-        self.entries.push_reserved(StoredEntry {
-            deed: stored_deed(deed),
-            start: start as u32,
-            end: self.messages.len() as u32,
-        });
-        Ok(())
+        self.put_in(&Given::Made(deed, sent))
     }
 
     /// Adds an entry as `push` does, but what was done is lent, and so is what was sent: neither an event nor a message is made.
@@ -97,15 +84,24 @@ impl History {
         ensures added { OnOk result (self.new ≡ self.old ++ claim (action_lent deed.now) sent.now ∷ []) }
         ensures refused { OnErr result (self.new ≡ self.old) }
     {
+        self.put_in(&Given::Lent(deed, sent))
+    }
+
+    /// Adds an entry, as it is given.
+    fn put_in(&mut self, given: &Given<'_>) -> Result<(), AllocError>
+        requires { FitsGiven given.now }
+        ensures added { OnOk result (self.new ≡ self.old ++ claim (deed_given given.now) (sent_given given.now) ∷ []) }
+        ensures refused { OnErr result (self.new ≡ self.old) }
+    {
         make_room(
             &mut self.entries,
             &mut self.messages,
             &mut self.payloads,
-            sent.len(),
+            given.len(),
         )?;
-        let deed = keep_lent_deed(&mut self.messages, &mut self.payloads, deed);
+        let deed = given.keep_deed(&mut self.messages, &mut self.payloads);
         let start = self.messages.len();
-        keep_sent(&mut self.messages, sent);
+        given.keep_sent(&mut self.messages);
         self.entries.push_reserved(StoredEntry {
             deed: stored_deed(deed),
             start: start as u32,
@@ -224,6 +220,53 @@ fn keep_sent(messages: &mut MessageList, sent: &Sent<'_>)
     }
 }
 
+/// An entry as it is put in: what was done and what was sent, as they were made, or lent.
+#[derive(Clone, Copy)]
+pub(crate) enum Given<'a> {
+    Made(&'a TraceAction, &'a [Message]),
+    Lent(&'a ActionRef<'a>, &'a Sent<'a>),
+}
+
+impl<'a> Given<'a> {
+    /// How many messages the entry sent.
+    fn len(&self) -> usize
+        ensures { result ≡ length (sent_given self.now) }
+    {
+        match self {
+            Given::Made(_, sent) => sent.len(),
+            Given::Lent(_, sent) => sent.len(),
+        }
+    }
+
+    /// Keeps what was done, in the room that is there.
+    fn keep_deed(&self, messages: &mut MessageList, payloads: &mut Vec<u8>) -> PackedAction
+        requires room { 1 ≤ messages.old.room }
+        requires bytes { vec_len payloads.old + PAYLOAD_CAPACITY ≤ vec_capacity payloads.old }
+        requires fits { FitsGiven self.now }
+        ensures value { result ≡ kept_deed (length messages.old.messages) (length payloads.old.items) (deed_given self.now) }
+        ensures messages { messages.new.messages ≡ messages.old.messages ++ brought_by (deed_given self.now) }
+        ensures left { messages.old.room ≤ messages.new.room + 1 }
+        ensures payloads { payloads.new.items ≡ payloads.old.items ++ payload_in (deed_given self.now) }
+        ensures few { length (payload_in (deed_given self.now)) ≤ PAYLOAD_CAPACITY }
+    {
+        match self {
+            Given::Made(deed, _) => keep_deed(messages, payloads, deed),
+            Given::Lent(deed, _) => keep_lent_deed(messages, payloads, deed),
+        }
+    }
+
+    /// Keeps what was sent, in the room that is there.
+    fn keep_sent(&self, messages: &mut MessageList)
+        requires { length (sent_given self.now) ≤ messages.old.room }
+        ensures { messages.new.messages ≡ messages.old.messages ++ sent_given self.now }
+    {
+        match self {
+            Given::Made(_, sent) => keep_messages(messages, sent),
+            Given::Lent(_, sent) => keep_sent(messages, sent),
+        }
+    }
+}
+
 /// An entry of a history, lent.
 #[derive(Drop)]
 pub struct EntryView<'a> {
@@ -283,7 +326,7 @@ pub struct Sent<'a> {
 
 impl<'a> Model for Sent<'a> {
     ghost use Rattle.std.specs.Prelude.{◌≤◌, List, length};
-    ghost use Rattle.trace_check.specs.Kept.{part};
+    ghost use Rattle.trace_check.specs.Kept.{kept_deed, part, payload_in};
     ghost use Rattle.wire_msg.specs.Envelope.{Envelope};
 
     ghost Value = { List Envelope };

@@ -50,6 +50,7 @@ pub(crate) struct EntryRoom {
 }
 
 impl EntryRoom {
+    /// Room in which nothing was read yet. What stands in it is written anew before it is looked at, so no clause says what it is.
     pub(crate) fn new() -> EntryRoom {
         EntryRoom {
             message: Message::blank(),
