@@ -150,17 +150,11 @@ fn push_line(text: &mut Vec<u8>, stand: &Stand) -> Result<(), AllocError>
 fn push_form(text: &mut Vec<u8>, phase: Phase) -> Result<(), AllocError>
     ensures { OnOk result (text.new.items ≡ text.old.items ++ form phase) }
 {
-    push_text(text, form(phase))
-}
-
-fn form(phase: Phase) -> &'static str
-    ensures { result.now ≡ form phase }
-{
     match phase {
-        Phase::Down => "down",
-        Phase::Election => "election",
-        Phase::Reorganization => "reorganization",
-        Phase::Normal => "normal",
+        Phase::Down => push_text(text, "down"),
+        Phase::Election => push_text(text, "election"),
+        Phase::Reorganization => push_text(text, "reorganization"),
+        Phase::Normal => push_text(text, "normal"),
     }
 }
 

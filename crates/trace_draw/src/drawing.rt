@@ -9,12 +9,12 @@ use crate::judging::bad_printout;
 use crate::paging::page;
 use crate::reporting::report;
 use crate::svg::picture;
-use crate::turn::Plot;
+use crate::turn::Drawing;
 use crate::turns::plot;
 use console_text::{CommandError, Ended, IoTrouble, Output, Source, print_explained, read_source};
 use std::alloc::{AllocError, Global};
 use std::io::{Read, Write};
-use trace_check::{Examined, Leftover, Order, Trace, Verdict, examine, is_order};
+use trace_check::{Examined, Order, Trace, Verdict, examine, is_order};
 use trace_text::{TraceFault, read, read_order};
 
 /// As what a run is drawn.
@@ -108,7 +108,12 @@ fn draw_recorded(
     ensures why { IfOk result (λ explained. IsReport trace.now explained.why.items) }
 {
     let plot = plot(alloc, trace, order, true)?;
-    let text = drawn_as(alloc, form, trace, &plot, &[])?;
+    let drawing = Drawing {
+        trace,
+        plot: &plot,
+        left: &[],
+    };
+    let text = drawn_as(alloc, form, &drawing)?;
     let printout = Output { text, good: true };
     Ok(printout.without_why(alloc))
 }
@@ -128,7 +133,12 @@ fn draw_taken(alloc: Global, form: Form, trace: &Trace) -> Result<CommandError, 
         messages: Vec::new(alloc),
     };
     let plot = plot(alloc, trace, &order, false)?;
-    let text = drawn_as(alloc, form, trace, &plot, &left)?;
+    let drawing = Drawing {
+        trace,
+        plot: &plot,
+        left: &left,
+    };
+    let text = drawn_as(alloc, form, &drawing)?;
     let why = report(alloc, trace, &left)?;
     let good = is_run(&verdict);
     Ok(CommandError {
@@ -148,17 +158,11 @@ fn is_run(verdict: &Verdict) -> bool
 }
 
 /// The picture or the page.
-fn drawn_as(
-    alloc: Global,
-    form: Form,
-    trace: &Trace,
-    plot: &Plot,
-    left: &[Leftover],
-) -> Result<Vec<u8>, AllocError>
-    ensures { IfOk result (λ text. text.items ≡ drawn_as form trace.now plot.now left.now) }
+fn drawn_as(alloc: Global, form: Form, drawing: &Drawing<'_>) -> Result<Vec<u8>, AllocError>
+    ensures { IfOk result (λ text. text.items ≡ drawn_as form drawing.now.trace.now drawing.now.plot.now drawing.now.left.now) }
 {
     match form {
-        Form::Picture => picture(alloc, trace, plot, left),
-        Form::Page => page(alloc, trace, plot, left),
+        Form::Picture => picture(alloc, drawing),
+        Form::Page => page(alloc, drawing),
     }
 }

@@ -32,5 +32,5 @@ pub use files::{TraceFile, trace_files};
 pub use judging::{Stage, trace};
 pub use paging::page;
 pub use svg::picture;
-pub use turn::{Plot, Point, Source, Stand, Stay, Turn};
+pub use turn::{Drawing, Plot, Point, Source, Stand, Stay, Turn};
 pub use turns::plot;

@@ -11,7 +11,7 @@ use crate::script::{HEAD, LIST, SCRIPT, TOOLS};
 use crate::signs::look;
 use crate::style::{LEGEND, STYLE};
 use crate::svg::push_order;
-use crate::turn::{Plot, Source, Stand, Stay, Turn};
+use crate::turn::{Drawing, Plot, Source, Stand, Stay, Turn};
 use console_text::{push_number, push_text};
 use node_words::{phase_word, push_group, push_ids};
 use std::alloc::{AllocError, Global};
@@ -19,17 +19,13 @@ use trace_check::{Leftover, Trace, TraceAction};
 use trace_text::deed_name;
 
 /// The page of a run, which needs nothing else to be looked at: it moves, zooms, and tells of each entry.
-pub fn page(
-    alloc: Global,
-    trace: &Trace,
-    plot: &Plot,
-    left: &[Leftover],
-) -> Result<Vec<u8>, AllocError>
+pub fn page(alloc: Global, drawing: &Drawing<'_>) -> Result<Vec<u8>, AllocError>
     // Promise: A page has what a picture has of each turn, of each stay and of each entry that is left, and the messages in hex digits;
     // it needs no other file.
     // Refuses: page_without_its_stays, page_names_another_sender, page_without_what_is_left.
-    ensures { IfOk result (λ text. text.items ≡ page_text trace.now plot.now left.now) }
+    ensures { IfOk result (λ text. text.items ≡ page_text drawing.now.trace.now drawing.now.plot.now drawing.now.left.now) }
 {
+    let Drawing { trace, plot, left } = *drawing;
     let mut text = Vec::new(alloc);
     push_top(&mut text, plot.recorded)?;
     push_left_items(alloc, &mut text, trace, left)?;

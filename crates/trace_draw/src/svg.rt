@@ -8,7 +8,7 @@ use crate::bands::push_stays;
 use crate::places::{are_few, push_height, push_width, push_width_left};
 use crate::signs::{push_again, push_arrow, push_left, push_mark, push_name};
 use crate::style::{LEFT, LEGEND, POSSIBLE, RECORDED, STYLE};
-use crate::turn::{Plot, Turn};
+use crate::turn::{Drawing, Turn};
 use console_text::push_text;
 use group_task::NodeId;
 use std::alloc::{AllocError, Global};
@@ -17,23 +17,19 @@ use trace_check::{Leftover, Trace};
 /// The picture of a run. Time goes from left to right, by turns, and each node has a row: how it stands is a band in the colour of its
 /// group with a line whose form is its phase; each turn is a mark on it, with an arrow to it from the turn that sent what it was brought.
 /// Entries that are left stand behind the last turn.
-pub fn picture(
-    alloc: Global,
-    trace: &Trace,
-    plot: &Plot,
-    left: &[Leftover],
-) -> Result<Vec<u8>, AllocError>
+pub fn picture(alloc: Global, drawing: &Drawing<'_>) -> Result<Vec<u8>, AllocError>
     // Promise: A picture has a band for each stay of a node that is up, in the colour of its group, and on it a line whose form is its
     // phase; a mark for each turn; an arrow to each turn that was brought a message, from the turn that sent it, and said so where that
     // isn't sure; a stub where messages came to none; and each entry that is left, with its reason. It says which order it shows.
     // Refuses: arrows_in_place_of_marks, arrow_begins_at_its_end, election_drawn_as_normal, unsure_arrow_drawn_as_sure,
     // untaken_messages_not_drawn, another_order_said, one_reason_for_all.
-    ensures { IfOk result (λ text. text.items ≡ picture trace.now plot.now left.now) }
+    ensures { IfOk result (λ text. text.items ≡ picture drawing.now.trace.now drawing.now.plot.now drawing.now.left.now) }
 {
+    let Drawing { trace, plot, left } = *drawing;
     let mut text = Vec::new(alloc);
     push_frame(&mut text, trace.nodes(), plot.turns.len(), left)?;
     push_legend(&mut text, plot.recorded, left)?;
-    push_drawn(alloc, &mut text, trace, plot, left)?;
+    push_drawn(alloc, &mut text, drawing)?;
     push_text(&mut text, "</svg>\n")?;
     Ok(text)
 }
@@ -89,15 +85,10 @@ fn push_left_said(text: &mut Vec<u8>, left: &[Leftover]) -> Result<(), AllocErro
 }
 
 #[tactic(auto, unfolding(crate::specs::Picture::drawn))]
-fn push_drawn(
-    alloc: Global,
-    text: &mut Vec<u8>,
-    trace: &Trace,
-    plot: &Plot,
-    left: &[Leftover],
-) -> Result<(), AllocError>
-    ensures { OnOk result (text.new.items ≡ text.old.items ++ drawn trace.now plot.now left.now) }
+fn push_drawn(alloc: Global, text: &mut Vec<u8>, drawing: &Drawing<'_>) -> Result<(), AllocError>
+    ensures { OnOk result (text.new.items ≡ text.old.items ++ drawn drawing.now.trace.now drawing.now.plot.now drawing.now.left.now) }
 {
+    let Drawing { trace, plot, left } = *drawing;
     let turns = plot.turns.len();
     push_stays(text, &plot.stays)?;
     push_names(text, trace.nodes(), turns)?;

@@ -1,6 +1,6 @@
 use group_task::{GroupNo, Members, NodeId};
 use node_core::Phase;
-use trace_check::TraceAction;
+use trace_check::{Leftover, Trace, TraceAction};
 
 /// Where an entry stands in the picture: at which turn, counted from 0, and at which node.
 #[derive(Clone, Copy, Debug, PartialEq, Eq)]
@@ -62,4 +62,12 @@ pub struct Plot {
     pub stays: Vec<Stay>,
     /// Whether the turns are in the order that was recorded; else in one in which they can have come.
     pub recorded: bool,
+}
+
+/// A run as it is put into a picture or a page, with the entries that are left of it.
+#[derive(Clone, Copy)]
+pub struct Drawing<'a> {
+    pub trace: &'a Trace,
+    pub plot: &'a Plot,
+    pub left: &'a [Leftover],
 }
