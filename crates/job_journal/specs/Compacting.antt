@@ -7,6 +7,8 @@ use Rattle.job_model.specs.declared.command.Command.{Command}
 use Rattle.job_model.specs.declared.record.Record.{Record}
 use Rattle.job_model.specs.declared.record.Record.TheVariants.{Base, Keep}
 use Rattle.job_model.specs.Records.{record_of, bytes_of}
+use Rattle.job_model.specs.Table.{Table}
+use Rattle.job_journal.specs.declared.extent.Extent.{Extent}
 use Rattle.job_journal.specs.Jobs.{Jobs, jobs_of, with_jobs, jobs_after, id_of}
 use Rattle.job_journal.specs.Appending.{is_last, appended, record_for}
 use Rattle.job_journal.specs.Areas.{first_of}
@@ -62,6 +64,10 @@ pub record IsWritten (first slots : ℕ) (records : List Record) (fills seals : 
   pub bytes : (k : ℕ) → k < fills → Some (sector_at image (first + 2 * k)) ≡ slice_get (map bytes_of records) k
   pub sealed : (k : ℕ) → k < seals → slot_at image (first + 2 * k) ≡ Some (sector_at image (first + 2 * k))
   pub free : (k : ℕ) → seals ≤ k → k < slots → slot_at image (first + 2 * k) ≡ None
+
+-- an area that is being written with the jobs of a table
+abbrev pub IsWrittenFor : Extent → Table → ℕ → ℕ → Image → Type 0
+IsWrittenFor area table fills seals image = IsWritten area.first area.slots (records_for (jobs_of table)) fills seals image
 
 -- the other area, in which a compaction writes
 abbrev pub other_sector : JournalState → ℕ

@@ -3,10 +3,11 @@ ghost use Rattle.std.specs.Prelude.{◌≡◌, ◌<◌, ◌≤◌, ◌+◌, ◌*
 ghost use Rattle.sector_disk.specs.Disk.{AllSynced};
 ghost use Rattle.slot_gate.specs.Slot.{slot_at, InSlots};
 ghost use Rattle.slot_gate.specs.Writing.{CallWrites};
-ghost use Rattle.job_journal.specs.Compacting.{records_for, IsWritten};
+ghost use Rattle.job_journal.specs.Compacting.{records_for, IsWrittenFor};
 ghost use Rattle.job_journal.specs.Jobs.{jobs_of};
 ghost use Rattle.job_model.specs.Order.{IsInOrder};
 
+use crate::extent::Extent;
 use job_model::{JobTable, Record};
 use sector_disk::{DiskFault, SectorDisk};
 use slot_gate::{fill, seal, unseal};
@@ -15,34 +16,30 @@ use slot_gate::{fill, seal, unseal};
 // record. Only the last of them leaves an area that reads as the jobs.
 pub(crate) fn write_area<D: SectorDisk>(
     disk: &mut D,
-    first: u64,
-    slots: u64,
+    area: Extent,
     table: &JobTable,
 ) -> Result<(), DiskFault>
-    requires on_disk { first + 2 * slots ≤ (D.state disk.old).sectors }
-    requires fits { first + 2 * slots < 2 ^ 64 }
-    requires room { length table.now.pending + 2 ≤ slots }
-    ensures writes { CallWrites (InSlots first slots) D.state disk.old disk.new DiskFault.Device result }
+    requires on_disk { area.first + 2 * area.slots ≤ (D.state disk.old).sectors }
+    requires room { length table.now.pending + 2 ≤ area.slots }
+    ensures writes { CallWrites (InSlots area.first area.slots) D.state disk.old disk.new DiskFault.Device result }
     ensures written { IsTrue (D.state disk.old).honest → IsOk result
-        → IsWritten first slots (records_for (jobs_of table.now)) (length table.now.pending + 1)
-        (length table.now.pending + 1) (D.state disk.new).contents }
+        → IsWrittenFor area table.now (length table.now.pending + 1) (length table.now.pending + 1) (D.state disk.new).contents }
     ensures synced { IsTrue (D.state disk.old).honest → IsOk result
         → AllSynced (D.state disk.new) }
 {
-    erase(disk, first, slots)?;
-    write_records(disk, first, slots, table)
+    erase(disk, area)?;
+    write_records(disk, area, table)
 }
 
 // Unseals so many slots from this sector on, each by itself.
-fn erase<D: SectorDisk>(disk: &mut D, first: u64, slots: u64) -> Result<(), DiskFault>
-    requires on_disk { first + 2 * slots ≤ (D.state disk.old).sectors }
-    requires fits { first + 2 * slots < 2 ^ 64 }
-    ensures writes { CallWrites (InSlots first slots) D.state disk.old disk.new DiskFault.Device result }
+fn erase<D: SectorDisk>(disk: &mut D, area: Extent) -> Result<(), DiskFault>
+    requires on_disk { area.first + 2 * area.slots ≤ (D.state disk.old).sectors }
+    ensures writes { CallWrites (InSlots area.first area.slots) D.state disk.old disk.new DiskFault.Device result }
     ensures unsealed { IsTrue (D.state disk.old).honest → IsOk result
-        → (k : ℕ) → k < slots → slot_at (D.state disk.new).contents (first + 2 * k) ≡ None }
+        → (k : ℕ) → k < area.slots → slot_at (D.state disk.new).contents (area.first + 2 * k) ≡ None }
 {
-    for erased in 0..slots {
-        unseal(disk, first + 2 * erased)?;
+    for erased in 0..area.slots {
+        unseal(disk, area.first + 2 * erased)?;
     }
     Ok(())
 }
@@ -50,42 +47,30 @@ fn erase<D: SectorDisk>(disk: &mut D, first: u64, slots: u64) -> Result<(), Disk
 // Writes the records of the jobs into an area of which no slot is sealed: their bodies first, and then the seals.
 pub(crate) fn write_records<D: SectorDisk>(
     disk: &mut D,
-    first: u64,
-    slots: u64,
+    area: Extent,
     table: &JobTable,
 ) -> Result<(), DiskFault>
-    requires on_disk { first + 2 * slots ≤ (D.state disk.old).sectors }
-    requires fits { first + 2 * slots < 2 ^ 64 }
-    requires room { length table.now.pending + 2 ≤ slots }
-    ensures writes { CallWrites (InSlots first slots) D.state disk.old disk.new DiskFault.Device result }
-    ensures written { IsTrue (D.state disk.old).honest → IsOk result
-        → IsWritten first slots (records_for (jobs_of table.now)) 0 0 (D.state disk.old).contents
-        → IsWritten first slots (records_for (jobs_of table.now)) (length table.now.pending + 1)
-        (length table.now.pending + 1) (D.state disk.new).contents }
+    requires on_disk { area.first + 2 * area.slots ≤ (D.state disk.old).sectors }
+    requires room { length table.now.pending + 2 ≤ area.slots }
+    ensures writes { CallWrites (InSlots area.first area.slots) D.state disk.old disk.new DiskFault.Device result }
+    ensures written { IsTrue (D.state disk.old).honest → IsOk result → IsWrittenFor area table.now 0 0 (D.state disk.old).contents
+        → IsWrittenFor area table.now (length table.now.pending + 1) (length table.now.pending + 1) (D.state disk.new).contents }
     ensures synced { IsTrue (D.state disk.old).honest → IsOk result
         → AllSynced (D.state disk.new) }
     ensures in_order { IsOk result → IsInOrder table.now.pending table.now.next }
 {
-    fill_area(disk, first, slots, table)?;
-    seal_area(disk, first, slots, table)
+    fill_area(disk, area, table)?;
+    seal_area(disk, area, table)
 }
 
 // Fills the records of the jobs into slots that are unsealed.
 #[tactic(auto, using(crate::proofs::Changes::writing_start))]
-fn fill_area<D: SectorDisk>(
-    disk: &mut D,
-    first: u64,
-    slots: u64,
-    table: &JobTable,
-) -> Result<(), DiskFault>
-    requires on_disk { first + 2 * slots ≤ (D.state disk.old).sectors }
-    requires fits { first + 2 * slots < 2 ^ 64 }
-    requires room { length table.now.pending + 2 ≤ slots }
-    ensures writes { CallWrites (InSlots first slots) D.state disk.old disk.new DiskFault.Device result }
-    ensures filled { IsTrue (D.state disk.old).honest → IsOk result
-        → IsWritten first slots (records_for (jobs_of table.now)) 0 0 (D.state disk.old).contents
-        → IsWritten first slots (records_for (jobs_of table.now)) (length table.now.pending + 1)
-        0 (D.state disk.new).contents }
+fn fill_area<D: SectorDisk>(disk: &mut D, area: Extent, table: &JobTable) -> Result<(), DiskFault>
+    requires on_disk { area.first + 2 * area.slots ≤ (D.state disk.old).sectors }
+    requires room { length table.now.pending + 2 ≤ area.slots }
+    ensures writes { CallWrites (InSlots area.first area.slots) D.state disk.old disk.new DiskFault.Device result }
+    ensures filled { IsTrue (D.state disk.old).honest → IsOk result → IsWrittenFor area table.now 0 0 (D.state disk.old).contents
+        → IsWrittenFor area table.now (length table.now.pending + 1) 0 (D.state disk.new).contents }
     // Promise: The bodies of the other area are synced before a gate is sealed over them.
     // Also: seal_area.
     // Refuses: sync_skipped_before_the_seal.
@@ -94,35 +79,27 @@ fn fill_area<D: SectorDisk>(
 {
     for filled in 0..record_count(table) {
         let body = record_at(table, filled).to_sector();
-        fill(disk, first + 2 * filled, &body)?;
+        fill(disk, area.first + 2 * filled, &body)?;
     }
     Ok(())
 }
 
 // Seals the slots that were filled, over bodies that are synced.
 #[tactic(auto, using(crate::proofs::Changes::writing_start))]
-fn seal_area<D: SectorDisk>(
-    disk: &mut D,
-    first: u64,
-    slots: u64,
-    table: &JobTable,
-) -> Result<(), DiskFault>
-    requires on_disk { first + 2 * slots ≤ (D.state disk.old).sectors }
-    requires fits { first + 2 * slots < 2 ^ 64 }
-    requires room { length table.now.pending + 2 ≤ slots }
+fn seal_area<D: SectorDisk>(disk: &mut D, area: Extent, table: &JobTable) -> Result<(), DiskFault>
+    requires on_disk { area.first + 2 * area.slots ≤ (D.state disk.old).sectors }
+    requires room { length table.now.pending + 2 ≤ area.slots }
     requires synced { IsTrue (D.state disk.old).honest → AllSynced (D.state disk.old) }
-    ensures writes { CallWrites (InSlots first slots) D.state disk.old disk.new DiskFault.Device result }
+    ensures writes { CallWrites (InSlots area.first area.slots) D.state disk.old disk.new DiskFault.Device result }
     ensures sealed { IsTrue (D.state disk.old).honest → IsOk result
-        → IsWritten first slots (records_for (jobs_of table.now)) (length table.now.pending + 1)
-        0 (D.state disk.old).contents
-        → IsWritten first slots (records_for (jobs_of table.now)) (length table.now.pending + 1)
-        (length table.now.pending + 1) (D.state disk.new).contents }
+        → IsWrittenFor area table.now (length table.now.pending + 1) 0 (D.state disk.old).contents
+        → IsWrittenFor area table.now (length table.now.pending + 1) (length table.now.pending + 1) (D.state disk.new).contents }
     ensures synced { IsTrue (D.state disk.old).honest → IsOk result
         → AllSynced (D.state disk.new) }
     ensures in_order { IsInOrder table.now.pending table.now.next }
 {
     for sealed in 0..record_count(table) {
-        seal(disk, first + 2 * sealed)?;
+        seal(disk, area.first + 2 * sealed)?;
     }
     Ok(())
 }

@@ -8,6 +8,7 @@ ghost use Rattle.job_journal.specs.Jobs.{jobs_of};
 ghost use Rattle.job_journal.specs.Journal.{jobs_in, IsSound, InJournal};
 
 use crate::area::write_records;
+use crate::extent::Extent;
 use crate::fault::JournalFault;
 use job_model::JobTable;
 use sector_disk::SectorDisk;
@@ -32,6 +33,6 @@ pub fn begin<D: SectorDisk>(disk: &mut D, slots: u64, table: &JobTable) -> Resul
     ensures synced { IsTrue (D.state disk.old).honest → IsOk result → AllSynced (D.state disk.new) }
 {
     unseal_all(disk, 8, 2 * slots).or(Err(JournalFault::Device))?;
-    write_records(disk, 8, slots, table).or(Err(JournalFault::Device))?;
+    write_records(disk, Extent { first: 8, slots }, table).or(Err(JournalFault::Device))?;
     safe_cell::format(disk, 4, 1).or(Err(JournalFault::Device))
 }

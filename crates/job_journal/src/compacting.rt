@@ -13,6 +13,7 @@ ghost use Rattle.job_journal.specs.Journal.{jobs_in, ImagesSince, InJournal, IsN
 ghost use Rattle.job_journal.specs.Mounted.{AllHold, Lasts, IsJournal};
 
 use crate::area::{record_count, write_area};
+use crate::extent::Extent;
 use crate::fault::JournalFault;
 use crate::journal::{JobJournal, first_under};
 use safe_cell::SafeCell;
@@ -74,8 +75,11 @@ impl JobJournal {
             return Err(fault);
         }
         let records = record_count(&self.table);
-        let other = other_sector(self.slots, &self.area);
-        let Ok(()) = write_area(disk, other, self.slots, &self.table) else {
+        let other = Extent {
+            first: other_sector(self.slots, &self.area),
+            slots: self.slots,
+        };
+        let Ok(()) = write_area(disk, other, &self.table) else {
             self.broken = true;
             return Err(JournalFault::Device);
         };

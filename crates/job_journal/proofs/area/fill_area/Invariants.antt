@@ -4,5 +4,5 @@ use Rattle.job_journal.proofs.area.fill_area.Given as goal
 
 abbrev pub invariant-loop-filled : goal.invariant-loop-filled
 invariant-loop-filled g l =
-    Writing l.fn.first l.fn.slots (λ k c. IsWritten l.fn.first l.fn.slots (records_for (jobs_of l.fn.table)) k 0 c)
+    Writing l.fn.area.first l.fn.area.slots (λ k c. IsWritten l.fn.area.first l.fn.area.slots (records_for (jobs_of l.fn.table)) k 0 c)
     (g.D.SectorDisk.state l.fn.disk) (g.D.SectorDisk.state l.disk) l.filled
