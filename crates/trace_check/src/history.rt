@@ -9,7 +9,7 @@ ghost use Rattle.trace_check.specs.Given.{FitsGiven, deed_given, sent_given};
 ghost use Rattle.trace_check.specs.Traces.{claim, claim_seen};
 ghost use Rattle.trace_check.specs.Views.{Stands, claim_kept};
 
-use crate::kept::{PackedAction, PackedEntry, brought_at, deed_said, keep_deed, keep_lent_deed};
+use crate::kept::{PackedAction, PackedEntry, brought_at, deed_said, keep_event, keep_lent_event};
 use crate::lent_action::ActionRef;
 use crate::stored::{StoredEntry, stored_deed};
 use crate::trace::TraceAction;
@@ -250,8 +250,30 @@ impl<'a> Given<'a> {
         ensures few { length (payload_in (deed_given self.now)) ≤ PAYLOAD_CAPACITY }
     {
         match self {
-            Given::Made(deed, _) => keep_deed(messages, payloads, deed),
-            Given::Lent(deed, _) => keep_lent_deed(messages, payloads, deed),
+            Given::Made(deed, _) => match deed {
+                TraceAction::Nothing => PackedAction::Nothing,
+                TraceAction::Done(event) => {
+                    PackedAction::Done(keep_event(messages, payloads, event))
+                }
+                TraceAction::Faulted(event) => {
+                    PackedAction::Faulted(keep_event(messages, payloads, event))
+                }
+                TraceAction::Crashed => PackedAction::Crashed,
+                TraceAction::Recovered(kept) => PackedAction::Recovered(*kept),
+                TraceAction::NotRecovered(kept, fault) => PackedAction::NotRecovered(*kept, *fault),
+            },
+            Given::Lent(deed, _) => match deed {
+                ActionRef::Nothing => PackedAction::Nothing,
+                ActionRef::Done(event) => {
+                    PackedAction::Done(keep_lent_event(messages, payloads, event))
+                }
+                ActionRef::Faulted(event) => {
+                    PackedAction::Faulted(keep_lent_event(messages, payloads, event))
+                }
+                ActionRef::Crashed => PackedAction::Crashed,
+                ActionRef::Recovered(kept) => PackedAction::Recovered(*kept),
+                ActionRef::NotRecovered(kept, fault) => PackedAction::NotRecovered(*kept, *fault),
+            },
         }
     }
 

@@ -5,11 +5,10 @@ ghost use Rattle.std.specs.Prelude.{◌≡◌, ◌≤◌, ◌<◌, ◌+◌, ◌+
 ghost use Rattle.job_model.specs.declared.payload.TheConstants.{PAYLOAD_CAPACITY};
 ghost use Rattle.node_core.specs.declared.event.Event.TheVariants as on;
 ghost use Rattle.histories.specs.HistoryEvent.{brought};
-ghost use Rattle.trace_check.specs.Claims.{brought_by};
-ghost use Rattle.trace_check.specs.LentActions.{FitsEvent, FitsPayload, action_lent, event_lent};
-ghost use Rattle.trace_check.specs.Kept.{kept_event, kept_deed, payload_of, payload_in, event_said, deed_said, delivered_at, brought_at, EventStands, DeedStands};
+ghost use Rattle.trace_check.specs.LentActions.{FitsEvent, event_lent};
+ghost use Rattle.trace_check.specs.Kept.{kept_event, payload_of, event_said, deed_said, delivered_at, brought_at, EventStands, DeedStands};
 
-use crate::lent_action::{ActionRef, EventRef};
+use crate::lent_action::EventRef;
 use crate::trace::{RecoverFault, TraceAction};
 use group_task::NodeId;
 use job_model::{PAYLOAD_CAPACITY, Payload, Queue, Work};
@@ -47,56 +46,6 @@ pub struct PackedEntry {
     pub end: usize,
 }
 
-/// Keeps what was done, in the room that is there.
-pub fn keep_deed(
-    messages: &mut MessageList,
-    payloads: &mut Vec<u8>,
-    deed: &TraceAction,
-) -> PackedAction
-    requires room { 1 ≤ messages.old.room }
-    requires bytes { vec_len payloads.old + PAYLOAD_CAPACITY ≤ vec_capacity payloads.old }
-    ensures value { result ≡ kept_deed (length messages.old.messages) (length payloads.old.items) deed.now }
-    ensures messages { messages.new.messages ≡ messages.old.messages ++ brought_by deed.now }
-    ensures left { messages.old.room ≤ messages.new.room + 1 }
-    ensures payloads { payloads.new.items ≡ payloads.old.items ++ payload_in deed.now }
-    ensures few { length (payload_in deed.now) ≤ PAYLOAD_CAPACITY }
-{
-    match deed {
-        TraceAction::Nothing => PackedAction::Nothing,
-        TraceAction::Done(event) => PackedAction::Done(keep_event(messages, payloads, event)),
-        TraceAction::Faulted(event) => PackedAction::Faulted(keep_event(messages, payloads, event)),
-        TraceAction::Crashed => PackedAction::Crashed,
-        TraceAction::Recovered(kept) => PackedAction::Recovered(*kept),
-        TraceAction::NotRecovered(kept, fault) => PackedAction::NotRecovered(*kept, *fault),
-    }
-}
-
-/// The same for what was done as it is lent.
-pub fn keep_lent_deed(
-    messages: &mut MessageList,
-    payloads: &mut Vec<u8>,
-    deed: &ActionRef<'_>,
-) -> PackedAction
-    requires room { 1 ≤ messages.old.room }
-    requires bytes { vec_len payloads.old + PAYLOAD_CAPACITY ≤ vec_capacity payloads.old }
-    requires fits { FitsPayload deed.now }
-    ensures value { result ≡ kept_deed (length messages.old.messages) (length payloads.old.items) (action_lent deed.now) }
-    ensures messages { messages.new.messages ≡ messages.old.messages ++ brought_by (action_lent deed.now) }
-    ensures left { messages.old.room ≤ messages.new.room + 1 }
-    ensures payloads { payloads.new.items ≡ payloads.old.items ++ payload_in (action_lent deed.now) }
-{
-    match deed {
-        ActionRef::Nothing => PackedAction::Nothing,
-        ActionRef::Done(event) => PackedAction::Done(keep_lent_event(messages, payloads, event)),
-        ActionRef::Faulted(event) => PackedAction::Faulted(keep_lent_event(
-            messages, payloads, event,
-        )),
-        ActionRef::Crashed => PackedAction::Crashed,
-        ActionRef::Recovered(kept) => PackedAction::Recovered(*kept),
-        ActionRef::NotRecovered(kept, fault) => PackedAction::NotRecovered(*kept, *fault),
-    }
-}
-
 /// Keeps an event, in the room that is there.
 pub fn keep_event(messages: &mut MessageList, payloads: &mut Vec<u8>, event: &Event) -> PackedEvent
     requires room { 1 ≤ messages.old.room }
@@ -120,7 +69,7 @@ pub fn keep_event(messages: &mut MessageList, payloads: &mut Vec<u8>, event: &Ev
 }
 
 /// The same for an event that is lent.
-fn keep_lent_event(
+pub fn keep_lent_event(
     messages: &mut MessageList,
     payloads: &mut Vec<u8>,
     event: &EventRef<'_>,
