@@ -41,7 +41,8 @@ takes_memory self (on.Timer timer.Coord) s = follows self s && not s.probing
 takes_memory self (on.Timer timer.Dispatch) s = in_phase Normal s.phase
 takes_memory self (on.Deliver m) s = delivered_takes self m.sender m.body s
 takes_memory self on.Recover s = false
-takes_memory self event s = true
+takes_memory self (on.Submit work) s = true
+takes_memory self (on.Finish origin job) s = not (origin == self)
 
 -- where the row takes no memory, it is planned, and its plan needs no room in the hand
 abbrev pub Spares : {E : Type 0} → Bool → Result Plan E → Type 0

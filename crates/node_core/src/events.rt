@@ -44,7 +44,9 @@ pub fn plan_event<'a>(
     ensures spares { SparesMemory (takes_memory node_view.now.id event.now (state_at node_view.now)) result }
 {
     match event {
-        Event::Timer(timer) => Ok(plan_timer(alloc, room, node_view, *timer, table)?),
+        Event::Timer(timer) => {
+            plan_timer(alloc, room, node_view, *timer, table).map_err(|_| CoreFault::NoMemory)
+        }
         Event::Recover => Ok(operator::recovery(room, node_view)),
         Event::Deliver(message) => plan_delivery(alloc, room, node_view, message, table),
         Event::Submit(work) => {
@@ -57,7 +59,7 @@ pub fn plan_event<'a>(
             if !group_state.coordinator.is(node_view.id) {
                 return Err(CoreFault::NotCoordinator(group_state.coordinator));
             }
-            Ok(operator::submit(room, node_view, work)?)
+            operator::submit(room, node_view, work).map_err(|_| CoreFault::NoMemory)
         }
         Event::Finish(origin, job) => {
             if matches!(node_view.vector.group_state.phase, Phase::Down) {
@@ -66,7 +68,7 @@ pub fn plan_event<'a>(
             if !node_view.vector.hand.contains(*origin, *job) {
                 return Err(CoreFault::UnknownJob);
             }
-            Ok(operator::finish(room, node_view, *origin, *job, table)?)
+            operator::finish(room, node_view, *origin, *job, table).map_err(|_| CoreFault::NoMemory)
         }
     }
 }
@@ -118,8 +120,9 @@ pub fn plan_delivery(
     if !is_known(node_view, message) {
         return Err(CoreFault::Stranger);
     }
-    let from = message.sender();
-    Ok(plan_message(alloc, room, node_view, from, message.body(), table)?)
+    let (from, body) = (message.sender(), message.body());
+    let planned = plan_message(alloc, room, node_view, from, body, table);
+    planned.map_err(|_| CoreFault::NoMemory)
 }
 
 /// What a message makes of a node, by what it says.

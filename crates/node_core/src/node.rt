@@ -7,13 +7,11 @@ ghost use Rattle.node_core.specs.declared.event.Event.TheVariants.{Deliver};
 ghost use Rattle.node_core.specs.State.{state_of};
 ghost use Rattle.node_core.specs.NodeView.{state_at};
 ghost use Rattle.node_core.specs.Effects.{effect_of};
-ghost use Rattle.node_core.specs.Refusals.{refusal_of};
 ghost use Rattle.node_core.specs.Planned.{gain_of, plan_wants};
 ghost use Rattle.node_core.specs.Start.{alone, down};
 ghost use Rattle.node_core.specs.Most.{most_of};
-ghost use Rattle.node_core.specs.Memory.{takes_memory};
 ghost use Rattle.node_core.specs.Wait.{IsGreatest, IsMergeWait};
-ghost use Rattle.node_core.specs.Core.{IsPlanFor, CanCarry};
+ghost use Rattle.node_core.specs.Core.{IsPlanFor, IsPlanned, CanCarry};
 
 use crate::commit::{apply, invite_each, place, recover, regroup};
 use crate::event::Event;
@@ -26,7 +24,7 @@ use crate::state_update::take_note;
 use crate::vector::Vector;
 use group_task::{GroupNo, Members, NodeId};
 use job_model::JobTable;
-use std::alloc::{AllocError, Global};
+use std::alloc::Global;
 use std::marker::Model;
 use wire_msg::Message;
 
@@ -161,30 +159,22 @@ impl NodeCore {
         table: &JobTable,
     ) -> Result<Plan<'a>, CoreFault>
         // Promise: Planning changes nothing but room; a refused plan changes nothing at all.
-        // Also: unchanged, NodeCore::plan_in.
+        // Also: NodeCore::plan_in.
         // Refuses: room_for_fewer.
-        ensures kept { self.new ≡ record self.old { room = self.new.room } }
         // Promise: A plan is that of the event: its command, its effect for every answer, its number of messages, and all memory
         // that its commit needs.
         // Also: NodeCore::plan_in.
         // Refuses: no_room_for_the_gain, room_for_half_of_the_gain, done_job_forgotten.
-        ensures plan { IfOk result (IsPlanFor self.new table.now.pending event.now) }
-        ensures done { IfOk result (λ _. refusal_of self.old.nodes self.old.id event.now self.old.state ≡ None) }
         // Promise: A planned event is refused exactly where the table says, in its order; a refusal of the table comes before want
         // of memory.
-        // Also: memory, done, NodeCore::plan_in.
+        // Also: NodeCore::plan_in.
         // Refuses: message_for_another_taken, member_outside_the_cluster, coordinator_takes_no_job.
-        ensures refused { IfSome (refusal_of self.old.nodes self.old.id event.now self.old.state)
-            (λ fault. result ≡ Err fault) }
-        ensures memory { IfErr result (λ fault. fault ≢ CoreFault.NoMemory
-            → refusal_of self.old.nodes self.old.id event.now self.old.state ≡ Some fault) }
         // Promise: Want of memory refuses only an event that takes memory by the table `takes_memory`: never ReadyTimer, Recover,
-        // Coordinator, Accept, ReadyAck, Done, a Here that says no, a probe without an answer, or an event whose guard doesn't
-        // hold.
+        // Coordinator, Accept, ReadyAck, Done, a Here that says no, a probe without an answer, the Finish of a job that the node
+        // itself keeps, or an event whose guard doesn't hold.
         // Also: NodeCore::plan_in, NodeCore::plan_delivery.
-        // Refuses: ready_timer_refused.
-        ensures spares { result ≡ Err CoreFault.NoMemory → takes_memory self.old.id event.now self.old.state ≡ true }
-        ensures unchanged { OnErr result (self.new ≡ self.old) }
+        // Refuses: ready_timer_refused, finish_of_an_own_job_refused.
+        ensures { IsPlanned self.old self.new table.now.pending event.now result }
     {
         self.plan_in(event, table, Vec::new(self.alloc))
     }
@@ -198,17 +188,9 @@ impl NodeCore {
         room: Vec<Message>,
     ) -> Result<Plan<'a>, CoreFault>
         requires { room.items ≡ [] }
-        ensures kept { self.new ≡ record self.old { room = self.new.room } }
         // Promise: A plan's messages are written into the caller's list, where it is empty.
         // Refuses: messages_of_a_timer_dropped.
-        ensures plan { IfOk result (IsPlanFor self.new table.now.pending event.now) }
-        ensures done { IfOk result (λ _. refusal_of self.old.nodes self.old.id event.now self.old.state ≡ None) }
-        ensures refused { IfSome (refusal_of self.old.nodes self.old.id event.now self.old.state)
-            (λ fault. result ≡ Err fault) }
-        ensures memory { IfErr result (λ fault. fault ≢ CoreFault.NoMemory
-            → refusal_of self.old.nodes self.old.id event.now self.old.state ≡ Some fault) }
-        ensures spares { result ≡ Err CoreFault.NoMemory → takes_memory self.old.id event.now self.old.state ≡ true }
-        ensures unchanged { OnErr result (self.new ≡ self.old) }
+        ensures { IsPlanned self.old self.new table.now.pending event.now result }
     {
         let plan = plan_event(self.alloc, room, &self.node_view(), event, table)?;
         self.make_room(&plan)?;
@@ -227,15 +209,7 @@ impl NodeCore {
         // Promise: A message that stays where it is is planned as the event that delivers it is; the caller's list, where it is
         // empty, takes the answers.
         // Refuses: strangers_alone_heard, delivery_in_the_greatest_cluster, all_to_the_first, reply_lost.
-        ensures kept { self.new ≡ record self.old { room = self.new.room } }
-        ensures plan { IfOk result (IsPlanFor self.new table.now.pending (Deliver message.now)) }
-        ensures done { IfOk result (λ _. refusal_of self.old.nodes self.old.id (Deliver message.now) self.old.state ≡ None) }
-        ensures refused { IfSome (refusal_of self.old.nodes self.old.id (Deliver message.now) self.old.state)
-            (λ fault. result ≡ Err fault) }
-        ensures memory { IfErr result (λ fault. fault ≢ CoreFault.NoMemory
-            → refusal_of self.old.nodes self.old.id (Deliver message.now) self.old.state ≡ Some fault) }
-        ensures spares { result ≡ Err CoreFault.NoMemory → takes_memory self.old.id (Deliver message.now) self.old.state ≡ true }
-        ensures unchanged { OnErr result (self.new ≡ self.old) }
+        ensures { IsPlanned self.old self.new table.now.pending (Deliver message.now) result }
     {
         let plan = plan_delivery(self.alloc, room, &self.node_view(), message, table)?;
         self.make_room(&plan)?;
@@ -256,14 +230,16 @@ impl NodeCore {
     }
 
     /// Makes room for the jobs that a plan takes in hand.
-    fn make_room(&mut self, plan: &Plan<'_>) -> Result<(), AllocError>
+    fn make_room(&mut self, plan: &Plan<'_>) -> Result<(), CoreFault>
         ensures kept { self.new ≡ record self.old { room = self.new.room } }
         ensures grown { self.old.room ≤ self.new.room }
         ensures room { OnOk result (length self.old.state.hand + gain_of plan.now.act ≤ self.new.room) }
+        ensures fault { IfErr result (λ fault. fault ≡ CoreFault.NoMemory) }
         ensures refused { OnErr result ((0 < gain_of plan.now.act) × (self.old.room < length self.old.state.hand + gain_of plan.now.act)) }
         ensures unchanged { OnErr result (self.new ≡ self.old) }
     {
-        self.vector.hand.reserve(plan.gain())
+        let hand = &mut self.vector.hand;
+        hand.reserve(plan.gain()).map_err(|_| CoreFault::NoMemory)
     }
 
     /// Carries out the plan that was made last, and answers the messages to be sent, in their order. The answer is that of

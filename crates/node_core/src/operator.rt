@@ -1,4 +1,4 @@
-ghost use Rattle.std.specs.Prelude.{◌≡◌, List, [], ◌<◌, ◌==◌, ◌&&◌, if◌then◌else◌, true, Some, None, IfOk};
+ghost use Rattle.std.specs.Prelude.{◌≡◌, List, [], ◌<◌, ◌==◌, ◌&&◌, not, if◌then◌else◌, true, Some, None, IfOk};
 ghost use Rattle.job_model.specs.declared.node_command.NodeCommand.TheVariants.{Raise, Put, Done};
 ghost use Rattle.job_model.specs.Fold.{is_pending};
 ghost use Rattle.node_core.specs.NodeView.{state_at};
@@ -11,6 +11,7 @@ ghost use Rattle.node_core.specs.Effect.{quietly};
 ghost use Rattle.node_core.specs.Start.{alone};
 ghost use Rattle.node_core.specs.Effects.{effect_of};
 ghost use Rattle.node_core.specs.Planned.{IsPlanOf, plan_sends, gain_of};
+ghost use Rattle.node_core.specs.Memory.{Spares};
 
 use crate::guards::owner_in;
 use crate::node_view::NodeView;
@@ -69,6 +70,7 @@ pub fn finish(
         (if origin == node_view.now.id && is_pending table.now.pending job then Some (Done job) else None)
         (λ answer. effect_of node_view.now.nodes node_view.now.id table.now.pending (on.Finish origin job) answer (state_at node_view.now))) }
     ensures few { IfOk result (λ plan. plan_sends node_view.now.id plan < node_view.now.nodes) }
+    ensures memory { Spares (not (origin == node_view.now.id)) result }
 {
     let mut messages = room;
     let mut done = None;
