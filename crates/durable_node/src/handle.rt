@@ -1,6 +1,6 @@
-ghost use Rattle.std.specs.Prelude.{◌≡◌, ◌≢◌, ◌≤◌, ◌↔◌, ℕ, IsTrue, IsOk, IfOk, IfErr, IfSome, IsErrOf, OnErr, Some, None, Err, length, option_map, true};
+ghost use Rattle.std.specs.Prelude.{◌≡◌, ◌≤◌, ◌↔◌, ℕ, IsTrue, IsOk, IfOk, IfErr, IsErrOf, Some, length, option_map, true};
 ghost use Rattle.node_core.specs.declared.fault.CoreFault.TheVariants.{NoMemory};
-ghost use Rattle.node_core.specs.Core.{IsPlanFor};
+ghost use Rattle.node_core.specs.Core.{IsPlanned};
 ghost use Rattle.node_core.specs.Memory.{takes_memory};
 ghost use Rattle.node_core.specs.Most.{most_of};
 ghost use Rattle.node_core.specs.NodeStep.{IsSpent};
@@ -90,14 +90,7 @@ fn planned<'a>(
     event: &'a Event,
     table: &JobTable,
 ) -> Result<Plan<'a>, CoreFault>
-    ensures kept { core.new ≡ record core.old { room = core.new.room } }
-    ensures plan { IfOk result (IsPlanFor core.new table.now.pending event.now) }
-    ensures done { IfOk result (λ _. refusal_of core.old.nodes core.old.id event.now core.old.state ≡ None) }
-    ensures refused { IfSome (refusal_of core.old.nodes core.old.id event.now core.old.state) (λ fault. result ≡ Err fault) }
-    ensures memory { IfErr result (λ fault. fault ≢ CoreFault.NoMemory
-        → refusal_of core.old.nodes core.old.id event.now core.old.state ≡ Some fault) }
-    ensures spares { result ≡ Err CoreFault.NoMemory → takes_memory core.old.id event.now core.old.state ≡ true }
-    ensures unchanged { OnErr result (core.new ≡ core.old) }
+    ensures { IsPlanned core.old core.new table.now.pending event.now result }
 {
     match event {
         Event::Deliver(message) => core.plan_delivery(message, table, Vec::new(alloc)),
