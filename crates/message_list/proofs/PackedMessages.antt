@@ -181,3 +181,21 @@ pub lent_shape : (o : Opened) → IsOpened o → (m : Envelope) → m ≡ messag
 lent_shape o h m is =
     let l = o.packed_message.now in
     sym (shape_back o.tasks.now o.works.now o.payloads.now l.kind l h.body) ∙ ap (λ (e : Envelope). shape_in e) (sym is)
+
+-- ---- a message that is added
+
+-- Where each part was added as it was made for lists of these lengths, all can be read, and this message stands last.
+pub added : (ls ls' : List PackedMessage) (t t' : List Assignment) (w w' : List PackedWork) (p p' : List ℕ) (m : Envelope) (made : PackedMessage) (shape : Shape)
+    (tasks works begins : ℕ) → tasks ≡ length t → works ≡ length w → begins ≡ length p → shape ≡ shape_in m → made ≡ letter_of tasks works m
+    → ls' ≡ ls ++ made ∷ [] → t' ≡ t ++ task_kept shape → w' ≡ w ++ work_kept begins shape → p' ≡ p ++ payload_kept shape
+    → CanBeRead (tasks + 1) (works + 1) made → length (payload_kept shape) ≤ PAYLOAD_CAPACITY → AreRead ls t w p
+    → AreRead ls' t' w' p' × (map (message_of t' w' p') ls' ≡ map (message_of t w p) ls ++ m ∷ [])
+added ls ls' t t' w w' p p' m made shape tasks works begins so_many so_many_works from is made_so letters task work payload can few read =
+    let made_here : made ≡ letter_of (length t) (length w) m = rw (← so_many, ← so_many_works) made_so in
+    let can_here : CanBeRead (length t + 1) (length w + 1) (letter_of (length t) (length w) m) = rw (← made_here, ← so_many, ← so_many_works) can in
+    let few_here : length (payload_kept (shape_in m)) ≤ PAYLOAD_CAPACITY = rw (← is) few in
+    let letters_are : ls' ≡ ls ++ letter_of (length t) (length w) m ∷ [] = rw (letters, made_here) refl in
+    let tasks_are : t' ≡ t ++ task_kept (shape_in m) = rw (task, is) refl in
+    let works_are : w' ≡ w ++ work_kept (length p) (shape_in m) = rw (work, from, is) refl in
+    let payloads_are : p' ≡ p ++ payload_kept (shape_in m) = rw (payload, is) refl in
+    rw (letters_are, tasks_are, works_are, payloads_are) (all_read_more ls t w p m read can_here few_here, messages_more ls t w p m read)
