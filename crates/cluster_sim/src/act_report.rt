@@ -3,7 +3,7 @@ use histories::{CommandKind, EventOutcome};
 use runs::Outcome;
 
 /// What came of an act, as its node told it.
-#[derive(Clone, Copy)]
+#[derive(Clone, Copy, Debug)]
 pub struct ActReport {
     pub outcome: Outcome,
     /// What came of the event that the act is, or brings. None where no event came to a node.

@@ -31,7 +31,7 @@ use std::marker::Model;
 /// A simulated cluster with a report of all that came of its acts.
 ///
 /// The report takes memory for each act: the act, what its node knows after it, and what it mounts.
-#[derive(Drop)]
+#[derive(Debug, Drop)]
 pub struct Cluster {
     alloc: Global,
     world: World,

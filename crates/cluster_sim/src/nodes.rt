@@ -29,7 +29,7 @@ use std::alloc::{AllocError, Global};
 use std::marker::Model;
 
 /// The nodes of a cluster by their ids, each over its own disk in memory, and the network between them.
-#[derive(Drop)]
+#[derive(Debug, Drop)]
 pub(crate) struct Nodes {
     pub(crate) slots: u64,
     pub(crate) nodes: Vec<DurableNode<MemDisk>>,

@@ -6,7 +6,7 @@ use runs::{AttemptAt, Outcome};
 use schedule::Act;
 
 /// What came of the acts of a cluster, from its opening on.
-#[derive(Drop)]
+#[derive(Debug, Drop)]
 pub struct Report {
     /// The vector of each node by its id, as it opened.
     pub opening: Vec<Vector>,
@@ -21,7 +21,7 @@ pub struct Report {
 }
 
 /// One act, and what came of it.
-#[derive(Drop)]
+#[derive(Debug, Drop)]
 pub struct Moment {
     pub act: Act,
     /// The node that the act names, or the receiver of the message; node 0 where that is no node of the cluster, and for an act of the
@@ -34,7 +34,7 @@ pub struct Moment {
 }
 
 /// What a node mounted.
-#[derive(Drop)]
+#[derive(Debug, Drop)]
 pub struct Mounted {
     pub node: NodeId,
     /// How many commands that node had tried before.

@@ -24,7 +24,7 @@ use trace_check::{History, Order, Trace, TraceAction};
 use wire_msg::Message;
 
 /// A run that was recorded.
-#[derive(Drop)]
+#[derive(Debug, Drop)]
 pub struct Recorded {
     pub trace: Trace,
     /// The order in which its turns came.

@@ -23,7 +23,7 @@ use std::alloc::{AllocError, Global};
 use std::marker::Model;
 
 /// The nodes of a cluster by their ids, each over its own disk in memory, and the network between them.
-#[derive(Drop)]
+#[derive(Debug, Drop)]
 pub struct World {
     nodes: Nodes,
     // Events are long: so each message that comes is read in the place of the last one, and each other event is made in that of the last.

@@ -9,7 +9,7 @@ use std::io::Write;
 use std::marker::Model;
 
 /// An output that keeps the error of the last write or flush that failed.
-#[derive(Drop)]
+#[derive(Debug, Drop)]
 pub struct Sink<W: Write> {
     writer: W,
     fault: Option<io::Error>,

@@ -13,7 +13,7 @@ use std::marker::Model;
 pub const MAX_READS: u32 = 16_777_216;
 
 /// An input of which at most so many reads are made: one that has no end gives an error then.
-#[derive(Drop)]
+#[derive(Debug, Drop)]
 pub struct Source<R: Read> {
     reader: R,
     left: u32,

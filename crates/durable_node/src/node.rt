@@ -38,7 +38,7 @@ use std::marker::Model;
 ///
 /// Where the device fails in the second step, the node is Down and nothing is sent: whether the command is on the disk is
 /// in doubt, until a recovery mounts the disk.
-#[derive(Drop)]
+#[derive(Debug, Drop)]
 pub struct DurableNode<D: SectorDisk> {
     pub(crate) setting: NodeSetting,
     pub(crate) core: NodeCore,

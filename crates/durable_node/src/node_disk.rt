@@ -9,7 +9,7 @@ use sector_disk::{MemDisk, SectorDisk};
 use std::mem;
 
 /// The disk of a node.
-#[derive(Drop)]
+#[derive(Debug, Drop)]
 pub(crate) enum NodeDisk<D: SectorDisk> {
     /// By itself: it isn't mounted.
     Bare(D),

@@ -13,7 +13,7 @@ use wire_msg::Message;
 
 /// All that came of an event, for who has the event: with it, `event_outcome` is an entry of the node's history ([`EventOutcome::what`]), and
 /// `tried` the whole command ([`CommandKind::command`]).
-#[derive(Drop)]
+#[derive(Debug, Drop)]
 pub struct StepReport {
     /// What came of the event, whether it was done, refused or met a device that failed.
     pub event_outcome: EventOutcome,

@@ -30,7 +30,7 @@ const CELL_SECTORS: u64 = 8;
 ///
 /// A write or a sync that fails makes the disk *spent*: each later call on one of its sectors, and each sync, is `Device` with no call of the
 /// system. What the system then did with data that it hadn't written out isn't known, and a later sync may answer that all is well.
-#[derive(Drop)]
+#[derive(Debug, Drop)]
 pub struct FileDisk {
     pub(crate) file: File,
     sectors: u64,

@@ -22,7 +22,7 @@ use std::mem::size_of;
 const LEFT_FREE: usize = 8;
 
 /// A job as it is kept: its payload has so many bytes, and begins at this place of all payloads.
-#[derive(Clone, Copy)]
+#[derive(Clone, Copy, Debug)]
 pub(crate) struct PackedJob {
     id: u64,
     start: usize,
@@ -39,7 +39,7 @@ const _: () = prove!(size_of::<PackedJob>() == 24);
 ///
 /// A job is taken out at the front as fast as at the end. What it leaves is used again once as much is free as the jobs take, so each
 /// job pays for at most one move. No call but [`JobList::with_room`] and [`JobList::reserve`] takes memory.
-#[derive(Drop)]
+#[derive(Debug, Drop)]
 pub struct JobList {
     // The jobs stand in these rows from `first` on; those before it are taken out.
     rows: Vec<PackedJob>,
@@ -413,7 +413,7 @@ fn is_above(rows: &[PackedJob], id: u64) -> bool
 }
 
 /// The jobs of a list, from the first on.
-#[derive(Drop)]
+#[derive(Debug, Drop)]
 pub struct KeptIter<'a> {
     rows: &'a [PackedJob],
     payloads: &'a [u8],

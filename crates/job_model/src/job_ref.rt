@@ -8,7 +8,7 @@ use crate::work::Work;
 use std::marker::Model;
 
 /// A job, lent: its payload stays where it is kept, since a `Job` takes over 400 bytes.
-#[derive(Drop)]
+#[derive(Debug, Drop)]
 pub struct JobRef<'a> {
     pub(crate) id: u64,
     pub(crate) queue: Queue,

@@ -1,7 +1,7 @@
 use crate::job_ref::JobRef;
 
 /// A job of a list, lent.
-#[derive(Drop)]
+#[derive(Debug, Drop)]
 pub struct KeptJob<'a> {
     /// The number of the node that keeps the job until it is done.
     pub origin: u8,

@@ -10,7 +10,7 @@ use std::marker::Model;
 
 /// The work of a new job. It takes 32 bytes and those of its payload, where a `Work` takes over 400: most of an operator's orders
 /// submit nothing.
-#[derive(Drop)]
+#[derive(Debug, Drop)]
 pub struct NewJob {
     queue: Queue,
     priority: u8,

@@ -8,7 +8,7 @@ use crate::job_ref::JobRef;
 use std::marker::Model;
 
 /// The pending jobs of a table, in order of id, lent.
-#[derive(Drop)]
+#[derive(Debug, Drop)]
 pub struct PendingJobs<'a> {
     pub(crate) list: &'a JobList,
 }
@@ -76,7 +76,7 @@ impl<'a> IntoIterator for PendingJobs<'a> {
 }
 
 /// The pending jobs, from the first on.
-#[derive(Drop)]
+#[derive(Debug, Drop)]
 pub struct PendingIter<'a> {
     left: KeptIter<'a>,
 }

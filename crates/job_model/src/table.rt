@@ -17,7 +17,7 @@ use std::marker::Model;
 /// Ids begin at 0 and rise by one with each job that is put, so none ever comes again, unless
 /// [`JobTable::restart`] begins anew; the greatest is 18446744073709551614. No call but [`JobTable::with_room`] and [`JobTable::reserve`]
 /// takes memory.
-#[derive(Drop)]
+#[derive(Debug, Drop)]
 pub struct JobTable {
     next: u64,
     jobs: JobList,

@@ -11,7 +11,7 @@ use message_list::MessageList;
 use thiserror::Error;
 
 /// What went through a link: all that was put and all that was taken, each in its order.
-#[derive(Drop)]
+#[derive(Debug, Drop)]
 pub struct LinkEnd {
     pub sender: NodeId,
     pub receiver: NodeId,

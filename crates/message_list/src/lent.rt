@@ -6,7 +6,7 @@ use std::hash::{Hash, Hasher};
 use std::marker::Model;
 
 /// A message of a list, lent: none is made for it. Two are equal where the messages are.
-#[derive(Drop)]
+#[derive(Debug, Drop)]
 pub struct LentMessage<'a> {
     pub(crate) list: &'a MessageList,
     pub(crate) place: usize,

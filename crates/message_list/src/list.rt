@@ -22,7 +22,7 @@ use wire_msg::Message;
 ///
 /// Each takes 16 bytes, a Ready 32 more, and a Work 48 more and the bytes of its payload: so a long list takes about what the
 /// spellings of its messages take.
-#[derive(Drop)]
+#[derive(Debug, Drop)]
 pub struct MessageList {
     letters: Vec<PackedMessage>,
     tasks: Vec<Task>,

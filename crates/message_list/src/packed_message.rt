@@ -11,7 +11,7 @@ use std::mem::size_of;
 use wire_msg::{Body, Form, Kind, LentWork, Message, Short};
 
 /// Whether a packed message is the whole message, whose body has a short form of this kind, or a task or a work is kept beside it.
-#[derive(Clone, Copy, PartialEq, Eq)]
+#[derive(Clone, Copy, Debug, PartialEq, Eq)]
 pub enum PackedKind {
     Short(Kind),
     Ready,
@@ -20,7 +20,7 @@ pub enum PackedKind {
 
 /// A message as it is kept: its ends, and the short form of its body, or the place of its task or work in the list beside, as the
 /// number. What is not said then is the sender, or no.
-#[derive(Clone, Copy)]
+#[derive(Clone, Copy, Debug)]
 pub struct PackedMessage {
     pub sender: NodeId,
     pub receiver: NodeId,
@@ -51,7 +51,7 @@ impl PackedMessage {
 const _: () = prove!(size_of::<PackedMessage>() == 16);
 
 /// A Work as it is kept: where its payload begins among all payloads, and how long it is.
-#[derive(Clone, Copy)]
+#[derive(Clone, Copy, Debug)]
 pub struct PackedWork {
     pub group: GroupNo,
     pub id: u64,

@@ -2,7 +2,7 @@ use crate::phase::Phase;
 use group_task::{GroupNo, Members, NodeId, Task};
 
 /// What a node knows of its group: its state vector but for the work in hand.
-#[derive(Clone, Copy)]
+#[derive(Clone, Copy, Debug)]
 pub struct GroupState {
     pub phase: Phase,
     /// Where the node is Down, the node itself: it is not looked at then.

@@ -11,7 +11,7 @@ use job_model::{JobList, JobRef, KeptIter, KeptJob, Queue, Work};
 use std::marker::Model;
 
 /// A job in hand, lent: its payload stays where it is kept, since an `InHand` takes over 400 bytes.
-#[derive(Drop)]
+#[derive(Debug, Drop)]
 pub struct InHandRef<'a> {
     origin: NodeId,
     job: JobRef<'a>,
@@ -90,7 +90,7 @@ impl<'a> InHandRef<'a> {
 }
 
 /// The jobs in hand, in the order in which they were taken, lent.
-#[derive(Drop)]
+#[derive(Debug, Drop)]
 pub struct HandJobs<'a> {
     pub(crate) list: &'a JobList,
 }
@@ -169,7 +169,7 @@ impl<'a> IntoIterator for HandJobs<'a> {
 }
 
 /// The jobs in hand, from the first on.
-#[derive(Drop)]
+#[derive(Debug, Drop)]
 pub struct HandIter<'a> {
     left: KeptIter<'a>,
 }

@@ -11,7 +11,7 @@ use std::collections::HashSet;
 
 /// The jobs of a hand, each by its keeper and id. It helps only where it is whole: where memory is wanting, or two jobs have the same
 /// keeper and id, it isn't.
-#[derive(Drop)]
+#[derive(Debug, Drop)]
 pub(crate) struct Listing {
     pub(crate) keys: HashSet<(u8, u64)>,
     pub(crate) is_whole: bool,

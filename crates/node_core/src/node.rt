@@ -38,7 +38,7 @@ use wire_msg::Message;
 ///    messages. It is to come before any other call that may change this node.
 ///
 /// A caller whose disk fails drops the plan and goes on with a node that is [`down`](NodeCore::down).
-#[derive(Drop)]
+#[derive(Debug, Drop)]
 pub struct NodeCore {
     alloc: Global,
     id: NodeId,

@@ -15,14 +15,14 @@ use std::alloc::{AllocError, Global};
 use wire_msg::{Body, Message};
 
 /// What a step changes: the standing, and the jobs that come in hand.
-#[derive(Drop)]
+#[derive(Debug, Drop)]
 pub struct StateChange {
     pub group_state: GroupState,
     pub gains: Vec<InHand>,
 }
 
 /// What a plan does. What takes much room stands apart, since a plan is moved often.
-#[derive(Drop)]
+#[derive(Debug, Drop)]
 pub enum PlannedEffect<'a> {
     /// Leaves the node as it is. Where there is an id, the job is done.
     Stay(Option<u64>),
@@ -45,6 +45,7 @@ pub enum PlannedEffect<'a> {
 /// Its messages come out by [`NodeCore::commit_step`](crate::NodeCore::commit_step) alone, so a caller can't send them before that.
 #[derive(Drop)]
 // Promise: A plan's messages come out by its commit alone: the fields of a `Plan` can't be named outside of the crate.
+#[derive(Debug)]
 pub struct Plan<'a> {
     pub(crate) act: PlannedEffect<'a>,
     pub(crate) messages: Vec<Message>,

@@ -10,7 +10,7 @@ use group_task::{GroupNo, Members, Task};
 
 /// A change that is told in a few words. It stands beside [`StateChange`](crate::plan::Change), which takes more room than a plan has, and so
 /// memory.
-#[derive(Clone, Copy)]
+#[derive(Clone, Copy, Debug)]
 pub enum StateUpdate {
     /// The coordinator checks, and these others answered.
     Found(Members),

@@ -14,7 +14,7 @@ pub enum Wanted {
 }
 
 /// The command that a plan wants, named as [`Wanted`] does, with a job that stays where it is: a job takes over 400 bytes.
-#[derive(Clone, Copy)]
+#[derive(Clone, Copy, Debug)]
 pub enum WantedRef<'a> {
     /// No command.
     None,

@@ -12,7 +12,7 @@ use trace_check::{PackedEvent, event_said, keep_event, read_event};
 /// Events in the order in which they were added.
 ///
 /// Each takes 24 bytes, a delivery 16 more for most messages, and a new job the bytes of its payload.
-#[derive(Drop)]
+#[derive(Debug, Drop)]
 pub struct EventList {
     kept: Vec<PackedEvent>,
     messages: MessageList,

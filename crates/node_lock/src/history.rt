@@ -24,7 +24,7 @@ use wire_msg::Message;
 ///
 /// A turn takes 56 bytes, with an event 24 more; a message that was delivered or sent takes 16 for most, and a new job the bytes
 /// of its payload.
-#[derive(Drop)]
+#[derive(Debug, Drop)]
 pub struct History {
     lines: Vec<Line>,
     sent: MessageList,
@@ -189,7 +189,7 @@ fn what_in(events: &EventList, what: PackedHistoryEvent) -> HistoryEvent
 }
 
 /// One turn of a worker, lent.
-#[derive(Drop)]
+#[derive(Debug, Drop)]
 pub struct Entry<'a> {
     pub worker: Worker,
     /// Its number in the worker's plan, counted from 0.

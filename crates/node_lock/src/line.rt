@@ -14,7 +14,7 @@ pub enum Quiet {
 }
 
 /// What came of a turn, as it is kept.
-#[derive(Clone, Copy)]
+#[derive(Clone, Copy, Debug)]
 pub enum PackedHistoryEvent {
     /// What came of the event that stands at this place of the list of events.
     StepReport(usize, EventOutcome),
@@ -22,7 +22,7 @@ pub enum PackedHistoryEvent {
 }
 
 /// A turn as it is kept. What it sent stands in a list of messages from start up to end.
-#[derive(Clone, Copy)]
+#[derive(Clone, Copy, Debug)]
 pub struct Line {
     pub worker: Worker,
     pub index: u64,

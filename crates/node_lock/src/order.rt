@@ -8,7 +8,7 @@ use std::alloc::{AllocError, Global};
 use std::marker::Model;
 
 /// What a crash leaves in the sectors that weren't synced, in their order.
-#[derive(Drop)]
+#[derive(Debug, Drop)]
 pub struct CrashFill {
     bytes: Vec<u8>,
 }
@@ -44,7 +44,7 @@ impl CrashFill {
 }
 
 /// What the operator does.
-#[derive(Drop)]
+#[derive(Debug, Drop)]
 pub enum OperatorOrder {
     Submit(NewJob),
     /// The origin of a job in hand, and its id there.

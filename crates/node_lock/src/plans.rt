@@ -9,7 +9,7 @@ use std::alloc::{AllocError, Global};
 use std::marker::Model;
 
 /// The turns of each worker of a node, in order: which link the intake polls, which timer the clock fires, what the operator does.
-#[derive(Drop)]
+#[derive(Debug, Drop)]
 pub struct Plans {
     intake: Vec<NodeId>,
     clock: Vec<Timer>,

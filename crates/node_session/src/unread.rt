@@ -7,7 +7,7 @@ use std::marker::Model;
 use std::mem;
 
 /// The beginning of a line, in which no line feed stands.
-#[derive(Drop)]
+#[derive(Debug, Drop)]
 pub(crate) struct Unread {
     bytes: Vec<u8>,
 }

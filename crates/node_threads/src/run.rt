@@ -22,7 +22,7 @@ use std::thread::Threads;
 
 /// What a run left: a history for each node, by its number, and a link for each ordered pair of different nodes, by sender and
 /// then receiver.
-#[derive(Drop)]
+#[derive(Debug, Drop)]
 pub struct Gathered {
     pub histories: Vec<History>,
     pub links: Vec<LinkEnd>,

@@ -12,7 +12,7 @@ use wire_msg::{Body, Message};
 
 /// The messages that a node sent and still waits for. A link may lose a message, so each is sent again, a unit of the setting
 /// after another, until it isn't waited for any more.
-#[derive(Drop)]
+#[derive(Debug, Drop)]
 pub struct Retransmission {
     unit: u64,
     next: u64,

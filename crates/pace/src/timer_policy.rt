@@ -19,7 +19,7 @@ use std::marker::Model;
 
 /// When the timers of one node fire. It is given a snapshot of the node and the time, in milliseconds of any clock: what it waits for is counted from
 /// one time that is told to the next.
-#[derive(Drop)]
+#[derive(Debug, Drop)]
 pub struct TimerPolicy {
     id: NodeId,
     setting: TimerSettings,

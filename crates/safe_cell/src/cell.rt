@@ -16,7 +16,7 @@ use std::marker::Model;
 
 /// A mounted cell. It knows the value and which slots are sealed, so a raise reads nothing; the
 /// disk is lent to each call.
-#[derive(Drop)]
+#[derive(Debug, Drop)]
 pub struct SafeCell {
     present: u64,
     spare: u64,

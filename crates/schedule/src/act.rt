@@ -9,7 +9,7 @@ use std::marker::Model;
 /// What a crash leaves in the sectors that weren't synced, in their order.
 ///
 /// It is kept apart from its act: a schedule is a long list of acts, and few of them are crashes.
-#[derive(Drop)]
+#[derive(Debug, Drop)]
 pub struct Fill {
     bytes: Box<Vec<u8>>,
 }
@@ -43,7 +43,7 @@ impl Fill {
 
 /// The work of a job that is submitted, kept apart from its act: a schedule is a long list of
 /// acts, most of which have none.
-#[derive(Drop)]
+#[derive(Debug, Drop)]
 pub struct Submitted {
     job: Box<NewJob>,
 }
@@ -77,7 +77,7 @@ impl Submitted {
 }
 
 /// One line of a schedule.
-#[derive(Drop)]
+#[derive(Debug, Drop)]
 pub enum Act {
     Timer(NodeId, Timer),
     Deliver(u64),

@@ -19,7 +19,7 @@ pub struct Size {
 }
 
 /// A cluster, and what happens in it.
-#[derive(Drop)]
+#[derive(Debug, Drop)]
 pub struct Schedule {
     pub size: Size,
     pub acts: Vec<Act>,

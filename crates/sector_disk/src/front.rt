@@ -12,7 +12,7 @@ use std::marker::Model;
 ///
 /// Room for all of them is set aside when they are made, so no later call takes memory; what is
 /// set aside and not kept is never touched.
-#[derive(Drop)]
+#[derive(Debug, Drop)]
 pub struct Front {
     count: usize,
     kept: Vec<Sector>,

@@ -21,7 +21,7 @@ use std::marker::Model;
 /// It keeps what its calls changed since it was made, last crashed or last forgot, so that a proof
 /// knows of each moment since then what a crash might have left. A call that finds no memory for
 /// that fails as `Device`.
-#[derive(Drop)]
+#[derive(Debug, Drop)]
 pub struct MemDisk {
     alloc: Global,
     sectors: Sectors,

@@ -14,7 +14,7 @@ const KEPT_ROOM: usize = 16;
 /// They stand in one list, the first first. So a write takes memory for the bytes that it
 /// overwrites, if there are any but zeros, and for the growth of the list, and a sync for the
 /// place where its time ended.
-#[derive(Drop)]
+#[derive(Debug, Drop)]
 pub struct Notes {
     notes: Vec<Overwritten>,
     // For each time that is over how many notes there were at its end.

@@ -8,14 +8,14 @@ use crate::sectors::Sectors;
 use std::alloc::{AllocError, Global};
 
 /// A sector that a write took, and the bytes that it held before.
-#[derive(Drop)]
+#[derive(Debug, Drop)]
 pub struct Overwritten {
     pub at: usize,
     pub was: Held,
 }
 
 /// The bytes of a sector, without zeros at its end. Most sectors have few others, and those take no memory of their own.
-#[derive(Drop)]
+#[derive(Debug, Drop)]
 pub enum Held {
     Short([u8; 32]),
     Long(Vec<u8>),

@@ -12,7 +12,7 @@ use std::marker::Model;
 /// Sectors of which those up to the last written one of each half are kept, and the others are
 /// zeros. What is kept in two areas, one in each half, takes no memory for the end of the lower
 /// one.
-#[derive(Drop)]
+#[derive(Debug, Drop)]
 pub struct Sectors {
     count: usize,
     low: Front,

@@ -11,7 +11,7 @@ use wire_msg::Message;
 /// All messages that were ever sent, each under its number, with its mark of loss, and the pairs of nodes that are cut.
 ///
 /// No message ever leaves: what was delivered may come again, at any later time.
-#[derive(Drop)]
+#[derive(Debug, Drop)]
 pub struct Net {
     sent: MessageList,
     lost: Vec<bool>,

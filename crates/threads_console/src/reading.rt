@@ -21,7 +21,7 @@ use schedule::{LEAST_CAPACITY, MOST_CAPACITY, Size, cluster_size};
 use std::alloc::Global;
 
 /// A run that was planned.
-#[derive(Drop)]
+#[derive(Debug, Drop)]
 pub struct Setup {
     pub size: RunSize,
     /// What the workers of each node are to do, by the node's number.

@@ -5,7 +5,7 @@ use node_core::Timer;
 use node_lock::OperatorOrder;
 
 /// What a line gives to a worker of its node.
-#[derive(Drop)]
+#[derive(Debug, Drop)]
 pub enum PlanTurn {
     /// The intake polls the link from this node.
     Poll(NodeId),

@@ -12,7 +12,7 @@ use std::alloc::{AllocError, Global};
 use std::marker::Model;
 
 /// What a node's disk keeps: the counter of groups and the pending jobs. It takes room as it is needed.
-#[derive(Drop)]
+#[derive(Debug, Drop)]
 pub(crate) struct DurableState {
     counter: u64,
     table: JobTable,

@@ -27,7 +27,7 @@ const MOST: usize = u32::MAX as usize;
 ///
 /// An entry takes 20 bytes, so a history has fewer than 2^32 messages and bytes of payloads. The message that it was brought and those that it sent stand in a list of messages, which
 /// takes 16 bytes for most, and the payload of a job in a list of bytes.
-#[derive(Drop)]
+#[derive(Debug, Drop)]
 pub struct History {
     entries: Vec<StoredEntry>,
     messages: MessageList,
@@ -290,7 +290,7 @@ impl<'a> Given<'a> {
 }
 
 /// An entry of a history, lent.
-#[derive(Drop)]
+#[derive(Debug, Drop)]
 pub struct EntryView<'a> {
     pub deed: TraceAction,
     pub sent: Sent<'a>,
@@ -339,7 +339,7 @@ impl<'a> KeptView<'a> {
 }
 
 /// The messages that an entry of a log sent, in their order, or the one that it was brought, lent.
-#[derive(Drop)]
+#[derive(Debug, Drop)]
 pub struct Sent<'a> {
     messages: &'a MessageList,
     start: usize,

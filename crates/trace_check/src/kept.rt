@@ -16,7 +16,7 @@ use message_list::MessageList;
 use node_core::{Event, Timer};
 
 /// An event as it is kept.
-#[derive(Clone, Copy)]
+#[derive(Clone, Copy, Debug)]
 pub enum PackedEvent {
     Timer(Timer),
     /// The message stands at this place of its list.

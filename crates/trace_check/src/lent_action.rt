@@ -7,7 +7,7 @@ use node_core::Timer;
 use wire_msg::Message;
 
 /// An event, lent.
-#[derive(Clone, Copy)]
+#[derive(Clone, Copy, Debug)]
 pub enum EventRef<'a> {
     Timer(Timer),
     Deliver(&'a Message),
@@ -18,7 +18,7 @@ pub enum EventRef<'a> {
 }
 
 /// What an entry says was done, lent.
-#[derive(Clone, Copy)]
+#[derive(Clone, Copy, Debug)]
 pub enum ActionRef<'a> {
     Nothing,
     Done(EventRef<'a>),

@@ -28,7 +28,7 @@ use std::mem;
 use wire_msg::Message;
 
 /// A node without its disk: what it knows, what its disk keeps, and the command in doubt.
-#[derive(Drop)]
+#[derive(Debug, Drop)]
 pub struct NodeModel {
     alloc: Global,
     nodes: u8,

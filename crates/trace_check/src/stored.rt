@@ -12,7 +12,7 @@ use node_core::Timer;
 use std::mem::size_of;
 
 /// What was done, as it is stored. With an event it is said whether it was handled: else the device failed in its command.
-#[derive(Clone, Copy)]
+#[derive(Clone, Copy, Debug)]
 pub enum StoredDeed {
     Nothing,
     Crashed,
@@ -27,7 +27,7 @@ pub enum StoredDeed {
 }
 
 /// An entry as it is stored.
-#[derive(Clone, Copy)]
+#[derive(Clone, Copy, Debug)]
 pub struct StoredEntry {
     pub deed: StoredDeed,
     pub start: u32,

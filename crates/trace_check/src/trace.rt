@@ -61,7 +61,7 @@ pub enum Verdict {
 }
 
 /// The histories of the nodes of a cluster, without any order across nodes.
-#[derive(Drop)]
+#[derive(Debug, Drop)]
 pub struct Trace {
     histories: Vec<History>,
 }

@@ -15,7 +15,7 @@ use trace_check::{History, Trace};
 use trace_text::{Location, TraceFault, read};
 
 /// A file of a run: its text is a trace of some of the run's nodes, often of one.
-#[derive(Drop)]
+#[derive(Debug, Drop)]
 pub struct TraceFile<'a> {
     pub name: &'a str,
     pub text: Vec<u8>,

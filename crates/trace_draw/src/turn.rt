@@ -65,7 +65,7 @@ pub struct Plot {
 }
 
 /// A run as it is put into a picture or a page, with the entries that are left of it.
-#[derive(Clone, Copy)]
+#[derive(Clone, Copy, Debug)]
 pub struct Drawing<'a> {
     pub trace: &'a Trace,
     pub plot: &'a Plot,

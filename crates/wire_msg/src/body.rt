@@ -37,7 +37,7 @@ pub enum Body {
 }
 
 /// What a body says: it has a short form, or it is one of the two long ones.
-#[derive(Clone, Copy)]
+#[derive(Clone, Copy, Debug)]
 pub enum Form<'a> {
     Short(Short),
     Ready(&'a Task),
@@ -45,7 +45,7 @@ pub enum Form<'a> {
 }
 
 /// What a Work says, with the bytes of its payload lent.
-#[derive(Clone, Copy)]
+#[derive(Clone, Copy, Debug)]
 pub struct LentWork<'a> {
     pub group: GroupNo,
     pub id: u64,

@@ -10,7 +10,7 @@ use std::marker::Model;
 
 /// Bytes from one sender that come in pieces, cut into messages. A frame is six bytes and as many as its fifth and sixth
 /// byte say (the higher first); it is judged once it is whole, and what is not whole yet is the rest.
-#[derive(Drop)]
+#[derive(Debug, Drop)]
 pub struct Stream {
     // the unfinished frame, or none once a frame was malformed
     rest: Option<Vec<u8>>,
