@@ -1,6 +1,7 @@
 //! Record files, put together.
 
-use std::fs;
+use std::fs::File;
+use std::io::{self, Read};
 use std::path::{Path, PathBuf};
 use thiserror::Error;
 
@@ -10,13 +11,17 @@ const MAX_NODES: usize = 128;
 #[derive(Debug, Error)]
 pub enum RecordError {
     #[error("{path}: {why}")]
-    Unreadable { path: PathBuf, why: std::io::Error },
+    Unreadable { path: PathBuf, why: io::Error },
     #[error("{0}: this is no record of a node")]
     NoRecord(PathBuf),
     #[error("the records are of {nodes} nodes, and none is of node {missing}")]
     Missing { nodes: usize, missing: usize },
     #[error("of node {node} part {part} is missing")]
     Gap { node: usize, part: u64 },
+    #[error("of node {node} part {part} is given twice")]
+    Twice { node: usize, part: u64 },
+    #[error("these are records of two clusters, {0:?} and {1:?}")]
+    Clusters(String, String),
     #[error("the record of node {node} can't be judged: {what} where it begins")]
     NoBegin { node: usize, what: &'static str },
     #[error("the record of node {node} can't be judged: it ends somewhere, and the node ran on")]
@@ -35,25 +40,25 @@ struct Part {
     node: usize,
     nodes: usize,
     part: u64,
+    cluster: String,
     lines: Vec<String>,
 }
 
 impl Part {
-    fn read(path: &Path) -> Result<Part, RecordError> {
-        let unreadable = |why| RecordError::Unreadable { path: path.to_path_buf(), why };
-        let bytes = fs::read(path).map_err(unreadable)?;
-        let text = String::from_utf8_lossy(&bytes);
+    fn of(path: &Path, bytes: &[u8]) -> Result<Part, RecordError> {
+        let text = String::from_utf8_lossy(bytes);
         // a last line without a line feed was cut off where the agent was killed
         let whole = text.rsplit_once('\n').map_or("", |(whole, _)| whole);
         let mut lines = whole.lines();
         let words: Vec<&str> = lines.next().unwrap_or_default().split(' ').collect();
         let begin = ["#", "dumgerok", "record", "1", "node"];
-        if let (true, [_, _, _, _, _, node, "of", nodes, "part", part, ..]) =
+        if let (true, [_, _, _, _, _, node, "of", nodes, "part", part, "cluster", cluster @ ..]) =
             (words.starts_with(&begin), words.as_slice())
         {
             if let (Ok(node), Ok(nodes), Ok(part)) = (node.parse(), nodes.parse(), part.parse()) {
                 if (1..=MAX_NODES).contains(&nodes) && node < nodes {
-                    return Ok(Part { node, nodes, part, lines: lines.map(str::to_string).collect() });
+                    let lines = lines.map(str::to_string).collect();
+                    return Ok(Part { node, nodes, part, cluster: cluster.join(" "), lines });
                 }
             }
         }
@@ -61,9 +66,29 @@ impl Part {
     }
 }
 
-/// Reads the files of all nodes of a cluster, in any order.
+/// A file up to where it ends now.
+fn opened(path: &Path) -> io::Result<io::Take<File>> {
+    let file = File::open(path)?;
+    let length = file.metadata()?.len();
+    Ok(file.take(length))
+}
+
+/// Reads the files of all nodes of a cluster, in any order. Where their agents go on writing all are read up to where they end at the beginning.
 pub fn read(paths: &[PathBuf]) -> Result<Vec<NodeRecord>, RecordError> {
-    let mut parts = paths.iter().map(|path| Part::read(path)).collect::<Result<Vec<_>, _>>()?;
+    let unreadable = |path: &PathBuf| {
+        let path = path.clone();
+        |why| RecordError::Unreadable { path, why }
+    };
+    let files = paths.iter().map(|path| opened(path).map_err(unreadable(path))).collect::<Result<Vec<_>, _>>()?;
+    let part = |(path, mut file): (&PathBuf, io::Take<File>)| {
+        let mut bytes = Vec::new();
+        file.read_to_end(&mut bytes).map_err(unreadable(path))?;
+        Part::of(path, &bytes)
+    };
+    let mut parts = paths.iter().zip(files).map(part).collect::<Result<Vec<_>, _>>()?;
+    if let Some(two) = parts.windows(2).find(|two| two[0].cluster != two[1].cluster) {
+        return Err(RecordError::Clusters(two[0].cluster.clone(), two[1].cluster.clone()));
+    }
     parts.sort_by_key(|part| (part.node, part.part));
     let nodes = parts.iter().map(|part| part.nodes).max().unwrap_or(0);
     let mut records: Vec<NodeRecord> = (0..nodes).map(|node| NodeRecord { node, lines: Vec::new() }).collect();
@@ -73,6 +98,9 @@ pub fn read(paths: &[PathBuf]) -> Result<Vec<NodeRecord>, RecordError> {
             Some(record) => record,
             None => return Err(RecordError::Missing { nodes, missing: part.node }),
         };
+        if last[part.node] == part.part {
+            return Err(RecordError::Twice { node: part.node, part: part.part });
+        }
         let next = last[part.node].saturating_add(1);
         if last[part.node] != 0 && next != part.part {
             return Err(RecordError::Gap { node: part.node, part: next });
@@ -89,6 +117,7 @@ pub fn read(paths: &[PathBuf]) -> Result<Vec<NodeRecord>, RecordError> {
 #[cfg(test)]
 mod tests {
     use super::*;
+    use std::fs;
 
     #[test]
     fn heads_that_no_agent_writes() {
@@ -101,9 +130,33 @@ mod tests {
             ("node -1 of 2 part 1", false),
             ("node 0 of 2 part 18446744073709551616", false),
         ] {
-            fs::write(&path, format!("# dumgerok record 1 {head} cluster c\nstart\n")).unwrap();
-            assert_eq!(Part::read(&path).is_ok(), is_read, "{head}");
+            let text = format!("# dumgerok record 1 {head} cluster c\nstart\n");
+            assert_eq!(Part::of(&path, text.as_bytes()).is_ok(), is_read, "{head}");
         }
-        fs::remove_file(&path).unwrap();
+    }
+
+    #[test]
+    fn files_that_are_no_records_of_one_cluster() {
+        let folder = std::env::temp_dir().join(format!("dumgerok-parts-{}", std::process::id()));
+        fs::create_dir_all(&folder).unwrap();
+        let file = |name: &str, head: &str| {
+            let path = folder.join(name);
+            fs::write(&path, format!("# dumgerok record 1 {head}\nstart\n")).unwrap();
+            path
+        };
+        let first = file("0", "node 0 of 2 part 1 cluster a b");
+        let other = file("1", "node 1 of 2 part 1 cluster a b");
+        let third = file("2", "node 1 of 2 part 3 cluster a b");
+        let foreign = file("3", "node 1 of 2 part 1 cluster a");
+        let said = |files: &[&PathBuf]| {
+            let files: Vec<PathBuf> = files.iter().map(|file| (*file).clone()).collect();
+            read(&files).map_or_else(|why| why.to_string(), |records| records.len().to_string())
+        };
+        assert_eq!(said(&[&other, &first]), "2");
+        assert_eq!(said(&[&other, &first, &first]), "of node 0 part 1 is given twice");
+        assert_eq!(said(&[&first, &third, &other]), "of node 1 part 2 is missing");
+        assert_eq!(said(&[&first]), "the records are of 2 nodes, and none is of node 1");
+        assert_eq!(said(&[&first, &foreign]), "these are records of two clusters, \"a b\" and \"a\"");
+        fs::remove_dir_all(&folder).unwrap();
     }
 }
