@@ -6,7 +6,7 @@ use Rattle.std.specs.Str.{bytes_eq, IsUtf8}
 use Rattle.json.specs.Token.{Token}
 use Rattle.json.specs.Json.{parse_map, value}
 use Rattle.json.specs.Lex.{tokens}
-use Rattle.serde_json.specs.Data.{Data, object, Items, no_items, item, Members}
+use Rattle.serde_json.specs.Data.{Data, array, object, Items, no_items, item, Members}
 use Rattle.serde_json.specs.Find.{as_array, get_member}
 use Rattle.trace_text.proofs.Turns.{pick, whole_read}
 use Rattle.group_task.specs.declared.node.TheConstants.{NODES}
@@ -18,8 +18,9 @@ use Rattle.trace_text.specs.declared.stream.Entries.{Entries}
 use Rattle.trace_text.specs.Drafts.{listed_by, unless_bad}
 use Rattle.trace_text.specs.Fields.{fields_in, fields_put, plain}
 use Rattle.trace_text.specs.Entries.{message_in, messages_in, number_in, deed_in, claim_in, with_first}
-use Rattle.trace_text.specs.Streams.{Drafted, Judged, Listed, data_at, drafted_in, drafted_put, judged_in, judged_of, listed_in, members_at, parted_in, sent_in, shaped}
-use Rattle.trace_text.specs.Wholes.{all_lists, count_items, entries_from, first_entry, first_history, histories_from, history_in, in_shape, is_shape, shape_in, trace_of}
+use Rattle.trace_text.specs.Streams.{Drafted, Judged, Listed, data_at, drafted_in, drafted_put, judged_in, judged_of, members_at, parted_in, sent_in, shaped}
+use Rattle.trace_text.specs.Pieces.{after_good, entries_then, histories_then, lists_then, listed_then, list_then}
+use Rattle.trace_text.specs.Wholes.{all_lists, count_items, entries_from, first_entry, first_history, histories_from, in_shape, is_shape, shape_in, trace_of}
 use Rattle.trace_text.proofs.Lists.{and_then, one_more}
 use Rattle.trace_text.proofs.Plain.{deed_same}
 use Rattle.trace_text.proofs.Texts.{bad_text, good_text}
@@ -100,10 +101,6 @@ field_put s key o x r other read =
 
 -- ---- the entries of a list
 
-abbrev after_good : {A : Type 0} → List A → Result (List A) (Option Location) → Result (List A) (Option Location)
-after_good xs (Err location) = Err location
-after_good xs (Ok ys) = Ok (xs ++ ys)
-
 after_none : {A : Type 0} (r : Result (List A) (Option Location)) → r ≡ after_good [] r
 after_none (Ok ys) = refl
 after_none (Err location) = refl
@@ -111,13 +108,6 @@ after_none (Err location) = refl
 good_entry : (node index : ℕ) (old : List Claim) (x : Claim) (later : Result (List Claim) (Option Location)) → after_good old (first_entry node index (Some x) later) ≡ after_good (old ++ x ∷ []) later
 good_entry node index old x (Ok cs) = ap (λ (ys : List Claim). Ok ys) (sym (append_assoc old (x ∷ []) cs))
 good_entry node index old x (Err location) = refl
-
-abbrev pub entries_then : ℕ → List Claim → Option Location → Items → Listed
-entries_then node h None ds = after_good h (entries_from node (length h) ds)
-entries_then node h (Some location) ds = Err (Some location)
-
-pub entries_begun : (node : ℕ) (h : List Claim) (ds : Items) → h ≡ [] → entries_from node 0 ds ≡ entries_then node h None ds
-entries_begun node h ds is = after_none (entries_from node 0 ds) ∙ ap (λ (xs : List Claim). entries_then node xs None ds) (sym is)
 
 one_longer : {A : Type 0} (xs : List A) (x : A) → length (xs ++ x ∷ []) ≡ length xs + 1
 one_longer [] x = refl
@@ -156,62 +146,33 @@ good_history : (old : List (List Claim)) (h : List Claim) (later : Result (List 
 good_history old h (Ok hs) = ap (λ (ys : List (List Claim)). Ok ys) (sym (append_assoc old (h ∷ []) hs))
 good_history old h (Err location) = refl
 
-abbrev histories_then : List (List Claim) → Option Location → Items → Result (List (List Claim)) (Option Location)
-histories_then hs None ds = after_good hs (histories_from (length hs) ds)
-histories_then hs (Some location) ds = Err (Some location)
-
-abbrev pub lists_then : Bool → List (List Claim) → Option Location → Items → Judged
-lists_then false hs bad ds = None
-lists_then true hs bad ds = if all_lists ds then Some (length hs + count_items ds, histories_then hs bad ds) else None
-
 pub lists_begun : (ds : Items) → judged_of ds ≡ lists_then true [] None ds
 lists_begun ds =
     let count : count_items ds ≡ 0 + count_items ds = omega arith in
     ap₂ (λ (n : ℕ) (r : Result (List (List Claim)) (Option Location)). if all_lists ds then Some (n, r) else None) count (after_none (histories_from 0 ds))
 
-history_by : (hs : List (List Claim)) (bad : Option Location) (e : Entries) (r : Listed) (later : Result (List (List Claim)) (Option Location)) (ds : Items) → r ≡ listed_by e → later ≡ histories_from (length hs + 1) ds
-    → (now : Option Location) → now ≡ e.bad → after_good hs (first_history (unless_bad now e.history) later) ≡ histories_then (hs ++ e.history ∷ []) now ds
-history_by hs bad e r later ds is same None now =
-    good_history hs e.history later ∙ ap (after_good (hs ++ e.history ∷ [])) (same ∙ ap (λ (i : ℕ). histories_from i ds) (sym (one_longer hs e.history)))
-history_by hs bad e r later ds is same (Some location) now = refl
+pub list_opened : (all : Bool) (hs : List (List Claim)) (bad : Option Location) (es ds : Items) → lists_then all hs bad (item (array es) ds) ≡ list_then all hs bad (entries_then (length hs) [] None es) ds
+list_opened false hs bad es ds = refl
+list_opened true hs (Some location) es ds = refl
+list_opened true hs None es ds =
+    ap (λ (r : Listed). if all_lists ds then Some (length hs + suc (count_items ds), listed_then hs None r ds) else None) (after_none (entries_from (length hs) 0 es))
 
-histories_more : (hs : List (List Claim)) (bad : Option Location) (e : Entries) (d : Data) (es ds : Items) → as_array d ≡ Some es → entries_from (length hs) 0 es ≡ listed_by e
-    → histories_then hs bad (item d ds) ≡ histories_then (hs ++ e.history ∷ []) (option_or bad e.bad) ds
-histories_more hs (Some location) e d es ds listed is = refl
-histories_more hs None e d es ds listed is =
-    let later = histories_from (length hs + 1) ds in
-    ap (λ (o : Option Items). after_good hs (first_history (history_in (length hs) o) later)) listed
-    ∙ ap (λ (r : Listed). after_good hs (first_history r later)) is
-    ∙ history_by hs None e (entries_from (length hs) 0 es) later ds is refl e.bad refl
-    ∙ none_or e.bad
-  where
-    none_or : (now : Option Location) → histories_then (hs ++ e.history ∷ []) now ds ≡ histories_then (hs ++ e.history ∷ []) (option_or None now) ds
-    none_or None = refl
-    none_or (Some location) = refl
+history_closed : (hs : List (List Claim)) (bad now : Option Location) (h : List Claim) (ds : Items) → listed_then hs bad (unless_bad now h) ds ≡ histories_then (hs ++ h ∷ []) (option_or bad now) ds
+history_closed hs (Some location) now h ds = refl
+history_closed hs None (Some location) h ds = refl
+history_closed hs None None h ds =
+    good_history hs h (histories_from (length hs + 1) ds) ∙ ap (λ (i : ℕ). after_good (hs ++ h ∷ []) (histories_from i ds)) (sym (one_longer hs h))
 
-list_by : (all : Bool) (hs : List (List Claim)) (bad : Option Location) (e : Entries) (d : Data) (ds : Items) (o : Option Items) → as_array d ≡ o → option_map (entries_from (length hs) 0) o ≡ Some (listed_by e)
-    → lists_then all hs bad (item d ds) ≡ lists_then all (hs ++ e.history ∷ []) (option_or bad e.bad) ds
-list_by false hs bad e d ds o is read = refl
-list_by true hs bad e d ds None is read = absurd (cc)
-list_by true hs bad e d ds (Some es) is read =
-    let more = histories_more hs bad e d es ds is (some_is _ _ read) in
+pub list_closed : (all : Bool) (hs : List (List Claim)) (bad : Option Location) (e : Entries) (ds : Items) → list_then all hs bad (listed_by e) ds ≡ lists_then all (hs ++ e.history ∷ []) (option_or bad e.bad) ds
+list_closed false hs bad e ds = refl
+list_closed true hs bad e ds =
     let longer = one_longer hs e.history in
     let count : length hs + suc (count_items ds) ≡ length (hs ++ e.history ∷ []) + count_items ds = omega (arith, longer) in
-    ap (λ (x : Option Items). if is_some x && all_lists ds then Some (length hs + suc (count_items ds), histories_then hs bad (item d ds)) else None) is
-    ∙ ap₂ (λ (n : ℕ) (r : Result (List (List Claim)) (Option Location)). if all_lists ds then Some (n, r) else None) count more
+    ap₂ (λ (n : ℕ) (r : Result (List (List Claim)) (Option Location)). if all_lists ds then Some (n, r) else None) count (history_closed hs bad e.bad e.history ds)
 
-pub list_more : (all : Bool) (hs new : List (List Claim)) (bad : Option Location) (e : Entries) (d : Data) (ds : Items) → listed_in (length hs) d ≡ Some (listed_by e) → new ≡ hs ++ e.history ∷ []
-    → lists_then all hs bad (item d ds) ≡ lists_then all new (option_or bad e.bad) ds
-list_more all hs new bad e d ds read grown =
-    list_by all hs bad e d ds (as_array d) refl read ∙ ap (λ (xs : List (List Claim)). lists_then all xs (option_or bad e.bad) ds) (sym grown)
-
-pub list_bad : (all : Bool) (hs new : List (List Claim)) (bad now : Option Location) (d : Data) (ds : Items) → listed_in (length hs) d ≡ None → lists_then all hs bad (item d ds) ≡ lists_then false new now ds
-list_bad false hs new bad now d ds none = refl
-list_bad true hs new bad now d ds none = by (as_array d) refl none
-  where
-    by : (o : Option Items) → as_array d ≡ o → option_map (entries_from (length hs) 0) o ≡ None → lists_then true hs bad (item d ds) ≡ None
-    by None is none = ap (λ (x : Option Items). if is_some x && all_lists ds then Some (length hs + suc (count_items ds), histories_then hs bad (item d ds)) else None) is
-    by (Some es) is none = absurd (cc)
+pub lists_bad : (all : Bool) (hs : List (List Claim)) (bad : Option Location) (d : Data) (ds : Items) → as_array d ≡ None → lists_then all hs bad (item d ds) ≡ lists_then false hs bad ds
+lists_bad false hs bad d ds none = refl
+lists_bad true hs bad d ds none = ap (λ (x : Option Items). if is_some x && all_lists ds then Some (length hs + suc (count_items ds), histories_then hs bad (item d ds)) else None) none
 
 pub lists_done : (all : Bool) (hs : List (List Claim)) (bad : Option Location) → lists_then all hs bad no_items ≡ (if all then Some (length hs, unless_bad bad hs) else None)
 lists_done false hs bad = refl

@@ -25,7 +25,7 @@ looked f signs floats lists objects (object ms) = objects ms
 plain_text : (d : Data) → as_str (plain d) ≡ as_str d
 plain_text d = looked as_str (λ z. refl) (λ x. refl) (λ ds. refl) (λ ms. refl) d
 
-plain_number : (d : Data) → number_in (Some (plain d)) ≡ number_in (Some d)
+pub plain_number : (d : Data) → number_in (Some (plain d)) ≡ number_in (Some d)
 plain_number d = looked (λ x. number_in (Some x)) (λ z. refl) (λ x. refl) (λ ds. refl) (λ ms. refl) d
 
 plain_flag : (d : Data) → as_bool (plain d) ≡ as_bool d

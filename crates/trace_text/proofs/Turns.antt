@@ -35,11 +35,11 @@ pub converted_object : (o : Option (json.Members × List Token)) → converted o
 converted_object None = refl
 converted_object (Some p) = twice object p.1 (of_members p.0 no_members)
 
-with_item : (j : json.Json) (d : Data) → of_json j ≡ Some d → (o : Option (json.Items × List Token)) → converted of_items (parse_map (json.item j) o) ≡ parse_map (item d) (converted of_items o)
+pub with_item : (j : json.Json) (d : Data) → of_json j ≡ Some d → (o : Option (json.Items × List Token)) → converted of_items (parse_map (json.item j) o) ≡ parse_map (item d) (converted of_items o)
 with_item j d e None = refl
 with_item j d e (Some p) = rw e (twice (item d) p.1 (of_items p.0))
 
-without_item : (j : json.Json) → of_json j ≡ None → (o : Option (json.Items × List Token)) → converted of_items (parse_map (json.item j) o) ≡ None
+pub without_item : (j : json.Json) → of_json j ≡ None → (o : Option (json.Items × List Token)) → converted of_items (parse_map (json.item j) o) ≡ None
 without_item j e None = refl
 without_item j e (Some p) = rw e
 

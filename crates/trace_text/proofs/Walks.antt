@@ -17,7 +17,7 @@ pub mapped_none : {A B : Type 0} (f : A → B) (o : Option (A × List Token)) �
 mapped_none f None e = refl
 mapped_none f (Some p) e = absurd (cc)
 
-same_map : {A B : Type 0} (f g : A → B) (o : Option (A × List Token)) → ((a : A) → f a ≡ g a) → parse_map f o ≡ parse_map g o
+pub same_map : {A B : Type 0} (f g : A → B) (o : Option (A × List Token)) → ((a : A) → f a ≡ g a) → parse_map f o ≡ parse_map g o
 same_map f g None e = refl
 same_map f g (Some p) e = ap (λ b. Some (b, p.1)) (e p.0)
 
@@ -36,13 +36,13 @@ opened A B false is said = absurd cc
 pub behind_mapped : {A B : Type 0} (f : A → B) (o : Option (A × List Token)) (b : B) (r : List Token) → parse_map f o ≡ Some (b, r) → behind o ≡ Some r
 behind_mapped f o b r e = let a = mapped_some f o b r e in ap behind a.1
 
-mapped_twice : {A B D : Type 0} (g : B → D) (h : A → B) (f : A → D) (o : Option (A × List Token)) → ((a : A) → g (h a) ≡ f a) → parse_map g (parse_map h o) ≡ parse_map f o
+pub mapped_twice : {A B D : Type 0} (g : B → D) (h : A → B) (f : A → D) (o : Option (A × List Token)) → ((a : A) → g (h a) ≡ f a) → parse_map g (parse_map h o) ≡ parse_map f o
 mapped_twice g h f None e = refl
 mapped_twice g h f (Some p) e = ap (λ b. Some (b, p.1)) (e p.0)
 
 -- ---- where a list or an object stands
 
-list_there : (depth : ℕ) (ts r : List Token) → ts ≡ Token.begin_array ∷ r → 0 < depth → data_at depth ts ≡ parse_map array (items_at (depth - 1) r)
+pub list_there : (depth : ℕ) (ts r : List Token) → ts ≡ Token.begin_array ∷ r → 0 < depth → data_at depth ts ≡ parse_map array (items_at (depth - 1) r)
 list_there depth ts r is some =
     ap (data_at depth) is ∙ ap (converted of_json) (value-begin_array depth r some) ∙ converted_array (items (value (depth - 1)) (length r) r)
 

@@ -46,6 +46,24 @@ pub(crate) fn open_object(reader: &mut Reader<'_>, depth: usize) -> Result<bool,
     Ok(false)
 }
 
+/// Passes the value that begins with this token, which was read, unless it is the brace that begins an object.
+pub(crate) fn enter_object<'a>(
+    reader: &mut Reader<'a>,
+    token: Token<'a>,
+    depth: usize,
+) -> Result<bool, Invalid>
+    ensures value { MatchResult result
+        (λ entered. MatchBool entered (token_of token.entry ∷ reader.old ≡ begin_object ∷ reader.new) (parse_map as_object (data_at depth (token_of token.entry ∷ reader.old)) ≡ Some (None, reader.new)))
+        (λ _. data_at depth (token_of token.entry ∷ reader.old) ≡ None) }
+    ensures shorter { OnOk result (length reader.new ≤ length reader.old) }
+{
+    if let Token::BeginObject = token {
+        return Ok(true);
+    }
+    read_rest(reader, token, depth)?;
+    Ok(false)
+}
+
 /// The value at the front. Lists and objects may nest so deep.
 #[cycle(read)]
 #[inline(always)]

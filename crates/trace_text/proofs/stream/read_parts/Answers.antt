@@ -1,22 +1,34 @@
-use Rattle.std.proofs.Common.{refl, arith}
-use Rattle.trace_text.specs.Streams.{parted_in, parted_put}
-use Rattle.trace_text.proofs.Members.{parted_law}
-use Rattle.trace_text.proofs.Walks.{key_missing, member_missing, member_on, members_begun, members_done}
+use Rattle.std.proofs.Common.{None, ap, ◌∙◌, arith, option_and_then}
+use Rattle.json.specs.Json.{parse_map}
+use Rattle.trace_text.specs.Drafts.{parted_by}
+use Rattle.trace_text.specs.Pieces.{parts_on, then_parts}
+use Rattle.trace_text.specs.Streams.{parted_put}
+use Rattle.trace_text.proofs.Grow.{object_wrong}
+use Rattle.trace_text.proofs.Steps.{key_leads, leads_same, leads_then, members_done, members_on, shut}
+use Rattle.trace_text.proofs.Walks.{opened}
 use Rattle.trace_text.proofs.stream.read_parts.Goals as goal
 
 pub members-init : goal.members-init
-members-init c = members_begun 126 parted_in c.args.reader.now refl
+members-init c = leads_same (parts_on (parted_by c.args.parts.now)) c.args.reader.now
 
 pub returns-in_err-key-clause-err : goal.returns-in_err-key-clause-err
-returns-in_err-key-clause-err c = λ _. key_missing c.members.invariant c.in_err-key.ensures.value
-
-pub members-preserved : goal.members-preserved
-members-preserved c =
-    member_on c.members.invariant c.in-Some.key.now c.next_key.new.self (grind arith) parted_put parted_law c.in_ok-read_part.ensures.ok c.in_ok-read_part.ensures.shorter
+returns-in_err-key-clause-err c = λ _. c.members.invariant.at None ∙ object_wrong (parted_by c.members.parts) c.members.reader c.in_err-key.ensures.value
 
 pub returns-in_err-read_part-clause-err : goal.returns-in_err-read_part-clause-err
 returns-in_err-read_part-clause-err c =
-    λ refused. member_missing c.members.invariant c.in-Some.key.now c.next_key.new.self (grind arith) (c.in_err-read_part.ensures.err (grind (arith, refused)))
+    let s = parted_by c.members.parts in
+    let k = c.in-Some.key.now in
+    λ refused. c.members.invariant.at None ∙ (key_leads s k c.members.reader c.next_key.new.self (grind arith)).at None
+    ∙ ap (λ o. option_and_then then_parts (parse_map (parted_put s k) o)) (c.in_err-read_part.ensures.err (grind (arith, refused)))
+
+pub returns-then-not-branch-clause-ok : goal.returns-then-not-branch-clause-ok
+returns-then-not-branch-clause-ok c =
+    leads_then c.members.invariant (leads_then (key_leads (parted_by c.members.parts) c.in-Some.key.now c.members.reader c.next_key.new.self (grind arith)) (shut _ _ _ c.if-not-branch.true c.in_ok-read_part.ensures.ok))
+
+pub members-preserved : goal.members-preserved
+members-preserved c =
+    leads_then c.members.invariant
+    (leads_then (key_leads (parted_by c.members.parts) c.in-Some.key.now c.members.reader c.next_key.new.self (grind arith)) (members_on _ _ c.in-Some.key.now (opened _ _ _ c.if-not-branch.false c.in_ok-read_part.ensures.ok)))
 
 pub returns-clause-ok : goal.returns-clause-ok
-returns-clause-ok c = members_done c.members.invariant c.next_key.new.self (grind arith)
+returns-clause-ok c = leads_then c.members.invariant (members_done (parted_by c.members.parts) c.members.reader c.next_key.new.self (grind arith))
