@@ -1,5 +1,5 @@
 -- A text read piece by piece: what comes of what was read so far, if the reading goes on at some tokens.
-use Rattle.std.specs.Prelude.{ℕ, suc, ◌+◌, ◌≡◌, ◌==◌, ⊤, Bool, true, false, cond, List, [], ◌∷◌, ◌++◌, length, Option, Some, None, option_and_then, if◌then◌else◌, Result, Ok, Err}
+use Rattle.std.specs.Prelude.{ℕ, suc, ◌+◌, ◌≡◌, ◌==◌, ⊤, Bool, true, false, MatchBool, cond, List, [], ◌∷◌, ◌++◌, length, Option, Some, None, option_and_then, if◌then◌else◌, Result, Ok, Err}
 use Rattle.json.specs.Align.{is_good}
 use Rattle.json.specs.Json as json
 use Rattle.json.specs.Json.{parse_map, members, value}
@@ -42,7 +42,11 @@ with_more (Some more) ts = joined ts more
 pub record Leads {A : Type 0} (old new : List Token → Option A) (before behind : List Token) : Type 0 where
   pub at : (more : Option (List Token)) → old (with_more more before) ≡ new (with_more more behind)
 
--- and nothing follows what was read
+-- what was being read is over, or it is paused where the tokens end
+abbrev pub Comes : {A : Type 0} → Bool → (List Token → Option A) → (List Token → Option A) → (List Token → Option A) → List Token → List Token → Type 0
+Comes ended old done paused before behind = MatchBool ended (Leads old done before behind) (Leads old paused before [])
+
+-- nothing more follows than these tokens
 abbrev pub over : {A : Type 0} → A → List Token → Option (A × List Token)
 over a ts = Some (a, ts)
 

@@ -13,7 +13,7 @@ ghost use Rattle.trace_check.specs.Claims.{Claim};
 ghost use Rattle.group_task.specs.declared.node.TheConstants.{NODES};
 ghost use Rattle.trace_text.specs.Entries.{claim_in, messages_in};
 ghost use Rattle.trace_text.specs.Drafts.{drafted_by, judged_by, listed_by, parted_by};
-ghost use Rattle.trace_text.specs.Pieces.{IsCut, IsNone, Leads, begun_on, entries_on, list_on, lists_on, open_on, open_parts_on, open_text_on, over, parts_on, put_on, text_on, then_parts, whole_on};
+ghost use Rattle.trace_text.specs.Pieces.{Comes, IsCut, IsNone, Leads, begun_on, entries_on, list_on, lists_on, open_on, open_parts_on, open_text_on, over, parts_on, put_on, text_on, then_parts, whole_on};
 ghost use Rattle.trace_text.specs.Streams.{data_at, drafted_in, drafted_put, items_at, judged_in, members_at, sent_in, shaped};
 ghost use Rattle.trace_text.specs.Wholes.{IsFaultOf, trace_of};
 
@@ -286,9 +286,7 @@ fn read_last(alloc: Global, text: &str, scratch: &mut Scratch, parts: Parts) -> 
 
 /// Goes on with a piece. False where it ends in a list of entries.
 fn read_piece(alloc: Global, reader: &mut Reader<'_>, parts: &mut Parts) -> Result<bool, Halt>
-    ensures ok { IfOk result (λ done. MatchBool done
-        (Leads (text_on parts.old) (over (shaped (parted_by parts.new))) reader.old reader.new)
-        (Leads (text_on parts.old) (open_text_on parts.new) reader.old [])) }
+    ensures ok { IfOk result (λ done. Comes done (text_on parts.old) (over (shaped (parted_by parts.new))) (open_text_on parts.new) reader.old reader.new) }
     ensures open { result ≡ Ok false → IsSome parts.new.histories }
     ensures err { result ≡ Err Halt.NoJson → text_on parts.old reader.old ≡ None }
 {
@@ -307,9 +305,7 @@ fn resume<'a>(
     histories: Histories,
     parts: &mut Parts,
 ) -> Result<bool, Halt>
-    ensures ok { IfOk result (λ done. MatchBool done
-        (Leads (whole_on parts.old.nodes histories) (over (parted_by parts.new)) reader.old reader.new)
-        (Leads (whole_on parts.old.nodes histories) (open_parts_on parts.new) reader.old [])) }
+    ensures ok { IfOk result (λ done. Comes done (whole_on parts.old.nodes histories) (over (parted_by parts.new)) (open_parts_on parts.new) reader.old reader.new) }
     ensures open { result ≡ Ok false → IsSome parts.new.histories }
     ensures err { result ≡ Err Halt.NoJson → whole_on parts.old.nodes histories reader.old ≡ None }
 {
@@ -329,9 +325,7 @@ fn read_whole<'a>(
     draft: &mut Draft<'a>,
     parts: &mut Parts,
 ) -> Result<bool, Halt>
-    ensures ok { IfOk result (λ done. MatchBool done
-        (Leads (begun_on None None) (over (shaped (parted_by parts.new))) reader.old reader.new)
-        (Leads (begun_on None None) (open_text_on parts.new) reader.old [])) }
+    ensures ok { IfOk result (λ done. Comes done (begun_on None None) (over (shaped (parted_by parts.new))) (open_text_on parts.new) reader.old reader.new) }
     ensures open { result ≡ Ok false → IsSome parts.new.histories }
     ensures err { result ≡ Err Halt.NoJson → begun_on None None reader.old ≡ None }
 {
@@ -349,9 +343,7 @@ fn read_parts<'a>(
     draft: &mut Draft<'a>,
     parts: &mut Parts,
 ) -> Result<bool, Halt>
-    ensures ok { IfOk result (λ done. MatchBool done
-        (Leads (parts_on (parted_by parts.old)) (over (parted_by parts.new)) reader.old reader.new)
-        (Leads (parts_on (parted_by parts.old)) (open_parts_on parts.new) reader.old [])) }
+    ensures ok { IfOk result (λ done. Comes done (parts_on (parted_by parts.old)) (over (parted_by parts.new)) (open_parts_on parts.new) reader.old reader.new) }
     ensures open { result ≡ Ok false → IsSome parts.new.histories }
     ensures err { result ≡ Err Halt.NoJson → parts_on (parted_by parts.old) reader.old ≡ None }
 {
@@ -394,9 +386,7 @@ fn read_histories<'a>(
     draft: &mut Draft<'a>,
     parts: &mut Parts,
 ) -> Result<bool, Halt>
-    ensures ok { IfOk result (λ done. MatchBool done
-        (Leads (λ ts. parse_map judged_in (data_at 126 ts)) (over (option_and_then judged_by parts.new.histories)) reader.old reader.new)
-        (Leads (λ ts. parse_map judged_in (data_at 126 ts)) (λ ts. option_and_then (λ h. open_on h ts) parts.new.histories) reader.old [])) }
+    ensures ok { IfOk result (λ done. Comes done (λ ts. parse_map judged_in (data_at 126 ts)) (over (option_and_then judged_by parts.new.histories)) (λ ts. option_and_then (λ h. open_on h ts) parts.new.histories) reader.old reader.new) }
     ensures open { result ≡ Ok false → IsSome parts.new.histories }
     ensures err { result ≡ Err Halt.NoJson → data_at 126 reader.old ≡ None }
     ensures shorter { OnOk result (length reader.new < length reader.old) }
@@ -420,9 +410,7 @@ fn read_lists<'a>(
     draft: &mut Draft<'a>,
     histories: &mut Histories,
 ) -> Result<bool, Halt>
-    ensures ok { IfOk result (λ done. MatchBool done
-        (Leads (lists_on histories.old) (over (judged_by histories.new)) reader.old reader.new)
-        (Leads (lists_on histories.old) (open_on histories.new) reader.old [])) }
+    ensures ok { IfOk result (λ done. Comes done (lists_on histories.old) (over (judged_by histories.new)) (open_on histories.new) reader.old reader.new) }
     ensures err { result ≡ Err Halt.NoJson → lists_on histories.old reader.old ≡ None }
     ensures shorter { OnOk result (length reader.new ≤ length reader.old) }
 {
@@ -441,9 +429,7 @@ fn end_lists<'a>(
     draft: &mut Draft<'a>,
     histories: &mut Histories,
 ) -> Result<bool, Halt>
-    ensures ok { IfOk result (λ done. MatchBool done
-        (Leads (open_on histories.old) (over (judged_by histories.new)) reader.old reader.new)
-        (Leads (open_on histories.old) (open_on histories.new) reader.old [])) }
+    ensures ok { IfOk result (λ done. Comes done (open_on histories.old) (over (judged_by histories.new)) (open_on histories.new) reader.old reader.new) }
     ensures err { result ≡ Err Halt.NoJson → open_on histories.old reader.old ≡ None }
 {
     if !end_list(alloc, reader, draft, histories)? {
@@ -459,9 +445,7 @@ fn read_list<'a>(
     draft: &mut Draft<'a>,
     histories: &mut Histories,
 ) -> Result<bool, Halt>
-    ensures ok { IfOk result (λ done. MatchBool done
-        (Leads (list_on histories.old) (lists_on histories.new) reader.old reader.new)
-        (Leads (list_on histories.old) (open_on histories.new) reader.old [])) }
+    ensures ok { IfOk result (λ done. Comes done (list_on histories.old) (lists_on histories.new) (open_on histories.new) reader.old reader.new) }
     ensures err { result ≡ Err Halt.NoJson → list_on histories.old reader.old ≡ None }
     ensures shorter { OnOk result (length reader.new < length reader.old) }
 {
@@ -480,9 +464,7 @@ fn end_list<'a>(
     draft: &mut Draft<'a>,
     histories: &mut Histories,
 ) -> Result<bool, Halt>
-    ensures ok { IfOk result (λ done. MatchBool done
-        (Leads (open_on histories.old) (lists_on histories.new) reader.old reader.new)
-        (Leads (open_on histories.old) (open_on histories.new) reader.old [])) }
+    ensures ok { IfOk result (λ done. Comes done (open_on histories.old) (lists_on histories.new) (open_on histories.new) reader.old reader.new) }
     ensures err { result ≡ Err Halt.NoJson → open_on histories.old reader.old ≡ None }
     ensures shorter { OnOk result (length reader.new ≤ length reader.old) }
 {
@@ -514,9 +496,7 @@ fn read_entries<'a>(
     node: usize,
     entries: &mut Entries,
 ) -> Result<bool, Halt>
-    ensures ok { IfOk result (λ done. MatchBool done
-        (Leads (entries_on node entries.old) (over (listed_by entries.new)) reader.old reader.new)
-        (Leads (entries_on node entries.old) (entries_on node entries.new) reader.old [])) }
+    ensures ok { IfOk result (λ done. Comes done (entries_on node entries.old) (over (listed_by entries.new)) (entries_on node entries.new) reader.old reader.new) }
     ensures err { result ≡ Err Halt.NoJson → entries_on node entries.old reader.old ≡ None }
     ensures shorter { OnOk result (length reader.new ≤ length reader.old) }
 {
