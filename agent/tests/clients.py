@@ -212,6 +212,11 @@ def web(bed):
 
 def deaf(agents, check):
     """One that asks and never reads is cut off, and the others are served."""
+    for _ in range(20):
+        with agents.connect(0) as link:
+            link.sendall(b'{"do":"jobs"}\n' * 50)
+    agents.ask(0, do="jobs")
+    check("those that went away aren't counted as cut off", metric(agents, 0, "clients_cut_off") == 0, metric(agents, 0, "clients_cut_off"))
     with agents.connect(0) as link:
         is_cut_off = False
         try:

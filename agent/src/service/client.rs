@@ -116,9 +116,14 @@ impl Client {
         (has_turn || !self.is_waiting) && (self.is_readable || self.input.contains(&b'\n'))
     }
 
-    /// Tells it a line; false where it is to be cut off.
+    /// Whether it leaves so much unread that it is cut off at the next line to it.
+    pub fn is_deaf(&self) -> bool {
+        self.output.len() > MAX_UNREAD
+    }
+
+    /// Tells it a line; false where it is to be cut off, or is gone.
     pub fn tell(&mut self, line: &[u8]) -> bool {
-        if self.output.len() > MAX_UNREAD {
+        if self.is_deaf() {
             return false;
         }
         self.output.extend_from_slice(line);

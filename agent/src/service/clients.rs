@@ -216,10 +216,12 @@ impl Clients {
     }
 
     fn tell_line(&mut self, id: ClientId, line: &[u8]) {
-        let is_there = self.all.get_mut(&id).map(|client| client.tell(line));
-        if is_there == Some(false) {
-            debug!("client {id} is cut off: it doesn't read");
-            self.cut_off += 1;
+        let told = self.all.get_mut(&id).map(|client| (client.is_deaf(), client.tell(line)));
+        if let Some((is_deaf, false)) = told {
+            if is_deaf {
+                debug!("client {id} is cut off: it doesn't read");
+                self.cut_off += 1;
+            }
             self.remove(id);
         }
     }
