@@ -78,7 +78,7 @@ data.stays.slice(0, -1).forEach(stay => stays[stay[0]].push(stay));
 let first = -1, step = 26, down = 0, chosen = -1, waiting = false;
 const wide = () => canvas.clientWidth - MARGIN, high = () => canvas.clientHeight - RULER;
 const row = () => Math.max(30, Math.min(110, high() / nodes)), tall = () => row() >= 90;
-const across = turn => MARGIN + (turn - first) * step, line = node => RULER + row() * node + (tall() ? 55 : row() / 2) - down;
+const across = turn => MARGIN + (turn - first) * step, line = node => RULER + row() * node + (tall() ? 70 : row() / 2) - down;
 
 // the first place of a list that passes the test; all behind it do
 function search(list, test) {
@@ -179,7 +179,8 @@ function mark(turn, x, y) {
     if (turn[NAME] === "crash") shape(CROSS, x, y, Math.min(8, 3 + step / 4), "#c00", 2);
     if (turn[UNTAKEN] !== "-" && step >= 10) shape(STUB, x, y, 1, "#b50", 1.4);
     if (step < 18 || row() < 60) return;
-    write(turn[INDEX], x - 4 - 6 * String(turn[INDEX]).length, y + 14, "#555");
+    const digits = 6 * String(turn[INDEX]).length;
+    if (step > digits + 4) write(turn[INDEX], x - 4 - digits, y + 14, "#555");
     if (turn[SAYS]) slant(kind(turn), x, y, "#1d5fa8");
     else if (turn[NAME] !== "none") slant(turn[NAME], x, y, "#222");
 }
@@ -219,7 +220,8 @@ function draw() {
     const each = arrows(from, until);
     marks(from, until);
     margins(from, until);
-    snapshot.textContent = `turns ${from} to ${until - 1} of ${turns.length}` + (each > 1 ? `; one arrow of ${each} is drawn` : "");
+    snapshot.textContent = turns.length === 0 ? "no turns" :
+        `turns ${from} to ${until - 1} of ${turns.length}` + (each > 1 ? `; one arrow of ${each} is drawn` : "");
 }
 function show() {
     step = Math.max(Math.min(26, wide() / (turns.length + 2)), Math.min(60, step));
@@ -258,12 +260,14 @@ const zoom = (times, x) => {
 };
 const move = (turns, rows) => { [first, down] = [first + turns * wide() / step, down + rows * row()]; show(); };
 const middle = () => MARGIN + wide() / 2;
+// a turn, a node and its entry, or the next turn behind the one that is chosen that has the word, from the first on again
 function find(text) {
-    const [, node, index] = /^\D*(\d+)\D+(\d+)\D*$/.exec(text) || [], [, turn] = /^\D*(\d+)\D*$/.exec(text) || [];
+    const [, turn] = /^(?:turn )?(\d+)$/i.exec(text) || [], [, node, index] = /^(?:node )?(\d+)[ ,]+(?:entry )?(\d+)$/i.exec(text) || [];
     const says = at => [turns[at][NAME], turns[at][SAYS], turns[at][BYTES]].some(part => part.toLowerCase().includes(text.toLowerCase()));
-    let at = node !== undefined ? (own[node] || [])[index] : turn !== undefined ? +turn : chosen + 1;
-    if (node === undefined && turn === undefined) while (at < turns.length && !says(at)) at++;
-    if (turns[at]) choose(at); else told.textContent = `nothing is found for ${text}`;
+    let at = turn;
+    if (node !== undefined) at = (own[node] || [])[index];
+    else if (turn === undefined || +turn >= turns.length) at = [...turns.keys()].map(past => (chosen + 1 + past) % turns.length).find(says);
+    if (turns[at]) choose(+at); else told.textContent = `nothing is found for ${text}`;
 }
 // the turn that is nearest to a point, of the node in whose row it is
 function nearest(x, y) {
