@@ -181,7 +181,7 @@ def try_little_room(tried, folder):
     limited(["sim"], b"cluster 128 4096\n", 100, 1, none)
     # a text that is no trace takes no more than one that is
     for last in (b"", b',{"do":1}'):
-        for megabytes in (17, 14):
+        for megabytes in (14, 11):
             limited(["trace"], b'{"nodes":1,"histories":[[' + entries + last + b"]]}", megabytes, 1, none)
     limited(["trace"], b'{"nodes":1,"histories":[[' + entries + b',{"do":1}]]}', 80, 1, b"bad trace 0 200000\n")
     limited(["show"], b"a" * (40 * MEGABYTE), 20, 1, none)
