@@ -1,4 +1,5 @@
 mod cells;
+mod changes;
 mod files;
 mod gates;
 mod groups;

@@ -11,3 +11,4 @@ pub mod Refusing
 pub mod Calls
 pub mod Compacting
 pub mod Fresh
+pub mod Changes

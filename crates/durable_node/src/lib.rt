@@ -7,15 +7,19 @@
 //! ```
 //! let mut node = DurableNode::down(alloc, id, nodes, disk);
 //! let came = node.recover()?;                                     // mounts the disk; alone in a new group now, unless came.fault() says why not
+//! let seen = node.seen()?;
 //! let came = node.step(&Event::Timer(Timer::Check))?;             // plans the event, writes and syncs its command, commits it
 //! send_all(&came.sent);                                           // only now are there messages
+//! let changes = node.changes_since(&seen)?;                       // what is told of its group anew, the jobs taken and those dropped
 //! ```
 #![tactic(auto)]
 
 mod advance;
 mod carry;
+mod changes;
 mod compacting;
 mod fault;
+mod group_view;
 mod handle;
 mod ignore;
 mod memory;
@@ -25,7 +29,9 @@ mod remount;
 mod setting;
 mod step_report;
 
+pub use changes::{Changes, Seen};
 pub use fault::NodeFault;
+pub use group_view::GroupView;
 pub use memory::formatted_disk;
 pub use node::DurableNode;
 pub use step_report::StepReport;

@@ -1,13 +1,15 @@
 // A node over its disk.
-ghost use Rattle.std.specs.Prelude.{◌≡◌, ◌≢◌, ◌≤◌, ◌<◌, IsOk, IfOk, IfErr, IsErrOf, IfSome, IsNone, IsSome, IsTrue, Some, None, Err, length, true, false};
+ghost use Rattle.std.specs.Prelude.{◌≡◌, ◌≢◌, ◌≤◌, ◌<◌, ◌↔◌, [], IsOk, IfOk, IfErr, IsErrOf, IfSome, IsNone, IsSome, IsTrue, Some, None, Err, length, true, false};
 ghost use Rattle.group_task.specs.declared.node.TheConstants.{NODES};
 ghost use Rattle.job_model.specs.Table.{durable_of};
 ghost use Rattle.job_journal.specs.Journal.{AllNumbered, IsSound};
 ghost use Rattle.node_core.specs.Start.{down};
 ghost use Rattle.node_core.specs.State.{state_of, is_down};
+ghost use Rattle.node_core.specs.Wait.{IsMergeWait};
 ghost use Rattle.node_store.specs.Store.{slots_for};
 ghost use Rattle.durable_node.specs.Area.{Area};
 ghost use Rattle.durable_node.specs.Calls.{IsCall};
+ghost use Rattle.durable_node.specs.Changes.{AreChanges, seen_of};
 ghost use Rattle.durable_node.specs.Compacting.{Compacts, StaysKept, IsMovedNode, IsMovedInto, IsFallenNode};
 ghost use Rattle.durable_node.specs.Faults.{answered};
 ghost use Rattle.durable_node.specs.Reading.{ReadsDisk};
@@ -16,6 +18,7 @@ ghost use Rattle.durable_node.specs.Remounting.{IsMountedBy, Remounted};
 ghost use Rattle.durable_node.specs.Stepping.{AreaGoesOn, CountsOf, Steps, Stuck, most_by};
 
 use crate::advance::{advance, is_down};
+use crate::changes::{Changes, Seen};
 use crate::compacting::compact;
 use crate::fault::NodeFault;
 use crate::node_disk::NodeDisk;
@@ -25,7 +28,7 @@ use group_task::NodeId;
 use job_model::JobTable;
 use node_core::{Event, NodeCore, Vector, Wanted};
 use sector_disk::SectorDisk;
-use std::alloc::Global;
+use std::alloc::{AllocError, Global};
 use std::marker::Model;
 
 /// The state machine of one node over a disk that failures of the node don't erase.
@@ -65,8 +68,9 @@ impl<D: SectorDisk> DurableNode<D> {
         requires most { nodes ≤ NODES }
         requires sound { IsSound (slots_for (D.state disk).sectors) (D.state disk) }
         // Promise: A node begins Down over a disk; what is shown of it is its state.
-        // Also: DurableNode::vector, DurableNode::durable, DurableNode::into_disk.
-        // Refuses: up_without_mounting, durable_where_down.
+        // Also: DurableNode::id, DurableNode::is_down, DurableNode::merge_wait, DurableNode::vector, DurableNode::durable,
+        // DurableNode::into_disk.
+        // Refuses: up_without_mounting, durable_where_down, shown_as_node_0, down_where_up, merge_wait_never_shown.
         ensures { result ≡ record { id = id; nodes = nodes; state = down id; disk = Some disk; kept = None; area = None; doubt = None; mounted = None } }
     {
         DurableNode {
@@ -99,11 +103,51 @@ impl<D: SectorDisk> DurableNode<D> {
         }
     }
 
+    /// The node's own identifier.
+    pub fn id(&self) -> NodeId
+        ensures { result ≡ self.now.id }
+    {
+        self.setting.id
+    }
+
+    /// Whether the node is Down.
+    pub fn is_down(&self) -> bool
+        ensures { result ≡ is_down self.now.state.phase }
+    {
+        is_down(&self.core)
+    }
+
+    /// How long the node waits before it merges, as [`NodeCore::merge_wait`] says.
+    pub fn merge_wait(&self) -> Option<u64>
+        ensures none { IsNone result ↔ (self.now.state.found ≡ []) }
+        ensures wait { IfSome result (IsMergeWait self.now.id self.now.state.found) }
+    {
+        self.core.merge_wait()
+    }
+
     /// What the node knows.
     pub fn vector(&self) -> &Vector
         ensures { state_of result.now ≡ self.now.state }
     {
         self.core.vector()
+    }
+
+    /// Sees the node as it is now: [`DurableNode::changes_since`] says later what changed.
+    pub fn seen(&self) -> Result<Seen, AllocError>
+        ensures { IfOk result (λ seen. seen ≡ seen_of self.now.state) }
+    {
+        Seen::of(self.setting.alloc, self.core.vector())
+    }
+
+    /// What has changed at the node since it was seen: what is told of its group, the jobs that it took, and those that it dropped.
+    pub fn changes_since(&self, seen: &Seen) -> Result<Changes<'_>, AllocError>
+        // Promise: What changed since a node was seen is the difference: its group, where another phase or, unless it is Down,
+        // another coordinator, number or members are told; the jobs in hand that weren't; and those that aren't any more.
+        // Also: DurableNode::seen.
+        // Refuses: group_number_not_compared, takes_what_was_held, drops_what_is_held, hand_seen_without_ids, compared_with_itself.
+        ensures { IfOk result (AreChanges seen.now self.now.state) }
+    {
+        seen.changes(self.setting.alloc, self.core.vector())
     }
 
     /// The counter and the jobs that the disk keeps. None where the node is Down.

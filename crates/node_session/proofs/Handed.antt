@@ -15,7 +15,7 @@ use Rattle.wire_msg.specs.declared.body.Body.{Body}
 use Rattle.wire_msg.specs.declared.body.Body.TheVariants as says
 use Rattle.console_text.specs.Words.{work_text}
 use Rattle.node_core.specs.State.{State, is_down}
-use Rattle.node_core.specs.Words.{holds, members_of}
+use Rattle.node_core.specs.Words.{members_of}
 use Rattle.node_core.specs.declared.event.Event.{Event}
 use Rattle.node_core.specs.declared.event.Event.TheVariants as on
 use Rattle.node_core.specs.declared.fault.CoreFault.{CoreFault}
@@ -26,16 +26,17 @@ use Rattle.node_core.specs.declared.phase.Phase.TheVariants as phase
 use Rattle.node_core.specs.declared.timer.Timer.TheVariants as timer
 use Rattle.durable_node.specs.declared.fault.NodeFault.{NodeFault}
 use Rattle.durable_node.specs.declared.fault.NodeFault.TheVariants as node
+use Rattle.durable_node.specs.Changes.{dropped_since, held_by, taken_since, told_anew, view_of}
+use Rattle.durable_node.specs.declared.group_view.GroupView.{GroupView}
 use Rattle.histories.specs.NodeState.{NodeState}
 use Rattle.pace.specs.Retransmission.{sent_again}
 use Rattle.node_session.specs.declared.asked.Asked.{Asked}
 use Rattle.node_session.specs.declared.asked.Asked.TheVariants as ask
 use Rattle.node_session.specs.declared.asked.Unsealed.{Unsealed}
 use Rattle.node_session.specs.declared.asked.Unsealed.TheVariants as unsealed
-use Rattle.node_session.specs.declared.seen.Told.{Told}
 use Rattle.node_session.specs.declared.call_outcome.CallOutcome.{CallOutcome}
 use Rattle.node_session.specs.declared.call_outcome.CallOutcome.TheVariants as end
-use Rattle.node_session.specs.Changes.{changes, drop_line, drop_news, drops, drops_by, gone_at, gone_by, gone_line, gone_news, group_by, group_line, group_news, held_by, held_text, is_finish, pair_in, same_told, take_line, take_news, takes, told_of}
+use Rattle.node_session.specs.Changes.{changes, drop_line, drops_by, gone_at, gone_by, gone_line, gone_news, group_by, group_news, held_text, is_finish, take_line}
 use Rattle.node_words.specs.Words.{core_name, event_word, group_part, group_text, id_text, ids_text, more_ids_text, phase_text, truth_text}
 use Rattle.node_session.specs.Turns.{Turn, after_turn, cause, end_of, sent_in}
 use Rattle.node_session.specs.Chains.{Outcome, IsNone, MayCome, after_turns, line_end, next}
@@ -85,6 +86,10 @@ nothing = record { pieces = []; quiet = tt; text_so = refl; messages = refl }
 -- and then lines that hand out nothing
 more : (x y : List ℕ) (ms : List Envelope) → IsMade x ms → IsMade y [] → IsMade (x ++ y) ms
 more x y ms a b = subst (λ (ns : List Envelope). IsMade (x ++ y) ns) (append-nil ms) (both x y ms [] a b)
+
+each_made : {A : Type 0} (f : A → List ℕ) → ((x : A) → IsMade (f x) []) → (xs : List A) → IsMade (flat_map f xs) []
+each_made f made [] = nothing
+each_made f made (x ∷ xs) = both (f x) (flat_map f xs) [] [] (made x) (each_made f made xs)
 
 -- ---- one line of another kind
 
@@ -142,49 +147,39 @@ spaced x y first second = both_lines (x ++ codes " ") y (both_lines x (codes " "
 group_words : (g : Group) → one_line (group_text g)
 group_words g = both_lines (decimal g.creator ++ codes ":") (decimal g.count) (both_lines (decimal g.creator) (codes ":") (number_line g.creator) refl) (number_line g.count)
 
-group_made : (b : Bool) (t : Told) → IsMade (group_by b t) []
+group_made : (b : Bool) (t : GroupView) → IsMade (group_by b t) []
 group_made true t = said (codes "group Down") [] refl refl
 group_made false t =
     let text = phase_text t.phase ++ codes " " ++ decimal t.coordinator ++ codes " " ++ group_text t.group ++ codes " " ++ ids_text t.members in
     said (codes "group ") text (spaced (phase_text t.phase ++ codes " " ++ decimal t.coordinator ++ codes " " ++ group_text t.group) (ids_text t.members)
     (spaced (phase_text t.phase ++ codes " " ++ decimal t.coordinator) (group_text t.group) (spaced (phase_text t.phase) (decimal t.coordinator) (phase_line t.phase) (number_line t.coordinator)) (group_words t.group)) (ids_line t.members)) refl
 
-news_made : (old new : Told) → IsMade (group_news old new) []
-news_made old new = by_test (same_told old new)
-  where
-    by_test : (b : Bool) → IsMade (if b then [] else group_line new) []
-    by_test true = nothing
-    by_test false = group_made (is_down new.phase) new
+news_made : (told : Option GroupView) → IsMade (group_news told) []
+news_made None = nothing
+news_made (Some t) = group_made (is_down t.phase) t
 
 held_line : (job : InHand) → one_line (held_text job)
 held_line job =
     spaced (decimal job.origin ++ codes " " ++ decimal job.id) (work_text job.work.queue job.work.payload job.work.priority)
     (spaced (decimal job.origin) (decimal job.id) (number_line job.origin) (number_line job.id)) (work_line job.work.queue job.work.payload job.work.priority)
 
-takes_made : (old : List (ℕ × ℕ)) (jobs : List InHand) → IsMade (takes old jobs) []
-takes_made old [] = nothing
-takes_made old (job ∷ jobs) = both (take_news old job) (takes old jobs) [] [] (by_test (pair_in old job.origin job.id)) (takes_made old jobs)
-  where
-    by_test : (b : Bool) → IsMade (if b then [] else take_line job) []
-    by_test true = nothing
-    by_test false = said (codes "take ") (held_text job) (held_line job) refl
+take_made : (job : InHand) → IsMade (take_line job) []
+take_made job = said (codes "take ") (held_text job) (held_line job) refl
 
-drops_made : (new : List InHand) (pairs : List (ℕ × ℕ)) → IsMade (drops new pairs) []
-drops_made new [] = nothing
-drops_made new (pair ∷ pairs) = both (drop_news new pair) (drops new pairs) [] [] (by_test (holds new pair.0 pair.1)) (drops_made new pairs)
-  where
-    by_test : (b : Bool) → IsMade (if b then [] else drop_line pair) []
-    by_test true = nothing
-    by_test false = said (codes "drop ") (decimal pair.0 ++ codes " " ++ decimal pair.1) (spaced (decimal pair.0) (decimal pair.1) (number_line pair.0) (number_line pair.1)) refl
+drop_made : (pair : ℕ × ℕ) → IsMade (drop_line pair) []
+drop_made pair = said (codes "drop ") (decimal pair.0 ++ codes " " ++ decimal pair.1) (spaced (decimal pair.0) (decimal pair.1) (number_line pair.0) (number_line pair.1)) refl
+
+drops_made : (finished : Bool) (pairs : List (ℕ × ℕ)) → IsMade (drops_by finished pairs) []
+drops_made true pairs = nothing
+drops_made false pairs = each_made drop_line drop_made pairs
 
 changes_made : (finished : Bool) (old new : State) → IsMade (changes finished old new) []
 changes_made finished old new =
-    both (group_news (told_of old) (told_of new)) (takes (map held_by old.hand) new.hand ++ drops_by finished new.hand (map held_by old.hand)) [] [] (news_made (told_of old) (told_of new))
-    (both (takes (map held_by old.hand) new.hand) (drops_by finished new.hand (map held_by old.hand)) [] [] (takes_made (map held_by old.hand) new.hand) (by_finish finished))
-  where
-    by_finish : (b : Bool) → IsMade (drops_by b new.hand (map held_by old.hand)) []
-    by_finish true = nothing
-    by_finish false = drops_made new.hand (map held_by old.hand)
+    let told = told_anew (view_of old) (view_of new) in
+    let taken = taken_since (map held_by old.hand) new.hand in
+    let dropped = dropped_since (map held_by old.hand) new.hand in
+    both (group_news told) (flat_map take_line taken ++ drops_by finished dropped) [] [] (news_made told)
+    (both (flat_map take_line taken) (drops_by finished dropped) [] [] (each_made take_line take_made taken) (drops_made finished dropped))
 
 gone_made : (id : ℕ) → IsMade (gone_line id) []
 gone_made id = said (codes "gone ") (decimal id) (number_line id) refl
@@ -330,10 +325,6 @@ up_made s d =
 state_made : (b : Bool) (s : NodeState) → IsMade (state_by b s) []
 state_made true s = said (codes "state Down") [] refl refl
 state_made false s = up_made s.state s.durable
-
-each_made : {A : Type 0} (f : A → List ℕ) → ((x : A) → IsMade (f x) []) → (xs : List A) → IsMade (flat_map f xs) []
-each_made f made [] = nothing
-each_made f made (x ∷ xs) = both (f x) (flat_map f xs) [] [] (made x) (each_made f made xs)
 
 pending_made : (job : Job) → IsMade (pending_line job) []
 pending_made job =

@@ -26,6 +26,10 @@ use Rattle.histories.specs.declared.event_outcome.EventOutcome.TheVariants as ev
 use Rattle.histories.specs.After.{after, sent_at}
 use Rattle.histories.specs.Possible.{IsOfSlots}
 use Rattle.durable_node.specs.Compacting.{Compacts, CompactionAnswers, RestAnswers}
+use Rattle.durable_node.specs.Changes.{AreChanges, Sight, dropped_since, seen_of, taken_since, told_anew, view_of}
+use Rattle.durable_node.specs.declared.changes.Changes.{Changes}
+use Rattle.durable_node.specs.declared.group_view.GroupView.{GroupView}
+use Rattle.node_core.specs.declared.in_hand.InHand.{InHand}
 use Rattle.durable_node.specs.Stepping.{CountsOf, Does, IsMounting, Steps, Stuck, is_recover}
 use Rattle.durable_node.specs.Faults.{fault_of, answered, answered_as}
 use Rattle.node_core.specs.declared.fault.CoreFault.TheVariants.{NoMemory}
@@ -34,7 +38,7 @@ use Rattle.node_session.specs.declared.call_outcome.CallOutcome.{CallOutcome}
 use Rattle.node_session.specs.declared.call_outcome.CallOutcome.TheVariants as end
 use Rattle.node_session.specs.Turns.{Turn, Goes, Unmounted, Begins, MayComeOf, MayCompact, IsGoing, IsOfCompaction, after_turn, cause, compaction_end, end_at, end_of, ended_by, sent_by, sent_in}
 use Rattle.pace.specs.Retransmission.{Waits, waits_behind}
-use Rattle.node_session.specs.Changes.{NodeSnapshot, changes, gone_news, is_finish, sight_of}
+use Rattle.node_session.specs.Changes.{changes, gone_news, is_finish, news}
 use Rattle.node_session.specs.Text.{call_text, send_lines}
 use Rattle.node_session.specs.Serving.{Progress, IsNodeOf, Turns}
 
@@ -235,23 +239,31 @@ event_turns {Disk} disks old node' event reply waits sent changed text id nodes 
       });
 }
 
--- by what the code keeps of the state before
-pub turn_so : {Disk : Type 0} (disks : Disk → DiskState) (old here : Progress Disk) (node' : Node Disk) (event : Event) (reply : Result StepReport NodeFault) (ended : CallOutcome) (finished : Bool) (seen : NodeSnapshot) (before after behind : State)
+-- by what was seen of the node before
+changed_so : (finished : Bool) (seen : Sight) (old new : State) (came : Changes) (sent changed : List ℕ) → seen ≡ seen_of old → AreChanges seen new came
+    → changed ≡ sent ++ news finished came.group came.taken.items came.dropped.items → changed ≡ sent ++ changes finished old new
+changed_so finished seen old new came sent changed sees are said =
+    said ∙ (ap (λ (g : Option GroupView). sent ++ news finished g came.taken.items came.dropped.items) are.group
+    ∙ (ap (λ (t : List InHand). sent ++ news finished (told_anew seen.group (view_of new)) t came.dropped.items) are.taken
+    ∙ (ap (λ (d : List (ℕ × ℕ)). sent ++ news finished (told_anew seen.group (view_of new)) (taken_since seen.held new.hand) d) are.dropped
+    ∙ ap (λ (v : Sight). sent ++ news finished (told_anew v.group (view_of new)) (taken_since v.held new.hand) (dropped_since v.held new.hand)) sees)))
+
+pub turn_so : {Disk : Type 0} (disks : Disk → DiskState) (old here : Progress Disk) (node' : Node Disk) (event : Event) (reply : Result StepReport NodeFault) (ended : CallOutcome) (finished : Bool) (seen : Sight) (came : Changes) (behind : State)
     (given : List Envelope) (waits : Waits) (sent changed text : List ℕ) → here ≡ old → node'.id ≡ here.node.id → node'.nodes ≡ here.node.nodes → IfOk reply (Steps disks here.node node' event) → IfErr reply (Stuck disks here.node node' event) → reply ≢ Err (node.Core NoMemory)
     → (is_down here.node.state.phase ≡ true → event ≡ on.Recover → Remounted here.node node' (answered reply) node'.mounted) → (is_down here.node.state.phase ≡ true → here.node.state ≡ down_state here.node.id)
     → CountsOf disks here.node.disk node'.disk (answered reply)
-    → seen ≡ sight_of before → before ≡ here.node.state → after ≡ node'.state → finished ≡ is_finish (Some event) → ended ≡ ended_by (answered reply)
+    → seen ≡ seen_of here.node.state → AreChanges seen node'.state came → finished ≡ is_finish (Some event) → ended ≡ ended_by (answered reply)
     → given ≡ sent_by (answered reply) → behind ≡ node'.state → waits ≡ waits_behind (Some event) given behind here.waits
-    → sent ≡ here.text ++ send_lines given → ((s : State) → seen ≡ sight_of s → changed ≡ sent ++ changes finished s after) → text ≡ changed ++ gone_news (Some event) ended
+    → sent ≡ here.text ++ send_lines given → changed ≡ sent ++ news finished came.group came.taken.items came.dropped.items → text ≡ changed ++ gone_news (Some event) ended
     → Turns disks old (record here { node = node'; text = text; waits = waits }) (λ i n. MayComeOf i n event) ended
-turn_so {Disk} disks old here node' event reply ended finished seen before after behind given waits sent changed text is id nodes steps stuck memory mounting fallen counts sees was now finish ends_so given_so then waited first second third =
+turn_so {Disk} disks old here node' event reply ended finished seen came behind given waits sent changed text is id nodes steps stuck memory mounting fallen counts sees are finish ends_so given_so then waited first second third =
     subst (λ (p : Progress Disk). Turns disks p (record here { node = node'; text = text; waits = waits }) (λ i n. MayComeOf i n event) ended) is
     (subst (λ (e : CallOutcome). Turns disks here (record here { node = node'; text = text; waits = waits }) (λ i n. MayComeOf i n event) e) (sym ends_so)
     (event_turns disks here node' event reply waits sent changed text id nodes steps stuck memory mounting fallen counts
     (waited ∙ (ap (λ (ms : List Envelope). waits_behind (Some event) ms behind here.waits) given_so ∙ ap (λ (v : State). waits_behind (Some event) (sent_by (answered reply)) v here.waits) then))
     (first ∙ ap (λ (ms : List Envelope). here.text ++ send_lines ms) given_so)
-    (second before sees ∙ (ap (λ (b : Bool). sent ++ changes b before after) finish ∙ (ap (λ (v : State). sent ++ changes (is_finish (Some event)) v after) was
-    ∙ ap (λ (v : State). sent ++ changes (is_finish (Some event)) here.node.state v) now)))
+    (changed_so (is_finish (Some event)) seen here.node.state node'.state came sent changed sees are
+    (second ∙ ap (λ (b : Bool). sent ++ news b came.group came.taken.items came.dropped.items) finish))
     (third ∙ ap (λ (e : CallOutcome). changed ++ gone_news (Some event) e) ends_so)))
 
 -- ---- a compaction
@@ -311,14 +323,14 @@ compaction_turns {Disk} disks old node' result waits text id nodes compacts coun
       });
 }
 
-pub compaction_so : {Disk A : Type 0} (disks : Disk → DiskState) (old here : Progress Disk) (node' : Node Disk) (result : Result A NodeFault) (ended : CallOutcome) (seen : NodeSnapshot) (before after behind : State) (waits : Waits) (text : List ℕ)
+pub compaction_so : {Disk A : Type 0} (disks : Disk → DiskState) (old here : Progress Disk) (node' : Node Disk) (result : Result A NodeFault) (ended : CallOutcome) (seen : Sight) (came : Changes) (behind : State) (waits : Waits) (text : List ℕ)
     → here ≡ old → node'.id ≡ here.node.id → node'.nodes ≡ here.node.nodes → Compacts disks here.node node' result → CountsOf disks here.node.disk node'.disk result
-    → seen ≡ sight_of before → before ≡ here.node.state → after ≡ node'.state → ended ≡ compaction_end result
+    → seen ≡ seen_of here.node.state → AreChanges seen node'.state came → ended ≡ compaction_end result
     → behind ≡ node'.state → waits ≡ waits_behind None [] behind here.waits
-    → ((s : State) → seen ≡ sight_of s → text ≡ here.text ++ changes false s after)
+    → text ≡ here.text ++ news false came.group came.taken.items came.dropped.items
     → Turns disks old (record here { node = node'; text = text; waits = waits }) MayCompact ended
-compaction_so {Disk} disks old here node' result ended seen before after behind waits text is id nodes compacts counts sees was now ends_so then waited said =
+compaction_so {Disk} disks old here node' result ended seen came behind waits text is id nodes compacts counts sees are ends_so then waited said =
     subst (λ (p : Progress Disk). Turns disks p (record here { node = node'; text = text; waits = waits }) MayCompact ended) is
     (subst (λ (e : CallOutcome). Turns disks here (record here { node = node'; text = text; waits = waits }) MayCompact e) (sym ends_so)
     (compaction_turns disks here node' result waits text id nodes compacts counts (waited ∙ ap (λ (v : State). waits_behind None [] v here.waits) then)
-    (said before sees ∙ (ap (λ (v : State). here.text ++ changes false v after) was ∙ ap (λ (v : State). here.text ++ changes false here.node.state v) now))))
+    (changed_so false seen here.node.state node'.state came here.text text sees are said)))

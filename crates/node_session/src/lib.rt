@@ -12,12 +12,12 @@
 
 mod asked;
 mod call_outcome;
+mod changes;
 mod closing;
 mod due;
 mod fired;
 mod laws;
 mod seals;
-mod seen;
 mod sending;
 mod session;
 mod showing;

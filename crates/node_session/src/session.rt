@@ -21,11 +21,11 @@ ghost use Rattle.node_session.specs.Turns.{compaction_end, ended_by, sent_by, Is
 
 use crate::asked::{Asked, read_line};
 use crate::call_outcome::CallOutcome;
+use crate::changes::{is_finish, push_changes, push_gone};
 use crate::closing::{push_closing, push_event_closing};
 use crate::due::{next_due, push_next};
 use crate::fired::push_fired;
 use crate::seals::Seal;
-use crate::seen::{Seen, is_finish, push_gone};
 use crate::sending::push_messages;
 use crate::showing::{push_at_once, push_keeps_news};
 use crate::unread::Unread;
@@ -46,7 +46,6 @@ const MOST_FIRED: u32 = 16;
 #[derive(Drop)]
 pub struct Session<D: SectorDisk> {
     alloc: Global,
-    id: NodeId,
     node: DurableNode<D>,
     pace: TimerPolicy,
     // the group in which a timer was last looked for, and the one in which time was last spent
@@ -87,7 +86,6 @@ impl<D: SectorDisk> Session<D> {
     {
         Session {
             alloc,
-            id,
             node: DurableNode::down(alloc, id, nodes, disk),
             pace: TimerPolicy::new(setting, id, seed),
             group: None,
@@ -139,10 +137,10 @@ impl<D: SectorDisk> Session<D> {
     {
         self.pace.spend(ms);
         let group_state = &self.node.vector().group_state;
-        if matches!(group_state.phase, Phase::Down) || self.spent_in == Some(group_state.group) {
+        if self.node.is_down() || self.spent_in == Some(group_state.group) {
             return;
         }
-        if group_state.group.creator().is(self.id) {
+        if group_state.group.creator().is(self.node.id()) {
             self.pace.raised(ms);
         }
         self.spent_in = Some(group_state.group);
@@ -171,8 +169,8 @@ impl<D: SectorDisk + Drop> Session<D> {
         // Promise: Over any disk the node does, for each whole line, one of the things that the definitions allow for it, and the text
         // says so: the messages, what changed, and one closing line.
         // Refuses: answered_before_the_disk, line_answered_twice, bad_line_ends_serving, sent_to_the_sender, drops_unwritten,
-        // takes_what_was_held, group_number_not_compared, gone_before_it_is_done, jobs_answered_by_the_state,
-        // no_memory_goes_on.
+        // takes_unwritten, durable_node::group_number_not_compared, durable_node::takes_what_was_held, gone_before_it_is_done,
+        // jobs_answered_by_the_state, no_memory_goes_on.
         // Promise: A tick or a loss names each event that it makes; a recovery writes what is kept; a tick sends again what the
         // node sent and still waits for, once a round trip.
         // Refuses: node_words::fired_as_another, sent_again_without_end, pace::sent_again_at_once.
@@ -266,8 +264,7 @@ impl<D: SectorDisk + Drop> Session<D> {
         ensures { (s : NodeState) → Stands D.state self.now.node s → result ≡ life_of s }
     {
         match self.node.durable() {
-            Some((count, _table)) if !matches!(self.node.vector().group_state.phase, Phase::Down) =>
-                { Some(count) }
+            Some((count, _table)) if !self.node.is_down() => Some(count),
             _ => None,
         }
     }
@@ -434,16 +431,12 @@ impl<D: SectorDisk + Drop> Session<D> {
     fn snapshot(&self) -> NodeSnapshot
         ensures { result.phase ≡ self.now.node.state.phase }
     {
+        let id = self.node.id();
         let vector = self.node.vector();
-        let merge_wait = merge_wait(self.id, vector);
+        let merge_wait = self.node.merge_wait();
         match self.node.durable() {
-            Some((_count, table)) => NodeSnapshot::of(
-                self.id,
-                vector,
-                merge_wait,
-                &table.pending(),
-            ),
-            None => NodeSnapshot::without_jobs(self.id, vector, merge_wait),
+            Some((_count, table)) => NodeSnapshot::of(id, vector, merge_wait, &table.pending()),
+            None => NodeSnapshot::without_jobs(id, vector, merge_wait),
         }
     }
 
@@ -470,7 +463,7 @@ impl<D: SectorDisk + Drop> Session<D> {
         ensures rest { self.new.rest ≡ self.old.rest }
         ensures calls { IfOk result (λ ended. Calls D.state self.old self.new fired_news AreTimely (end.Done None) ended) }
     {
-        match loss_of(self.id, self.node.vector(), node) {
+        match loss_of(self.node.id(), self.node.vector(), node) {
             Some(event) => {
                 self.add_fired(&event)?;
                 self.turn(&event)
@@ -499,7 +492,7 @@ impl<D: SectorDisk + Drop> Session<D> {
         ensures rest { self.new.rest ≡ self.old.rest }
         ensures turn { IfOk result (λ ended. Turns D.state self.old self.new (λ id nodes. MayComeOf id nodes event.now) ended) }
     {
-        let seen = Seen::of(self.alloc, self.node.vector())?;
+        let seen = self.node.seen()?;
         self.node.is_fallen();
         let reply = self.node.step(event);
         if ran_out(&reply) {
@@ -509,7 +502,8 @@ impl<D: SectorDisk + Drop> Session<D> {
         self.waiting.keep(event, sent, self.node.vector())?;
         push_messages(&mut self.text, &mut self.bytes, sent)?;
         let ended = ended_by(&reply);
-        seen.push_changes(&mut self.text, is_finish(event), self.node.vector())?;
+        let changes = self.node.changes_since(&seen)?;
+        push_changes(&mut self.text, is_finish(event), &changes)?;
         push_gone(&mut self.text, event, &ended)?;
         Ok(ended)
     }
@@ -519,10 +513,11 @@ impl<D: SectorDisk + Drop> Session<D> {
         ensures rest { self.new.rest ≡ self.old.rest }
         ensures turn { IfOk result (λ ended. Turns D.state self.old self.new MayCompact ended) }
     {
-        let seen = Seen::of(self.alloc, self.node.vector())?;
+        let seen = self.node.seen()?;
         let done = self.node.compact();
         self.waiting.forget(self.node.vector())?;
-        seen.push_changes(&mut self.text, false, self.node.vector())?;
+        let changes = self.node.changes_since(&seen)?;
+        push_changes(&mut self.text, false, &changes)?;
         Ok(compaction_end(&done))
     }
 }
@@ -565,15 +560,6 @@ fn ran_out(reply: &Result<StepReport, NodeFault>) -> bool
     ensures { IsTrue result ↔ (reply.now ≡ Err (NodeFault.Core NoMemory)) }
 {
     matches!(reply, Err(NodeFault::Core(CoreFault::NoMemory)))
-}
-
-/// By how much the greatest coordinator that was found is above the node; none where none was found.
-fn merge_wait(id: NodeId, vector: &Vector) -> Option<u64> {
-    let mut greatest = None;
-    for found in vector.group_state.found.iter() {
-        greatest = Some(u64::from(found.number().saturating_sub(id.number())));
-    }
-    greatest
 }
 
 /// What a node makes of it that the transport gave another node up.

@@ -14,7 +14,7 @@ use crate::closing::{push_bad, push_ok, push_refused};
 use console_text::{push_named_number, push_number, push_text, push_work};
 use durable_node::DurableNode;
 use job_model::{JobRef, JobTable, PendingJobs};
-use node_core::{Event, HandJobs, InHandRef, Phase, Vector};
+use node_core::{Event, HandJobs, InHandRef, Vector};
 use node_words::{phase_word, push_group_part, push_ids, push_truth};
 use sector_disk::SectorDisk;
 use std::alloc::AllocError;
@@ -41,11 +41,8 @@ pub(crate) fn push_at_once<D: SectorDisk>(
 fn push_state<D: SectorDisk>(text: &mut Vec<u8>, node: &DurableNode<D>) -> Result<(), AllocError>
     ensures { (s : NodeState) → Stands D.state node.now s → OnOk result (text.new.items ≡ text.old.items ++ state_line s) }
 {
-    let vector = node.vector();
     match node.durable() {
-        Some((count, table)) if !matches!(vector.group_state.phase, Phase::Down) => {
-            push_up(text, vector, count, table)
-        }
+        Some((count, table)) if !node.is_down() => push_up(text, node.vector(), count, table),
         _ => push_text(text, "state Down\n"),
     }
 }
@@ -54,11 +51,10 @@ fn push_state<D: SectorDisk>(text: &mut Vec<u8>, node: &DurableNode<D>) -> Resul
 fn push_all_jobs<D: SectorDisk>(text: &mut Vec<u8>, node: &DurableNode<D>) -> Result<(), AllocError>
     ensures { (s : NodeState) → Stands D.state node.now s → OnOk result (text.new.items ≡ text.old.items ++ jobs_lines s) }
 {
-    let vector = node.vector();
     match node.durable() {
-        Some((_count, table)) if !matches!(vector.group_state.phase, Phase::Down) => {
+        Some((_count, table)) if !node.is_down() => {
             push_pending(text, &table.pending())?;
-            push_hand(text, &vector.hand.jobs())
+            push_hand(text, &node.vector().hand.jobs())
         }
         _ => Ok(()),
     }
@@ -82,11 +78,8 @@ pub(crate) fn push_keeps_news<D: SectorDisk>(
 fn push_keeps<D: SectorDisk>(text: &mut Vec<u8>, node: &DurableNode<D>) -> Result<(), AllocError>
     ensures { (s : NodeState) → Stands D.state node.now s → OnOk result (text.new.items ≡ text.old.items ++ keeps_by (is_down s.state.phase) s.durable) }
 {
-    let vector = node.vector();
     match node.durable() {
-        Some((count, table)) if !matches!(vector.group_state.phase, Phase::Down) => {
-            push_durable(text, count, table)
-        }
+        Some((count, table)) if !node.is_down() => push_durable(text, count, table),
         _ => Ok(()),
     }
 }
