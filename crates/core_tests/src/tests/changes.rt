@@ -69,7 +69,11 @@ fn groups_told(rt: HostRuntime) {
     take_job(&rt, &mut node);
     let alone = seen(&rt, &node);
     step(&rt, &mut node, &Event::Timer(Timer::Check));
-    let found = Message::between(NodeId::numbered(0), node.id(), Body::Coordinator(true));
+    let found = Message::between(
+        NodeId::numbered(0),
+        NodeId::numbered(1),
+        Body::Coordinator(true),
+    );
     step(&rt, &mut node, &Event::Deliver(found));
     assert!(rt; changes(&rt, &node, &alone).group.is_none());
     // Node 0 is below it: it merges without waiting.
