@@ -1,8 +1,8 @@
 -- A sector without its last zeros, and back.
-use Rattle.std.proofs.Common.{◌≡◌, ◌+◌, ◌-◌, ◌≤◌, ⊎_elim, ℕ, List, [], ◌++◌, length, take, drop, replicate, min, sym, ◌∙◌, ap, arith, take-append-drop}
+use Rattle.std.proofs.Common.{◌≡◌, ◌+◌, ◌-◌, ◌≤◌, ⊎_elim, ℕ, List, [], ◌∷◌, ◌++◌, length, take, drop, replicate, min, refl, sym, ◌∙◌, ap, arith, take-append-drop}
 use Rattle.std.proofs.lemmas.List.{take_all, drop_all, drop-replicate, length-take, length-drop, replicate-append-replicate, drop-drop}
 use Rattle.std.proofs.lemmas.Bool.{cases_lt}
-use Rattle.sector_disk.specs.Undo.{whole}
+use Rattle.sector_disk.specs.Undo.{last_of, whole}
 use Rattle.sector_disk.specs.Crash.{filled}
 
 pub trim_step : (s : List ℕ) (n b : ℕ) → length s ≡ 512 → b ≤ n → n ≤ 512 → take (n - (n - b)) (drop (n - b) s) ≡ replicate (length (take (n - (n - b)) (drop (n - b) s))) 0 → drop n s ≡ replicate (512 - n) 0
@@ -51,3 +51,11 @@ torn fill sector n is =
     let size : length (take n fill) ≡ n = length-take n fill ∙ omega (arith, is) in
     ap (λ k. take n fill ++ drop k sector) (sym size)
     ∙ ap (λ (l : List ℕ). l ++ drop (length l) sector) (taken fill n is)
+
+-- a sector of its first bytes and zeros
+pub short_alone : (s short : List ℕ) → length s ≡ 512 → short ≡ take 32 s → drop 32 s ≡ replicate 480 0 → whole short ≡ s
+short_alone s short long is zeros = ap whole is ∙ trim_done s 32 (omega arith) long zeros
+
+pub last_of_long : (short long : List ℕ) → 32 ≤ length long → last_of short long ≡ long
+last_of_long short [] least = absurd (omega (arith, least))
+last_of_long short (byte ∷ bytes) least = refl

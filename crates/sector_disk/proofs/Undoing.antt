@@ -5,12 +5,12 @@ use Rattle.std.proofs.lemmas.Bool.Decides.{eqb_tells}
 use Rattle.std.proofs.lemmas.Bool.{false≢true, or_left, or_right}
 use Rattle.sector_disk.specs.Disk.{Image, sector_at}
 use Rattle.sector_disk.specs.Memory.{Span}
-use Rattle.sector_disk.specs.Undo.{AddsNote, EndsTime, IsNoted, before, bytes_of, spans_of, whole, undone, touched, has_touched}
+use Rattle.sector_disk.specs.Undo.{AddsNote, EndsTime, IsNoted, before, spans_of, undone, touched, has_touched, was_of}
 use Rattle.sector_disk.specs.declared.overwritten.Overwritten.{Overwritten}
 
 pub undone-append : (xs ys : List Overwritten) (sectors : Image) → undone (xs ++ ys) sectors ≡ undone xs (undone ys sectors)
 undone-append [] ys sectors = refl
-undone-append (note ∷ xs) ys sectors = ap (λ s. set s note.at (whole (bytes_of note.was))) (undone-append xs ys sectors)
+undone-append (note ∷ xs) ys sectors = ap (λ s. set s note.at (was_of note)) (undone-append xs ys sectors)
 
 pub has_touched-append : (xs ys : List Overwritten) (at : ℕ) → has_touched (xs ++ ys) at ≡ has_touched xs at || has_touched ys at
 has_touched-append [] ys at = refl
@@ -22,7 +22,7 @@ has_touched-append (note ∷ xs) ys at = or_more (at == note.at) (has_touched xs
 
 pub length-undone : (notes : List Overwritten) (sectors : Image) → length (undone notes sectors) ≡ length sectors
 length-undone [] sectors = refl
-length-undone (note ∷ notes) sectors = length-set (undone notes sectors) note.at (whole (bytes_of note.was)) ∙ length-undone notes sectors
+length-undone (note ∷ notes) sectors = length-set (undone notes sectors) note.at (was_of note) ∙ length-undone notes sectors
 
 pub same_or_not : (m n : ℕ) → (m ≡ n) ⊎ (m ≢ n)
 same_or_not m n = ⊎_elim (λ h. inl h.1) (λ h. inr h.1) (eqb_tells m n)
@@ -38,16 +38,16 @@ undone_elsewhere (note ∷ notes) sectors at untouched =
     let both = neither (at == note.at) (has_touched notes at) untouched in
     ⊎_elim
     (λ h. absurd (false≢true (sym both.0 ∙ h.0)))
-    (λ h. get_or-set_other (undone notes sectors) note.at at (whole (bytes_of note.was)) [] h.1 ∙ undone_elsewhere notes sectors at both.1)
+    (λ h. get_or-set_other (undone notes sectors) note.at at (was_of note) [] h.1 ∙ undone_elsewhere notes sectors at both.1)
     (eqb_tells at note.at)
 
 -- one more write whose note has what was there
 pub undone_more : (notes : List Overwritten) (note : Overwritten) (old new : Image) (at : ℕ) (bytes : List ℕ) → note.at ≡ at
-    → whole (bytes_of note.was) ≡ get_or old at [] → new ≡ set old at bytes → undone (notes ++ note ∷ []) new ≡ undone notes old
+    → was_of note ≡ get_or old at [] → new ≡ set old at bytes → undone (notes ++ note ∷ []) new ≡ undone notes old
 undone_more notes note old new at bytes here was is =
     undone-append notes (note ∷ []) new
     ∙ ap (undone notes)
-    (ap (λ k. set new k (whole (bytes_of note.was))) here
+    (ap (λ k. set new k (was_of note)) here
     ∙ ap (λ w. set new at w) was
     ∙ ap (λ s. set s at (get_or old at [])) is
     ∙ set-set old at bytes (get_or old at [])

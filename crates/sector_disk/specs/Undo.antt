@@ -3,21 +3,24 @@ use Rattle.std.specs.Prelude.{◌≡◌, ℕ, ◌-◌, List, [], ◌∷◌, ◌+
 use Rattle.sector_disk.specs.Disk.{Image, sector_at}
 use Rattle.sector_disk.specs.Memory.{Span, was_written}
 use Rattle.sector_disk.specs.declared.overwritten.Overwritten.{Overwritten}
-use Rattle.sector_disk.specs.declared.overwritten.Held.{Held}
-use Rattle.sector_disk.specs.declared.overwritten.Held.TheVariants.{Short, Long}
 
 -- the sector of which these are the bytes without its last zeros
 abbrev pub whole : List ℕ → List ℕ
 whole bytes = take 512 bytes ++ replicate (512 - length bytes) 0
 
-abbrev pub bytes_of : Held → List ℕ
-bytes_of (Short bytes) = bytes
-bytes_of (Long bytes) = bytes.items
+-- the second one, where it has bytes
+abbrev pub last_of : List ℕ → List ℕ → List ℕ
+last_of short [] = short
+last_of short (byte ∷ bytes) = byte ∷ bytes
+
+-- what a sector held
+abbrev pub was_of : Overwritten → List ℕ
+was_of note = whole (last_of note.short note.long.items)
 
 -- the sectors before these writes, the first of them first
 abbrev pub undone : List Overwritten → Image → Image
 undone [] sectors = sectors
-undone (note ∷ notes) sectors = set (undone notes sectors) note.at (whole (bytes_of note.was))
+undone (note ∷ notes) sectors = set (undone notes sectors) note.at (was_of note)
 
 -- the sectors that were written
 abbrev pub touched : List Overwritten → List ℕ
@@ -42,7 +45,7 @@ pub record AddsNote (sectors : Image) (at : ℕ) (old new : List Overwritten) : 
   pub note : Overwritten
   pub added : new ≡ old ++ note ∷ []
   pub here : note.at ≡ at
-  pub was : whole (bytes_of note.was) ≡ sector_at sectors at
+  pub was : was_of note ≡ sector_at sectors at
 
 -- There is a note for an unsynced sector, and for no other one; but where a write failed there may be none.
 pub record IsNoted (sectors : Image) (unsynced : List Bool) (notes : List Overwritten) (torn : Bool) : Type 0 where

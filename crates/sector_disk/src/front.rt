@@ -1,10 +1,10 @@
 // Sectors of which the first ones are kept, and the others are zeros.
-ghost use Rattle.std.specs.Prelude.{◌≡◌, ◌<◌, ◌≤◌, ◌+◌, ◌-◌, ◌++◌, length, set, drop, replicate, IfOk, IfSome, vec_capacity};
+ghost use Rattle.std.specs.Prelude.{◌≡◌, ◌<◌, ◌≤◌, ◌+◌, ◌-◌, ◌++◌, length, set, drop, replicate, IfOk, vec_capacity};
 ghost use Rattle.sector_disk.specs.Disk.{sector_at};
 ghost use Rattle.sector_disk.specs.Crash.{filled};
-ghost use Rattle.sector_disk.specs.Undo.{whole};
+ghost use Rattle.sector_disk.specs.Undo.{last_of, whole};
 
-use crate::sector::{Sector, fill_from, is_zero, restore, short, trimmed};
+use crate::sector::{Sector, fill_from, is_zero, parts, restore};
 use std::alloc::{AllocError, Global};
 use std::marker::Model;
 
@@ -66,25 +66,14 @@ impl Front {
         };
     }
 
-    /// The first bytes of a sector, if all behind them are zeros.
-    pub fn short(&self, at: usize) -> Option<[u8; 32]>
+    /// The first bytes of a sector, and none if all behind them are zeros, else all without the zeros at the end.
+    pub fn parts(&self, at: usize) -> (&[u8; 32], &[u8])
         requires { at < length self.now }
-        ensures { IfSome result (λ bytes. whole bytes ≡ sector_at self.now at) }
+        ensures { whole (last_of result.0.now result.1.now) ≡ sector_at self.now at }
     {
         match self.kept.get(at) {
-            Some(sector) => short(sector),
-            None => Some([0; 32]),
-        }
-    }
-
-    /// The bytes of a sector without the zeros at its end.
-    pub fn trimmed(&self, at: usize) -> &[u8]
-        requires { at < length self.now }
-        ensures { whole result.now ≡ sector_at self.now at }
-    {
-        match self.kept.get(at) {
-            Some(sector) => trimmed(sector),
-            None => &[],
+            Some(sector) => parts(sector),
+            None => (&[0; 32], &[]),
         }
     }
 

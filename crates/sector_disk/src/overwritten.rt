@@ -1,7 +1,6 @@
 // What it takes to undo the writes of a time between two syncs.
-ghost use Rattle.std.specs.Prelude.{◌≡◌, ◌<◌, ◌⊎◌, ℕ, [], length, set, get_or, replicate, false, IsOk, IfOk, IsTrue, IsFalse, OnErr};
-ghost use Rattle.sector_disk.specs.Disk.{sector_at};
-ghost use Rattle.sector_disk.specs.Undo.{AddsNote, bytes_of, undone, whole, has_touched};
+ghost use Rattle.std.specs.Prelude.{◌≡◌, ◌<◌, ◌⊎◌, ℕ, [], length, set, get_or, replicate, false, IsOk, IsTrue, IsFalse, OnErr};
+ghost use Rattle.sector_disk.specs.Undo.{AddsNote, undone, was_of, has_touched};
 
 use crate::notes::Notes;
 use crate::sectors::Sectors;
@@ -11,14 +10,11 @@ use std::alloc::{AllocError, Global};
 #[derive(Debug, Drop)]
 pub struct Overwritten {
     pub at: usize,
-    pub was: Held,
-}
-
-/// The bytes of a sector, without zeros at its end. Most sectors have few others, and those take no memory of their own.
-#[derive(Debug, Drop)]
-pub enum Held {
-    Short([u8; 32]),
-    Long(Vec<u8>),
+    /// Its first bytes.
+    pub short: [u8; 32],
+    /// All its bytes without zeros at the end, where there are others than zeros behind the first ones. Most sectors have none, and then
+    /// it takes no memory.
+    pub long: Vec<u8>,
 }
 
 // Notes what a sector holds, so that a write to it can be undone.
@@ -33,19 +29,10 @@ pub fn note(
     ensures err { OnErr result (notes.new ≡ notes.old) }
     ensures times { notes.new.times ≡ notes.old.times }
 {
-    let was = held_at(alloc, sectors, at)?;
-    notes.add(Overwritten { at, was })
-}
-
-// What a sector holds.
-fn held_at(alloc: Global, sectors: &Sectors, at: usize) -> Result<Held, AllocError>
-    requires { at < length sectors.now }
-    ensures { IfOk result (λ held. whole (bytes_of held) ≡ sector_at sectors.now at) }
-{
-    match sectors.short(at) {
-        Some(bytes) => Ok(Held::Short(bytes)),
-        None => Ok(Held::Long(sectors.trimmed(at).to_vec(alloc)?)),
-    }
+    let (short, long) = sectors.parts(at);
+    let short = *short;
+    let long = long.to_vec(alloc)?;
+    notes.add(Overwritten { at, short, long })
 }
 
 // Notes each unsynced sector as it stands.
@@ -88,14 +75,15 @@ pub fn clear_noted(unsynced: &mut [bool], notes: &[Overwritten])
 
 // Takes a noted write back.
 fn undo_one(sectors: &mut Sectors, note: Overwritten)
-    ensures { sectors.new ≡ set sectors.old note.at (whole (bytes_of note.was)) }
+    ensures { sectors.new ≡ set sectors.old note.at (was_of note) }
 {
     if note.at >= sectors.len() {
         return;
     }
-    match &note.was {
-        Held::Short(bytes) => sectors.restore(note.at, bytes),
-        Held::Long(bytes) => sectors.restore(note.at, bytes),
+    if note.long.is_empty() {
+        sectors.restore(note.at, &note.short);
+    } else {
+        sectors.restore(note.at, &note.long);
     }
 }
 

@@ -1,7 +1,7 @@
 // A sector, and its bytes without the zeros at its end.
-ghost use Rattle.std.specs.Prelude.{◌≡◌, ◌≤◌, ◌↔◌, IsTrue, IfSome, drop, replicate};
+ghost use Rattle.std.specs.Prelude.{◌≡◌, ◌≤◌, ◌↔◌, IsTrue, length, drop, replicate};
 ghost use Rattle.sector_disk.specs.Crash.{filled};
-ghost use Rattle.sector_disk.specs.Undo.{whole};
+ghost use Rattle.sector_disk.specs.Undo.{last_of, whole};
 
 pub use disk_sector::Sector;
 use disk_sector::is_zero_block;
@@ -14,21 +14,21 @@ pub fn is_zero(sector: &Sector) -> bool
     is_zero_block(sector)
 }
 
-// The first bytes of a sector, if all behind them are zeros.
-pub fn short(sector: &Sector) -> Option<[u8; 32]>
-    ensures { IfSome result (λ bytes. whole bytes ≡ sector.now) }
+// The first bytes of a sector, and none if all behind them are zeros, else all without the zeros at the end.
+pub fn parts(sector: &Sector) -> (&[u8; 32], &[u8])
+    ensures { whole (last_of result.0.now result.1.now) ≡ sector.now }
 {
-    if !is_zero_block(&sector[32..]) {
-        return None;
+    let short = sector.first_chunk().unwrap();
+    if is_zero_block(&sector[32..]) {
+        return (short, &[]);
     }
-    let mut bytes = [0; 32];
-    bytes.copy_from_slice(&sector[..32]);
-    Some(bytes)
+    (short, trimmed(sector))
 }
 
 // The bytes of a sector without zeros at its end: its last half is looked at first, then half of what is left, down to 32 bytes.
-pub fn trimmed(sector: &Sector) -> &[u8]
-    ensures { whole result.now ≡ sector.now }
+fn trimmed(sector: &Sector) -> &[u8]
+    ensures least { 32 ≤ length result.now }
+    ensures whole { whole result.now ≡ sector.now }
 {
     let mut len = 512usize;
     let mut block = 256usize;

@@ -1,8 +1,8 @@
 // The sectors of a disk in memory, in two halves.
-ghost use Rattle.std.specs.Prelude.{◌≡◌, ◌<◌, ◌++◌, length, set, drop, replicate, IfOk, IfSome};
+ghost use Rattle.std.specs.Prelude.{◌≡◌, ◌<◌, ◌++◌, length, set, drop, replicate, IfOk};
 ghost use Rattle.sector_disk.specs.Disk.{sector_at};
 ghost use Rattle.sector_disk.specs.Crash.{filled};
-ghost use Rattle.sector_disk.specs.Undo.{whole};
+ghost use Rattle.sector_disk.specs.Undo.{last_of, whole};
 
 use crate::front::Front;
 use crate::sector::Sector;
@@ -65,22 +65,13 @@ impl Sectors {
         half.read(at, into);
     }
 
-    /// The first bytes of a sector, if all behind them are zeros.
-    pub fn short(&self, at: usize) -> Option<[u8; 32]>
+    /// The first bytes of a sector, and none if all behind them are zeros, else all without the zeros at the end.
+    pub fn parts(&self, at: usize) -> (&[u8; 32], &[u8])
         requires { at < length self.now }
-        ensures { IfSome result (λ bytes. whole bytes ≡ sector_at self.now at) }
+        ensures { whole (last_of result.0.now result.1.now) ≡ sector_at self.now at }
     {
         let (half, at) = self.half_of(at);
-        half.short(at)
-    }
-
-    /// The bytes of a sector without the zeros at its end.
-    pub fn trimmed(&self, at: usize) -> &[u8]
-        requires { at < length self.now }
-        ensures { whole result.now ≡ sector_at self.now at }
-    {
-        let (half, at) = self.half_of(at);
-        half.trimmed(at)
+        half.parts(at)
     }
 
     // The half that a sector stands in, and its place there.
