@@ -26,6 +26,7 @@ use node_core::{CoreFault, Event, NodeCore, Plan, Wanted, WantedRef};
 use node_store::NodeStore;
 use sector_disk::SectorDisk;
 use std::alloc::Global;
+use wire_msg::Message;
 
 /// Handles an event at a node that is up: growths first, then the device, and the change last. After `Device` the core is
 /// down.
@@ -82,8 +83,7 @@ pub(crate) fn handle<D: SectorDisk>(
     })
 }
 
-/// What an event will make of the core. The plan of a delivery is made apart: most events are deliveries, and each call of a function
-/// pays for the size of its locals, of which the other events have many.
+/// What an event will make of the core.
 fn planned<'a>(
     alloc: Global,
     core: &mut NodeCore,
@@ -93,9 +93,23 @@ fn planned<'a>(
     ensures { IsPlanned core.old core.new table.now.pending event.now result }
 {
     match event {
-        Event::Deliver(message) => core.plan_delivery(message, table, Vec::new(alloc)),
+        Event::Deliver(message) => planned_delivery(alloc, core, message, table),
+        Event::Recover => core.plan_recovery(),
         _ => core.plan_step(event, table),
     }
+}
+
+/// What a delivery will make of the core. It stands apart, since each call of a function pays for the size of its locals.
+#[inline(never)]
+fn planned_delivery(
+    alloc: Global,
+    core: &mut NodeCore,
+    message: &Message,
+    table: &JobTable,
+) -> Result<Plan<'static>, CoreFault>
+    ensures { IsPlanned core.old core.new table.now.pending (Event.Deliver message.now) result }
+{
+    core.plan_delivery(message, table, Vec::new(alloc))
 }
 
 /// Why the disk can't take a command, by how it is answered.

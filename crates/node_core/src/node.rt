@@ -3,7 +3,7 @@ ghost use Rattle.job_model.specs.declared.node_command.NodeCommand.TheVariants.{
 ghost use Rattle.job_model.specs.declared.job.Job.{Job};
 ghost use Rattle.group_task.specs.declared.node.TheConstants.{NODES};
 ghost use Rattle.node_core.specs.declared.event.Event.{Event};
-ghost use Rattle.node_core.specs.declared.event.Event.TheVariants.{Deliver};
+ghost use Rattle.node_core.specs.declared.event.Event.TheVariants.{Deliver, Recover};
 ghost use Rattle.node_core.specs.State.{state_of};
 ghost use Rattle.node_core.specs.NodeView.{state_at};
 ghost use Rattle.node_core.specs.Effects.{effect_of};
@@ -18,6 +18,7 @@ use crate::event::Event;
 use crate::events::{plan_delivery, plan_event};
 use crate::fault::CoreFault;
 use crate::node_view::NodeView;
+use crate::operator;
 use crate::phase::Phase;
 use crate::plan::{Plan, PlannedEffect};
 use crate::state_update::take_note;
@@ -198,7 +199,9 @@ impl NodeCore {
     }
 
     /// The plan of the event Deliver, for a message that stays where it is: it takes over 400 bytes, and isn't copied. The
-    /// answers are written into `room`, an empty list.
+    /// answers are written into `room`, an empty list. It stands in each function that calls it, where the parts of the plan are used: who
+    /// copies the plan as a whole waits for what the row has just written.
+    #[inline(always)]
     pub fn plan_delivery(
         &mut self,
         message: &Message,
@@ -212,6 +215,18 @@ impl NodeCore {
         ensures { IsPlanned self.old self.new table.now.pending (Deliver message.now) result }
     {
         let plan = plan_delivery(self.alloc, room, &self.node_view(), message, table)?;
+        self.make_room(&plan)?;
+        Ok(plan)
+    }
+
+    /// The plan of the event Recover, which is never refused and takes no memory. It is made apart from those of other events, with which
+    /// it would be moved as long as the longest of them.
+    pub fn plan_recovery(&mut self) -> Result<Plan<'static>, CoreFault>
+        // Promise: A recovery that is planned by itself is planned as the event is.
+        // Refuses: recovery_keeps_the_group.
+        ensures { (pending : List Job) → IsPlanned self.old self.new pending Recover result }
+    {
+        let plan = operator::recovery(Vec::new(self.alloc), &self.node_view());
         self.make_room(&plan)?;
         Ok(plan)
     }
