@@ -59,6 +59,7 @@ impl DurableState {
     }
 
     /// Takes the command, and gives its answer.
+    #[inline(always)]
     pub(crate) fn take(&mut self, wants: &WantedRef<'_>) -> Result<u64, AllocError>
         requires { IsSpent self.old (lent_by wants.now) → ⊥ }
         ensures step { OnOk result (self.new ≡ after_wanted self.old (lent_by wants.now)) }
@@ -81,6 +82,7 @@ impl DurableState {
 }
 
 /// Makes a job pending, and gives its id.
+#[inline(never)]
 fn put(table: &mut JobTable, work: &Work) -> Result<u64, AllocError>
     requires { table.old.next ≢ 2 ^ 64 - 1 }
     ensures id { IfOk result (λ id. id ≡ table.old.next) }
@@ -94,6 +96,7 @@ fn put(table: &mut JobTable, work: &Work) -> Result<u64, AllocError>
 }
 
 /// Takes the job of this id out, if it is there.
+#[inline(never)]
 fn done(table: &mut JobTable, id: u64)
     ensures { (counter : ℕ) → durable_of counter table.new ≡ after_command (durable_of counter table.old) (Done id) }
 {

@@ -88,6 +88,7 @@ impl History {
     }
 
     /// Adds an entry, as it is given.
+    #[inline(always)]
     fn put_in(&mut self, given: &Given<'_>) -> Result<(), AllocError>
         requires { FitsGiven given.now }
         ensures added { OnOk result (self.new ≡ self.old ++ claim (deed_given given.now) (sent_given given.now) ∷ []) }
@@ -229,6 +230,7 @@ pub(crate) enum Given<'a> {
 
 impl<'a> Given<'a> {
     /// How many messages the entry sent.
+    #[inline(always)]
     fn len(&self) -> usize
         ensures { result ≡ length (sent_given self.now) }
     {
@@ -239,6 +241,7 @@ impl<'a> Given<'a> {
     }
 
     /// Keeps what was done, in the room that is there.
+    #[inline(always)]
     fn keep_deed(&self, messages: &mut MessageList, payloads: &mut Vec<u8>) -> PackedAction
         requires room { 1 ≤ messages.old.room }
         requires bytes { vec_len payloads.old + PAYLOAD_CAPACITY ≤ vec_capacity payloads.old }
@@ -278,6 +281,7 @@ impl<'a> Given<'a> {
     }
 
     /// Keeps what was sent, in the room that is there.
+    #[inline(always)]
     fn keep_sent(&self, messages: &mut MessageList)
         requires { length (sent_given self.now) ≤ messages.old.room }
         ensures { messages.new.messages ≡ messages.old.messages ++ sent_given self.now }

@@ -1,11 +1,13 @@
-ghost use Rattle.std.specs.Prelude.{◌≡◌, ◌≤◌, ◌<◌, ◌+◌, ◌∷◌, [], ℕ, List, MatchOption, length, slice_get, Some, cond, IfOk, OnOk, IfSome, IsNone, IsTrue, true, false};
+ghost use Rattle.std.specs.Prelude.{◌≡◌, ◌≤◌, ◌<◌, ◌+◌, ◌^◌, ◌∷◌, [], ℕ, List, MatchOption, length, slice_get, Some, cond, IfOk, OnOk, IfSome, IsNone, IsTrue, true, false};
 ghost use Rattle.group_task.specs.Ids.{has, with_id, without_id};
 ghost use Rattle.wire_msg.specs.Envelope.{Envelope};
-ghost use Rattle.trace_check.specs.Orders.{IsComplete};
+ghost use Rattle.trace_check.specs.Claims.{Claim};
+ghost use Rattle.trace_check.specs.Orders.{IsComplete, history};
 ghost use Rattle.trace_check.specs.Searches.{AreAtPlaces, IsTurn, Judges, PostsAll};
 ghost use Rattle.trace_check.specs.Verdicts.{IsFirstLeft};
+ghost use Rattle.trace_check.specs.Views.{Stands, claim_kept};
 
-use crate::history::Sent;
+use crate::history::{KeptView, Sent};
 use crate::node_model::{EntryRoom, NodeModel};
 use crate::sent_messages::SentMessages;
 use crate::trace::Trace;
@@ -43,19 +45,18 @@ pub(crate) enum Judgement {
     Takes,
 }
 
-/// What can be said of the node's next entry. If it can be taken, it is.
+/// What can be said of the node's next entry, as it is kept. If it can be taken, it is.
 pub(crate) fn judge<'a>(
-    trace: &'a Trace,
+    kept: &KeptView<'a>,
     posted: &SentMessages<'a>,
     room: &mut EntryRoom,
     node_view: &mut NodeView,
     id: NodeId,
 ) -> Result<Judgement, AllocError>
-    ensures { IfOk result (Judges trace.now posted.now id node_view.old node_view.new) }
+    requires stands { Stands kept.now }
+    requires fits { node_view.old.place + 1 < 2 ^ 64 }
+    ensures { (hs : List (List Claim)) → slice_get (history hs id) node_view.old.place ≡ Some (claim_kept kept.now) → IfOk result (Judges hs posted.now id node_view.old node_view.new) }
 {
-    let Some(kept) = trace.kept(id, node_view.place) else {
-        return Ok(Judgement::Stops);
-    };
     let brought = kept.brought();
     if let Some(receiver) = brought.receiver(0) {
         if receiver != id {
@@ -65,7 +66,7 @@ pub(crate) fn judge<'a>(
             return Ok(Judgement::Waits);
         }
     }
-    if !node_view.node_model.take_kept(&kept, room)? {
+    if !node_view.node_model.take_kept(kept, room)? {
         return Ok(Judgement::Stops);
     }
     node_view.place += 1;
@@ -82,19 +83,18 @@ pub(crate) fn turn<'a>(
     ensures { IfOk result (IsTurn trace.now search.old search.new id) }
 {
     let node_view = &mut search.seats[usize::from(id.number())];
-    let place = node_view.place;
-    match judge(trace, &search.posted, &mut search.room, node_view, id)? {
+    let Some(kept) = trace.kept(id, node_view.place) else {
+        return Ok(Judgement::Stops);
+    };
+    match judge(&kept, &search.posted, &mut search.room, node_view, id)? {
         Judgement::Stops => Ok(Judgement::Stops),
         Judgement::Waits => Ok(Judgement::Waits),
         Judgement::Takes => {
-            let Some(sent) = trace.sent(id, place) else {
-                unreachable!()
-            };
             post_all(
                 &mut search.posted,
                 &mut search.ready,
                 &search.stopped,
-                &sent,
+                &kept.sent(),
             )?;
             Ok(Judgement::Takes)
         }

@@ -1,4 +1,4 @@
-use Rattle.std.proofs.Common.{◌≡◌, ◌<◌, ℕ, List, length, option_map, slice_set, slice_index_or, refl, sym, ap, ◌∙◌, subst, arith}
+use Rattle.std.proofs.Common.{◌≡◌, ◌<◌, ℕ, List, length, slice_set, slice_index_or, refl, sym, ap, ◌∙◌, subst, arith}
 use Rattle.std.proofs.lemmas.Option.{same_Some}
 use Rattle.wire_msg.specs.Envelope.{Envelope}
 use Rattle.trace_check.specs.declared.search.NodeView.{NodeView}
@@ -26,18 +26,18 @@ turn_of hs old new k m n was is a answer number id within read same judged sends
 
 pub returns-in-Stops : goal.returns-in-Stops
 returns-in-Stops c =
-    turn_of c.args.trace.now c.args.search.now _ _ _ c.args.id c.index_mut-node_view.result.now c.judge.new.node_view _ _ c.from.ensures c.number.ensures.value c.requires c.index_mut-node_view.ensures.value c.in-Stops.is c.in_ok-judge.ensures (refl, refl)
+    turn_of c.args.trace.now c.args.search.now _ _ _ c.args.id c.index_mut-node_view.result.now c.judge.new.node_view _ _ c.from.ensures c.number.ensures.value c.requires c.index_mut-node_view.ensures.value c.in-Stops.is (c.in_ok-judge.ensures c.args.trace.now c.in-Some.ensures.some) (refl, refl)
     refl refl refl
 
 pub returns-in-Waits : goal.returns-in-Waits
 returns-in-Waits c =
-    turn_of c.args.trace.now c.args.search.now _ _ _ c.args.id c.index_mut-node_view.result.now c.judge.new.node_view _ _ c.from.ensures c.number.ensures.value c.requires c.index_mut-node_view.ensures.value c.in-Waits.is c.in_ok-judge.ensures (refl, refl)
+    turn_of c.args.trace.now c.args.search.now _ _ _ c.args.id c.index_mut-node_view.result.now c.judge.new.node_view _ _ c.from.ensures c.number.ensures.value c.requires c.index_mut-node_view.ensures.value c.in-Waits.is (c.in_ok-judge.ensures c.args.trace.now c.in-Some.ensures.some) (refl, refl)
     refl refl refl
 
 pub returns-in_ok-post_all-in-Takes : goal.returns-in_ok-post_all-in-Takes
 returns-in_ok-post_all-in-Takes c =
     let d = c.args.search.now in
-    turn_of c.args.trace.now d _ _ _ c.args.id c.index_mut-node_view.result.now c.judge.new.node_view _ _ c.from.ensures c.number.ensures.value c.requires c.index_mut-node_view.ensures.value c.in-Takes.is c.in_ok-judge.ensures
+    turn_of c.args.trace.now d _ _ _ c.args.id c.index_mut-node_view.result.now c.judge.new.node_view _ _ c.from.ensures c.number.ensures.value c.requires c.index_mut-node_view.ensures.value c.in-Takes.is (c.in_ok-judge.ensures c.args.trace.now c.in-Some.ensures.some)
     (λ k next. subst (λ (ms : List Envelope). PostsAll d.stopped d.posted c.post_all.new.posted d.ready c.post_all.new.ready ms)
-    (same_Some _ _ (sym c.in-Some.is ∙ c.sent.ensures ∙ ap (option_map (λ (x : Claim). x.sent)) next)) c.in_ok-post_all-in-Takes.ensures)
+    (c.sent.ensures ∙ ap (λ (x : Claim). x.sent) (same_Some _ _ (sym c.in-Some.ensures.some ∙ next))) c.in_ok-post_all-in-Takes.ensures)
     refl refl refl
