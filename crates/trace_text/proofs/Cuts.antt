@@ -1,7 +1,7 @@
 -- Where a text is cut.
 use Rattle.std.proofs.Common.{◌≡◌, ℕ, suc, ◌+◌, ◌-◌, ◌<◌, ◌≤◌, Bool, true, false, ◌==◌, List, [], ◌∷◌, ◌++◌, length, take, drop, get_or, Option, Some, None, is_some, refl, sym, ap, ◌∙◌, subst, arith, length-drop, take-add, take-append-drop, take_all}
 use Rattle.std.proofs.lemmas.Bool.{true≢false}
-use Rattle.std.proofs.lemmas.List.{drop_more, get_or-drop}
+use Rattle.std.proofs.lemmas.List.{drop-drop, drop_more, get_or-drop}
 use Rattle.memchr.specs.Find.{IsFirstByte, OccursAt, is_byte}
 use Rattle.trace_text.specs.Pieces.{IsCut, NoBackslash}
 
@@ -45,9 +45,9 @@ none_found xs (Some i) first none = absurd (true≢false none)
 tail_is : (n : ℕ) (xs : List ℕ) → take (length xs - n) (drop n xs) ≡ drop n xs
 tail_is n xs = let long = length-drop n xs in take_all (length xs - n) (drop n xs) (omega (arith, long))
 
-pub found_cut : (text : List ℕ) (from i : ℕ) → OccursAt (take (length text - from) (drop from text)) (125 ∷ 44 ∷ 123 ∷ []) i → NoBackslash (take (from + i + 1) text)
-    → IsCut text (take (from + i + 1) text) (take (length text - (from + i + 2)) (drop (from + i + 2) text))
-found_cut text from i occurs plain =
+pub found_cut : (text piece rest behind : List ℕ) (from i : ℕ) → OccursAt (take (length text - from) (drop from text)) (125 ∷ 44 ∷ 123 ∷ []) i → piece ≡ take (from + i + 1) text → NoBackslash piece
+    → rest ≡ drop (from + i + 1) text → behind ≡ drop 1 rest → IsCut text piece behind
+found_cut text piece rest behind from i occurs front plain back next =
     let at = subst (λ (hay : List ℕ). OccursAt hay (125 ∷ 44 ∷ 123 ∷ []) i) (tail_is from text) occurs in
     let long = length-drop from text in
     let fits = at.fits in
@@ -55,9 +55,10 @@ found_cut text from i occurs plain =
     let zero_on : from + i ≡ from + (i + 0) = omega arith in
     let one_on : from + i + 1 ≡ from + (i + 1) = omega arith in
     let two_on : from + i + 2 ≡ from + (i + 2) = omega arith in
+    let behind_on : from + i + 1 + 1 ≡ from + i + 2 = omega arith in
     let byte = λ (k : ℕ). get_or text k 0 in
-    cut_found text _ _ (from + i) (omega (arith, fits, long))
+    cut_found text piece behind (from + i) (omega (arith, fits, long))
     (ap byte zero_on ∙ sym (place 0) ∙ at.reads 0 (omega arith))
     (ap byte one_on ∙ sym (place 1) ∙ at.reads 1 (omega arith))
     (ap byte two_on ∙ sym (place 2) ∙ at.reads 2 (omega arith))
-    refl (tail_is (from + i + 2) text) plain
+    front (next ∙ ap (drop 1) back ∙ drop-drop 1 (from + i + 1) text ∙ ap (λ (n : ℕ). drop n text) behind_on) plain

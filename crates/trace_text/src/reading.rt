@@ -47,6 +47,7 @@ fn bytes_of<'a>(
 }
 
 /// The bytes of hex digits, if it is some. They stand in the room.
+#[inline(always)]
 fn read_bytes<'a>(room: &'a mut Vec<u8>, text: &[u8]) -> Result<Option<&'a [u8]>, AllocError>
     ensures { IfOk result (λ bytes. option_map (λ b. b.now) bytes ≡ result_ok (decode_of text.now)) }
 {
@@ -86,6 +87,7 @@ pub(crate) fn read_message(
 }
 
 /// The message of a text of hex digits goes in the place of another, if it is one.
+#[inline(never)]
 fn read_spelled(room: &mut Vec<u8>, text: &[u8], message: &mut Message) -> Result<bool, AllocError>
     ensures { IfOk result (λ some. IsRead some message.new (spelled_in text.now)) }
 {

@@ -35,6 +35,9 @@ use wire_msg::Message;
 /// So many bytes of a text a piece has at least.
 const PIECE: usize = 65536;
 
+/// For so many messages of an entry memory is taken at once.
+const MANY: usize = 16;
+
 /// Why the reading stopped.
 #[derive(Clone, Copy, Debug)]
 pub(crate) enum Halt {
@@ -80,15 +83,17 @@ pub struct Draft<'a> {
 }
 
 impl<'a> Draft<'a> {
-    fn new(alloc: Global) -> Draft<'a> {
-        Draft {
+    fn new(alloc: Global) -> Result<Draft<'a>, AllocError> {
+        let mut sent = MessageList::new(alloc);
+        sent.reserve(MANY)?;
+        Ok(Draft {
             fields: Fields::new(),
             has_sent: false,
-            sent: MessageList::new(alloc),
+            sent,
             room: Vec::new(alloc),
             brought: Message::blank(),
             message: Message::blank(),
-        }
+        })
     }
 }
 
@@ -216,17 +221,14 @@ fn read_pieces(
     ensures { IfOk result (λ parts. IfSome parts (λ p. begun_on None None (tokens text.now) ≡ Some (shaped (parted_by p), []))) }
 {
     let mut parts = Parts::new();
-    let mut left = text.as_bytes();
+    let mut left = text;
     'pieces: while let Some((piece, behind)) = cut_piece(left) {
         if !pass_piece(alloc, piece, scratch, &mut parts)? {
             return Ok(None);
         }
         left = behind;
     }
-    let Ok(last) = from_utf8(left) else {
-        return Ok(None);
-    };
-    match read_last(alloc, last, scratch, parts) {
+    match read_last(alloc, left, scratch, parts) {
         Ok(parts) => Ok(Some(parts)),
         Err(Halt::NoJson) => Ok(None),
         Err(Halt::NoMemory) => Err(AllocError),
@@ -234,32 +236,30 @@ fn read_pieces(
 }
 
 /// The first piece of a text, and what stands behind the comma that ends it. None where the text is short, or none is found.
-fn cut_piece(text: &[u8]) -> Option<(&[u8], &[u8])>
+fn cut_piece(text: &str) -> Option<(&str, &str)>
     ensures { IfSome result (λ p. IsCut text.now p.0.now p.1.now) }
 {
     if text.len() < PIECE {
         return None;
     }
-    let end = PIECE + find(&text[PIECE..], b"},{")?;
-    let piece = &text[..end + 1];
-    if memchr(b'\\', piece).is_some() {
+    let end = PIECE + find(&text.as_bytes()[PIECE..], b"},{")?;
+    let (piece, rest) = text.split_at_checked(end + 1)?;
+    if memchr(b'\\', piece.as_bytes()).is_some() {
         return None;
     }
-    Some((piece, &text[end + 2..]))
+    let (_, behind) = rest.split_at_checked(1)?;
+    Some((piece, behind))
 }
 
 /// Reads a piece that others follow. False where it can't be read so.
 fn pass_piece(
     alloc: Global,
-    piece: &[u8],
+    piece: &str,
     scratch: &mut Scratch,
     parts: &mut Parts,
 ) -> Result<bool, AllocError>
     ensures { IfOk result (λ passed. IsTrue passed → Leads (text_on parts.old) (open_text_on parts.new) (tokens piece.now) [] × IsSome parts.new.histories) }
 {
-    let Ok(piece) = from_utf8(piece) else {
-        return Ok(false);
-    };
     let mut reader = Reader::new(piece, scratch)?;
     match read_piece(alloc, &mut reader, parts) {
         Ok(over) => Ok(!over),
@@ -290,7 +290,7 @@ fn read_piece(alloc: Global, reader: &mut Reader<'_>, parts: &mut Parts) -> Resu
     ensures open { result ≡ Ok false → IsSome parts.new.histories }
     ensures err { result ≡ Err Halt.NoJson → text_on parts.old reader.old ≡ None }
 {
-    let mut draft = Draft::new(alloc);
+    let mut draft = Draft::new(alloc)?;
     match parts.histories.take() {
         Some(histories) => resume(alloc, reader, &mut draft, histories, parts),
         None => read_whole(alloc, reader, &mut draft, parts),
