@@ -4,9 +4,9 @@ message came.
 
     pictures.py PROGRAM [SCHEDULE..]
 
-Without schedules, of all that stand in the folder schedules. Each is recorded, and the record is drawn as it is, without the numbers of its
+Traces that are written here are drawn first. Without schedules, of all that stand in the folder schedules. Each is recorded, and the record is drawn as it is, without the numbers of its
 messages, without its order, and with an order in which its entries can't be taken. The last line counts the checks."""
-import glob, json, os, re, subprocess, sys
+import glob, html, json, os, re, shutil, subprocess, sys, tempfile
 
 MARK = re.compile(r'<g transform="translate\((\d+) (\d+)\)"><title>turn (\d+): node (\d+), entry (\d+): ([a-z]+)</title>')
 ARROW = re.compile(r'<path class="(message|unsure)" d="M(\d+) (\d+)L(\d+) (\d+)">')
@@ -27,6 +27,7 @@ class Model:
     """The turns of a trace in an order: of each its node, its index, what it was brought, and where that was sent."""
 
     def __init__(self, trace, nodes, numbers):
+        self.said = [message for history in trace["histories"] for entry in history for message in entry["sent"]]
         self.turns, self.sources, posts, taken = [], [], [], {}
         for turn, node in enumerate(nodes):
             index = taken.get(node, 0)
@@ -37,15 +38,15 @@ class Model:
             posts += [(message, turn, place) for place, message in enumerate(entry["sent"])]
         self.posts = posts
 
-    @staticmethod
-    def source(posts, message, number):
-        """The turn and the place of the sending, and whether it is known to be this one."""
+    def source(self, posts, message, number):
+        """The turn and the place of the sending, and whether it is known to be this one: the record names it, or no other entry of the whole trace,
+        be it drawn before, behind or not at all, sent an equal message."""
         if message is None:
             return None
         if number is not None and number < len(posts) and posts[number][0] == message:
             return posts[number][1:] + (True,)
         equal = [post for post in posts if post[0] == message]
-        return equal[-1][1:] + (len(equal) == 1,)
+        return equal[-1][1:] + (self.said.count(message) == 1,)
 
     def untaken(self, turn):
         """The receivers of what this turn sent and no turn was brought."""
@@ -94,13 +95,93 @@ def check(program, schedule):
     yield "without its order", run(program, "draw", json.dumps(bare)), Model(trace, [int(word) for word in verdict[1:]], []), 0, False
 
 
+QUESTION, ANSWER, OTHER = "010100010000", "01020100000101", "01020100000100"
+ASKS, ASKED = {"do": "check", "sent": [QUESTION]}, {"do": "deliver", "msg": QUESTION, "sent": [ANSWER]}
+WAITS = {"do": "deliver", "msg": OTHER, "sent": []}
+
+# Traces with an order, the nodes that are drawn, the numbers of what they were brought, and the status. Node 0 asks twice what node 1 is asked once.
+WRITTEN = [
+    # the record's order may be wrong where clocks differ: the second question may have been the one that came
+    ("asked again behind the answer, and no number", [[ASKS, ASKS], [ASKED]], "0 - 1 - 0 -", [0, 1, 0], [None] * 3, 0),
+    ("asked again behind the answer, and a number", [[ASKS, ASKS], [ASKED]], "0 - 1 0 0 -", [0, 1, 0], [None, 0, None], 0),
+    ("asked again before, and the number of the first", [[ASKS, ASKS], [ASKED]], "0 - 0 - 1 0", [0, 0, 1], [None, None, 0], 0),
+    ("asked once, and no number", [[ASKS], [ASKED]], "0 - 1 -", [0, 1], [None] * 2, 0),
+    ("a number of another message", [[ASKS, ASKS], [ASKED, ASKED]], "0 - 1 - 1 1 0 -", [0, 1, 1, 0], [None, None, 1, None], 0),
+    # what is left was sent all the same
+    ("asked again by an entry that is left", [[ASKS, WAITS, ASKS], [ASKED]], "", [0, 1], [None] * 2, 1),
+]
+
+
+def written(program):
+    """What is drawn of written traces."""
+    for name, histories, order, nodes, numbers, status in WRITTEN:
+        trace = {"nodes": len(histories), "histories": histories, **({"order": order} if order else {})}
+        yield name, run(program, "draw", json.dumps(trace)), Model(trace, nodes, numbers), status, bool(order)
+
+
+# What is done on the page of a trace, and what has to stand in the text under it then.
+ON_PAGES = [
+    ("find('turn 1')", "turn 1: node 1, entry 0: deliver"),
+    ("find('node 0 entry 1')", "turn 3: node 0, entry 1: recover"),
+    ("find('1,1')", "turn 2: node 1, entry 1: crash"),
+    # from here on, so the delivery; it names its sender, and has its digits
+    ("find('" + QUESTION.upper() + "')", "sent by turn 0, entry 0 of node 0"),
+    ("find('areyou')", "0 to 1: AreYouCoordinator; its bytes: " + QUESTION),
+    ("find('01')", "turn 1: "),
+    # the number of a group is found where a node enters it
+    ("find('0:2')", "then it is Normal in group 0:2, coordinator 0, members 0"),
+    ("find('crash')", "then it is down"),
+    ("find('0:22')", "nothing is found for 0:22"),
+    ("find('turn 4')", "nothing is found for turn 4"),
+    ("KEYS['n']()", "turn 3: "),
+    ("KEYS['p']()", "turn 2: "),
+    ("find('turn 1'); KEYS['n'](); KEYS['0']()", "turn 2: "),
+]
+PAGED = {"nodes": 2, "histories": [[ASKS, {"do": "recover", "kept": False, "sent": []}], [ASKED, {"do": "crash", "sent": []}]], "order": "0 - 1 0 1 - 0 -"}
+
+
+def told_by_page(browser, page, acts):
+    """What stands beside the buttons of a page, under the picture after each of these acts, and what went wrong in its script."""
+    catch = "<script>const wrong = []; addEventListener('error', event => wrong.push(event.message));</script>"
+    ask = f"<script>const seen = {json.dumps(acts)}.map(act => {{ eval(act); draw(); return told.textContent; }});document.title = JSON.stringify([snapshot.textContent, seen, wrong]);</script>"
+    with tempfile.TemporaryDirectory() as folder:
+        with open(f"{folder}/run.html", "w") as file:
+            file.write(page.replace("<head>", "<head>" + catch).replace("</body>", ask + "</body>"))
+        words = [browser, "--headless", "--no-sandbox", "--disable-gpu", f"--user-data-dir={folder}/kept", "--dump-dom", f"file://{folder}/run.html"]
+        dom = subprocess.run(words, capture_output=True, text=True, timeout=120).stdout
+    title = re.search("<title>(.*?)</title>", dom, re.S)
+    return json.loads(html.unescape(title[1])) if title else [None, [], ["no page"]]
+
+
+def check_page(browser, program, trace, sight, acts):
+    """What is wrong with the page of a trace in a browser, or nothing."""
+    page = subprocess.run([program, "draw", "--html"], input=json.dumps(trace), capture_output=True, text=True).stdout
+    try:
+        seen, told, wrong = told_by_page(browser, page, [act for act, _ in acts])
+    except (subprocess.SubprocessError, ValueError) as error:
+        return repr(error)
+    if wrong or seen != sight:
+        return f"{wrong or seen}"
+    return next((f"{act}: {text!r}" for (act, part), text in zip(acts, told) if part not in text), "")
+
+
+def pages(program):
+    """The problem with each page that is tried in a browser, if there is one to try them in."""
+    browser = shutil.which("chromium") or shutil.which("chromium-browser") or shutil.which("google-chrome")
+    if not browser:
+        print("pictures.py: there is no chromium, so pages are not tried in it")
+        return
+    yield "a page", check_page(browser, program, PAGED, "turns 0 to 3 of 4", ON_PAGES)
+    yield "a page of no turns", check_page(browser, program, {"nodes": 2, "histories": [[], []]}, "no turns", [("find('0')", "nothing is found for 0"), ("KEYS['n']()", ""), ("KEYS['0']()", "")])
+
+
 def main():
     program = os.path.abspath(sys.argv[1])
     os.chdir(os.path.join(os.path.dirname(os.path.abspath(__file__)), ".."))
     schedules = sys.argv[2:] or sorted(glob.glob("schedules/*.txt"))
     passed = failed = 0
-    for schedule in schedules:
-        for what, drawn, model, status, recorded in check(program, schedule):
+    for schedule in ["written here", *schedules]:
+        for what, drawn, model, status, recorded in written(program) if schedule == "written here" else check(program, schedule):
             problem = check_picture(drawn.stdout, model)
             if drawn.returncode != status:
                 problem = f"status {drawn.returncode}"
@@ -109,6 +190,10 @@ def main():
             passed, failed = passed + (not problem), failed + bool(problem)
             if problem:
                 print(f"{schedule}, {what}: {problem}")
+    for what, problem in pages(program):
+        passed, failed = passed + (not problem), failed + bool(problem)
+        if problem:
+            print(f"{what}: {problem}")
     print(f"{passed} passed, {failed} failed")
     return 1 if failed else 0
 

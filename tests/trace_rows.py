@@ -194,10 +194,10 @@ def constants_of_pictures():
         return dict(re.findall(r'pub const (\w+): &str =\s*r##"(.*?)"##;', file.read(), re.S))
 
 
-def pictured(height, lines, left=""):
+def pictured(height, lines, left="", width=880):
     """The picture that has these lines, in an order that wasn't recorded; the narrowest is as wide as its legend."""
     alike = constants_of_pictures()
-    head = f'<svg xmlns="http://www.w3.org/2000/svg" width="880" height="{height}'
+    head = f'<svg xmlns="http://www.w3.org/2000/svg" width="{width}" height="{height}'
     return head + alike["STYLE"] + alike["LEGEND"] + alike["POSSIBLE"] + (alike["LEFT"] if left else "") + lines
 
 
@@ -288,6 +288,13 @@ node 1: entry 0 waits for 010100010000</title><circle r="5"/><text x="10" y="4">
 node 1: entry 0 waits for 010100010000</text></g>
 </svg>
 """
+
+# A node of forty asks all others at once, and is said to have asked none: of that nothing may be cut off.
+SILENT = '{"nodes":40,"histories":[[{"do":"check","sent":[]}]' + ",[]" * 39 + "]}"
+LONG = "\nnode 0: entry 0 (check) can't be: it would send" + "".join(f" 010100{node:02x}0000" for node in range(1, 40))
+LONG_LEFT = "".join(f'<text class="name" x="88" y="{110 * node + 160}">node {node}</text>\n' for node in range(40)) + (
+    f'<g class="left" transform="translate(110 160)"><title>{LONG}</title><circle r="5"/><text x="10" y="4">{LONG}</text></g>\n</svg>\n'
+)
 WAITS = b"invite: no order takes all entries: each that is left waits for a message that none sent\nnode 1: entry 0 waits for 010100010000\n"
 
 # Schedules, the trace that `record` writes of each (with no spaces, and the keys of each object in order) with the order of its turns, and the verdict on it.
@@ -497,6 +504,9 @@ def all_rows():
     for name, trace, height, lines in PICTURES:
         yield Row(name, "draw", trace.encode(), 0, (pictured(height, lines).encode(),))
     yield Row("nobody asked", "draw", NOBODY_ASKED.encode(), 1, (pictured(336, LEFT, left=True).encode(),), WAITS)
+    # seven for each letter, behind the first turn's place and what stays free
+    long = pictured(4516, LONG_LEFT, left=True, width=180 + 7 * len(LONG)).encode()
+    yield Row("a long reason", "draw", SILENT.encode(), 1, (long,), b"invite: no order takes all entries: look first at node 0, entry 0" + LONG.encode() + b"\n")
     for name, schedule, trace, verdict in RECORDED:
         yield Row(name, "record", schedule.encode(), 0, (f"{trace}\n".encode(),))
         yield from judged(name, trace, verdict)

@@ -1,5 +1,6 @@
 """The picture that docs/SIMULATION.md says `draw` makes of the entries that can be taken, in the order that `trace` prints where that is all of them."""
 import re
+from collections import Counter
 from xml.etree import ElementTree
 from node_model import DOWN, ELECTION, NORMAL, REORGANIZATION, Search
 
@@ -9,19 +10,20 @@ FORMS = {ELECTION: "election", NORMAL: "normal", REORGANIZATION: "reorganization
 
 
 class Watched(Search):
-    """A search that keeps what is drawn: of each turn its node, index, name and look; where what it was brought was sent, and whether no other turn
-    sent the same; of each node its stays."""
+    """A search that keeps what is drawn: of each turn its node, index, name and look; where what it was brought was sent, and whether no other entry,
+    taken or left, sent the same; of each node its stays."""
 
     def __init__(self, nodes, histories):
         super().__init__(nodes, histories)
         self.turns, self.sendings, self.sources = [], [], []
         self.stays = [[(0, stand_of(node))] for node in self.nodes]
+        self.said = Counter(message for history in histories for entry in history for message in entry["sent"])
 
     def takes(self, own, entry):
         if not super().takes(own, entry):
             return False
         came = [turn for message, turn, _ in self.sendings if entry["do"] == "deliver" and message == entry["spelled"]]
-        self.sources.append((came[-1], len(came) == 1) if came else None)
+        self.sources.append((came[-1], self.said[entry["spelled"]] == 1) if came else None)
         if came:
             self.taken_back(entry["spelled"], came[-1])
         self.sendings += [(message, len(self.turns), [False]) for message in entry["sent"]]

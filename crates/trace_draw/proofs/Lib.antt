@@ -1,11 +1,13 @@
 mod Lists
 mod NodeViews
+mod Tallies
 mod Mails
 mod Steps
 mod Sources
 mod Poses
 mod Lefts
 mod Wholes
+mod Widths
 mod Names
 mod Texts
 mod Joins

@@ -1,25 +1,23 @@
 -- What was sent, and the last sending of each message, once more is sent.
 use Rattle.std.proofs.Common.{◌≡◌, ◌⊎◌, ℕ, zero, suc, ◌+◌, Bool, true, false, cond, List, [], ◌∷◌, ◌++◌, length, take, slice_get, Option, Some, None, inl, inr, refl, sym, ap, ◌∙◌, subst, arith, length-append}
-use Rattle.std.specs.Prelude.{IsTrue, is_none}
 use Rattle.std.specs.HashMap.{HashMap, get}
 use Rattle.std.specs.declared.hash.FoldHasher.{FoldHasher}
 use Rattle.std.specs.declared.hash.BuildHasherDefault.{BuildHasherDefault}
-use Rattle.std.specs.Cmp.Lexicographic.{bytes_decides}
 use Rattle.std.proofs.lemmas.Bool.{cases_Bool}
 use Rattle.std.proofs.lemmas.Option.{same_Some, slice_get_within}
 use Rattle.wire_msg.specs.Envelope.{Envelope}
-use Rattle.message_list.specs.Lent.{numbers_of, same_message}
+use Rattle.message_list.specs.Lent.{same_message}
 use Rattle.message_list.proofs.PublicLaws.{one_message}
 use Rattle.histories.specs.Lists.{IsAmong}
 use Rattle.trace_check.specs.Claims.{Claim}
 use Rattle.trace_check.specs.Orders.{history, taken, IsSent, IsLegal}
 use Rattle.trace_check.proofs.PublicLaws.{turns}
-use Rattle.trace_draw.specs.declared.mail.Latest.{Latest}
 use Rattle.trace_draw.specs.declared.mail.Sending.{Sending}
 use Rattle.trace_draw.specs.declared.turn.Point.{Point}
 use Rattle.trace_draw.specs.Mails.{IsLatest, AreLatest}
 use Rattle.trace_draw.specs.Turns.{IsSending, IsLast, WasSent, sendings, sendings_of, sent_of}
 use Rattle.trace_draw.proofs.Lists.{behind_at, last_at, last_or_before, still_at}
+use Rattle.trace_draw.proofs.Tallies.{other_message}
 
 -- ---- one sending more
 
@@ -30,50 +28,31 @@ sending_still : (all more : List Sending) (m : Envelope) (k : ℕ) (t : Sending)
 sending_still all more m k t is = record { there = still_at all more t k is.there; same = is.same }
 
 -- of another message nothing changes
-keeps_latest : (all : List Sending) (s : Sending) (m : Envelope) (o : Option Latest) → (s.message ≡ m → ⊥) → IsLatest all m o → IsLatest (all ++ s ∷ []) m o
+keeps_latest : (all : List Sending) (s : Sending) (m : Envelope) (o : Option ℕ) → (s.message ≡ m → ⊥) → IsLatest all m o → IsLatest (all ++ s ∷ []) m o
 keeps_latest all s m None other none = λ sent. elim (sending_before all s m sent.number sent.sending sent.is) [
   | inl early ↦ none (record { number = sent.number; sending = sent.sending; is = early })
   | inr now ↦ other (ap (λ (t : Sending). t.message) (sym now.1) ∙ sent.is.same)
 ]
-keeps_latest all s m (Some l) other is = record {
+keeps_latest all s m (Some number) other is = record {
   sending = is.sending;
-  is = sending_still all (s ∷ []) m l.number is.sending is.is;
+  is = sending_still all (s ∷ []) m number is.sending is.is;
   last = λ k t it. elim (sending_before all s m k t it) [ inl early ↦ is.last k t early | inr now ↦ absurd (other (ap (λ (u : Sending). u.message) (sym now.1) ∙ it.same)) ];
-  only = (
-    λ yes k t it. elim (sending_before all s m k t it) [ inl early ↦ is.only.0 yes k t early | inr now ↦ absurd (other (ap (λ (u : Sending). u.message) (sym now.1) ∙ it.same)) ],
-    λ alone. is.only.1 (λ k t it. alone k t (sending_still all (s ∷ []) m k t it)),
-  );
 }
 
-only_new : (all : List Sending) (s : Sending) (m : Envelope) (o : Option Latest) (alone : Bool) → s.message ≡ m → IsLatest all m o → alone ≡ is_none o
-    → (IsTrue alone → (k : ℕ) (t : Sending) → IsSending (all ++ s ∷ []) m k t → k ≡ length all) × (((k : ℕ) (t : Sending) → IsSending (all ++ s ∷ []) m k t → k ≡ length all) → IsTrue alone)
-only_new all s m None alone same was is = (
-  λ yes k t it. elim (sending_before all s m k t it) [ inl early ↦ absurd (was (record { number = k; sending = t; is = early })) | inr now ↦ now.0 ],
-  λ only. is,
-)
-only_new all s m (Some l) alone same was is = (
-  λ yes. (let clash : true ≡ false = sym yes ∙ is in absurd cc),
-  λ only. (let there = only l.number was.sending (sending_still all (s ∷ []) m l.number was.sending was.is) in let within = slice_get_within all l.number was.sending was.is.there in absurd (omega (arith, there, within))),
-)
-
--- of this one it is the last, and alone where there was none
-new_latest : (all : List Sending) (s : Sending) (m : Envelope) (o : Option Latest) (alone : Bool) → s.message ≡ m → IsLatest all m o → alone ≡ is_none o → IsLast (all ++ s ∷ []) m (length all) alone
-new_latest all s m o alone same was is = record {
+-- of this one it is the last
+new_latest : (all : List Sending) (s : Sending) (m : Envelope) → s.message ≡ m → IsLast (all ++ s ∷ []) m (length all)
+new_latest all s m same = record {
   sending = s;
   is = record { there = last_at all s; same = same };
   last = λ k t it. (let within = slice_get_within (all ++ s ∷ []) k t it.there in let many = length-append all (s ∷ []) in omega (arith, within, many));
-  only = only_new all s m o alone same was is;
 }
 
-pub latest_more : (all : List Sending) (s : Sending) (old new : HashMap Envelope Latest (BuildHasherDefault FoldHasher)) (alone : Bool) → AreLatest all old → alone ≡ is_none (get same_message old s.message)
-    → ((q : Envelope) → get same_message new q ≡ cond (same_message s.message q) (Some (record { number = length all; alone = alone })) (get same_message old q)) → AreLatest (all ++ s ∷ []) new
-latest_more all s old new alone are alone_is is = λ q. elim (cases_Bool (same_message s.message q)) [
-  | inl same ↦ (let one = one_message s.message q same in
-      subst (λ (o : Option Latest). IsLatest (all ++ s ∷ []) q o) (sym (is q ∙ ap (λ (b : Bool). cond b (Some (record { number = length all; alone = alone })) (get same_message old q)) same))
-      (new_latest all s q (get same_message old q) alone one (are q) (alone_is ∙ ap (λ (m : Envelope). is_none (get same_message old m)) one)))
-  | inr other ↦ subst (λ (o : Option Latest). IsLatest (all ++ s ∷ []) q o) (sym (is q ∙ ap (λ (b : Bool). cond b (Some (record { number = length all; alone = alone })) (get same_message old q)) other))
-      (keeps_latest all s q (get same_message old q)
-      (λ one. let same : same_message s.message q ≡ true = (bytes_decides (numbers_of s.message) (numbers_of q)).1 (ap (λ (e : Envelope). numbers_of e) one) in let clash : true ≡ false = sym same ∙ other in cc) (are q))
+pub latest_more : (all : List Sending) (s : Sending) (old new : HashMap Envelope ℕ (BuildHasherDefault FoldHasher)) → AreLatest all old
+    → ((q : Envelope) → get same_message new q ≡ cond (same_message s.message q) (Some (length all)) (get same_message old q)) → AreLatest (all ++ s ∷ []) new
+latest_more all s old new are is = λ q. elim (cases_Bool (same_message s.message q)) [
+  | inl same ↦ subst (λ (o : Option ℕ). IsLatest (all ++ s ∷ []) q o) (sym (is q ∙ ap (λ (b : Bool). cond b (Some (length all)) (get same_message old q)) same)) (new_latest all s q (one_message s.message q same))
+  | inr other ↦ subst (λ (o : Option ℕ). IsLatest (all ++ s ∷ []) q o) (sym (is q ∙ ap (λ (b : Bool). cond b (Some (length all)) (get same_message old q)) other))
+      (keeps_latest all s q (get same_message old q) (other_message s.message q other) (are q))
 ]
 
 -- ---- a turn's sendings

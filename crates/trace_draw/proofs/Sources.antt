@@ -1,11 +1,11 @@
 -- Where a message was sent.
-use Rattle.std.proofs.Common.{◌≡◌, ◌≤◌, ◌<◌, ℕ, true, List, [], ◌∷◌, length, slice_get, Option, Some, None, refl, sym, ap, ◌∙◌, subst, arith}
+use Rattle.std.proofs.Common.{◌≡◌, ◌≤◌, ◌<◌, ℕ, Bool, true, List, [], ◌∷◌, length, slice_get, Option, Some, None, refl, sym, ap, ◌∙◌, subst, arith}
 use Rattle.std.proofs.lemmas.Option.{same_Some, slice_get_within}
+use Rattle.std.specs.Prelude.{IsTrue, ◌↔◌}
 use Rattle.wire_msg.specs.Envelope.{Envelope}
-use Rattle.trace_draw.specs.declared.mail.Latest.{Latest}
 use Rattle.trace_draw.specs.declared.mail.Sending.{Sending}
 use Rattle.trace_draw.specs.Mails.{IsLatest}
-use Rattle.trace_draw.specs.Turns.{IsLast, IsLastSource, IsNamed, source_at}
+use Rattle.trace_draw.specs.Turns.{IsLast, IsLastSource, IsNamed, IsSole, source_at}
 
 pub none_there : (ms : List Envelope) → slice_get ms 0 ≡ None → ms ≡ []
 none_there [] none = refl
@@ -17,16 +17,16 @@ one_there (x ∷ []) m few at = ap (λ (e : Envelope). e ∷ []) (same_Some x m 
 one_there (x ∷ y ∷ ms) m few at = absurd (omega (arith, few))
 
 -- the sending that stands at the number of the last one
-pub last_found : (all : List Sending) (m : Envelope) (o : Option Latest) (l : Latest) (s : Sending) → IsLatest all m o → o ≡ Some l → slice_get all l.number ≡ Some s → IsLastSource all m (record { at = s.at; place = s.place; sure = l.alone })
-last_found all m None l s is same there = absurd cc
-last_found all m (Some k) l s is same there =
-    let one : k ≡ l = same_Some k l same in
-    let last : IsLast all m l.number l.alone = subst (λ (x : Latest). IsLast all m x.number x.alone) one is in
-    record { number = l.number; is = last; at = ap (λ (x : Sending). source_at x l.alone) (same_Some s last.sending (sym there ∙ last.is.there)) }
+pub last_found : (said : List Envelope) (all : List Sending) (m : Envelope) (o : Option ℕ) (number : ℕ) (s : Sending) (sure : Bool) → IsLatest all m o → o ≡ Some number → slice_get all number ≡ Some s → (IsTrue sure ↔ IsSole said m)
+    → IsLastSource said all m (record { at = s.at; place = s.place; sure = sure })
+last_found said all m None number s sure is same there sole = absurd cc
+last_found said all m (Some k) number s sure is same there sole =
+    let last : IsLast all m number = subst (λ (x : ℕ). IsLast all m x) (same_Some k number same) is in
+    record { number = number; is = last; at = ap (λ (x : Sending). source_at x sure) (same_Some s last.sending (sym there ∙ last.is.there)); sole = sole }
 
-pub last_within : (all : List Sending) (m : Envelope) (o : Option Latest) (l : Latest) → IsLatest all m o → o ≡ Some l → l.number < length all
-last_within all m None l is same = absurd cc
-last_within all m (Some k) l is same = subst (λ (x : Latest). x.number < length all) (same_Some k l same) (slice_get_within all k.number is.sending is.is.there)
+pub last_within : (all : List Sending) (m : Envelope) (o : Option ℕ) (number : ℕ) → IsLatest all m o → o ≡ Some number → number < length all
+last_within all m None number is same = absurd cc
+last_within all m (Some k) number is same = subst (λ (x : ℕ). x < length all) (same_Some k number same) (slice_get_within all k is.sending is.is.there)
 
 pub named_found : (all : List Sending) (m : Envelope) (named : Option ℕ) (number : ℕ) (s : Sending) → named ≡ Some number → slice_get all number ≡ Some s → s.message ≡ m
     → (is : IsNamed all m named) × (record { at = s.at; place = s.place; sure = true } ≡ source_at is.sending true)

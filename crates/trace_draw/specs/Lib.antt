@@ -7,6 +7,7 @@ pub mod Turns
 pub mod Walks
 pub mod Poses
 pub mod Untaken
+pub mod Tallies
 pub mod Mails
 pub mod Labels
 pub mod Places

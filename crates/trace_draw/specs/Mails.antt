@@ -5,17 +5,16 @@ use Rattle.std.specs.declared.hash.FoldHasher.{FoldHasher}
 use Rattle.std.specs.declared.hash.BuildHasherDefault.{BuildHasherDefault}
 use Rattle.wire_msg.specs.Envelope.{Envelope}
 use Rattle.message_list.specs.Lent.{same_message}
-use Rattle.trace_draw.specs.declared.mail.Latest.{Latest}
 use Rattle.trace_draw.specs.declared.mail.Mail.{Mail}
 use Rattle.trace_draw.specs.declared.mail.Sending.{Sending}
 use Rattle.trace_draw.specs.Turns.{WasSent, IsLast}
 
--- the last sending of the message, if there is one
-abbrev pub IsLatest : List Sending → Envelope → Option Latest → Type 0
+-- the number of the last sending of the message, if there is one
+abbrev pub IsLatest : List Sending → Envelope → Option ℕ → Type 0
 IsLatest all m None = WasSent all m → ⊥
-IsLatest all m (Some latest) = IsLast all m latest.number latest.alone
+IsLatest all m (Some number) = IsLast all m number
 
-abbrev pub AreLatest : List Sending → HashMap Envelope Latest (BuildHasherDefault FoldHasher) → Type 0
+abbrev pub AreLatest : List Sending → HashMap Envelope ℕ (BuildHasherDefault FoldHasher) → Type 0
 AreLatest all latest = (m : Envelope) → IsLatest all m (get same_message latest m)
 
 -- these are the sendings, and their last ones are known

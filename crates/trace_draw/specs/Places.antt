@@ -14,12 +14,9 @@ edge turn = turn * 26 + 97
 abbrev pub breadth : ℕ → ℕ
 breadth turns = turns * 26
 
--- how wide the picture of so many turns is, and how wide if entries are left; the legend has room
-abbrev pub width : ℕ → ℕ
-width turns = max 880 (turns * 26 + 180)
-
-abbrev pub width_left : ℕ → ℕ
-width_left turns = turns * 26 + 880
+-- how wide the picture of so many turns is, with room for the legend, and behind the last turn for a reason of so many letters
+abbrev pub width : ℕ → ℕ → ℕ
+width turns letters = max 880 (turns * 26 + 180 + letters * 7)
 
 -- how far from the top a node's line is, its band begins, and its name stands again
 abbrev pub down : ℕ → ℕ

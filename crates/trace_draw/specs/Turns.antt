@@ -1,5 +1,6 @@
 -- What is drawn of a run of a trace's entries, turn by turn.
 use Rattle.std.specs.Prelude.{ℕ, ◌≡◌, ◌<◌, ◌≤◌, ◌+◌, ◌++◌, ◌⊎◌, ◌↔◌, IsTrue, Bool, true, List, [], ◌∷◌, length, map, slice_get, Option, Some, None}
+use Rattle.std.specs.List.{flat_map}
 use Rattle.group_task.specs.Ids.{has}
 use Rattle.wire_msg.specs.Envelope.{Envelope}
 use Rattle.trace_check.specs.declared.order.Order.{Order}
@@ -44,12 +45,11 @@ pub record WasSent (all : List Sending) (m : Envelope) : Type 0 where
   pub sending : Sending
   pub is : IsSending all m number sending
 
--- it is the last one, and it is known whether it is alone
-pub record IsLast (all : List Sending) (m : Envelope) (number : ℕ) (alone : Bool) : Type 0 where
+-- it is the last one
+pub record IsLast (all : List Sending) (m : Envelope) (number : ℕ) : Type 0 where
   pub sending : Sending
   pub is : IsSending all m number sending
   pub last : (k : ℕ) (other : Sending) → IsSending all m k other → k ≤ number
-  pub only : IsTrue alone ↔ ((k : ℕ) (other : Sending) → IsSending all m k other → k ≡ number)
 
 -- the record's number is that of a sending of the message
 pub record IsNamed (all : List Sending) (m : Envelope) (named : Option ℕ) : Type 0 where
@@ -60,23 +60,36 @@ pub record IsNamed (all : List Sending) (m : Envelope) (named : Option ℕ) : Ty
 
 -- ---- sources
 
+-- what the entries of a history sent, and those of all histories, be they taken or left
+abbrev pub sent_by : List Claim → List Envelope
+sent_by h = flat_map (λ (c : Claim). c.sent) h
+
+abbrev pub sent_in : List (List Claim) → List Envelope
+sent_in hs = flat_map sent_by hs
+
+-- no two of these messages are this one
+abbrev pub IsSole : List Envelope → Envelope → Type 0
+IsSole ms m = (j k : ℕ) → slice_get ms j ≡ Some m → slice_get ms k ≡ Some m → j ≡ k
+
 abbrev pub source_at : Sending → Bool → Source
 source_at s sure = record { at = s.at; place = s.place; sure = sure }
 
--- the last sending of the message, sure where there is no other
-pub record IsLastSource (all : List Sending) (m : Envelope) (source : Source) : Type 0 where
+-- The last sending of the message. It is sure where no two of these are the same: one that stands later in the order may have been the one
+-- that came, since clocks may have put it there, and so may one of an entry that is left.
+pub record IsLastSource (said : List Envelope) (all : List Sending) (m : Envelope) (source : Source) : Type 0 where
   pub number : ℕ
-  pub is : IsLast all m number source.sure
+  pub is : IsLast all m number
   pub at : source ≡ source_at is.sending source.sure
+  pub sole : IsTrue source.sure ↔ IsSole said m
 
 -- the sending that the record names, where it is one of the message, and sure; else the last one
-abbrev pub IsSource : List Sending → Envelope → Option ℕ → Source → Type 0
-IsSource all m named source = ((is : IsNamed all m named) × (source ≡ source_at is.sending true)) ⊎ ((IsNamed all m named → ⊥) × IsLastSource all m source)
+abbrev pub IsSource : List Envelope → List Sending → Envelope → Option ℕ → Source → Type 0
+IsSource said all m named source = ((is : IsNamed all m named) × (source ≡ source_at is.sending true)) ⊎ ((IsNamed all m named → ⊥) × IsLastSource said all m source)
 
 -- where the message that was brought comes from, if one was
-abbrev pub ComeFrom : List Sending → List Envelope → Option ℕ → Option Source → Type 0
-ComeFrom all ms named None = ms ≡ []
-ComeFrom all ms named (Some source) = (m : Envelope) × (ms ≡ m ∷ []) × IsSource all m named source
+abbrev pub ComeFrom : List Envelope → List Sending → List Envelope → Option ℕ → Option Source → Type 0
+ComeFrom said all ms named None = ms ≡ []
+ComeFrom said all ms named (Some source) = (m : Envelope) × (ms ≡ m ∷ []) × IsSource said all m named source
 
 abbrev pub named_by : Option (Option ℕ) → Option ℕ
 named_by None = None
@@ -88,7 +101,7 @@ named_at messages number = named_by (slice_get messages number)
 
 -- of the turn of this number: only what was sent before it can have been brought
 abbrev pub IsSourceOf : List (List Claim) → Order → ℕ → Claim → Option Source → Type 0
-IsSourceOf hs order number c source = ComeFrom (sendings hs (before order.nodes.items number)) (brought_by c.deed) (named_at order.messages.items number) source
+IsSourceOf hs order number c source = ComeFrom (sent_in hs) (sendings hs (before order.nodes.items number)) (brought_by c.deed) (named_at order.messages.items number) source
 
 abbrev pub IsSourceAt : List (List Claim) → Order → ℕ → Option Source → Type 0
 IsSourceAt hs order number source = (n : ℕ) (c : Claim) → Takes hs order.nodes.items number n c → IsSourceOf hs order number c source

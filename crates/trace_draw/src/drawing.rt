@@ -39,8 +39,10 @@ pub fn draw<R: Read, W: Write>(
     // it, and the picture says which order it is in.
     // Refuses: order_of_the_checker_drawn, other_order_said_to_be_recorded, picture_ends_badly.
     // Promise: A message that a turn was brought comes from the sending that the record names, where that is one of the same message that
-    // came before; else from the last such sending, which is said to be sure exactly where it is the only one.
-    // Refuses: arrow_from_the_wrong_turn, record_believed_without_a_look, first_of_many_is_sure.
+    // came before; else from the last such sending, which is said to be sure exactly where no other entry of the trace, before it or behind
+    // it, sent the same.
+    // Refuses: arrow_from_the_wrong_turn, record_believed_without_a_look, first_of_many_is_sure, arrow_sure_by_what_came_before,
+    // repeat_taken_for_sole.
     // Promise: A node's stays are the longest spans in which it stands the same way, and cover all turns.
     // Refuses: stay_never_ends.
     // Promise: At a turn the nodes are marked for which it sent a message that no turn was brought.

@@ -22,6 +22,7 @@ mod stays;
 mod step;
 mod style;
 mod svg;
+mod tally;
 mod turn;
 mod turns;
 mod untaken;

@@ -1,15 +1,15 @@
 //! Where the messages that turns were brought come from.
-ghost use Rattle.std.specs.Prelude.{◌≡◌, ◌<◌, ◌≤◌, ◌+◌, ◌++◌, ◌∷◌, ℕ, [], length, reverse, slice_get, Some, None, IfOk, OnOk, IsTrue, ◌↔◌, true, is_none, MatchOption};
-ghost use Rattle.std.specs.HashMap.{get};
-ghost use Rattle.message_list.specs.Lent.{same_message};
+ghost use Rattle.std.specs.Prelude.{◌≡◌, ◌<◌, ◌≤◌, ◌+◌, ◌++◌, ◌∷◌, ℕ, List, [], length, reverse, slice_get, Some, None, IfOk, OnOk, IsTrue, ◌↔◌, true, MatchOption};
 ghost use Rattle.wire_msg.specs.Envelope.{Envelope};
 ghost use Rattle.trace_check.specs.Followed.{before};
 ghost use Rattle.trace_check.specs.Orders.{IsLegal};
-ghost use Rattle.trace_draw.specs.Turns.{AreSources, ComeFrom, IsLastSource, IsNamed, IsSourceAt, WasSent, named_at, sendings, sendings_of, source_at};
+ghost use Rattle.trace_draw.specs.Turns.{AreSources, ComeFrom, IsLastSource, IsNamed, IsSourceAt, WasSent, named_at, sendings, sendings_of, sent_in, source_at};
 ghost use Rattle.trace_draw.specs.Mails.{AreLatest, IsMail};
+ghost use Rattle.trace_draw.specs.Tallies.{IsTally};
 ghost use Rattle.trace_draw.specs.Walks.{AreSteps};
 
 use crate::step::Step;
+use crate::tally::{Tally, count_trace, is_sole};
 use crate::turn::{Point, Source};
 use message_list::LentMessage;
 use std::alloc::{AllocError, Global};
@@ -24,18 +24,12 @@ pub(crate) struct Sending<'a> {
     pub(crate) place: usize,
 }
 
-/// Of a message the number of the last sending, and whether there is no other.
-#[derive(Clone, Copy)]
-pub(crate) struct Latest {
-    pub(crate) number: usize,
-    pub(crate) alone: bool,
-}
-
 /// What was sent, in the order in which it was.
 #[derive(Drop)]
 pub(crate) struct Mail<'a> {
     pub(crate) sendings: Vec<Sending<'a>>,
-    pub(crate) latest: HashMap<LentMessage<'a>, Latest>,
+    /// Of each message the number of the last sending.
+    pub(crate) latest: HashMap<LentMessage<'a>, usize>,
 }
 
 /// Of each turn where the message was sent that it was brought.
@@ -49,13 +43,14 @@ pub(crate) fn sources(
     requires steps { AreSteps trace.now order.now.nodes.items steps.now }
     ensures { IfOk result (λ sources. AreSources trace.now order.now sources.items) }
 {
+    let tally = count_trace(alloc, trace)?;
     let mut mail = Mail {
         sendings: Vec::new(alloc),
         latest: HashMap::new(alloc),
     };
     let mut sources = Vec::new(alloc);
     for turn in 0..steps.len() {
-        let source = take_turn(trace, order, steps, turn, &mut mail)?;
+        let source = take_turn(trace, order, steps, &tally, turn, &mut mail)?;
         sources.push(source)?;
     }
     Ok(sources)
@@ -66,12 +61,14 @@ fn take_turn<'a>(
     trace: &'a Trace,
     order: &Order,
     steps: &[Step],
+    tally: &Tally<'_>,
     turn: usize,
     mail: &mut Mail<'a>,
 ) -> Result<Option<Source>, AllocError>
     requires within { turn < length steps.now }
     requires legal { IsLegal trace.now (reverse order.now.nodes.items) }
     requires steps { AreSteps trace.now order.now.nodes.items steps.now }
+    requires tally { IsTally (sent_in trace.now) tally.now }
     requires mail { IsMail (sendings trace.now (before order.now.nodes.items turn)) mail.old }
     ensures source { IfOk result (IsSourceAt trace.now order.now turn) }
     ensures mail { IfOk result (λ _. IsMail (sendings trace.now (before order.now.nodes.items (turn + 1))) mail.new) }
@@ -84,7 +81,7 @@ fn take_turn<'a>(
     let Some(sent) = trace.sent(node, index) else {
         unreachable!()
     };
-    let source = find(mail, &brought, named_at(&order.messages, turn));
+    let source = find(mail, tally, &brought, named_at(&order.messages, turn));
     post_all(mail, &Point { turn, node }, &sent)?;
     Ok(source)
 }
@@ -100,16 +97,21 @@ fn named_at(messages: &[Option<u64>], turn: usize) -> Option<u64>
 }
 
 /// Where the message was sent that is alone here, if there is one.
-fn find(mail: &Mail<'_>, brought: &Sent<'_>, named: Option<u64>) -> Option<Source>
+fn find(
+    mail: &Mail<'_>,
+    tally: &Tally<'_>,
+    brought: &Sent<'_>,
+    named: Option<u64>,
+) -> Option<Source>
     requires few { length brought.now ≤ 1 }
     requires latest { AreLatest mail.now.sendings.items mail.now.latest }
     requires sent { (m : Envelope) → brought.now ≡ m ∷ [] → WasSent mail.now.sendings.items m }
-    ensures { ComeFrom mail.now.sendings.items brought.now named result }
+    ensures { (said : List Envelope) → IsTally said tally.now → ComeFrom said mail.now.sendings.items brought.now named result }
 {
     let message = brought.lend(0)?;
     match named_source(mail, &message, named) {
         Some(source) => Some(source),
-        None => Some(last_source(mail, &message)),
+        None => Some(last_source(mail, tally, &message)),
     }
 }
 
@@ -138,28 +140,21 @@ fn is_same(message: &LentMessage<'_>, other: &LentMessage<'_>) -> bool
     message == other
 }
 
-/// The last sending of the message.
-fn last_source(mail: &Mail<'_>, message: &LentMessage<'_>) -> Source
+/// The last sending of the message, which is sure where it was sent once in all.
+fn last_source(mail: &Mail<'_>, tally: &Tally<'_>, message: &LentMessage<'_>) -> Source
     requires latest { AreLatest mail.now.sendings.items mail.now.latest }
     requires sent { WasSent mail.now.sendings.items message.now }
-    ensures { IsLastSource mail.now.sendings.items message.now result }
+    ensures { (said : List Envelope) → IsTally said tally.now → IsLastSource said mail.now.sendings.items message.now result }
 {
-    let Some(latest) = mail.latest.get(message) else {
+    let Some(number) = mail.latest.get(message) else {
         unreachable!()
     };
-    let sending = &mail.sendings[latest.number];
+    let sending = &mail.sendings[*number];
     Source {
         at: sending.at,
         place: sending.place,
-        sure: latest.alone,
+        sure: is_sole(tally, message),
     }
-}
-
-/// Whether the message wasn't sent yet.
-fn is_new(mail: &Mail<'_>, message: &LentMessage<'_>) -> bool
-    ensures { result ≡ is_none (get same_message mail.now.latest message.now) }
-{
-    mail.latest.get(message).is_none()
 }
 
 /// These messages of a turn are sent.
@@ -191,7 +186,6 @@ fn post<'a>(
         unreachable!()
     };
     let number = mail.sendings.len();
-    let alone = is_new(mail, &message);
     mail.sendings.push(Sending {
         message,
         at: Point {
@@ -200,7 +194,7 @@ fn post<'a>(
         },
         place,
     })?;
-    let Ok(_) = mail.latest.insert(key, Latest { number, alone }) else {
+    let Ok(_) = mail.latest.insert(key, number) else {
         return Err(AllocError);
     };
     Ok(())

@@ -1,6 +1,6 @@
 //! Where things stand in the picture of a run.
 ghost use Rattle.std.specs.Prelude.{◌≡◌, ◌+◌, ◌*◌, ◌++◌, IfOk, OnOk, decimal};
-ghost use Rattle.trace_draw.specs.Places.{across, are_few, band_top, below, breadth, down, edge, height, place, width, width_left};
+ghost use Rattle.trace_draw.specs.Places.{across, are_few, band_top, below, breadth, down, edge, height, place, width};
 
 use crate::turn::Point;
 use console_text::{push_number, push_text};
@@ -12,10 +12,11 @@ const STEP: u64 = 26;
 
 const FIRST: u64 = 110;
 
-/// What stays free behind the last turn, and how much if entries are left.
+/// What stays free behind the last turn.
 const FREE: u64 = 70;
 
-const FREE_FOR_LEFT: u64 = 770;
+/// How wide a letter is at most, of those that stand in reasons: they are digits mostly.
+const LETTER: u64 = 7;
 
 /// How wide the legend is.
 const LEGEND: u64 = 880;
@@ -54,18 +55,17 @@ pub(crate) fn push_breadth(text: &mut Vec<u8>, turns: usize) -> Result<(), Alloc
     push_number(text, far(turns, 0)?)
 }
 
-/// Adds how wide the picture of so many turns is.
-pub(crate) fn push_width(text: &mut Vec<u8>, turns: usize) -> Result<(), AllocError>
-    ensures { OnOk result (text.new.items ≡ text.old.items ++ decimal (width turns)) }
+/// Adds how wide the picture of so many turns is, and of a reason of so many letters behind them. None is so wide that it has no number.
+pub(crate) fn push_width(text: &mut Vec<u8>, turns: usize, letters: usize) -> Result<(), AllocError>
+    ensures { OnOk result (text.new.items ≡ text.old.items ++ decimal (width turns letters)) }
 {
-    push_number(text, LEGEND.max(far(turns, FIRST + FREE)?))
-}
-
-/// Adds how wide it is if entries are left.
-pub(crate) fn push_width_left(text: &mut Vec<u8>, turns: usize) -> Result<(), AllocError>
-    ensures { OnOk result (text.new.items ≡ text.old.items ++ decimal (width_left turns)) }
-{
-    push_far(text, turns, FIRST + FREE_FOR_LEFT)
+    let Some(reason) = (letters as u64).checked_mul(LETTER) else {
+        return Err(AllocError);
+    };
+    let Some(wide) = far(turns, FIRST + FREE)?.checked_add(reason) else {
+        return Err(AllocError);
+    };
+    push_number(text, LEGEND.max(wide))
 }
 
 fn push_far(text: &mut Vec<u8>, turns: usize, more: u64) -> Result<(), AllocError>

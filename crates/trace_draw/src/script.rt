@@ -11,7 +11,8 @@ pub const HEAD: &str = r##"<!DOCTYPE html>
 html,body{height:100%;margin:0}
 body{display:flex;flex-direction:column;background:#fff;color:#222;font:13px "DejaVu Sans",Verdana,sans-serif}
 header,footer{padding:4px 10px}
-header svg{max-width:100%}
+header div{overflow-x:auto}
+header svg{width:100%;min-width:620px;max-width:880px;height:auto}
 header ul{margin:2px 0;padding-left:20px;color:#c00;max-height:90px;overflow:auto;overflow-wrap:anywhere}
 nav{padding:2px 10px}
 canvas{flex:1;min-height:160px;width:100%;border:solid #bbb;border-width:1px 0;cursor:grab;touch-action:none}
@@ -20,10 +21,12 @@ footer{min-height:84px;max-height:84px;overflow:auto;overflow-wrap:anywhere;whit
 </head>
 <body>
 <header>
-<svg xmlns="http://www.w3.org/2000/svg" role="img" aria-label="what is drawn" width="880" height="90"##;
+<div>
+<svg xmlns="http://www.w3.org/2000/svg" role="img" aria-label="what is drawn" viewBox="0 0 880 90"##;
 
 /// What stands between the legend and the list of entries that are left.
 pub const LIST: &str = r##"</svg>
+</div>
 <ul>
 "##;
 
@@ -32,7 +35,7 @@ pub const TOOLS: &str = r##"</ul>
 </header>
 <nav>
 <form id="search">
-<label>find <input id="word" size="28" placeholder="turn, node entry, or a word"></label>
+<label>find <input id="word" size="28" placeholder="turn, node entry, group or word" title="12, node 0 entry 3, 0:2, or a word or digits of a message; enter finds the next"></label>
 <button>find</button>
 <button type="button" id="before" title="key p">previous</button>
 <button type="button" id="after" title="key n">next</button>
@@ -57,7 +60,7 @@ const [NODE, INDEX, LOOK, NAME, FROM, SURE, SAYS, BYTES, UNTAKEN] = [0, 1, 2, 3,
 const turns = data.turns.slice(0, -1), nodes = data.nodes, left = [...document.querySelectorAll("header li")];
 const [canvas, told, snapshot, word] = ["picture", "told", "sight", "word"].map(id => document.getElementById(id));
 const pen = canvas.getContext("2d");
-const MARGIN = 78, RULER = 18, FAR = 400, MOST = 6000;
+const MARGIN = 78, RULER = 18, FAR = 400, MOST = 3000;
 const INK = { done: "#222", rest: "#aaa", fail: "#c00", rise: "#080" };
 const CROSS = [[-1, -1], [1, 1], [-1, 1], [1, -1]], STUB = [[2, 3], [8, 13], [4, 13], [12, 13], [8, 9], [8, 17]];
 const DASHES = { Normal: [], Election: [2, 4], Reorganization: [9, 4] };
@@ -260,10 +263,18 @@ const zoom = (times, x) => {
 };
 const move = (turns, rows) => { [first, down] = [first + turns * wide() / step, down + rows * row()]; show(); };
 const middle = () => MARGIN + wide() / 2;
-// a turn, a node and its entry, or the next turn behind the one that is chosen that has the word, from the first on again
+// a turn, a node and its entry, or the next turn behind the one that is chosen, from the first on again, that has the word: in what was done, in
+// the message that came or its digits, or in how the node stands from there on; the number of a group is sought as a whole
 function find(text) {
-    const [, turn] = /^(?:turn )?(\d+)$/i.exec(text) || [], [, node, index] = /^(?:node )?(\d+)[ ,]+(?:entry )?(\d+)$/i.exec(text) || [];
-    const says = at => [turns[at][NAME], turns[at][SAYS], turns[at][BYTES]].some(part => part.toLowerCase().includes(text.toLowerCase()));
+    if (!text) return;
+    const [, turn] = /^(?:turn )?(0|[1-9]\d*)$/i.exec(text) || [], [, node, index] = /^(?:node )?(\d+)[ ,]+(?:entry )?(\d+)$/i.exec(text) || [];
+    const group = /^\d+:\d+$/.test(text) && new RegExp(`(^|\\D)${text}(?!\\d)`);
+    const has = part => group ? group.test(part) : part.toLowerCase().includes(text.toLowerCase());
+    const begun = at => {
+        const [node, index] = turns[at], stay = stayAt(node, at);
+        return stay && !(own[node][index - 1] >= stay[1]) ? `${stay[3]} in group ${stay[4]}` : "";
+    };
+    const says = at => [turns[at][NAME], turns[at][SAYS], turns[at][BYTES], begun(at)].some(has);
     let at = turn;
     if (node !== undefined) at = (own[node] || [])[index];
     else if (turn === undefined || +turn >= turns.length) at = [...turns.keys()].map(past => (chosen + 1 + past) % turns.length).find(says);
@@ -307,7 +318,8 @@ canvas.onpointermove = event => {
 };
 canvas.addEventListener("wheel", event => {
     event.preventDefault();
-    if (event.shiftKey) move(event.deltaY / 1000, 0); else zoom(Math.exp(-event.deltaY / 400), event.offsetX);
+    const aside = event.deltaX + (event.shiftKey ? event.deltaY : 0);
+    if (aside) move(aside / 1000, 0); else zoom(Math.exp(-event.deltaY / 400), event.offsetX);
 }, { passive: false });
 addEventListener("resize", show);
 show();

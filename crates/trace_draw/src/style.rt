@@ -65,5 +65,5 @@ pub const POSSIBLE: &str =
 
 /// What is said of entries that are left.
 pub const LEFT: &str =
-    r##"<text x="16" y="99" font-size="11" class="left">red, behind the last turn: an entry that can't be, or that waits for what none sent</text>
+    r##"<g font-size="11" class="left"><circle cx="691" cy="35" r="5"/><text x="700" y="39">left: can't be, or waits</text></g>
 "##;

@@ -2,10 +2,11 @@
 ghost use Rattle.std.specs.Prelude.{◌≡◌, ◌≤◌, ◌/◌, ◌++◌, IfOk, OnOk, decimal, length};
 ghost use Rattle.group_task.specs.declared.node.TheConstants.{NODES};
 ghost use Rattle.trace_draw.specs.Places.{are_few};
-ghost use Rattle.trace_draw.specs.Picture.{all_left, arrows, drawn, frame, left_said, legend, marks, names_below, order_said, picture, width_by};
+ghost use Rattle.trace_draw.specs.Picture.{all_left, arrows, drawn, frame, left_said, legend, marks, longest, names_below, order_said, picture};
 
 use crate::bands::push_stays;
-use crate::places::{are_few, push_height, push_width, push_width_left};
+use crate::places::{are_few, push_height, push_width};
+use crate::reporting::push_leftover;
 use crate::signs::{push_again, push_arrow, push_left, push_mark, push_name};
 use crate::style::{LEFT, LEGEND, POSSIBLE, RECORDED, STYLE};
 use crate::turn::{Drawing, Turn};
@@ -20,44 +21,44 @@ use trace_check::{Leftover, Trace};
 pub fn picture(alloc: Global, drawing: &Drawing<'_>) -> Result<Vec<u8>, AllocError>
     // Promise: A picture has a band for each stay of a node that is up, in the colour of its group, and on it a line whose form is its
     // phase; a mark for each turn; an arrow to each turn that was brought a message, from the turn that sent it, and said so where that
-    // isn't sure; a stub where messages came to none; and each entry that is left, with its reason. It says which order it shows.
+    // isn't sure; a stub where messages came to none; and each entry that is left, with its reason, for the longest of which it is wide
+    // enough. It says which order it shows.
     // Refuses: arrows_in_place_of_marks, arrow_begins_at_its_end, election_drawn_as_normal, unsure_arrow_drawn_as_sure,
-    // untaken_messages_not_drawn, another_order_said, one_reason_for_all.
+    // untaken_messages_not_drawn, another_order_said, one_reason_for_all, long_reason_cut_off.
     ensures { IfOk result (λ text. text.items ≡ picture drawing.now.trace.now drawing.now.plot.now drawing.now.left.now) }
 {
     let Drawing { trace, plot, left } = *drawing;
     let mut text = Vec::new(alloc);
-    push_frame(&mut text, trace.nodes(), plot.turns.len(), left)?;
+    let letters = longest(alloc, trace, left)?;
+    push_frame(&mut text, trace.nodes(), plot.turns.len(), letters)?;
     push_legend(&mut text, plot.recorded, left)?;
     push_drawn(alloc, &mut text, drawing)?;
     push_text(&mut text, "</svg>\n")?;
     Ok(text)
 }
 
+/// How many letters the longest reason has why an entry is left.
+fn longest(alloc: Global, trace: &Trace, left: &[Leftover]) -> Result<usize, AllocError>
+    ensures { IfOk result (λ letters. letters ≡ longest trace.now left.now) }
+{
+    let mut letters = 0;
+    for leftover in left {
+        let mut reason = Vec::new(alloc);
+        push_leftover(alloc, &mut reason, trace, leftover)?;
+        letters = reason.len().max(letters);
+    }
+    Ok(letters)
+}
+
 #[tactic(auto, unfolding(crate::specs::Picture::frame))]
-fn push_frame(
-    text: &mut Vec<u8>,
-    nodes: u8,
-    turns: usize,
-    left: &[Leftover],
-) -> Result<(), AllocError>
-    ensures { OnOk result (text.new.items ≡ text.old.items ++ frame nodes turns left.now) }
+fn push_frame(text: &mut Vec<u8>, nodes: u8, turns: usize, letters: usize) -> Result<(), AllocError>
+    ensures { OnOk result (text.new.items ≡ text.old.items ++ frame nodes turns letters) }
 {
     push_text(text, "<svg xmlns=\"http://www.w3.org/2000/svg\" width=\"")?;
-    push_width_by(text, turns, left)?;
+    push_width(text, turns, letters)?;
     push_text(text, "\" height=\"")?;
     push_height(text, nodes)?;
     push_text(text, STYLE)
-}
-
-fn push_width_by(text: &mut Vec<u8>, turns: usize, left: &[Leftover]) -> Result<(), AllocError>
-    ensures { OnOk result (text.new.items ≡ text.old.items ++ width_by turns left.now) }
-{
-    if left.is_empty() {
-        push_width(text, turns)
-    } else {
-        push_width_left(text, turns)
-    }
 }
 
 #[tactic(auto, unfolding(crate::specs::Picture::legend))]

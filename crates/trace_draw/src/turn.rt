@@ -16,7 +16,7 @@ pub struct Source {
     pub at: Point,
     /// Which of the messages that turn sent.
     pub place: usize,
-    /// Whether it is known to be this one: the record says so, or no other turn before sent an equal message.
+    /// Whether it is known to be this one: the record says so, or no other entry of the trace sent an equal message.
     pub sure: bool,
 }
 

@@ -6,8 +6,10 @@ use Rattle.trace_draw.proofs.Sources.{last_found, last_within}
 use Rattle.trace_draw.proofs.mail.last_source.Goals as goal
 
 pub returns : goal.returns
-returns c =
+returns c = λ said tallied.
     let all = c.args.mail.now.sendings.items in
     let m = c.args.message.now in
-    let l = c.in-Some.latest.now in
-    last_found all m (get same_message c.args.mail.now.latest m) l c.index-sending.result.now (c.requires.latest m) (sym c.in-Some.ensures.value) (slice_get_read all (length all) l.number c.index-sending.result.now refl (last_within all m (get same_message c.args.mail.now.latest m) l (c.requires.latest m) (sym c.in-Some.ensures.value)) c.index-sending.ensures)
+    let latest = get same_message c.args.mail.now.latest m in
+    let number = c.in-Some.number.now in
+    let there = slice_get_read all (length all) number c.index-sending.result.now refl (last_within all m latest number (c.requires.latest m) (sym c.in-Some.ensures.value)) c.index-sending.ensures in
+    last_found said all m latest number c.index-sending.result.now c.is_sole.result (c.requires.latest m) (sym c.in-Some.ensures.value) there (c.is_sole.ensures said tallied)

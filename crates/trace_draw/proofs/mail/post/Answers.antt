@@ -1,5 +1,4 @@
 use Rattle.std.proofs.Common.{◌≡◌, ℕ, cond, List, [], ◌∷◌, ◌++◌, length, Some, sym, ap, ◌∙◌, subst, arith}
-use Rattle.std.specs.Prelude.{is_none}
 use Rattle.std.specs.HashMap.{get}
 use Rattle.std.proofs.lemmas.Option.{same_Some}
 use Rattle.wire_msg.specs.Envelope.{Envelope}
@@ -14,7 +13,6 @@ returns c = λ m there.
     let all = c.args.mail.now.sendings.items in
     let old = c.args.mail.now.latest in
     let new = c.insert.new.self in
-    let alone = c.is_new-alone.result in
     let s : Sending = record { message = m; at = c.args.at.now; place = c.args.place } in
     let message_is : c.in-Some.message ≡ m = same_Some c.in-Some.message m (sym c.in-Some.is ∙ c.lend.ensures ∙ there) in
     let key_is : c.in-Some-lend.key ≡ m = same_Some c.in-Some-lend.key m (sym c.in-Some-lend.is ∙ c.lend-2.ensures ∙ there) in
@@ -22,7 +20,7 @@ returns c = λ m there.
     let number_is : c.len-number.result ≡ length all = (let len = c.len-number.ensures in let same = c.args.mail.now.sendings.ok.0 in omega (arith, len, same)) in
     record {
       sendings = pushed;
-      latest = subst (λ (xs : List Sending). AreLatest xs new) (sym pushed) (latest_more all s old new alone c.requires.latest (c.is_new-alone.ensures ∙ ap (λ (e : Envelope). is_none (get same_message old e)) message_is)
-          (λ q. c.in-Ok.ensures.updates.0 q ∙ ap (λ (e : Envelope). cond (same_message e q) (Some (record { number = c.len-number.result; alone = alone })) (get same_message old q)) key_is
-          ∙ ap (λ (k : ℕ). cond (same_message m q) (Some (record { number = k; alone = alone })) (get same_message old q)) number_is));
+      latest = subst (λ (xs : List Sending). AreLatest xs new) (sym pushed) (latest_more all s old new c.requires.latest
+          (λ q. c.in-Ok.ensures.updates.0 q ∙ ap (λ (e : Envelope). cond (same_message e q) (Some c.len-number.result) (get same_message old q)) key_is
+          ∙ ap (λ (k : ℕ). cond (same_message m q) (Some k) (get same_message old q)) number_is));
     }
