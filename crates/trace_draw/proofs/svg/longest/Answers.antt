@@ -10,10 +10,10 @@ loop-leftover-preserved c =
     let hs = c.args.trace.now in
     let left = c.leftover-item.result in
     let letters : c.len.result ≡ length (leftover_text hs left) = (
-        let len = c.len.ensures in
-        let same = c.push_leftover.new.text.ok.0 in
-        let said = ap length (c.in_ok-push_leftover.ensures ∙ ap (λ (text : List ℕ). text ++ leftover_text hs left) c.new-reason.ensures.items) in
-        omega (arith, len, same, said)) in
+    let len = c.len.ensures in
+    let same = c.push_leftover.new.text.ok.0 in
+    let said = ap length (c.in_ok-push_leftover.ensures ∙ ap (λ (text : List ℕ). text ++ leftover_text hs left) c.new-reason.ensures.items) in
+    omega (arith, len, same, said)) in
     ap (λ (k : ℕ). max k (longest hs (drop (c.loop-leftover.leftover-index + 1) c.args.left.now))) c.max-letters.ensures
     ∙ longest_more hs c.args.left.now c.loop-leftover.leftover-index left c.loop-leftover.letters c.len.result c.loop-leftover-test.true c.leftover-item.is letters c.loop-leftover.invariant
 
