@@ -7,10 +7,9 @@ use crate::protocol::Reply;
 use std::time::Instant;
 
 fn line_of(job: &Submission) -> String {
-    let payload = if job.payload.is_empty() { "-" } else { &job.payload };
     match job.priority {
-        0 => format!("submit {} {payload}", job.queue),
-        priority => format!("submit {} {payload} {priority}", job.queue),
+        0 => format!("submit {} {}", job.queue, job.payload),
+        priority => format!("submit {} {} {priority}", job.queue, job.payload),
     }
 }
 

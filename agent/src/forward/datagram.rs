@@ -1,6 +1,7 @@
 //! What agents send each other.
 
 use super::Seal;
+use crate::node::Payload;
 use serde::{Deserialize, Serialize};
 
 /// A datagram of agents begins so; a message of nodes begins with 1 or 2.
@@ -17,8 +18,7 @@ pub struct Token {
 pub struct Submission {
     pub queue: u8,
     pub priority: u8,
-    /// As hex digits.
-    pub payload: String,
+    pub payload: Payload,
 }
 
 #[derive(Clone, Debug, PartialEq, Eq, Serialize, Deserialize)]
@@ -77,7 +77,7 @@ mod tests {
 
     #[test]
     fn the_longest_fits_and_is_read_back() {
-        let job = Submission { queue: 15, priority: 255, payload: "ff".repeat(400) };
+        let job = Submission { queue: 15, priority: 255, payload: Payload::of_bytes(&[0xff; 400]).unwrap() };
         let token = Token { life: u64::MAX, serial: u64::MAX };
         let what = What::Submit { life: u64::MAX, number: u64::MAX, job };
         let datagram = Datagram { from: 127, to: 126, token, what };
@@ -85,5 +85,24 @@ mod tests {
         assert!(is_of_agents(&bytes) && bytes.len() + 32 < MAX_DATAGRAM.min(1400), "{}", bytes.len());
         assert_eq!(Datagram::decode(&bytes, &Seal::default()), Some(datagram));
         assert_eq!(Datagram::decode(&bytes[1..], &Seal::default()), None);
+    }
+
+    #[test]
+    fn a_payload_is_hex_digits_and_no_further_line() {
+        for (payload, is_read) in [
+            ("6869", true),
+            ("", true),
+            ("686", false),
+            ("68 3", false),
+            ("-\\nfinish 0 5", false),
+            (&*"00".repeat(401), false),
+        ] {
+            let what = format!(
+                r#"{{"submit":{{"life":1,"number":1,"job":{{"queue":1,"priority":0,"payload":"{payload}"}}}}}}"#
+            );
+            let text = format!(r#"{{"from":1,"to":0,"token":{{"life":1,"serial":1}},"what":{what}}}"#);
+            let bytes = [&HEAD, text.as_bytes()].concat();
+            assert_eq!(Datagram::decode(&bytes, &Seal::default()).is_some(), is_read, "{payload}");
+        }
     }
 }

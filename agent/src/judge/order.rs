@@ -75,7 +75,10 @@ pub fn of(histories: &[Vec<Turn>]) -> Option<String> {
 
 /// The node's next turn can come, or waits for its message.
 fn wait<'a>(post: &mut Post<'a>, ready: &mut Ready, histories: &'a [Vec<Turn>], places: &[usize], node: usize) {
-    let Some(turn) = histories[node].get(places[node]) else { return };
+    let turn = match histories[node].get(places[node]) {
+        Some(turn) => turn,
+        None => return,
+    };
     match turn.brought.as_deref() {
         Some(digits) if !post.numbers.contains_key(digits) => post.waiting.entry(digits).or_default().push(node),
         brought => ready.push(Reverse((turn.time, brought.is_some(), node, false))),

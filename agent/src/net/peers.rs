@@ -93,15 +93,16 @@ impl Peers {
     }
 
     /// The next peer whose name is to be looked up now: one that is silent, or heard from elsewhere, and not by an address that is spelled out. One that
-    /// is heard may have moved: then what is sent to it doesn't reach it.
+    /// is heard may have moved: then what is sent to it doesn't reach it. Of these the one whose turn is the longest ago, so that one whose name server
+    /// doesn't answer keeps no other from its turn.
     pub fn next_look_up(&mut self, now: Instant) -> Option<(usize, String)> {
         let is_old = |at: Option<Instant>| at.map_or(true, |at| now.saturating_duration_since(at) >= SILENCE);
         let own = self.own;
-        let mut others = self.peers.iter_mut().enumerate().filter(|(at, _)| *at != own);
+        let others = self.peers.iter_mut().enumerate().filter(|(at, _)| *at != own);
         let is_doubtful = |peer: &Peer| is_old(peer.heard) || peer.heard_from != peer.address;
         let is_wanted =
             |peer: &Peer| is_doubtful(peer) && is_old(peer.looked_up) && peer.name.parse::<SocketAddr>().is_err();
-        let (at, peer) = others.find(|(_, peer)| is_wanted(peer))?;
+        let (at, peer) = others.filter(|(_, peer)| is_wanted(peer)).min_by_key(|(_, peer)| peer.looked_up)?;
         peer.looked_up = Some(now);
         if is_old(peer.heard) {
             peer.heard_from = None;
@@ -161,6 +162,15 @@ mod tests {
         assert_eq!(peers.found(1, "b:2", &[]), News::Nothing, "which is no news any more");
         assert_eq!(peers.found(1, "c:2", &[]), News::Nothing);
         assert_eq!(peers.address(1), Some("10.0.0.2:2".parse().unwrap()));
+    }
+
+    #[test]
+    fn each_name_has_its_turn_however_long_a_look_up_takes() {
+        let now = Instant::now();
+        let mut peers = Peers::new(0, &["127.0.0.1:1", "b:2", "c:3", "d:4"].map(str::to_string), false);
+        let turns: Vec<usize> =
+            (0..6).filter_map(|turn| peers.next_look_up(now + SILENCE * 2 * turn)).map(|(at, _)| at).collect();
+        assert_eq!(turns, [1, 2, 3, 1, 2, 3]);
     }
 
     #[test]

@@ -11,9 +11,18 @@ pub struct JobKey {
     pub id: u64,
 }
 
-/// A job's bytes as hex digits, at most 800 of them.
-#[derive(Clone, Debug, Default, PartialEq, Eq, Serialize)]
+/// A job's bytes as hex digits, at most 800 of them. It is a word of the node's lines, so nothing else is made one, wherever it comes from.
+#[derive(Clone, Debug, Default, PartialEq, Eq, Serialize, Deserialize)]
+#[serde(try_from = "String")]
 pub struct Payload(String);
+
+impl TryFrom<String> for Payload {
+    type Error = LineError;
+
+    fn try_from(digits: String) -> Result<Payload, LineError> {
+        Payload::of_hex(&digits).ok_or(LineError)
+    }
+}
 
 impl Payload {
     const MAX_BYTES: usize = 400;
