@@ -1,7 +1,7 @@
-//! A command in a session of its own, by which it is ended with all that it started.
+//! A command in a session of its own, by which it is ended with all that it started, and which no signal to the terminal ends.
 
 use rustix::process::{kill_process_group, setsid, Pid, Signal};
-use std::ffi::{OsStr, OsString};
+use std::ffi::OsStr;
 use std::io;
 use std::os::unix::ffi::OsStrExt;
 use std::os::unix::fs::PermissionsExt;
@@ -9,14 +9,14 @@ use std::os::unix::process::CommandExt;
 use std::path::Path;
 use std::process::{Child, Command};
 
-/// The program calls itself by this name, to begin a session and to become the command in it.
-const NAME: &str = "dumgerokctl: a command";
+/// A program calls itself by this name, to begin a session and to become the command in it.
+const NAME: &str = "dumgerok: a command";
 
 /// The status of a command that can't be run, as in a shell.
 const NOT_RUN: u8 = 127;
 
 /// A command, to be run in a session of its own.
-pub fn command(words: &[OsString]) -> Command {
+pub fn command(words: impl IntoIterator<Item = impl AsRef<OsStr>>) -> Command {
     let mut command = Command::new("/proc/self/exe");
     command.arg0(NAME).args(words);
     command
@@ -33,7 +33,7 @@ pub fn become_command() -> Option<u8> {
         Ok(_) => Command::new(&program).args(words).exec(),
         Err(why) => why.into(),
     };
-    eprintln!("dumgerokctl: {}: {why}", program.to_string_lossy());
+    eprintln!("dumgerok: {}: {why}", program.to_string_lossy());
     Some(NOT_RUN)
 }
 

@@ -139,6 +139,30 @@ def greedy(bed):
     agents.stop()
 
 
+def fill(bed):
+    """A journal that fills up: what an operator sees of it, and when."""
+    agents, check = bed.agents("fill", count=1, slots=16, record=None), bed.tally.check
+    agents.start(0)
+    agents.one_group()
+    log = lambda: open(agents.path(0, "log")).read()
+    warnings = lambda: (log().count("more than half"), log().count("the journal is full"))
+    submit = lambda: agents.ask(0, do="submit", queue=1, text="x")
+    for jobs, seen in ((8, (0, 0)), (1, (1, 0)), (5, (1, 1))):
+        check("jobs are kept", all(submit()["ok"] for _ in range(jobs)))
+        agents.until(lambda: warnings() == seen)
+    status = agents.status(0)
+    check("status has how many are kept, and how many fit", (status["pending"], status["pending_max"]) == (14, 14), status)
+    check("so do the metrics", (metric(agents, 0, "jobs_pending"), metric(agents, 0, "jobs_pending_max")) == (14, 14))
+    check("and `dumgerokctl status`", "jobs kept     14 of 14: further ones are refused\n" in agents.ctl(0, "status").stdout)
+    done = agents.ctl(0, "submit", "1", "x")
+    check("one more is refused, and why is said", done.returncode == 1 and "Full (the journal" in done.stderr, done)
+    for job in agents.ask(0, do="jobs")["jobs"][:14]:
+        check("a job is finished all the same", agents.ask(0, do="finish", origin=job["origin"], id=job["id"])["ok"])
+    check("then there is room", agents.status(0)["pending"] == 0 and submit()["ok"])
+    check("what was said once isn't said again", warnings() == (1, 1), log())
+    agents.stop()
+
+
 def is_told(link, word):
     """Whether a client that asked nothing is told something."""
     link.settimeout(0.01)

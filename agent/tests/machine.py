@@ -212,6 +212,31 @@ def at_once(bed):
     agents.stop()
 
 
+def unasked(bed):
+    """Signals that a terminal sends to all its processes as it goes, and nodes that end though nobody asked them to."""
+    agents, check = bed.agents("unasked", count=1, record=None, http=None), bed.tally.check
+    agents.processes[0] = subprocess.Popen([agents.daemon, agents.path(0, "toml")], stderr=subprocess.DEVNULL, start_new_session=True)
+    agents.one_group()
+    node = agents.node(0)
+    for _ in range(3):
+        os.killpg(agents.processes[0].pid, signal.SIGHUP)
+        time.sleep(0.2)
+    check("a terminal that hangs up ends no node", agents.processes[0].poll() is None and agents.node(0) == node and agents.status(0)["alive"],
+          agents.processes[0].poll())
+    agents.kill(0, signal.SIGTERM)
+    for name, command, wanted in (("with success", "exit 0", 1), ("with a status of its own", "exit 99", 1), ("with one of the table", "exit 5", 5)):
+        path = os.path.join(agents.folder, "program")
+        with open(path, "w") as file:
+            file.write("#!/bin/sh\n%s\n" % command)
+        os.chmod(path, 0o755)
+        agents.write(0, program=path, record=None)
+        status, said = ends(agents)
+        check("a node that ends by itself %s: %d" % (name, wanted), status == wanted, (status, said))
+    agents.write(0, program=agents.path(0, "nowhere"), record=None)
+    status, said = ends(agents)
+    check("no program: 1", status == 1 and "no such program" in said, (status, said))
+
+
 def looked_at(bed, agents, check):
     """What a file holds while its node runs, by its path and by the configuration; and a file that is made with jobs."""
     file, restored, program = agents.path(0, "node"), agents.path(0, "restored"), ("--program", bed.program)

@@ -1,5 +1,5 @@
 """`dumgerokctl take -- COMMAND` that is stopped: what the command started is ended with it."""
-import os, signal, subprocess
+import json, os, signal, subprocess
 
 from bed import PATIENCE, is_there
 from cluster import metric
@@ -47,4 +47,40 @@ def stopped_worker(bed):
     agents.until(lambda: not is_there(started))
     done = agents.ctl(0, "take", "--once", "--", "sh", "-c", 'test "$(cut -d " " -f 6 /proc/$$/stat)" = $$')
     check("a command is run in a session of its own", done.returncode == 0, done)
+    agents.stop()
+
+
+def submitted(agents, texts):
+    with agents.connect(0) as link:
+        link.sendall(b"".join(json.dumps(dict(do="submit", queue=1, text=text)).encode() + b"\n" for text in texts))
+        reader = link.makefile()
+        return [json.loads(reader.readline())["ok"] for _ in texts].count(True)
+
+
+def lasting_worker(bed):
+    """One worker for more jobs than an agent has clients, and a job whose command always fails among others."""
+    agents, check, count = bed.agents("lasting_worker", count=1, slots=1024, record=None), bed.tally.check, 300
+    agents.start(0)
+    agents.one_group()
+    check("all are kept", submitted(agents, ["x"] * count) == count)
+    kept = lambda: metric(agents, 0, "jobs_pending")
+    worker = subprocess.Popen([agents.ctl_path, "-s", agents.path(0, "sock"), "take", "--", "true"], stderr=subprocess.PIPE, text=True)
+    agents.until(lambda: kept() == 0 or worker.poll() is not None)
+    said = worker.communicate()[1] if worker.poll() is not None else ""
+    check("a worker goes on for more jobs than an agent has clients", worker.poll() is None and kept() == 0, (said, kept()))
+    check("and has one connection", metric(agents, 0, "clients") <= 2, metric(agents, 0, "clients"))
+    worker.kill()
+    worker.communicate()
+    tries = os.path.join(agents.folder, "tries")
+    command = 'read -r job; [ "$job" != fails ] || { echo x >> "$0"; exit 1; }'
+    check("ten are kept", submitted(agents, ["fails"] + ["x\n"] * 9) == 10)
+    worker = subprocess.Popen([agents.ctl_path, "-s", agents.path(0, "sock"), "take", "--", "sh", "-c", command, tries], stderr=subprocess.DEVNULL)
+    agents.until(lambda: kept() == 1 or worker.poll() is not None)
+    check("a job whose command fails keeps no other from its turn", kept() == 1, kept())
+    agents.until(lambda: len(open(tries).read()) >= 6 or worker.poll() is not None)
+    check("and is tried again", worker.poll() is None)
+    worker.kill()
+    worker.wait()
+    agents.until(lambda: agents.ctl(0, "take", "--once", "--", "true").returncode == 0)
+    check("by another worker, too, once that one is gone", kept() == 0)
     agents.stop()

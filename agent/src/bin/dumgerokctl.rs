@@ -3,7 +3,8 @@
 #![forbid(unsafe_code)]
 
 use clap::Parser;
-use dumgerok_agent::ctl::{become_command, run, Arguments};
+use dumgerok_agent::ctl::{run, Arguments};
+use dumgerok_agent::own_session::become_command;
 use std::process::ExitCode;
 
 fn main() -> ExitCode {

@@ -6,9 +6,10 @@ use anyhow::Context;
 use clap::Parser;
 use dumgerok_agent::config::{Config, LogLevel};
 use dumgerok_agent::daemon::Daemon;
-use dumgerok_agent::file_cache::drop_cache;
 use dumgerok_agent::forward::KeyError;
 use dumgerok_agent::log_lines::LogLines;
+use dumgerok_agent::node_file::drop_cache;
+use dumgerok_agent::own_session::become_command;
 use log::{error, info, LevelFilter};
 use rustix::fs::fstat;
 use std::fs::{File, OpenOptions};
@@ -97,6 +98,9 @@ fn run(config: Config, path: PathBuf) -> anyhow::Result<u8> {
 }
 
 fn main() -> ExitCode {
+    if let Some(status) = become_command() {
+        return ExitCode::from(status);
+    }
     let Arguments { config: path } = Arguments::parse();
     let config = match Config::read(&path) {
         Ok(config) => config,

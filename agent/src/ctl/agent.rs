@@ -2,13 +2,21 @@
 
 use serde_json::Value;
 use std::io::{self, BufRead, BufReader, ErrorKind, Write};
+use std::net::Shutdown;
 use std::os::unix::net::UnixStream;
 use std::path::{Path, PathBuf};
 use std::time::Duration;
 
+/// Where it is dropped the connection ends, whoever reads it: so the agent gives its job to another.
 pub struct Agent {
     stream: UnixStream,
     lines: BufReader<UnixStream>,
+}
+
+impl Drop for Agent {
+    fn drop(&mut self) {
+        let _ended_before = self.stream.shutdown(Shutdown::Both);
+    }
 }
 
 /// Where the agent listens.

@@ -5,7 +5,7 @@ mod arguments;
 mod commands;
 mod file;
 mod interrupts;
-mod own_session;
+mod left_alone;
 mod program;
 mod show;
 mod table;
@@ -13,7 +13,6 @@ mod worker;
 
 pub use arguments::{Arguments, Command};
 pub use commands::run;
-pub use own_session::become_command;
 
 use std::process::ExitCode;
 use thiserror::Error;

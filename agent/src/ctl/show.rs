@@ -40,10 +40,21 @@ pub fn status(status: &Value) -> String {
         ("members", of("members")),
         ("majority", of("majority")),
         ("own queues", of("queues")),
+        ("jobs kept", kept(status)),
         ("jobs in hand", of("in_hand")),
         ("up", ago(&status["up_ms"])),
     ];
     rows.iter().map(|(name, value)| format!("{name:<13} {value}\n")).collect()
+}
+
+/// How many jobs the node keeps, of how many that fit.
+fn kept(status: &Value) -> String {
+    match (status["pending"].as_u64(), status["pending_max"].as_u64()) {
+        (Some(pending), Some(most)) if pending >= most => format!("{pending} of {most}: further ones are refused"),
+        (Some(pending), Some(most)) if 2 * pending > most => format!("{pending} of {most}, more than half"),
+        (Some(pending), Some(most)) => format!("{pending} of {most}"),
+        (pending, _) => pending.map_or_else(|| "-".to_string(), |pending| pending.to_string()),
+    }
 }
 
 pub fn members(reply: &Value) -> String {
@@ -113,6 +124,15 @@ mod tests {
         let reply = json!({"jobs": [{"kept": true, "origin": 1, "id": 7, "queue": 3, "priority": 0, "payload": "6869"}], "total": 1});
         let text = "STATE    ORIGIN  ID  QUEUE  PRIORITY  PAYLOAD\npending  1       7   3      0         hi\n1 of 1\n";
         assert_eq!(jobs(&reply), text);
+        for (pending, most, said) in [
+            (json!(3), json!(126), "3 of 126"),
+            (json!(64), json!(126), "64 of 126, more than half"),
+            (json!(126), json!(126), "126 of 126: further ones are refused"),
+            (json!(7), json!(null), "7"),
+            (json!(null), json!(null), "-"),
+        ] {
+            assert_eq!(kept(&json!({"pending": pending, "pending_max": most})), said);
+        }
         let change = json!({"event": "drop", "origin": 1, "id": 7, "change": 12});
         assert_eq!(event(&change), "    12  drop 1:7\n");
         assert_eq!((payload("ff00"), payload("")), ("0xff00".to_string(), String::new()));

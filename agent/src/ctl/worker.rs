@@ -2,9 +2,10 @@
 
 use super::agent::Agent;
 use super::interrupts::Interrupts;
-use super::own_session::{self, end};
+use super::left_alone::{Key, LeftAlone};
 use super::show;
 use super::Failure;
+use crate::own_session::{self, end};
 use serde_json::{json, Value};
 use std::ffi::OsString;
 use std::io::{self, Write};
@@ -17,17 +18,15 @@ use std::time::Duration;
 /// How often a running command is looked at.
 const LOOK: Duration = Duration::from_millis(20);
 
-/// After a command failed its job is left alone for so long, twice as long after each further one.
-const FIRST_PAUSE: Duration = Duration::from_millis(500);
-const LONGEST_PAUSE: Duration = Duration::from_secs(30);
-
 /// What came of a job.
-#[derive(PartialEq, Eq)]
 enum Outcome {
     Done,
-    Failed,
+    /// Its command failed; with the connection, by which nobody else is given it.
+    Failed(Agent),
     /// It isn't this node's any more.
     Stopped,
+    /// Its command ended well, and its end was refused for the reason of this name.
+    NotFinished(String),
 }
 
 pub struct Worker<'a> {
@@ -67,26 +66,18 @@ impl Worker<'_> {
             }
             None => return Err(Failure::Usage("no COMMAND".to_string())),
         }
-        let (mut pause, interrupts) = (FIRST_PAUSE, Interrupts::register()?);
+        let (mut left_alone, interrupts) = (LeftAlone::default(), Interrupts::register()?);
         loop {
             // a connection for each job: where it ends the job is given to another
             let mut agent = Agent::connect(self.socket)?;
             let job = next_job(&mut agent, self.queue)?;
             let outcome = self.run(agent, &job, &interrupts)?;
-            let name = format!("{}:{}", job["origin"], job["id"]);
+            told(&job, &outcome);
             match outcome {
-                Outcome::Done => pause = FIRST_PAUSE,
-                Outcome::Stopped => eprintln!("dumgerokctl: job {name} went to another node, its command was killed"),
-                Outcome::Failed => {
-                    eprintln!("dumgerokctl: the command of job {name} failed, it is taken again");
-                    if !self.once {
-                        thread::sleep(pause);
-                        pause = (pause * 2).min(LONGEST_PAUSE);
-                    }
-                }
-            }
-            if self.once {
-                return if outcome == Outcome::Done { Ok(()) } else { Err(Failure::Refused("NotDone".to_string())) };
+                Outcome::Done if self.once => return Ok(()),
+                _ if self.once => return Err(Failure::Refused("NotDone".to_string())),
+                Outcome::Failed(agent) => left_alone.failed(key_of(&job), agent)?,
+                Outcome::Done | Outcome::Stopped | Outcome::NotFinished(_) => left_alone.forget(key_of(&job)),
             }
         }
     }
@@ -99,7 +90,7 @@ impl Worker<'_> {
         interrupts.end()?;
         match ended? {
             Some(true) => self.finish(&mut agent, &events, job),
-            Some(false) => Ok(Outcome::Failed),
+            Some(false) => Ok(Outcome::Failed(agent)),
             None => Ok(Outcome::Stopped),
         }
     }
@@ -109,7 +100,7 @@ impl Worker<'_> {
         let is_reply = |line: &Value| !line["ok"].is_null();
         match events.iter().find(is_reply) {
             Some(reply) if reply["ok"] == true => Ok(Outcome::Done),
-            Some(_) => Ok(Outcome::Stopped),
+            Some(reply) => Ok(Outcome::NotFinished(reply["error"].as_str().unwrap_or("?").to_string())),
             None => Err(io::Error::new(io::ErrorKind::UnexpectedEof, "the agent ended the connection").into()),
         }
     }
@@ -128,6 +119,27 @@ impl Worker<'_> {
             let _unread = input.write_all(&hex::decode(digits).unwrap_or_default());
         }
         Ok(child)
+    }
+}
+
+fn key_of(job: &Value) -> Key {
+    let number = |field: &str| job[field].as_u64().unwrap_or_default();
+    (number("origin"), number("id"))
+}
+
+/// Says what came of a job, but for one that is done.
+fn told(job: &Value, outcome: &Outcome) {
+    let name = format!("{}:{}", job["origin"], job["id"]);
+    match outcome {
+        Outcome::Done => {}
+        Outcome::Failed(_) => eprintln!("dumgerokctl: the command of job {name} failed, it is taken again"),
+        Outcome::Stopped => eprintln!("dumgerokctl: job {name} went to another node, its command was killed"),
+        Outcome::NotFinished(error) if error == "UnknownJob" => {
+            eprintln!("dumgerokctl: job {name} went to another node before its command ended")
+        }
+        Outcome::NotFinished(error) => {
+            eprintln!("dumgerokctl: the command of job {name} ended well, and its end was refused: {error}")
+        }
     }
 }
 

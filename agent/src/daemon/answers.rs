@@ -5,7 +5,7 @@ use crate::forward::{Given, Outcome};
 use crate::node::{Answer, Closing, Group, Job, JobKey, Line, Refusal};
 use crate::protocol::Reply;
 use crate::service::Given as GivenJob;
-use log::{error, info};
+use log::{error, info, warn};
 use serde::Serialize;
 use std::net::SocketAddr;
 use std::time::Instant;
@@ -32,7 +32,7 @@ impl Daemon {
         if let Closing::Ok(Some(_)) = answer.closing {
             self.metrics.jobs.with_label_values(&["kept"]).inc();
             self.metrics.durable.with_label_values(&["put"]).inc();
-            self.metrics.pending.inc();
+            self.count_pending(self.fill.pending() + 1);
         }
         if answer.closing == Closing::Fault {
             error!("the device of {} failed", self.config.file.display());
@@ -49,15 +49,22 @@ impl Daemon {
             Line::Gone { id } => {
                 self.metrics.jobs.with_label_values(&["gone"]).inc();
                 self.metrics.durable.with_label_values(&["done"]).inc();
-                self.metrics.pending.dec();
+                self.count_pending(self.fill.pending().saturating_sub(1));
                 self.tell(Reply::event("gone").with("origin", self.config.id).with("id", id));
             }
             Line::Keeps { count, next, pending } => {
                 info!("mounted: count {count}, next id {next}, {pending} jobs");
-                self.metrics.pending.set(*pending as i64);
+                self.count_pending(*pending);
             }
             Line::Fired(timer) => self.metrics.fired.with_label_values(&[timer]).inc(),
             Line::Next { .. } | Line::Pending(_) | Line::InHand(_) => {}
+        }
+    }
+
+    /// So many jobs are kept now that aren't done.
+    fn count_pending(&mut self, pending: u64) {
+        if let Some(said) = self.fill.set(pending) {
+            warn!("{said}");
         }
     }
 
@@ -107,7 +114,9 @@ impl Daemon {
             }
             Asker::Forwarded { from, token } => self.reply_to_agent(from, token, outcome_of(answer.closing)),
             Asker::Finish { client, tag, key } => {
-                self.hand.leave(key);
+                if has_left_hand(&answer.closing) {
+                    self.hand.leave(key);
+                }
                 self.clients.answer(client, &reply_of(&answer.closing).tagged(&tag));
             }
             Asker::Compact { client, tag } => self.clients.answer(client, &reply_of(&answer.closing).tagged(&tag)),
@@ -171,6 +180,15 @@ fn outcome_of(closing: Closing) -> Outcome {
     }
 }
 
+/// Whether a job that a client finished isn't in the node's hand any more; a refusal for want of memory, say, leaves it there.
+fn has_left_hand(closing: &Closing) -> bool {
+    match closing {
+        Closing::Ok(_) => true,
+        Closing::Refused(refusal) => name_of(refusal) == "UnknownJob",
+        Closing::Bad | Closing::Fault => false,
+    }
+}
+
 fn name_of(refusal: &Refusal) -> &str {
     match refusal {
         Refusal::NotCoordinator(_) => "NotCoordinator",
@@ -206,4 +224,23 @@ fn jobs_of(lines: &[Line], queue: Option<u8>, skip: usize, limit: usize) -> Repl
         .collect();
     let shown = rows.iter().skip(skip).take(limit).map(|(kept, job)| Row { kept: *kept, job: GivenJob::of(job) });
     Reply::ok().with("total", rows.len()).with("jobs", shown.collect::<Vec<_>>())
+}
+
+#[cfg(test)]
+mod tests {
+    use super::*;
+
+    #[test]
+    fn a_job_whose_end_is_refused_stays_in_hand() {
+        let rows = [
+            ("ok 1", true),
+            ("refused 1 UnknownJob", true),
+            ("refused 1 NoMemory", false),
+            ("refused 1 Exhausted", false),
+            ("fault 1 Device", false),
+        ];
+        for (line, is_so) in rows {
+            assert_eq!(has_left_hand(&Closing::read(line).unwrap()), is_so, "{line}");
+        }
+    }
 }

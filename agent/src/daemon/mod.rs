@@ -14,11 +14,13 @@ pub use asker::Asker;
 
 use crate::clock::Clock;
 use crate::config::Config;
+use crate::fill::Fill;
 use crate::forward::{self, Inbox, Outbox, Seal};
 use crate::http::Server;
 use crate::metrics::Metrics;
 use crate::net::{Link, News, Peers};
 use crate::node::{Answer, Lane, NodeProcess};
+use crate::node_file;
 use crate::notify::Notify;
 use crate::record::Record;
 use crate::resolver::Resolver;
@@ -33,6 +35,7 @@ use mio::{Events, Poll, Registry, Token, Waker};
 use pages::PendingJobs;
 use signals::Signals;
 use std::io::ErrorKind;
+use std::ops::RangeInclusive;
 use std::os::unix::process::ExitStatusExt;
 use std::path::PathBuf;
 use std::process::ExitStatus;
@@ -48,6 +51,9 @@ const SIGNALS: Token = Token(4);
 const WAKER: Token = Token(5);
 /// Tokens from this one on are clients'.
 const FIRST_CLIENT: usize = 16;
+
+/// The statuses by which a node says what failed.
+const NODE_FAILED: RangeInclusive<u8> = 1..=7;
 
 /// The status of an agent whose node's file is gone.
 const FILE_GONE: u8 = 7;
@@ -76,6 +82,7 @@ pub struct Daemon {
     inbox: Inbox,
     outbox: Outbox,
     view: View,
+    fill: Fill,
     metrics: Metrics,
     notify: Notify,
     signals: Signals,
@@ -114,6 +121,7 @@ impl Daemon {
             inbox: Inbox::new(life, nodes),
             outbox: Outbox::new(life, nodes, Duration::from_millis(config.round_trip_ms)),
             view: View::new(&config.cluster, config.id, nodes, now),
+            fill: Fill::of(node_file::slots(&config.file)),
             metrics: Metrics::new()?,
             notify: Notify::of_environment()?,
             signals,
@@ -148,7 +156,7 @@ impl Daemon {
                 return Ok(0);
             }
             if let Some(status) = status {
-                return Ok(self.ended(status));
+                return Ok(ended(status));
             }
             if self.guard.is_gone() {
                 error!("{}: it was removed, or another file has its name", self.config.file.display());
@@ -251,15 +259,15 @@ impl Daemon {
             }
         }
     }
+}
 
-    /// The status of the agent, where its node ended with this one.
-    fn ended(&self, status: ExitStatus) -> u8 {
-        match (status.code(), status.signal()) {
-            (Some(code), _) => info!("the node ended with status {code}"),
-            (_, signal) => info!("the node was ended by signal {}", signal.unwrap_or(0)),
-        }
-        status.code().and_then(|code| u8::try_from(code).ok()).unwrap_or(1)
+/// The status of the agent, where its node ended with this one though nobody ended it: that is no success, whatever the node says.
+fn ended(status: ExitStatus) -> u8 {
+    match (status.code(), status.signal()) {
+        (Some(code), _) => error!("the node ended with status {code}"),
+        (_, signal) => error!("the node was ended by signal {}", signal.unwrap_or(0)),
     }
+    status.code().and_then(|code| u8::try_from(code).ok()).filter(|code| NODE_FAILED.contains(code)).unwrap_or(1)
 }
 
 fn poll(poll: &mut Poll, events: &mut Events, sleep: Duration) -> anyhow::Result<()> {

@@ -39,6 +39,8 @@ impl Daemon {
             "/members" => Response::json(json!(self.view.members(&self.peers, now)).to_string()),
             "/state" => self.state(now),
             "/metrics" => {
+                self.metrics.pending.set(self.fill.pending() as i64);
+                self.metrics.pending_max.set(self.fill.most().unwrap_or(0) as i64);
                 self.metrics.in_hand.set(self.hand.count() as i64);
                 self.metrics.held.set(self.hand.count_held() as i64);
                 self.metrics.clients.set(self.clients.count() as i64);
@@ -64,7 +66,8 @@ impl Daemon {
             "status": self.view.status(now),
             "members": self.view.members(&self.peers, now),
             "past": self.view.past,
-            "pending": self.metrics.pending.get(),
+            "pending": self.fill.pending(),
+            "pending_max": self.fill.most(),
             "pending_by_queue": self.pending_jobs.by_queue,
             "in_hand": self.hand.count(),
             "held": self.hand.count_held(),

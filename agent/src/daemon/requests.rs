@@ -73,7 +73,7 @@ impl Daemon {
             Request::Watch { since } => self.watch(client, &tag, since, now),
             Request::Take { queue, wait } => self.give(client, tag, queue, wait),
             Request::Submit { queue, priority, text, hex } => {
-                let payload = payload_of(text, hex)?.hex().to_string();
+                let payload = payload_of(text, hex)?;
                 self.submit(Client { id: client, tag }, Submission { queue, priority, payload }, now);
                 None
             }
@@ -126,6 +126,8 @@ impl Daemon {
     fn status(&self, now: Instant) -> Reply {
         let reply = Reply::ok().and(self.view.status(now)).with("change", self.changes.last());
         reply
+            .with("pending", self.fill.pending())
+            .with("pending_max", self.fill.most())
             .with("in_hand", self.hand.count())
             .with("submissions", self.outbox.count())
             .with("recorded", self.node.is_recorded())

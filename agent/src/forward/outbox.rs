@@ -19,6 +19,8 @@ const PAUSE: u32 = 4;
 /// So often an agent may ask for other stamps before its answer is waited for: where two agents don't agree they don't write to each other without an end.
 const MAX_STALE: u32 = 4;
 
+const FULL: &str = "the journal of the node that leads has no room for a further job that isn't done";
+
 /// Who is to be answered.
 #[derive(Clone, Debug)]
 pub struct Client {
@@ -74,7 +76,10 @@ impl Open {
     }
 
     fn refusal(&self, error: &str) -> Reply {
-        let reply = Reply::refused(error);
+        let reply = match error {
+            "Full" => Reply::refused(error).with("why", FULL),
+            _ => Reply::refused(error),
+        };
         if self.may_be_kept() {
             reply.with("may_be_kept", true)
         } else {
@@ -212,11 +217,12 @@ impl Outbox {
 #[cfg(test)]
 mod tests {
     use super::*;
+    use crate::node::Payload;
     use serde_json::{json, Value};
 
     fn outbox(now: Instant) -> (Outbox, u64) {
         let mut outbox = Outbox::new(9, 3, Duration::from_millis(20));
-        let job = Submission { queue: 1, priority: 0, payload: String::new() };
+        let job = Submission { queue: 1, priority: 0, payload: Payload::default() };
         let serial = outbox.add(Client { id: 5, tag: None }, job, now).unwrap();
         (outbox, serial)
     }
@@ -279,8 +285,8 @@ mod tests {
     fn a_refusal_is_sure_where_one_request_alone_was_sent() {
         let (now, full) = (Instant::now(), || Outcome::Refused { error: "Full".to_string() });
         for (requests, reply) in [
-            (1, json!({"ok": false, "error": "Full"})),
-            (2, json!({"ok": false, "error": "Full", "may_be_kept": true})),
+            (1, json!({"ok": false, "error": "Full", "why": FULL})),
+            (2, json!({"ok": false, "error": "Full", "why": FULL, "may_be_kept": true})),
         ] {
             let (mut outbox, serial) = outbox(now);
             let token = Token { life: 9, serial };

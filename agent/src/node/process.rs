@@ -2,13 +2,14 @@
 
 use super::answer::{Answer, Closing};
 use crate::config::Config;
+use crate::own_session;
 use crate::record::Record;
 use log::{error, warn};
 use mio::unix::pipe;
 use mio::{Interest, Registry, Token};
 use std::collections::VecDeque;
 use std::io::{self, ErrorKind, Read, Write};
-use std::process::{Child, Command, ExitStatus, Stdio};
+use std::process::{Child, ExitStatus, Stdio};
 use std::thread;
 use std::time::{Duration, Instant};
 
@@ -65,7 +66,11 @@ pub struct NodeProcess<A> {
 impl<A> NodeProcess<A> {
     /// Starts the node; its output wakes `output`, its input, once it was full, `input`.
     pub fn start(config: &Config, registry: &Registry, input: Token, output: Token) -> io::Result<NodeProcess<A>> {
-        let mut command = Command::new(&config.program);
+        if !own_session::is_there(config.program.as_os_str()) {
+            return Err(io::Error::new(ErrorKind::NotFound, "there is no such program"));
+        }
+        // a session of its own: a signal to the agent's terminal or process group is the agent's to answer
+        let mut command = own_session::command([&config.program]);
         command.arg("node").arg(&config.file).arg(config.id.to_string()).arg(config.nodes.len().to_string());
         command.arg(config.round_trip_ms.to_string());
         if let Some(key) = &config.key {
