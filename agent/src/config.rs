@@ -3,6 +3,7 @@
 use serde::Deserialize;
 use std::fs;
 use std::net::SocketAddr;
+use std::os::unix::ffi::OsStrExt;
 use std::path::{Path, PathBuf};
 use thiserror::Error;
 
@@ -100,7 +101,7 @@ impl Config {
             ("nodes", (1..=128).contains(&self.nodes.len()), "is a list of 1 to 128 strings HOST:PORT".to_string()),
             ("id", usize::from(self.id) < self.nodes.len(), format!("is a number below {}", self.nodes.len())),
             ("cluster", is_name(&self.cluster), "is a name of 1 to 64 bytes, without control characters".to_string()),
-            ("http", self.http.map_or(true, |at| at.ip().is_loopback()), "is an address of the loopback".to_string()),
+            ("http", self.http.map_or(true, is_served), "is an address of the loopback with a port".to_string()),
             ("round_trip_ms", (1..=60_000).contains(&self.round_trip_ms), "is a number from 1 to 60000".to_string()),
             ("record_mb", (1..=4096).contains(&self.record_mb), "is a number from 1 to 4096".to_string()),
             ("record_files", (1..=1000).contains(&self.record_files), "is a number from 1 to 1000".to_string()),
@@ -108,6 +109,7 @@ impl Config {
         if let Some((setting, _, why)) = rows.into_iter().find(|(_, is_right, _)| !is_right) {
             return Err(ConfigError::Setting { setting, why });
         }
+        self.check_paths()?;
         if let Some(listen) = &self.listen {
             host_and_port("listen", listen)?;
         }
@@ -118,6 +120,17 @@ impl Config {
             }
         }
         Ok(())
+    }
+
+    /// Each path names a file: the parts of a record, say, are named after it.
+    fn check_paths(&self) -> Result<(), ConfigError> {
+        let (key, record) = (self.key.as_deref(), self.record.as_deref());
+        let given = [("file", Some(&*self.file)), ("program", Some(&*self.program)), ("socket", Some(&*self.socket))];
+        let rows = given.into_iter().chain([("key", key), ("record", record)]);
+        match rows.into_iter().find(|(_, path)| path.map_or(false, |path| !names_file(path))) {
+            Some((setting, _)) => Err(ConfigError::Setting { setting, why: "is the path of a file".to_string() }),
+            None => Ok(()),
+        }
     }
 
     /// The node's own address, where datagrams are received.
@@ -140,6 +153,15 @@ impl Config {
 /// It stands in the first line of a record, and is a word of a command line.
 fn is_name(cluster: &str) -> bool {
     (1..=64).contains(&cluster.len()) && !cluster.chars().any(char::is_control)
+}
+
+fn is_served(at: SocketAddr) -> bool {
+    at.ip().is_loopback() && at.port() != 0
+}
+
+/// Whether a path ends with the name of a file, and not as that of a folder.
+fn names_file(path: &Path) -> bool {
+    path.file_name().is_some() && !path.as_os_str().as_bytes().ends_with(b"/")
 }
 
 fn host_and_port(setting: &'static str, node: &str) -> Result<(), ConfigError> {
@@ -175,6 +197,11 @@ mod tests {
             ("[part]\n", "unknown field `part`"),
             ("round_trip_ms = 0\n", "round_trip_ms: is a number from 1 to 60000"),
             ("http = \"10.0.0.1:80\"\n", "http: is an address of the loopback"),
+            ("http = \"127.0.0.1:0\"\n", "http: is an address of the loopback with a port"),
+            ("record = \"\"\n", "record: is the path of a file"),
+            ("record = \"/var/lib/records/\"\n", "record: is the path of a file"),
+            ("socket = \"/run/..\"\n", "socket: is the path of a file"),
+            ("key = \"/\"\n", "key: is the path of a file"),
             ("listen = \"7000\"\n", "listen: \"7000\" is no HOST:PORT"),
         ] {
             let error = Config::parse(&format!("{WHOLE}{more}")).unwrap_err().to_string();

@@ -157,7 +157,8 @@ fn parts(path: &Path) -> io::Result<Vec<u64>> {
     for entry in fs::read_dir(folder)? {
         let entry = entry?.file_name().to_string_lossy().into_owned();
         let part = entry.strip_prefix(&name).and_then(|part| part.parse::<u64>().ok());
-        parts.extend(part.filter(|part| part.to_string().len() + name.len() == entry.len()));
+        // a number with no next one is none that an agent gave
+        parts.extend(part.filter(|part| *part < u64::MAX && part.to_string().len() + name.len() == entry.len()));
     }
     Ok(parts)
 }
@@ -193,9 +194,11 @@ mod tests {
         drop(record);
         // a part of another node there, and older ones than those that are kept
         ["record.1", "record.2"].iter().for_each(|old| fs::write(folder.join(old), "old\n").unwrap());
+        let foreign = format!("record.{}", u64::MAX);
+        fs::write(folder.join(&foreign), "of somebody else\n").unwrap();
         fs::write(folder.join("record.4"), "# dumgerok record 1 node 0 of 2 part 4 cluster c\n").unwrap();
         Record::open(&path, &config).unwrap().write([]).unwrap();
-        assert_eq!(names(&folder), ["record.4", "record.5"]);
+        assert_eq!(names(&folder), [&*foreign, "record.4", "record.5"]);
         let first = fs::read_to_string(folder.join("record.5")).unwrap();
         assert_eq!(first, "# dumgerok record 1 node 1 of 2 part 5 cluster c\n");
         fs::remove_dir_all(&folder).unwrap();

@@ -362,6 +362,27 @@ mod tests {
     }
 
     #[test]
+    fn a_clock_that_fell_back_or_jumped_orders_no_turn_before_an_earlier_one() {
+        let tick = |ms: u64| format!("> tick {ms}\nfired check\nok 2\n");
+        let again = |ms: u64| format!("start {ms}\n> recover\nkeeps 102 5 0\nok 1\n");
+        for (second, times) in [
+            (1000, [5009, 5009, 5009, 5009]),
+            (4000, [5009, 5009, 5009, 5900]),
+            (90_000, [5009, 90_001, 90_001, 91_900]),
+        ] {
+            let lines = START.replace("start", "start 5000") + &tick(9) + &again(second) + &tick(1) + &tick(1900);
+            let record = NodeRecord { node: 0, lines: lines.lines().map(str::to_string).collect() };
+            let (entries, turns) = History::of(0, &record, &[Begin { count: 100, id: 5 }]).unwrap().entries();
+            let seen: Vec<(&str, u64)> =
+                entries.iter().zip(&turns).map(|(entry, turn)| (entry["do"].as_str().unwrap(), turn.time)).collect();
+            let what = ["check", "crash", "recover", "check", "check"];
+            assert_eq!(seen.iter().map(|(what, _)| *what).collect::<Vec<_>>(), what);
+            let seen: Vec<u64> = seen.iter().map(|(_, time)| *time).collect();
+            assert_eq!([seen[0], seen[2], seen[3], seen[4]], times, "{second}");
+        }
+    }
+
+    #[test]
     fn counts_that_no_node_reaches_are_refused() {
         let lines = format!("{START}> merge\nstart\n> recover\nkeeps 18446744073709551615 5 0\nok 1\n");
         let record = NodeRecord { node: 0, lines: lines.lines().map(str::to_string).collect() };
