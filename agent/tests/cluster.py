@@ -243,6 +243,12 @@ def no_address(bed):
     said = lambda: open(agents.path(0, "log")).read()
     agents.until(lambda: "node 1: nowhere.invalid:7000 has no address" in said())
     bed.tally.check("nodes that can't be reached are named", "node 2: [::1]:7000 can't be reached" in said() and said().count("has no address") == 1, said())
+    agents.kill(0)
+    # a machine whose own name means the loopback there
+    agents.write(0, nodes=["localhost:%d" % agents.relay.real[0][1], "198.51.100.1:7000", "198.51.100.2:7000"], listen=None, record=None)
+    agents.start(0)
+    agents.until(lambda: all("node %d: nothing can be sent from localhost" % node in said() for node in (1, 2)))
+    bed.tally.check("and why nothing can be sent to them, once", said().count("nothing can be sent") == 2 and "of this machine alone" in said(), said())
     agents.stop()
 
 

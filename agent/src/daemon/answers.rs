@@ -42,7 +42,7 @@ impl Daemon {
 
     fn take_line(&mut self, line: &Line, now: Instant) {
         match line {
-            Line::Send { to, hex } => self.carry(*to, hex),
+            Line::Send { to, hex } => self.carry(*to, hex, now),
             Line::Group(group) => self.enter(group.clone(), now),
             Line::Take(job) => self.take_job(job.clone()),
             Line::Drop(key) => self.drop_job(*key),
@@ -112,7 +112,7 @@ impl Daemon {
                 self.outbox.own_answered(serial);
                 self.tried(serial, given_of(answer.closing, self.config.id), now);
             }
-            Asker::Forwarded { from, token } => self.reply_to_agent(from, token, outcome_of(answer.closing)),
+            Asker::Forwarded { from, token } => self.reply_to_agent(from, token, outcome_of(answer.closing), now),
             Asker::Finish { client, tag, key } => {
                 if has_left_hand(&answer.closing) {
                     self.hand.leave(key);

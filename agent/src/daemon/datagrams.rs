@@ -7,6 +7,7 @@ use crate::metrics::kind_of;
 use crate::net::MAX_DATAGRAM;
 use crate::node::Lane;
 use log::{info, warn};
+use std::io::ErrorKind;
 use std::net::SocketAddr;
 use std::time::Instant;
 
@@ -40,12 +41,31 @@ impl Daemon {
         self.ask(asker, format!("deliver {}", hex::encode(message)));
     }
 
-    /// Carries a message of the node. One that can't be carried is the same as one that is lost.
-    pub(super) fn carry(&self, to: u8, digits: &str) {
-        let (message, address) = (hex::decode(digits).unwrap_or_default(), self.peers.address(to));
+    /// Carries a message of the node.
+    pub(super) fn carry(&mut self, to: u8, digits: &str, now: Instant) {
+        let message = hex::decode(digits).unwrap_or_default();
         self.metrics.messages_out.with_label_values(&[kind_of(&message)]).inc();
-        if !address.map_or(false, |address| self.link.send(&message, address)) {
+        self.send(to, &message, now);
+    }
+
+    /// Sends a datagram to another machine. One that can't be sent is the same as one that is lost.
+    pub(super) fn send(&mut self, to: u8, datagram: &[u8], now: Instant) {
+        let sent = self.peers.address(to).map(|address| (address, self.link.send(datagram, address)));
+        if !matches!(sent, Some((_, Ok(())))) {
             self.metrics.dropped.with_label_values(&["NotSent"]).inc();
+        }
+        match sent {
+            // a buffer that is full is no fault of the address
+            Some((_, Err(why))) if why.kind() == ErrorKind::WouldBlock => {}
+            Some((address, Err(why))) if self.peers.sent(to, false, now) => {
+                let hint =
+                    if self.link.is_loopback() { ": `listen` is at an address of this machine alone" } else { "" };
+                warn!("node {to}: nothing can be sent from {} to {address}: {why}{hint}", self.config.listens_at());
+            }
+            Some((address, Ok(()))) if self.peers.sent(to, true, now) => {
+                info!("node {to}: what is sent to {address} leaves again")
+            }
+            _ => {}
         }
     }
 

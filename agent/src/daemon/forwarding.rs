@@ -40,7 +40,7 @@ impl Daemon {
     pub(super) fn tried(&mut self, serial: u64, given: Given, now: Instant) {
         if let Given::Elsewhere { coordinator } = given {
             if let Some((token, what)) = self.outbox.datagram(serial, coordinator) {
-                self.send_to_agent(coordinator, token, what);
+                self.send_to_agent(coordinator, token, what, now);
             }
         }
         if let Some((client, reply)) = self.outbox.settle(serial, given, now) {
@@ -58,12 +58,9 @@ impl Daemon {
         }
     }
 
-    fn send_to_agent(&self, to: u8, token: Token, what: What) {
+    fn send_to_agent(&mut self, to: u8, token: Token, what: What, now: Instant) {
         let datagram = Datagram { from: self.config.id, to, token, what };
-        let address = self.peers.address(to);
-        if !address.map_or(false, |address| self.link.send(&datagram.encode(&self.seal), address)) {
-            self.metrics.dropped.with_label_values(&["NotSent"]).inc();
-        }
+        self.send(to, &datagram.encode(&self.seal), now);
     }
 
     /// A datagram of another agent came.
@@ -74,7 +71,7 @@ impl Daemon {
         };
         let (from, token) = (datagram.from, datagram.token);
         match datagram.what {
-            What::Submit { life, number, job } => self.take_forwarded(from, token, (life, number), &job),
+            What::Submit { life, number, job } => self.take_forwarded((from, token), (life, number), &job, now),
             What::Reply(outcome) => {
                 if let Some((serial, given)) = self.outbox.replied(from, token, outcome) {
                     self.tried(serial, given, now);
@@ -84,7 +81,13 @@ impl Daemon {
     }
 
     /// Another agent forwards a submission, with the stamps by which an old one is known.
-    fn take_forwarded(&mut self, from: u8, token: Token, (life, number): (u64, u64), job: &Submission) {
+    fn take_forwarded(
+        &mut self,
+        (from, token): (u8, Token),
+        (life, number): (u64, u64),
+        job: &Submission,
+        now: Instant,
+    ) {
         match self.inbox.judge(from, token, life, number) {
             Some(Verdict::Ask) if self.node.has_room(Lane::Network) => {
                 self.inbox.asked(token);
@@ -93,15 +96,15 @@ impl Daemon {
             }
             Some(Verdict::Answer(outcome)) => {
                 self.metrics.forwarded.with_label_values(&["again"]).inc();
-                self.send_to_agent(from, token, What::Reply(outcome));
+                self.send_to_agent(from, token, What::Reply(outcome), now);
             }
             Some(Verdict::Ask | Verdict::Wait) | None => {}
         }
     }
 
     /// The node answered what another agent forwarded.
-    pub(super) fn reply_to_agent(&mut self, from: u8, token: Token, outcome: Outcome) {
+    pub(super) fn reply_to_agent(&mut self, from: u8, token: Token, outcome: Outcome, now: Instant) {
         self.inbox.answered(token, &outcome);
-        self.send_to_agent(from, token, What::Reply(outcome));
+        self.send_to_agent(from, token, What::Reply(outcome), now);
     }
 }

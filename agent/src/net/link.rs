@@ -33,6 +33,11 @@ impl Link {
         Err(last)
     }
 
+    /// Whether it is at an address that this machine alone reaches.
+    pub fn is_loopback(&self) -> bool {
+        self.socket.local_addr().map_or(false, |address| address.ip().is_loopback())
+    }
+
     /// Whether it reaches IPv6 addresses, and IPv4 ones by their mapped form.
     pub fn is_ipv6(&self) -> bool {
         self.socket.local_addr().map_or(false, |address| address.is_ipv6())
@@ -61,8 +66,8 @@ impl Link {
         None
     }
 
-    /// Whether it left; one that didn't is the same as one that is lost.
-    pub fn send(&self, bytes: &[u8], to: SocketAddr) -> bool {
-        self.socket.send_to(bytes, to).is_ok()
+    /// Sends a datagram. One that doesn't leave is the same as one that is lost.
+    pub fn send(&self, bytes: &[u8], to: SocketAddr) -> io::Result<()> {
+        self.socket.send_to(bytes, to).map(drop)
     }
 }

@@ -3,6 +3,9 @@
 use std::net::SocketAddr;
 use std::time::{Duration, Instant};
 
+/// What can't be sent to a peer is said no more often.
+const PAUSE: Duration = Duration::from_secs(60);
+
 /// The name of a peer that was silent for so long is looked up anew, and again after as long.
 const SILENCE: Duration = Duration::from_secs(5);
 
@@ -17,6 +20,9 @@ pub struct Peer {
     heard_from: Option<SocketAddr>,
     /// Whether the last look-up found an address; None before the first.
     was_found: Option<bool>,
+    /// Whether it was said that what is sent to it doesn't leave, and when.
+    is_unsent: bool,
+    said: Option<Instant>,
 }
 
 /// What a look-up changed.
@@ -44,6 +50,8 @@ impl Peers {
             looked_up: None,
             heard_from: None,
             was_found: None,
+            is_unsent: false,
+            said: None,
         };
         let mut peers = Peers { own: usize::from(own), is_ipv6, peers: names.iter().map(peer).collect() };
         (0..peers.peers.len()).for_each(|at| peers.take_literal(at));
@@ -130,6 +138,21 @@ impl Peers {
         }
     }
 
+    /// A datagram to a node left this machine, or couldn't. Whether an operator is to be told so: of a failure once in a while, and of the end of one that
+    /// was told.
+    pub fn sent(&mut self, node: u8, has_left: bool, now: Instant) -> bool {
+        let peer = match self.peers.get_mut(usize::from(node)) {
+            Some(peer) if peer.is_unsent == has_left => peer,
+            _ => return false,
+        };
+        let is_new = has_left || peer.said.map_or(true, |said| now.saturating_duration_since(said) >= PAUSE);
+        if is_new {
+            peer.is_unsent = !has_left;
+            peer.said = Some(now);
+        }
+        is_new
+    }
+
     /// Nodes whose address is spelled out, but not one that this machine's socket reaches.
     pub fn out_of_reach(&self) -> impl Iterator<Item = (usize, &str)> {
         let is_out = |peer: &Peer| peer.address.is_none() && peer.name.parse::<SocketAddr>().is_ok();
@@ -200,6 +223,20 @@ mod tests {
         peers.rename(&["x:1", "c:2", "[::1]:3"].map(str::to_string));
         peers.hear(1, "127.0.0.2:2".parse().unwrap(), now);
         assert_eq!(peers.next_look_up(now), Some((1, "c:2".to_string())));
+    }
+
+    #[test]
+    fn what_can_not_be_sent_is_told_once_in_a_while() {
+        let now = Instant::now();
+        let mut peers = Peers::new(0, &names(), false);
+        let mut sent = |has_left: bool, seconds: u64| peers.sent(1, has_left, now + Duration::from_secs(seconds));
+        assert_eq!([sent(true, 0), sent(false, 1), sent(false, 2), sent(true, 3)], [false, true, false, true]);
+        assert_eq!(
+            [sent(false, 4), sent(true, 5), sent(false, 62), sent(false, 63), sent(false, 200)],
+            [false, false, false, true, false]
+        );
+        assert!(sent(true, 201) && !sent(true, 202));
+        assert!(!peers.sent(9, false, now));
     }
 
     #[test]
