@@ -34,6 +34,24 @@ def spoiled(bed, agents):
     bed.tally.check("a record without a message that was sent isn't judged Run", done.returncode == 1 and done.stdout.startswith("NotARun"), done)
 
 
+def jumped(bed, agents):
+    """Records of machines whose clocks jumped: they are judged by no clock, and give an order all the same."""
+    files = [os.path.join(agents.folder, file) for file in os.listdir(agents.folder) if re.search(r"\.record\.\d+$", file)]
+    for jump in (3_600_000, -3_600_000):
+        moved = []
+        for at, path in enumerate(sorted(files)):
+            with open(path) as file:
+                text = re.sub(r"^start (\d+)$", lambda start: "start %d" % (int(start[1]) + at * jump), file.read(), flags=re.M)
+            moved.append(path + ".jumped")
+            with open(moved[-1], "w") as file:
+                file.write(text)
+        done = agents.ctl(0, "judge", "--program", agents.program, *moved)
+        trace = json.loads(agents.ctl(0, "judge", "--trace", *moved).stdout)
+        bed.tally.check("records of clocks that jumped are judged Run", done.returncode == 0 and done.stdout.startswith("Run") and "order" in trace, done)
+        for path in moved:
+            os.remove(path)
+
+
 def page(agents, i, path):
     """The status and the text of a page. One for which a busy machine gave the agent no time is asked for again."""
     end = time.monotonic() + PATIENCE
@@ -78,6 +96,7 @@ def whole_life(bed):
     partition(bed, agents)
     changes_without_gap(agents, watched, tally.check)
     judged(bed, agents, "the life of a cluster")
+    jumped(bed, agents)
     spoiled(bed, agents)
 
 
