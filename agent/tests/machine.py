@@ -138,6 +138,13 @@ def files(bed):
     agents.kill(0)
     agents.write(1, id=1, file=agents.path(0, "node"), record=None)
     check("another node's file: 5", ends(agents, 1)[0] == 5)
+    with open(agents.path(1, "node"), "rb") as file:
+        whole = file.read()
+    with open(agents.path(1, "damaged"), "wb") as file:
+        file.write(bytes(20 * 512) + whole[20 * 512:])
+    agents.write(1, file=agents.path(1, "damaged"), record=None)
+    status, said = ends(agents, 1)
+    check("a damaged file: 5", status == 5 and "can't be mounted: NotFormatted" in said, (status, said))
     agents.write(1, file=agents.path(1, "nowhere"), record=None)
     status, said = ends(agents, 1)
     check("no file: 7", status == 7 and "no such file" in said, said)

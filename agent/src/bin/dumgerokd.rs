@@ -25,8 +25,8 @@ const UNUSABLE: u8 = 7;
 /// Runs the node of a Dumgerok cluster on this machine.
 ///
 /// It ends with the status of the node: 0 by SIGTERM, 1 reading or writing failed, 2 the configuration can't be read, 3 the device failed,
-/// 4 another process has the file open, 5 the file is another node's or was never formatted, 6 the key can't be read, 7 the file isn't there,
-/// may not be opened, or is no file.
+/// 4 another process has the file open, 5 the file is another node's, was never formatted or is damaged, 6 the key can't be read, 7 the file isn't
+/// there, may not be opened, or is no file.
 #[derive(Parser)]
 #[command(name = "dumgerokd", version)]
 struct Arguments {

@@ -1,6 +1,6 @@
 //! What the node answers.
 
-use super::{Asker, Daemon};
+use super::{Asker, Daemon, FILE_DAMAGED, NO_MEMORY};
 use crate::forward::{Given, Outcome};
 use crate::node::{Answer, Closing, Group, Job, JobKey, Line, Refusal};
 use crate::protocol::Reply;
@@ -149,8 +149,9 @@ impl Daemon {
             self.notify.ready();
         } else {
             let why = error_of(closing);
-            error!("{} can't be mounted: {why}", self.config.file.display());
+            error!("{} can't be mounted: {why}: `dumgerokctl inspect` says what it holds", self.config.file.display());
             self.notify.status(format!("the file can't be mounted: {why}"));
+            self.unusable = unmounted(closing);
         }
     }
 }
@@ -177,6 +178,15 @@ fn outcome_of(closing: Closing) -> Outcome {
     match closing {
         Closing::Ok(Some(id)) => Outcome::Kept { id },
         other => Outcome::Refused { error: error_of(&other) },
+    }
+}
+
+/// The status to end with, where the node answered so to its start; None where it ends by itself.
+fn unmounted(closing: &Closing) -> Option<u8> {
+    match closing {
+        Closing::Ok(_) | Closing::Fault => None,
+        Closing::Refused(refusal) if name_of(refusal) == "NoMemory" => Some(NO_MEMORY),
+        Closing::Refused(_) | Closing::Bad => Some(FILE_DAMAGED),
     }
 }
 
@@ -229,6 +239,20 @@ fn jobs_of(lines: &[Line], queue: Option<u8>, skip: usize, limit: usize) -> Repl
 #[cfg(test)]
 mod tests {
     use super::*;
+
+    #[test]
+    fn a_node_that_can_not_mount_its_file_ends_its_agent() {
+        let rows = [
+            ("ok 1", None),
+            ("fault 1 Device", None),
+            ("refused 1 NoMemory", Some(1)),
+            ("refused 1 NotFormatted", Some(5)),
+            ("refused 1 Damaged 12", Some(5)),
+        ];
+        for (line, status) in rows {
+            assert_eq!(unmounted(&Closing::read(line).unwrap()), status, "{line}");
+        }
+    }
 
     #[test]
     fn a_job_whose_end_is_refused_stays_in_hand() {

@@ -55,6 +55,10 @@ const FIRST_CLIENT: usize = 16;
 /// The statuses by which a node says what failed.
 const NODE_FAILED: RangeInclusive<u8> = 1..=7;
 
+/// The status of an agent whose node can't mount its file, and of one that lacks memory for it.
+const FILE_DAMAGED: u8 = 5;
+const NO_MEMORY: u8 = 1;
+
 /// The status of an agent whose node's file is gone.
 const FILE_GONE: u8 = 7;
 
@@ -70,6 +74,8 @@ pub struct Daemon {
     poll: Poll,
     node: NodeProcess<Asker>,
     guard: Guard,
+    /// The status to end with, where the node's file is none to go on with.
+    unusable: Option<u8>,
     looks: Looks,
     clock: Clock,
     link: Link,
@@ -128,6 +134,7 @@ impl Daemon {
             http,
             pending_jobs: PendingJobs::default(),
             listings: 0,
+            unusable: None,
             looks: Looks::new(now),
             poll,
             config,
@@ -146,25 +153,35 @@ impl Daemon {
             for event in &events {
                 self.wake(event);
             }
-            let has_ended = self.node.is_readable() && !self.hear();
-            let status = if has_ended { Some(self.node.end(PATIENCE_AT_END)?) } else { None };
-            // a signal to all processes of the agent ends its node, too
-            if self.signals.take_end() {
-                self.notify.stopping();
-                self.node.end(PATIENCE_AT_END)?;
-                info!("ended by a signal");
-                return Ok(0);
-            }
-            if let Some(status) = status {
-                return Ok(ended(status));
-            }
-            if self.guard.is_gone() {
-                error!("{}: it was removed, or another file has its name", self.config.file.display());
-                self.node.end(PATIENCE_AT_END)?;
-                return Ok(FILE_GONE);
+            let goes_on = !self.node.is_readable() || self.hear();
+            if let Some(status) = self.is_over(goes_on)? {
+                return Ok(status);
             }
             self.work(Instant::now());
         }
+    }
+
+    /// The status to exit with, where the node ended, a signal came, or the node's file is none to go on with.
+    fn is_over(&mut self, goes_on: bool) -> anyhow::Result<Option<u8>> {
+        let ending = if goes_on { None } else { Some(self.node.end(PATIENCE_AT_END)?) };
+        // a signal to all processes of the agent ends its node, too
+        if self.signals.take_end() {
+            self.notify.stopping();
+            self.node.end(PATIENCE_AT_END)?;
+            info!("ended by a signal");
+            return Ok(Some(0));
+        }
+        if let Some(status) = ending {
+            return Ok(Some(ended(status)));
+        }
+        if self.guard.is_gone() {
+            error!("{}: it was removed, or another file has its name", self.config.file.display());
+            self.unusable = Some(FILE_GONE);
+        }
+        if self.unusable.is_some() {
+            self.node.end(PATIENCE_AT_END)?;
+        }
+        Ok(self.unusable)
     }
 
     /// Waits until something comes or is to be done. An answer of the node comes soon, so for a moment it is looked for without a sleep.
