@@ -244,6 +244,43 @@ def unasked(bed):
     check("no program: 1", status == 1 and "no such program" in said, (status, said))
 
 
+def rest(link):
+    """All that comes until a connection ends, in whatever way."""
+    came = b""
+    try:
+        while True:
+            piece = link.recv(65536)
+            if not piece:
+                return came
+            came += piece
+    except ConnectionError:
+        return came
+
+
+def told_at_end(bed):
+    """An agent that is ended in the midst of submissions: a job that is kept is one that was answered."""
+    line = json.dumps(dict(do="submit", queue=1, text="x" * 300)).encode() + b"\n"
+    for name, settings in (("told", {}), ("told_without_record", dict(record=None))):
+        agents, check, answered = bed.agents(name, count=1, slots=1024, **settings), bed.tally.check, 0
+        for _ in range(4):
+            agents.start(0)
+            agents.one_group()
+            with agents.connect(0) as link:
+                link.sendall(line * 100)
+                told = link.recv(10)
+                status = agents.kill(0, signal.SIGTERM)
+                told += rest(link)
+            answered += sum(json.loads(text)["ok"] for text in told.splitlines())
+            check("it ends with 0", status == 0, status)
+        said = agents.ctl(0, "--json", "inspect", agents.path(0, "node"), "--program", bed.program)
+        kept = json.loads(said.stdout)["jobs"]
+        # a node that a busy machine gives no time is killed, with what it has just done
+        bed.tally.timed("a job that is kept at the end of an agent is one that was answered", kept == answered, (kept, answered))
+        check("and none was answered that isn't", kept >= answered, (kept, answered))
+        if not settings:
+            judged(bed, agents, "an agent that was ended")
+
+
 def looked_at(bed, agents, check):
     """What a file holds while its node runs, by its path and by the configuration; and a file that is made with jobs."""
     file, restored, program = agents.path(0, "node"), agents.path(0, "restored"), ("--program", bed.program)

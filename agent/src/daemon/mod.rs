@@ -168,6 +168,8 @@ impl Daemon {
         if self.signals.take_end() {
             self.notify.stopping();
             self.node.end(PATIENCE_AT_END)?;
+            // what it did meanwhile is told to those who asked for it
+            self.hear();
             info!("ended by a signal");
             return Ok(Some(0));
         }
