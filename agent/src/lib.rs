@@ -21,5 +21,6 @@ pub mod own_session;
 pub mod protocol;
 pub mod record;
 pub mod resolver;
+pub mod say;
 pub mod service;
 pub mod view;

@@ -1,5 +1,6 @@
 //! A command in a session of its own, by which it is ended with all that it started, and which no signal to the terminal ends.
 
+use crate::say::say;
 use rustix::process::{kill_process_group, setsid, Pid, Signal};
 use std::ffi::OsStr;
 use std::io;
@@ -33,7 +34,7 @@ pub fn become_command() -> Option<u8> {
         Ok(_) => Command::new(&program).args(words).exec(),
         Err(why) => why.into(),
     };
-    eprintln!("dumgerok: {}: {why}", program.to_string_lossy());
+    say(format!("dumgerok: {}: {why}", program.to_string_lossy()));
     Some(NOT_RUN)
 }
 

@@ -81,6 +81,12 @@ def lasting_worker(bed):
     check("and is tried again", worker.poll() is None)
     worker.kill()
     worker.wait()
+    with open("/dev/full", "w") as full:
+        words = [agents.ctl_path, "-s", agents.path(0, "sock"), "take", "--once", "--", "false"]
+        done = subprocess.run(words, stderr=full, timeout=PATIENCE)
+        check("a worker bears a standard error that is full", done.returncode == 1, done)
+        done = subprocess.run([agents.daemon, agents.path(0, "nowhere")], stderr=full, timeout=PATIENCE)
+        check("and an agent, too", done.returncode == 2, done)
     agents.until(lambda: agents.ctl(0, "take", "--once", "--", "true").returncode == 0)
     check("by another worker, too, once that one is gone", kept() == 0)
     agents.stop()

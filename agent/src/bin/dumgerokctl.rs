@@ -5,6 +5,7 @@
 use clap::Parser;
 use dumgerok_agent::ctl::{run, Arguments};
 use dumgerok_agent::own_session::become_command;
+use dumgerok_agent::say::say;
 use std::process::ExitCode;
 
 fn main() -> ExitCode {
@@ -14,7 +15,7 @@ fn main() -> ExitCode {
     match run(Arguments::parse()) {
         Ok(()) => ExitCode::SUCCESS,
         Err(failure) => {
-            eprintln!("dumgerokctl: {failure}");
+            say(format!("dumgerokctl: {failure}"));
             failure.status()
         }
     }

@@ -10,6 +10,7 @@ use dumgerok_agent::forward::KeyError;
 use dumgerok_agent::log_lines::LogLines;
 use dumgerok_agent::node_file::drop_cache;
 use dumgerok_agent::own_session::become_command;
+use dumgerok_agent::say::say;
 use log::{error, info, LevelFilter};
 use rustix::fs::fstat;
 use std::fs::{File, OpenOptions};
@@ -105,14 +106,14 @@ fn main() -> ExitCode {
     let config = match Config::read(&path) {
         Ok(config) => config,
         Err(why) => {
-            eprintln!("dumgerokd: {}: {why}", path.display());
+            say(format!("dumgerokd: {}: {why}", path.display()));
             return ExitCode::from(CONFIG);
         }
     };
     let lines = match LogLines::start(std::io::stderr()) {
         Ok(lines) => lines,
         Err(why) => {
-            eprintln!("dumgerokd: there is no thread for the log: {why}");
+            say(format!("dumgerokd: there is no thread for the log: {why}"));
             return ExitCode::FAILURE;
         }
     };

@@ -6,6 +6,7 @@ use super::left_alone::{Key, LeftAlone};
 use super::show;
 use super::Failure;
 use crate::own_session::{self, end};
+use crate::say::say;
 use serde_json::{json, Value};
 use std::ffi::OsString;
 use std::io::{self, Write};
@@ -130,17 +131,18 @@ fn key_of(job: &Value) -> Key {
 /// Says what came of a job, but for one that is done.
 fn told(job: &Value, outcome: &Outcome) {
     let name = format!("{}:{}", job["origin"], job["id"]);
-    match outcome {
-        Outcome::Done => {}
-        Outcome::Failed(_) => eprintln!("dumgerokctl: the command of job {name} failed, it is taken again"),
-        Outcome::Stopped => eprintln!("dumgerokctl: job {name} went to another node, its command was killed"),
+    let what = match outcome {
+        Outcome::Done => return,
+        Outcome::Failed(_) => format!("the command of job {name} failed, it is taken again"),
+        Outcome::Stopped => format!("job {name} went to another node, its command was killed"),
         Outcome::NotFinished(error) if error == "UnknownJob" => {
-            eprintln!("dumgerokctl: job {name} went to another node before its command ended")
+            format!("job {name} went to another node before its command ended")
         }
         Outcome::NotFinished(error) => {
-            eprintln!("dumgerokctl: the command of job {name} ended well, and its end was refused: {error}")
+            format!("the command of job {name} ended well, and its end was refused: {error}")
         }
-    }
+    };
+    say(format!("dumgerokctl: {what}"));
 }
 
 fn is_stop(event: &Value, job: &Value) -> bool {
