@@ -7,7 +7,7 @@ use std::os::unix::ffi::OsStrExt;
 use std::path::{Path, PathBuf};
 use thiserror::Error;
 
-#[derive(Clone, Debug, Deserialize)]
+#[derive(Clone, Debug, PartialEq, Eq, Deserialize)]
 #[serde(deny_unknown_fields)]
 pub struct Config {
     /// The cluster's name: with a key, nodes of clusters of another name don't hear each other.
@@ -148,6 +148,11 @@ impl Config {
         let why = "cluster, id and the number of nodes stay what they are until the agent is started anew".to_string();
         Err(ConfigError::Setting { setting: "nodes", why })
     }
+
+    /// Whether a changed configuration has other settings, too, which a restart takes.
+    pub fn differs_elsewhere(&self, changed: &Config) -> bool {
+        Config { nodes: self.nodes.clone(), ..changed.clone() } != *self
+    }
 }
 
 /// It stands in the first line of a record, and is a word of a command line.
@@ -225,6 +230,8 @@ mod tests {
         let config = Config::parse(WHOLE).unwrap();
         let moved = Config::parse(&WHOLE.replace("a:1", "b:1")).unwrap();
         assert_eq!(config.addresses_of(&moved).unwrap()[0], "b:1");
+        let more = Config::parse(&format!("{WHOLE}log = \"debug\"\n")).unwrap();
+        assert!(config.differs_elsewhere(&more) && !config.differs_elsewhere(&moved));
         let other = Config::parse(&WHOLE.replace("id = 1", "id = 0")).unwrap();
         assert!(config.addresses_of(&other).is_err());
     }

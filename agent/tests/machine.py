@@ -230,7 +230,20 @@ def unasked(bed):
         time.sleep(0.2)
     check("a terminal that hangs up ends no node", agents.processes[0].poll() is None and agents.node(0) == node and agents.status(0)["alive"],
           agents.processes[0].poll())
+    with agents.connect(0) as link:
+        for _ in range(2):
+            os.remove(agents.path(0, "sock"))
+            agents.until(lambda: agents.status(0))
+        link.sendall(b'{"do":"status"}\n')
+        check("a socket that is removed is made again, and those that had it are served on", json.loads(link.makefile().readline())["ok"])
+    os.remove(agents.path(0, "sock"))
+    with open(agents.path(0, "sock"), "w") as file:
+        file.write("of somebody else")
+    time.sleep(2.5)
     agents.kill(0, signal.SIGTERM)
+    with open(agents.path(0, "sock")) as file:
+        check("what somebody else put there stays", file.read() == "of somebody else")
+    os.remove(agents.path(0, "sock"))
     for name, command, wanted in (("with success", "exit 0", 1), ("with a status of its own", "exit 99", 1), ("with one of the table", "exit 5", 5)):
         path = os.path.join(agents.folder, "program")
         with open(path, "w") as file:

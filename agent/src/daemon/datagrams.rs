@@ -78,12 +78,17 @@ impl Daemon {
 
     /// Reads the configuration again, and takes its addresses.
     pub(super) fn reload(&mut self) {
-        let read = Config::read(&self.path).and_then(|changed| self.config.addresses_of(&changed));
+        let own = &self.config;
+        let read = Config::read(&self.path)
+            .and_then(|changed| Ok((own.addresses_of(&changed)?, own.differs_elsewhere(&changed))));
         match read {
-            Ok(names) => {
+            Ok((names, has_more)) => {
                 self.peers.rename(&names);
                 self.config.nodes = names;
                 info!("the addresses were read again");
+                if has_more {
+                    warn!("{}: other settings changed, too: they are taken by a restart", self.path.display());
+                }
                 self.warn_of_addresses();
             }
             Err(error) => warn!("{}: {error}: nothing was taken of it", self.path.display()),

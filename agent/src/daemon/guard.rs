@@ -1,4 +1,5 @@
-//! Whether the node's file is still the one at its path: where it was removed, or another one has its name, no later start finds what the node keeps.
+//! Whether a file is still the one at its path. Where the node's was removed, or another one has its name, no later start finds what the node keeps; where
+//! the agent's socket was, no client finds the agent.
 
 use mio::Waker;
 use std::fs;
@@ -34,6 +35,11 @@ impl Guard {
 
     pub fn is_gone(&self) -> bool {
         self.0.load(Ordering::SeqCst)
+    }
+
+    /// The same, told once.
+    pub fn take_gone(&self) -> bool {
+        self.0.swap(false, Ordering::SeqCst)
     }
 }
 

@@ -74,6 +74,8 @@ pub struct Daemon {
     poll: Poll,
     node: NodeProcess<Asker>,
     guard: Guard,
+    socket_guard: Guard,
+    waker: Arc<Waker>,
     /// The status to end with, where the node's file is none to go on with.
     unusable: Option<u8>,
     looks: Looks,
@@ -115,11 +117,13 @@ impl Daemon {
         let http = http_of(&config, &waker)?;
         Ok(Daemon {
             guard: Guard::start(&config.file, Arc::clone(&waker))?,
+            socket_guard: Guard::start(&config.socket, Arc::clone(&waker))?,
             node: node_of(&config, registry, begin)?,
             clock: Clock::new(config.round_trip_ms, now),
             peers: Peers::new(config.id, &config.nodes, link.is_ipv6()),
             link,
-            resolver: Resolver::start(waker)?,
+            resolver: Resolver::start(Arc::clone(&waker))?,
+            waker,
             clients,
             hand: Hand::default(),
             changes: Changes::default(),
@@ -227,6 +231,7 @@ impl Daemon {
         if self.signals.take_reload() {
             self.reload();
         }
+        self.keep_socket();
         self.receive(now);
         self.clients.accept(self.poll.registry(), now);
         self.obey(now);
@@ -260,6 +265,22 @@ impl Daemon {
         self.clock.asked();
         let lane = asker.lane();
         self.node.ask(asker, lane, text);
+    }
+
+    /// Makes the socket again where it was removed: else no client would find the agent until its next start.
+    fn keep_socket(&mut self) {
+        if !self.socket_guard.take_gone() {
+            return;
+        }
+        let path = self.config.socket.display();
+        match self.clients.listen_again(self.poll.registry(), LISTENER) {
+            Ok(()) => warn!("socket {path}: it was removed, and is made again"),
+            Err(why) => error!("socket {path}: it was removed, and can't be made again: {why}"),
+        }
+        match Guard::start(&self.config.socket, Arc::clone(&self.waker)) {
+            Ok(guard) => self.socket_guard = guard,
+            Err(why) => error!("socket {path}: it isn't guarded any more: {why}"),
+        }
     }
 
     fn look_up(&mut self, now: Instant) {

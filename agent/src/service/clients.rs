@@ -57,15 +57,10 @@ pub struct Clients {
 impl Clients {
     /// Listens at a path, in place of a socket that an agent left there.
     pub fn listen(path: &Path, registry: &Registry, token: Token, first: ClientId) -> io::Result<Clients> {
-        if is_left(path)? {
-            fs::remove_file(path)?;
-        }
-        let mut listener = UnixListener::bind(path)?;
-        fs::set_permissions(path, Permissions::from_mode(0o660))?;
-        registry.register(&mut listener, token, Interest::READABLE)?;
+        let (listener, own) = bound(path, registry, token)?;
         Ok(Clients {
             path: path.to_path_buf(),
-            own: identity(path)?,
+            own,
             listener,
             has_more: true,
             not_before: None,
@@ -77,6 +72,13 @@ impl Clients {
             gone: Vec::new(),
             cut_off: 0,
         })
+    }
+
+    /// Listens at the path anew, where its socket was removed. Those that are served go on.
+    pub fn listen_again(&mut self, registry: &Registry, token: Token) -> io::Result<()> {
+        (self.listener, self.own) = bound(&self.path, registry, token)?;
+        self.has_more = true;
+        Ok(())
     }
 
     pub fn count(&self) -> usize {
@@ -277,6 +279,17 @@ impl Drop for Clients {
             }
         }
     }
+}
+
+/// A socket at a path, and its identity, in place of one that an agent left there.
+fn bound(path: &Path, registry: &Registry, token: Token) -> io::Result<(UnixListener, (u64, u64))> {
+    if is_left(path)? {
+        fs::remove_file(path)?;
+    }
+    let mut listener = UnixListener::bind(path)?;
+    fs::set_permissions(path, Permissions::from_mode(0o660))?;
+    registry.register(&mut listener, token, Interest::READABLE)?;
+    Ok((listener, identity(path)?))
 }
 
 fn identity(path: &Path) -> io::Result<(u64, u64)> {
