@@ -1,5 +1,5 @@
 """Datagrams that nobody of the cluster sent now: spoiled, of another cluster, recorded and sent again."""
-import os, random, time
+import os, random, socket, time
 
 from cluster import judged, metric, page
 
@@ -105,6 +105,25 @@ def spoiled_bits(agents, timed):
     agents.send_all(0, [spoiled(message, bit) for bit in range(bits)])
     agents.until(lambda: refused(agents, 0) - before >= bits)
     timed("a message with any bit spoiled is refused and counted", changes(agents) == begin, (bits, refused(agents, 0) - before))
+
+
+def flood(bed):
+    """Recorded datagrams from elsewhere, as fast as this machine sends them: the node hears the others all the same."""
+    # longer round trips would hide it
+    agents = bed.agents("flood", key=bed.key("ab"), record=None, round_trip_ms=min(60, bed.round_trip))
+    agents.start_all()
+    agents.one_group()
+    old, begin = [message for j, message in list(agents.relay.kept) if j == 0], changes(agents)
+    with socket.socket(socket.AF_INET, socket.SOCK_DGRAM) as link:
+        end, at = time.monotonic() + 2 * WINDOW, 0
+        while time.monotonic() < end:
+            for _ in range(200):
+                link.sendto(old[at % len(old)], agents.relay.real[0])
+                at += 1
+            time.sleep(0.004)
+    dropped = metric(agents, 0, 'dropped_total{reason="NoRoom"}')
+    bed.tally.timed("a flood of datagrams from elsewhere changes no group", changes(agents) == begin, (at, dropped, changes(agents) - begin))
+    agents.stop()
 
 
 def foreign(bed, agents, timed):

@@ -24,12 +24,18 @@ impl Daemon {
             };
             if is_of_agents(&datagram) {
                 self.take_of_agent(&datagram, now);
-            } else if self.node.has_room(Lane::Network) {
+            } else if self.has_room_for(from) {
                 self.deliver(&datagram, from);
             } else {
                 self.metrics.dropped.with_label_values(&["NoRoom"]).inc();
             }
         }
+    }
+
+    /// Half of the room is for those who are where the other nodes are: a flood from elsewhere keeps none of them from the node.
+    fn has_room_for(&self, from: SocketAddr) -> bool {
+        let lane = Lane::Network;
+        self.node.has_half_its_room(lane) || (self.node.has_room(lane) && self.peers.knows(from))
     }
 
     fn deliver(&mut self, message: &[u8], from: SocketAddr) {

@@ -73,6 +73,11 @@ impl Peers {
         }
     }
 
+    /// Whether one of the others is at this address, or was heard from there last.
+    pub fn knows(&self, from: SocketAddr) -> bool {
+        self.peers.iter().any(|peer| peer.address == Some(from) || peer.heard_from == Some(from))
+    }
+
     /// Other names for the same nodes.
     pub fn rename(&mut self, names: &[String]) {
         for (at, name) in names.iter().enumerate().take(self.peers.len()) {
@@ -203,8 +208,10 @@ mod tests {
         let [old, new, third] = ["10.0.0.2:2", "10.0.0.3:2", "10.0.0.4:2"].map(|at| at.parse::<SocketAddr>().unwrap());
         peers.next_look_up(now);
         peers.found(1, "b:2", &[old]);
+        assert_eq!([peers.knows(old), peers.knows(new)], [true, false]);
         let later = now + SILENCE;
         peers.hear(1, new, later);
+        assert_eq!([peers.knows(old), peers.knows(new), peers.knows(third)], [true, true, false]);
         assert!(peers.next_look_up(later).is_some(), "it may have moved");
         assert_eq!(peers.found(1, "b:2", &[third, new]), News::At(new), "to where it is heard from");
         peers.hear(1, new, later + SILENCE);

@@ -111,6 +111,11 @@ impl<A> NodeProcess<A> {
         self.on_the_way[lane as usize] < MAX_ON_THE_WAY
     }
 
+    /// Whether half of the room of this lane is free.
+    pub fn has_half_its_room(&self, lane: Lane) -> bool {
+        self.on_the_way[lane as usize] < MAX_ON_THE_WAY / 2
+    }
+
     /// Whether an answer of it is to come.
     pub fn is_asked(&self) -> bool {
         !self.asked.is_empty()
