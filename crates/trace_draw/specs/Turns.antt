@@ -1,5 +1,5 @@
 -- What is drawn of a run of a trace's entries, turn by turn.
-use Rattle.std.specs.Prelude.{ℕ, ◌≡◌, ◌<◌, ◌≤◌, ◌+◌, ◌++◌, ◌⊎◌, ◌↔◌, IsTrue, Bool, true, List, [], ◌∷◌, length, map, slice_get, Option, Some, None}
+use Rattle.std.specs.Prelude.{ℕ, ◌≡◌, ◌≤◌, ◌+◌, ◌++◌, ◌⊎◌, ◌↔◌, IsTrue, Bool, true, List, [], ◌∷◌, length, map, slice_get, Option, Some, None}
 use Rattle.std.specs.List.{flat_map}
 use Rattle.group_task.specs.Ids.{has}
 use Rattle.wire_msg.specs.Envelope.{Envelope}

@@ -1,5 +1,4 @@
-use Rattle.std.proofs.Common.{◌≡◌, ◌<◌, ◌∙◌, ap, sym, refl, ℕ, List, [], length, take, slice_get, get_or, Some, arith, subst}
-use Rattle.std.proofs.Math.Seq.{take-length}
+use Rattle.std.proofs.Common.{◌≡◌, refl, List, [], length, take, slice_get, Some, subst}
 use Rattle.std.proofs.lemmas.Option.{slice_get_read}
 use Rattle.std.specs.List.{flat_map}
 use Rattle.wire_msg.specs.Envelope.{Envelope}
