@@ -139,6 +139,9 @@ def try_node(refusing, folder):
             found, refused = found_in(read(path))
             if not tried.mark(refused or "", (name, "allocation", at, "then the file is refused")):
                 continue
+            # the request in which it ended has no answer: it counts whole, or not at all
+            asked = NODE[closing].split(" ") if status == 1 else []
+            gone += [int(asked[2])] if asked[:2] == ["finish", "0"] else []
             lost = [job for job in ids if job not in gone and job not in found.pending]
             problem = f"jobs {lost} are lost" if lost else "a count is lost" if counts and found.count < max(counts) else ""
             if ids and found.next <= max(ids):
