@@ -482,6 +482,37 @@ NO_PLANS = [
 ]
 
 
+def orders_of(histories):
+    """The orders in which the turns of these histories can have been taken, as `threads` writes them; a message comes as soon as it was sent."""
+    lone = [node for node, history in enumerate(histories) if history]
+    if len(lone) < 2:
+        return [" ".join([f"{node} -" for node in lone for _ in histories[node]])]
+    return [" ".join(words) for words in walks(histories, [0] * len(histories), [])]
+
+
+def walks(histories, taken, sent):
+    """The words of the turns that are left, once so many of each node were taken and these messages were sent."""
+    if taken == [len(history) for history in histories]:
+        yield []
+    for node, history in enumerate(histories):
+        if taken[node] == len(history):
+            continue
+        entry, number = history[taken[node]], "-"
+        if "msg" in entry:
+            if entry["msg"] not in sent:
+                continue
+            number = sent.index(entry["msg"])
+        then = taken[:node] + [taken[node] + 1] + taken[node + 1:]
+        for words in walks(histories, then, sent + entry["sent"]):
+            yield [f"{node} {number}", *words]
+
+
+def with_orders(trace):
+    """The texts that a run in threads of this trace can print."""
+    for order in orders_of(json.loads(trace)["histories"]):
+        yield f'{trace[:-1]},"order":"{order}"}}\n'.encode()
+
+
 def judged(name, trace, verdict):
     """The verdict on a trace; `draw` prints it too where it is no run."""
     fed = trace if isinstance(trace, bytes) else trace.encode()
@@ -514,7 +545,7 @@ def all_rows():
         reason = f"invite: no order takes all entries: {said}\n".encode() if said else b""
         yield Row(name, "trace --ongoing", trace.encode(), status, (printed.encode(),), reason)
     for name, plans, traces in PLANS:
-        yield Row(name, "threads", plans.encode(), 0, tuple(f"{trace}\n".encode() for trace, _ in traces))
+        yield Row(name, "threads", plans.encode(), 0, tuple(text for trace, _ in traces for text in with_orders(trace)))
         for trace, verdict in traces:
             yield from judged(name, trace, verdict)
     for name, plans, text in UNFINISHED:

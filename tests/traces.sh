@@ -42,6 +42,17 @@ for schedule in schedules/*.txt; do
     judge record "$schedule" "$(basename "$schedule" .txt)"
 done
 
+# ordered NAME: beside the trace of these plans stands an order in which its turns can have been taken. Each message that was brought has its number
+# there, that of an equal one that was sent before, and what came over one link has rising numbers.
+ordered() {
+    local problem=''
+    "$program" draw <"$room/threads-$1.json" | grep -q 'in the order that was recorded' || problem='draw takes another order'
+    mark "$problem" "draw the order of $1"
+    command -v python3 >/dev/null || return 0
+    problem=$(python3 tests/thread_order.py <"$room/threads-$1.json" 2>&1)
+    mark "$problem" "the order of $1"
+}
+
 # has MANY NAME: the trace of these plans has so many entries: one for each line behind the first two, but for empty ones
 has() {
     local problem='' entries
@@ -54,6 +65,7 @@ for plans in plans/*.txt; do
     name=$(basename "$plans" .txt)
     judge threads "$plans" "$name"
     has "$(($(grep -c . "$plans") - 2))" "$name"
+    ordered "$name"
     # one worker alone has one history
     if [ -e "plans/$name.out" ]; then
         problem=''
@@ -82,6 +94,7 @@ awk 'BEGIN {
 }' >"$room/storm.txt"
 judge threads "$room/storm.txt" storm
 has "$((20000 * 8 * 3))" storm
+ordered storm
 
 # A shorter one, in which each node polls all others between two timers, so that most messages are found.
 awk 'BEGIN {
@@ -100,6 +113,7 @@ awk 'BEGIN {
 }' >"$room/polls.txt"
 judge threads "$room/polls.txt" polls
 has "$((300 * 8 * 9))" polls
+ordered polls
 
 # A link of one slot takes a message again once the first was taken: node 1 is brought two or more. Which turns come before which is up to the
 # threads, so there are some tries.
@@ -111,11 +125,13 @@ problem='node 1 is brought one message at most in 300 runs'
 for _ in {1..300}; do
     "$program" threads <"$room/again.txt" >"$room/again.json" || { problem='there is no trace'; break; }
     if [ "$(grep -o '"do":"deliver"' "$room/again.json" | wc -l)" -ge 2 ]; then
+        cp "$room/again.json" "$room/threads-again.json"
         problem=''
         break
     fi
 done
 mark "$problem" 'a slot that was emptied'
+[ ! -e "$room/threads-again.json" ] || ordered again
 
 # The picture in docs/ is the one that is drawn of its schedule; each picture of a schedule is well-formed, with a dot for each entry beside those of its legend.
 problem=''

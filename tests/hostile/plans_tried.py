@@ -44,5 +44,5 @@ def try_plans(tried):
                 refused(tried, fed, text)
     for fed in (b"", b"\n", b"\n\n", b"cluster 1 4", b"cluster 1 4\n\n", b"links 1\n", b"cluster 1 4\ncluster 1 4\n", b"\xff", b"\0", b"cluster 1 4\nlinks 65537\n"):
         refused(tried, fed, "heads")
-    tried.expect(["threads"], b"cluster 128 4\nlinks 1\n", 0, b'{"histories":[' + b",".join([b"[]"] * 128) + b'],"nodes":128}\n', "no turns")
+    tried.expect(["threads"], b"cluster 128 4\nlinks 1\n", 0, b'{"histories":[' + b",".join([b"[]"] * 128) + b'],"nodes":128,"order":""}\n', "no turns")
     tried.expect(["threads"], b"cluster 2 4\nlinks 1\n" + b"1 clock accept\n" * 65_537, 1, b"unfinished 1 clock\n", "65,537 turns")

@@ -1,14 +1,19 @@
 """The traces of schedules and of plans: what `record` has to print where `sim` said so much of the same schedule, and what a trace of threads has
 to have."""
 import json
+import os
+import sys
 import traces
 from node_model import Search
+
+sys.path.append(os.path.join(os.path.dirname(os.path.abspath(__file__)), ".."))
+import thread_order
 
 OPEN = "?"
 
 
-def compact(nodes, histories):
-    return json.dumps({"nodes": nodes, "histories": histories}, sort_keys=True, separators=(",", ":")).encode() + b"\n"
+def compact(nodes, histories, **others):
+    return json.dumps({"nodes": nodes, "histories": histories, **others}, sort_keys=True, separators=(",", ":")).encode() + b"\n"
 
 
 def histories_of(nodes, acts, printed):
@@ -78,9 +83,12 @@ def no_run(out):
 
 
 def problem_in_threads(out, nodes, turns):
-    """What is wrong with the trace of these plans: each node took the turns of its workers, each worker's in their order, and the whole is a run."""
+    """What is wrong with the trace of these plans: each node took the turns of its workers, each worker's in their order, and the whole is a run, with its order."""
     found = json.loads(out)
-    if out != compact(found["nodes"], found["histories"]):
+    wrong = thread_order.fault(found)
+    if wrong:
+        return wrong
+    if out != compact(found["nodes"], found["histories"], order=found["order"]):
         return "it isn't written as a compact text in the order of the keys"
     many, histories = traces.read(out)
     if many != nodes:

@@ -21,8 +21,8 @@ use Rattle.node_lock.specs.Kept.{IsQuietAt, IsHandledAt, what_quiet, what_came, 
 use Rattle.trace_check.specs.Kept.{part}
 use Rattle.trace_check.proofs.PublicLaws.{get_same, get_again, part_same, part_again, part_length}
 
-abbrev pub line_by : Worker → ℕ → PackedHistoryEvent → ℕ → ℕ → Line
-line_by worker index t start end = record { worker = worker; index = index; what = t; start = start; end = end }
+abbrev pub line_by : Worker → ℕ → ℕ → PackedHistoryEvent → ℕ → ℕ → Line
+line_by worker index number t start end = record { worker = worker; index = index; number = number; what = t; start = start; end = end }
 
 abbrev pub turn_by : Worker → ℕ → HistoryEvent → List Envelope → Turn
 turn_by worker index w sent = record { worker = worker; index = index; entry = record { what = w; sent = sent } }
@@ -47,32 +47,32 @@ lines_same ms sent es more (l ∷ ls) h =
 -- ---- a turn with an event
 
 -- its line, behind so many messages and events
-abbrev pub line_for : Worker → ℕ → EventOutcome → List Envelope → ℕ → ℕ → Line
-line_for worker index event_outcome sent messages events = line_by worker index (kept.StepReport events event_outcome) messages (messages + length sent)
+abbrev pub line_for : Worker → ℕ → ℕ → EventOutcome → List Envelope → ℕ → ℕ → Line
+line_for worker index number event_outcome sent messages events = line_by worker index number (kept.StepReport events event_outcome) messages (messages + length sent)
 
-pub pushed : (ls new : List Line) (ms sent all : List Envelope) (es : List Event) (worker : Worker) (index : ℕ) (event_outcome : EventOutcome) (place start end : ℕ)
-    → new ≡ ls ++ line_by worker index (kept.StepReport place event_outcome) start end ∷ [] → place ≡ length es → start ≡ length ms → end ≡ length all → all ≡ ms ++ sent
-    → new ≡ ls ++ line_for worker index event_outcome sent (length ms) (length es) ∷ []
-pushed ls new ms sent all es worker index event_outcome place start end is place_so start_so end_so all_so =
+pub pushed : (ls new : List Line) (ms sent all : List Envelope) (es : List Event) (worker : Worker) (index number : ℕ) (event_outcome : EventOutcome) (place start end : ℕ)
+    → new ≡ ls ++ line_by worker index number (kept.StepReport place event_outcome) start end ∷ [] → place ≡ length es → start ≡ length ms → end ≡ length all → all ≡ ms ++ sent
+    → new ≡ ls ++ line_for worker index number event_outcome sent (length ms) (length es) ∷ []
+pushed ls new ms sent all es worker index number event_outcome place start end is place_so start_so end_so all_so =
     let many : end ≡ length ms + length sent = end_so ∙ (ap (λ (xs : List Envelope). length xs) all_so ∙ length-append ms sent) in
-    is ∙ (λ i. ls ++ line_by worker index (kept.StepReport (place_so i) event_outcome) (start_so i) (many i) ∷ [])
+    is ∙ (λ i. ls ++ line_by worker index number (kept.StepReport (place_so i) event_outcome) (start_so i) (many i) ∷ [])
 
-line_again : (ms : List Envelope) (es : List Event) (worker : Worker) (index : ℕ) (e : Event) (event_outcome : EventOutcome) (sent : List Envelope)
-    → turn_in (ms ++ sent) (es ++ e ∷ []) (line_for worker index event_outcome sent (length ms) (length es)) ≡ turn_by worker index (what_of e event_outcome) sent
-line_again ms es worker index e event_outcome sent =
+line_again : (ms : List Envelope) (es : List Event) (worker : Worker) (index number : ℕ) (e : Event) (event_outcome : EventOutcome) (sent : List Envelope)
+    → turn_in (ms ++ sent) (es ++ e ∷ []) (line_for worker index number event_outcome sent (length ms) (length es)) ≡ turn_by worker index (what_of e event_outcome) sent
+line_again ms es worker index number e event_outcome sent =
     ap (λ (o : Option Event). turn_by worker index (what_came o event_outcome) (part (length ms) (length ms + length sent) (ms ++ sent))) (get_again es e)
     ∙ ap (λ (xs : List Envelope). turn_by worker index (what_of e event_outcome) xs)
     (ap (λ (k : ℕ). take k (drop (length ms) (ms ++ sent))) (let many : length ms + length sent - length ms ≡ length sent = omega arith in many) ∙ part_again ms sent)
 
 -- the line that was kept last says its turn, and the lines before say what they said
-pub turns_more : (ls : List Line) (ms : List Envelope) (es : List Event) (worker : Worker) (index : ℕ) (e : Event) (event_outcome : EventOutcome) (sent : List Envelope) → All (LineStands (length ms) (length es)) ls
-    → map (turn_in (ms ++ sent) (es ++ e ∷ [])) (ls ++ line_for worker index event_outcome sent (length ms) (length es) ∷ []) ≡ map (turn_in ms es) ls ++ turn_by worker index (what_of e event_outcome) sent ∷ []
-turns_more ls ms es worker index e event_outcome sent h =
+pub turns_more : (ls : List Line) (ms : List Envelope) (es : List Event) (worker : Worker) (index number : ℕ) (e : Event) (event_outcome : EventOutcome) (sent : List Envelope) → All (LineStands (length ms) (length es)) ls
+    → map (turn_in (ms ++ sent) (es ++ e ∷ [])) (ls ++ line_for worker index number event_outcome sent (length ms) (length es) ∷ []) ≡ map (turn_in ms es) ls ++ turn_by worker index (what_of e event_outcome) sent ∷ []
+turns_more ls ms es worker index number e event_outcome sent h =
     let f = turn_in (ms ++ sent) (es ++ e ∷ []) in
-    let l = line_for worker index event_outcome sent (length ms) (length es) in
+    let l = line_for worker index number event_outcome sent (length ms) (length es) in
     map-append f ls (l ∷ [])
     ∙ (ap (λ (ts : List Turn). ts ++ f l ∷ []) (lines_same ms sent es (e ∷ []) ls h)
-    ∙ ap (λ (t : Turn). map (turn_in ms es) ls ++ t ∷ []) (line_again ms es worker index e event_outcome sent))
+    ∙ ap (λ (t : Turn). map (turn_in ms es) ls ++ t ∷ []) (line_again ms es worker index number e event_outcome sent))
 
 what_longer : (n m : ℕ) → n ≤ m → (t : PackedHistoryEvent) → WhatStands n t → WhatStands m t
 what_longer n m le (kept.StepReport place event_outcome) h = omega (arith, h, le)
@@ -81,28 +81,28 @@ what_longer n m le (kept.Quiet q) h = tt
 longer : (n n' m m' : ℕ) → n ≤ n' → m ≤ m' → (l : Line) → LineStands n m l → LineStands n' m' l
 longer n n' m m' le more l h = record { sent = (h.sent.0, let back = h.sent.1 in omega (arith, back, le)); what = what_longer m m' more l.what h.what }
 
-pub all_stand_more : (ls : List Line) (ms : List Envelope) (es : List Event) (worker : Worker) (index : ℕ) (e : Event) (event_outcome : EventOutcome) (sent : List Envelope) → All (LineStands (length ms) (length es)) ls
-    → All (LineStands (length (ms ++ sent)) (length (es ++ e ∷ []))) (ls ++ line_for worker index event_outcome sent (length ms) (length es) ∷ [])
-all_stand_more ls ms es worker index e event_outcome sent h =
+pub all_stand_more : (ls : List Line) (ms : List Envelope) (es : List Event) (worker : Worker) (index number : ℕ) (e : Event) (event_outcome : EventOutcome) (sent : List Envelope) → All (LineStands (length ms) (length es)) ls
+    → All (LineStands (length (ms ++ sent)) (length (es ++ e ∷ []))) (ls ++ line_for worker index number event_outcome sent (length ms) (length es) ∷ [])
+all_stand_more ls ms es worker index number e event_outcome sent h =
     let messages = length-append ms sent in
     let events = length-append es (e ∷ []) in
     let n = length (ms ++ sent) in
     let m = length (es ++ e ∷ []) in
-    All-push (LineStands n m) ls (line_for worker index event_outcome sent (length ms) (length es))
+    All-push (LineStands n m) ls (line_for worker index number event_outcome sent (length ms) (length es))
     (All-weaker (LineStands (length ms) (length es)) (LineStands n m) (longer (length ms) n (length es) m (omega (arith, messages)) (omega (arith, events))) ls h)
     (record { sent = (omega arith, omega (arith, messages)); what = omega (arith, events) })
 
 -- ---- a turn with no event
 
-abbrev pub quiet_line : Worker → ℕ → Quiet → Line
-quiet_line worker index q = line_by worker index (kept.Quiet q) 0 0
+abbrev pub quiet_line : Worker → ℕ → ℕ → Quiet → Line
+quiet_line worker index number q = line_by worker index number (kept.Quiet q) 0 0
 
-pub turns_quiet : (ls : List Line) (ms : List Envelope) (es : List Event) (worker : Worker) (index : ℕ) (q : Quiet)
-    → map (turn_in ms es) (ls ++ quiet_line worker index q ∷ []) ≡ map (turn_in ms es) ls ++ turn_by worker index (what_quiet q) [] ∷ []
-turns_quiet ls ms es worker index q = map-append (turn_in ms es) ls (quiet_line worker index q ∷ [])
+pub turns_quiet : (ls : List Line) (ms : List Envelope) (es : List Event) (worker : Worker) (index number : ℕ) (q : Quiet)
+    → map (turn_in ms es) (ls ++ quiet_line worker index number q ∷ []) ≡ map (turn_in ms es) ls ++ turn_by worker index (what_quiet q) [] ∷ []
+turns_quiet ls ms es worker index number q = map-append (turn_in ms es) ls (quiet_line worker index number q ∷ [])
 
-pub all_stand_quiet : (n m : ℕ) (ls : List Line) (worker : Worker) (index : ℕ) (q : Quiet) → All (LineStands n m) ls → All (LineStands n m) (ls ++ quiet_line worker index q ∷ [])
-all_stand_quiet n m ls worker index q h = All-push (LineStands n m) ls (quiet_line worker index q) h (record { sent = (omega arith, omega arith); what = tt })
+pub all_stand_quiet : (n m : ℕ) (ls : List Line) (worker : Worker) (index number : ℕ) (q : Quiet) → All (LineStands n m) ls → All (LineStands n m) (ls ++ quiet_line worker index number q ∷ [])
+all_stand_quiet n m ls worker index number q h = All-push (LineStands n m) ls (quiet_line worker index number q) h (record { sent = (omega arith, omega arith); what = tt })
 
 pub quiet_at : (ls : List Line) (ms : List Envelope) (es : List Event) (place : ℕ) (l : Line) (q : Quiet) → slice_get ls place ≡ Some l → l.what ≡ kept.Quiet q → l.start ≡ l.end → IsQuietAt place q (map (turn_in ms es) ls)
 quiet_at ls ms es place l q at is_kept same = record {

@@ -15,12 +15,15 @@ use Rattle.node_lock.specs.declared.line.PackedHistoryEvent.TheVariants as kept
 use Rattle.node_lock.specs.declared.line.Line.{Line}
 use Rattle.node_lock.specs.History.{Turn}
 
--- the turns; for how many more of them there is room, for how many more messages, and for how many more events
+-- the turns, and the number of each among the turns of all nodes; for how many more of them there is room, for how many more messages, for how
+-- many more events, and for how many more messages that are lost
 pub record Log : Type 0 where
   pub turns : List Turn
+  pub numbers : List ℕ
   pub room : ℕ
   pub sends : ℕ
   pub events : ℕ
+  pub losses : ℕ
 
 -- what came of a turn that handed no event to its node
 abbrev pub what_quiet : Quiet → HistoryEvent

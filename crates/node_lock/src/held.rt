@@ -12,6 +12,7 @@ use crate::history::History;
 use crate::plans::Plans;
 use crate::run::Run;
 use crate::turn::{Site, clear, fetch};
+use crate::turn_numbers::TurnNumbers;
 use crate::worker::{Turns, Worker};
 use durable_node::DurableNode;
 use group_task::NodeId;
@@ -85,13 +86,14 @@ pub struct HeldParts {
 }
 
 impl Held {
-    /// A node that has just opened.
+    /// A node that has just opened. Its turns draw their numbers from those of the whole run.
     pub fn new(
         alloc: Global,
         run: Run,
         puts: Vec<PutEnd>,
         takes: Vec<TakeEnd>,
         plans: Plans,
+        numbers: TurnNumbers,
     ) -> Result<Held, AllocError>
         requires member { run.node < run.nodes }
         requires most { run.nodes ≤ NODES }
@@ -110,6 +112,7 @@ impl Held {
                 node,
                 puts,
                 history: History::new(alloc),
+                numbers,
             },
             run,
             takes,

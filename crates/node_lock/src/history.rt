@@ -1,6 +1,6 @@
 //! The history of a node: what came of the turns of its workers.
 
-ghost use Rattle.std.specs.Prelude.{◌≡◌, ◌≤◌, ◌<◌, List, [], ◌∷◌, ◌++◌, length, slice_get, None, Some, IfSome, IsNone, OnOk};
+ghost use Rattle.std.specs.Prelude.{◌≡◌, ◌≤◌, ◌<◌, ◌-◌, List, [], ◌∷◌, ◌++◌, length, slice_get, None, Some, IfSome, IsNone, OnOk};
 ghost use Rattle.histories.specs.EventOutcomes.{what_of};
 ghost use Rattle.node_core.specs.declared.event.Event.{Event};
 ghost use Rattle.wire_msg.specs.Envelope.{Envelope};
@@ -22,22 +22,33 @@ use wire_msg::Message;
 /// The turns that were taken at a node, in their order. A poll that took nothing, an event that was refused and an order that
 /// arms the disk are turns too.
 ///
-/// A turn takes 56 bytes, with an event 24 more; a message that was delivered or sent takes 16 for most, and a new job the bytes
-/// of its payload.
+/// A turn takes 64 bytes, with an event 24 more; a message that was delivered or sent takes 16 for most, one that was lost 16 more, and a
+/// new job the bytes of its payload.
 #[derive(Debug, Drop)]
 pub struct History {
     lines: Vec<Line>,
     sent: MessageList,
     events: EventList,
+    losses: Vec<Loss>,
+}
+
+/// A message that a turn sent and that went onto no link: its link was full, or none leads to its receiver.
+#[derive(Clone, Copy, Debug, PartialEq, Eq)]
+pub struct Loss {
+    /// The turn's place in its node's history.
+    pub turn: usize,
+    /// The message's place among those that the turn sent.
+    pub message: usize,
 }
 
 impl Model for History {
     ghost use Rattle.std.specs.Prelude.{◌-◌, All, length, map, vec_len, vec_capacity};
     ghost use Rattle.node_lock.specs.Kept.{LineStands, Log, turn_in};
+    ghost use Rattle.node_lock.specs.declared.line.Line.{Line};
 
     ghost Value = { Log };
 
-    ghost view = { λ a. record { turns = map (turn_in a.sent.messages a.events.events) a.lines.items; room = vec_capacity a.lines - vec_len a.lines; sends = a.sent.room; events = a.events.room } };
+    ghost view = { λ a. record { turns = map (turn_in a.sent.messages a.events.events) a.lines.items; numbers = map (λ (l : Line). l.number) a.lines.items; room = vec_capacity a.lines - vec_len a.lines; sends = a.sent.room; events = a.events.room; losses = vec_capacity a.losses - vec_len a.losses } };
 
     ghost invariant = { λ a. All (LineStands (length a.sent.messages) (length a.events.events)) a.lines.items };
 }
@@ -51,6 +62,7 @@ impl History {
             lines: Vec::new(alloc),
             sent: MessageList::new(alloc),
             events: EventList::new(alloc),
+            losses: Vec::new(alloc),
         }
     }
 
@@ -75,10 +87,23 @@ impl History {
         ensures room { OnOk result (0 < self.new.room) }
         ensures sends { OnOk result (messages ≤ self.new.sends) }
         ensures events { OnOk result (0 < self.new.events) }
+        ensures losses { OnOk result (messages ≤ self.new.losses) }
     {
         self.lines.reserve(1)?;
         self.events.reserve(1)?;
+        self.losses.reserve(messages)?;
         self.sent.reserve(messages)
+    }
+
+    /// Notes that the message at this place of those that the next turn sends was lost, in the room that is there.
+    pub(crate) fn lose(&mut self, message: usize)
+        requires { 0 < self.old.losses }
+        ensures { self.new ≡ record self.old { losses = self.old.losses - 1 } }
+    {
+        self.losses.push_reserved(Loss {
+            turn: self.lines.len(),
+            message,
+        });
     }
 
     /// Adds a turn that handed an event to its node, in the room that is there.
@@ -86,6 +111,7 @@ impl History {
         &mut self,
         worker: Worker,
         index: u64,
+        number: u64,
         event: &Event,
         event_outcome: EventOutcome,
         sent: &[Message],
@@ -93,7 +119,8 @@ impl History {
         requires room { 0 < self.old.room }
         requires sends { length sent.now ≤ self.old.sends }
         requires events { 0 < self.old.events }
-        ensures { self.new.turns ≡ self.old.turns ++ (record { worker = worker; index = index; entry = record { what = what_of event.now event_outcome; sent = sent.now } }) ∷ [] }
+        ensures turns { self.new.turns ≡ self.old.turns ++ (record { worker = worker; index = index; entry = record { what = what_of event.now event_outcome; sent = sent.now } }) ∷ [] }
+        ensures numbers { self.new.numbers ≡ self.old.numbers ++ number ∷ [] }
     {
         let place = self.events.len();
         self.events.push(event);
@@ -102,6 +129,7 @@ impl History {
         self.lines.push_reserved(Line {
             worker,
             index,
+            number,
             what: PackedHistoryEvent::StepReport(place, event_outcome),
             start,
             end: self.sent.len(),
@@ -109,17 +137,34 @@ impl History {
     }
 
     /// Adds a turn that handed no event to its node, in the room that is there.
-    pub(crate) fn push_quiet(&mut self, worker: Worker, index: u64, quiet: Quiet)
+    pub(crate) fn push_quiet(&mut self, worker: Worker, index: u64, number: u64, quiet: Quiet)
         requires { 0 < self.old.room }
-        ensures { self.new.turns ≡ self.old.turns ++ (record { worker = worker; index = index; entry = record { what = what_quiet quiet; sent = [] } }) ∷ [] }
+        ensures turns { self.new.turns ≡ self.old.turns ++ (record { worker = worker; index = index; entry = record { what = what_quiet quiet; sent = [] } }) ∷ [] }
+        ensures numbers { self.new.numbers ≡ self.old.numbers ++ number ∷ [] }
     {
         self.lines.push_reserved(Line {
             worker,
             index,
+            number,
             what: PackedHistoryEvent::Quiet(quiet),
             start: 0,
             end: 0,
         });
+    }
+
+    /// The number of the turn at this place among the turns of all nodes ([`TurnNumbers`](crate::TurnNumbers)).
+    pub fn number(&self, place: usize) -> Option<u64>
+        // Promise: The number that a turn drew is kept with it.
+        // Refuses: index_told_as_number.
+        ensures { result ≡ slice_get self.now.numbers place }
+    {
+        let line = self.lines.get(place)?;
+        Some(line.number)
+    }
+
+    /// The messages that were sent and lost, in the order in which they were sent.
+    pub fn losses(&self) -> &[Loss] {
+        &self.losses
     }
 
     /// What came of the turn at this place, where no event was handed to its node: none only where one was, or no turn stands

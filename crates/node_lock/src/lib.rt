@@ -5,7 +5,7 @@
 //! for.
 //!
 //! ```
-//! let held = Held::new(alloc, run, puts, takes, plans)?;
+//! let held = Held::new(alloc, run, puts, takes, plans, numbers)?;
 //! let lock = NodeLock::new(held);
 //! while lock.turn(rt, Worker::Clock, &gate)? {}                    // each turn in its thread, until the plan is used up
 //! let parts = lock.into_held().into_parts();                       // the history, and the ends of the links
@@ -24,10 +24,11 @@ mod perform;
 mod plans;
 mod run;
 mod turn;
+mod turn_numbers;
 mod worker;
 
 pub use held::{Held, HeldFault, HeldParts, MOST_ENTRIES};
-pub use history::{Entry, History};
+pub use history::{Entry, History, Loss};
 pub use laws::limits;
 pub use line::Quiet;
 pub use lock::{Gate, NodeLock, TurnFault};
@@ -35,4 +36,5 @@ pub use order::{CrashFill, OperatorOrder};
 pub use plans::Plans;
 pub use run::Run;
 pub use trace_check::Sent;
+pub use turn_numbers::TurnNumbers;
 pub use worker::{Turns, Worker};

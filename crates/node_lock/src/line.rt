@@ -21,15 +21,16 @@ pub enum PackedHistoryEvent {
     Quiet(Quiet),
 }
 
-/// A turn as it is kept. What it sent stands in a list of messages from start up to end.
+/// A turn as it is kept, with its number among the turns of all nodes. What it sent stands in a list of messages from start up to end.
 #[derive(Clone, Copy, Debug)]
 pub struct Line {
     pub worker: Worker,
     pub index: u64,
+    pub number: u64,
     pub what: PackedHistoryEvent,
     pub start: usize,
     pub end: usize,
 }
 
 // a history has a line for each turn, and most turns are polls that take nothing
-const _: () = prove!(size_of::<Line>() <= 56);
+const _: () = prove!(size_of::<Line>() <= 64);

@@ -17,6 +17,7 @@ use crate::line::Quiet;
 use crate::links::{reserve_puts, send_all};
 use crate::order::OperatorOrder;
 use crate::perform::{most_to, perform};
+use crate::turn_numbers::TurnNumbers;
 use crate::worker::Worker;
 use durable_node::DurableNode;
 use link_ring::{PutEnd, TakeEnd};
@@ -31,6 +32,7 @@ pub(crate) struct Site {
     pub(crate) node: DurableNode<MemDisk>,
     pub(crate) puts: Vec<PutEnd>,
     pub(crate) history: History,
+    pub(crate) numbers: TurnNumbers,
 }
 
 impl Site {
@@ -49,9 +51,10 @@ impl Site {
             return Err(HeldFault::NoMemory);
         }
         let (event_outcome, sent) = perform(&mut self.node, event)?;
-        send_all(&mut self.puts, &sent);
+        let number = self.numbers.draw();
+        send_all(&mut self.puts, &sent, &mut self.history);
         self.history
-            .push(worker, index, event, event_outcome, &sent);
+            .push(worker, index, number, event, event_outcome, &sent);
         Ok(())
     }
 
@@ -66,7 +69,7 @@ impl Site {
             OperatorOrder::Finish(origin, id) => Event::Finish(*origin, *id),
             OperatorOrder::Recover => Event::Recover,
             OperatorOrder::Arm(calls) => {
-                rest(&mut self.history, Worker::Operator, index)?;
+                rest(&mut self.history, &self.numbers, Worker::Operator, index)?;
                 self.node.arm(*calls);
                 return Ok(());
             }
@@ -75,8 +78,9 @@ impl Site {
                     return Err(HeldFault::NoMemory);
                 }
                 self.node.crash(fill.as_slice());
+                let number = self.numbers.draw();
                 self.history
-                    .push_quiet(Worker::Operator, index, Quiet::Crashed);
+                    .push_quiet(Worker::Operator, index, number, Quiet::Crashed);
                 return Ok(());
             }
         };
@@ -91,7 +95,7 @@ impl Site {
     {
         match arrived {
             Some(message) => self.deliver(index, message),
-            None => rest(&mut self.history, Worker::Intake, index),
+            None => rest(&mut self.history, &self.numbers, Worker::Intake, index),
         }
     }
 
@@ -118,6 +122,7 @@ fn make_room(
     ensures same { SameSides puts.old.items puts.new.items }
     ensures room { OnOk result ((0 < history.new.room) × (0 < history.new.events)) }
     ensures sends { OnOk result (most_by node.now.nodes node.now.kept ≤ history.new.sends) }
+    ensures losses { OnOk result (most_by node.now.nodes node.now.kept ≤ history.new.losses) }
     ensures puts { OnOk result (HasRoomFor (most_to event.now node.now.kept) puts.new.items) }
 {
     history.reserve(node.most())?;
@@ -125,14 +130,19 @@ fn make_room(
 }
 
 /// A turn that hands no event to the node and leaves it as it is.
-fn rest(history: &mut History, worker: Worker, index: u64) -> Result<(), HeldFault>
+fn rest(
+    history: &mut History,
+    numbers: &TurnNumbers,
+    worker: Worker,
+    index: u64,
+) -> Result<(), HeldFault>
     ensures taken { OnOk result (history.new.turns ≡ history.old.turns ++ turn_of worker index (record { what = what_quiet Rested; sent = [] }) ∷ []) }
     ensures memory { IfErr result (λ fault. (fault ≡ NoMemory) × (history.new.turns ≡ history.old.turns)) }
 {
     if history.reserve_quiet().is_err() {
         return Err(HeldFault::NoMemory);
     }
-    history.push_quiet(worker, index, Quiet::Rested);
+    history.push_quiet(worker, index, numbers.draw(), Quiet::Rested);
     Ok(())
 }
 

@@ -9,7 +9,7 @@ use crate::ends::Ends;
 use crate::size::RunSize;
 use group_task::NodeId;
 use link_ring::{PutEnd, TakeEnd, link};
-use node_lock::{Held, NodeLock, Plans};
+use node_lock::{Held, NodeLock, Plans, TurnNumbers};
 use std::alloc::{AllocError, Global};
 use std::mem;
 
@@ -92,12 +92,20 @@ pub(crate) fn lock_nodes(
     requires wired { AreWired size.nodes size.capacity ends.items }
     ensures { IfOk result (λ locks. vec_len locks ≡ length plans.now) }
 {
+    let numbers = TurnNumbers::new(alloc)?;
     let mut locks = Vec::new(alloc);
     for node in 0..plans.len() {
         let mine = mem::replace(&mut ends[node], Ends::new(alloc));
         let run = size.run(NodeId::numbered(node as u8));
         let plan = plans[node].try_clone(alloc)?;
-        let held = Held::new(alloc, run, mine.puts, mine.takes, plan)?;
+        let held = Held::new(
+            alloc,
+            run,
+            mine.puts,
+            mine.takes,
+            plan,
+            numbers.try_clone()?,
+        )?;
         locks.push(NodeLock::new(held))?;
     }
     Ok(locks)

@@ -4,4 +4,5 @@ pub mod Planning
 pub mod Scripts
 pub mod Reasons
 pub mod Texts
+pub mod Ordering
 pub mod Printed

@@ -12,7 +12,11 @@ use Rattle.node_threads.specs.declared.fault.ThreadsFault.TheVariants.{GateShut,
 use Rattle.node_threads.specs.declared.size.RunSize.{RunSize}
 use Rattle.node_threads.specs.Reasons.{IsReason}
 use Rattle.node_threads.specs.Whole.{IsWhole}
+use Rattle.trace_check.specs.declared.order.Order.{Order}
+use Rattle.trace_check.specs.Claims.{Claim}
+use Rattle.trace_text.specs.Ordered.{ordered_by, ordered_data}
 use Rattle.trace_text.specs.Written.{trace_data}
+use Rattle.threads_console.specs.Ordering.{IsOrdering}
 use Rattle.threads_console.specs.Planning.{ArePlanned}
 use Rattle.threads_console.specs.Scripts.{Script, script_of}
 use Rattle.threads_console.specs.Texts.{run_claims}
@@ -28,16 +32,28 @@ fault_text (Unfinished node worker) = codes "unfinished " ++ decimal node ++ cod
 fault_text NoMemory = codes "no memory"
 fault_text Unpaired = codes "unpaired"
 
+-- the trace with an order in which its turns can have been taken, and the numbers of the messages that they were brought
+pub record IsOrderedText (hs : List (List Claim)) (text : List ℕ) : Type 0 where
+  pub order : Order
+  pub is_order : IsOrdering hs order
+  pub is_text : text ≡ compact_text (ordered_data hs (ordered_by order))
+
+-- the text of a trace; it stands alone where its turns have no order, of which no run is known
+abbrev pub IsRunText : List (List Claim) → List ℕ → Type 0
+IsRunText hs text = IsOrderedText hs text ⊎ (text ≡ compact_text (trace_data hs))
+
 -- a line, with the text of the trace of these histories
-abbrev pub run_outcome : List Log → Outcome
-run_outcome histories = record { text = line (compact_text (trace_data (run_claims histories))); good = true }
+pub record IsRunPrinted (histories : List Log) (outcome : Outcome) : Type 0 where
+  pub text : List ℕ
+  pub is_text : IsRunText (run_claims histories) text
+  pub printed : outcome ≡ record { text = line text; good = true }
 
 -- some whole run of these plans is printed
 pub record PrintsWhole (size : RunSize) (plans : List Planned) (outcome : Outcome) : Type 0 where
   pub histories : List Log
   pub links : List LinkEnd
   pub whole : IsWhole size plans histories links
-  pub printed : outcome ≡ run_outcome histories
+  pub printed : IsRunPrinted histories outcome
 
 -- the gate that lets all pass
 abbrev pub never_shut : ℕ → Worker → Bool

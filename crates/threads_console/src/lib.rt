@@ -7,11 +7,13 @@
 //! let setup = read_plans(alloc, &input)?;                          // cluster 3 8, links 16, 0 operator submit 3 6869 ..
 //! let run = run_threads(rt, alloc, setup.size, &setup.plans, &gate)?;
 //! let trace = trace_of(alloc, &run)?;
+//! let order = order_of(alloc, &run)?;                              // the order in which its turns were taken
 //! ```
 #![tactic(auto)]
 
 mod fields;
 mod lines;
+mod ordering;
 mod parsing;
 mod planning;
 mod reading;
@@ -21,6 +23,7 @@ mod tracing;
 mod turn;
 mod writing;
 
+pub use ordering::order_of;
 pub use reading::{Setup, read_plans};
 pub use running::threads;
 pub use tracing::trace_of;

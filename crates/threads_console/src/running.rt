@@ -3,7 +3,7 @@
 ghost use Rattle.std.specs.Prelude.{◌≡◌, ◌≤◌, ◌+◌, ◌++◌, IfOk, OnOk, codes, decimal, false, vec_len};
 ghost use Rattle.group_task.specs.declared.node.TheConstants.{NODES};
 ghost use Rattle.console_text.specs.Ends.{outcome_of, refused, IsWhy, Prints};
-ghost use Rattle.threads_console.specs.Printed.{IsThreading, PrintsRun, fault_text, run_outcome, worker_name};
+ghost use Rattle.threads_console.specs.Printed.{IsThreading, IsRunPrinted, PrintsRun, fault_text, worker_name};
 ghost use Rattle.threads_console.specs.Reasons.{plans_flaw};
 ghost use Rattle.threads_console.specs.Scripts.{CanRun};
 
@@ -96,7 +96,7 @@ fn run<T: Threads + Wait + Sync>(rt: &T, alloc: Global, setup: &Setup) -> Result
 /// The line of the trace of a run.
 fn print_run(alloc: Global, run: Gathered) -> Result<Output, AllocError>
     requires { vec_len run.histories ≤ NODES }
-    ensures { IfOk result (λ printout. outcome_of printout ≡ run_outcome run.histories.items) }
+    ensures { IfOk result (λ printout. IsRunPrinted run.histories.items (outcome_of printout)) }
 {
     let mut text = write_run(alloc, run)?;
     push_text(&mut text, "\n")?;

@@ -6,9 +6,11 @@ ghost use Rattle.serde_json.specs.Written.{comma_if, compact_text};
 ghost use Rattle.node_lock.specs.Kept.{what_quiet};
 ghost use Rattle.cluster_sim.specs.Traced.{deed_of, done};
 ghost use Rattle.trace_text.specs.Tokens.{Adds, head_tokens, message_tokens};
-ghost use Rattle.trace_text.specs.Written.{entry_data, history_data, trace_data};
+ghost use Rattle.trace_text.specs.Written.{entry_data, history_data};
+ghost use Rattle.threads_console.specs.Printed.{IsRunText};
 ghost use Rattle.threads_console.specs.Texts.{AreKnown, IsTextAt, entries_text, histories_text, log_claims, quiet_claim, run_claims};
 
+use crate::ordering::order_of;
 use histories::HistoryEvent;
 use json::Writer;
 use node_core::Event;
@@ -17,8 +19,8 @@ use node_threads::Gathered;
 use std::alloc::{AllocError, Global};
 use trace_check::{RecoverFault, TraceAction};
 use trace_text::{
-    begin_entry, begin_handled, begin_items, begin_trace, end_entry, end_items, end_trace,
-    push_item, write_spelled,
+    begin_entry, begin_handled, begin_items, begin_trace, end_entry, end_items, end_ordered,
+    end_trace, push_item, write_spelled,
 };
 
 /// The texts of the entries of quiet turns. Most turns are such, so that their texts are made once.
@@ -28,18 +30,22 @@ struct Known {
     crashed: Vec<u8>,
 }
 
-/// The text of the trace of a run. What was written is let go at once, so that no two copies of it all stand in memory.
+/// The text of the trace of a run, with its order. What was written is let go at once, so that no two copies of it all stand in memory.
 pub(crate) fn write_run(alloc: Global, run: Gathered) -> Result<Vec<u8>, AllocError>
     requires { vec_len run.histories ≤ NODES }
-    ensures { IfOk result (λ text. text.items ≡ compact_text (trace_data (run_claims run.histories.items))) }
+    ensures { IfOk result (λ text. IsRunText (run_claims run.histories.items) text.items) }
 {
+    let order = order_of(alloc, &run)?;
     let Gathered { histories, links } = run;
     drop(links);
     let nodes = histories.len() as u8;
     let known = make_known(alloc)?;
     let mut text = begin_trace(alloc)?;
     write_histories(alloc, &known, &mut text, histories)?;
-    end_trace(text, nodes)
+    match order {
+        Some(order) => end_ordered(alloc, text, nodes, &order),
+        None => end_trace(text, nodes),
+    }
 }
 
 /// Makes the texts of the entries of quiet turns.

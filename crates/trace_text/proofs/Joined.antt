@@ -11,7 +11,8 @@ use Rattle.serde_json.specs.Written.{compact_text, items_text}
 use Rattle.wire_msg.specs.Envelope.{Envelope}
 use Rattle.trace_check.specs.declared.trace.TraceAction.{TraceAction}
 use Rattle.trace_check.specs.Claims.{Claim}
-use Rattle.trace_text.specs.Parts.{trace_end, trace_head}
+use Rattle.trace_text.specs.Ordered.{Ordered, order_text, ordered_data}
+use Rattle.trace_text.specs.Parts.{ordered_end, trace_end, trace_head}
 use Rattle.trace_text.specs.Tokens.{Adds, deed_tokens, message_tokens, head_tokens, end_tokens, entry_tokens}
 use Rattle.trace_text.specs.Written.{deed_name, entry_data, history_data, trace_data}
 use Rattle.trace_text.proofs.Printing.{entry_printed, ok_then}
@@ -58,3 +59,13 @@ whole_text hs n body many is =
     let last = tail (length hs) in
     let lists = items_text false (items_of (map history_data hs)) in
     ap (λ (k : ℕ). body ++ trace_end k) many ∙ sym (append_assoc body (93 ∷ []) last) ∙ ap (λ (xs : List ℕ). xs ++ last) is ∙ append_assoc trace_head lists last
+
+ordered_tail : ℕ → List ℕ → List ℕ
+ordered_tail n words = print_from true (token.key (codes "nodes") ∷ token.number (decimal n) ∷ token.key (codes "order") ∷ token.string words ∷ token.end_object ∷ [])
+
+pub ordered_whole : (hs : List (List Claim)) (o : Ordered) (n : ℕ) (body : List ℕ) → n ≡ length hs → body ++ 93 ∷ [] ≡ trace_head ++ items_text false (items_of (map history_data hs)) → body ++ ordered_end n (order_text o) ≡ compact_text (ordered_data hs o)
+unfolding print_from escape_byte ordered_tail
+ordered_whole hs o n body many is =
+    let last = ordered_tail (length hs) (order_text o) in
+    let lists = items_text false (items_of (map history_data hs)) in
+    ap (λ (k : ℕ). body ++ ordered_end k (order_text o)) many ∙ sym (append_assoc body (93 ∷ []) last) ∙ ap (λ (xs : List ℕ). xs ++ last) is ∙ append_assoc trace_head lists last

@@ -12,6 +12,7 @@ ghost use Rattle.group_task.specs.declared.node.TheConstants.{NODES};
 ghost use Rattle.trace_text.specs.Fits.{IsUnwritable, IsWritable, TraceFits};
 ghost use Rattle.trace_text.specs.Ordered.{CutsTurn, IsEven, IsLacking, MessageFits, PassesMember, TurnsFit, message_in, message_word, order_of, order_text, ordered_by, ordered_data, space_if, turn_text, turns_of, words_at, words_behind, words_from, words_in};
 ghost use Rattle.line_words.specs.Words.{words_of};
+ghost use Rattle.trace_text.specs.Parts.{ordered_end};
 ghost use Rattle.trace_text.specs.Tokens.{Adds, ordered_tokens};
 ghost use Rattle.trace_text.specs.Wholes.{trace_of};
 
@@ -208,6 +209,22 @@ fn write_all(alloc: Global, out: &mut Writer, trace: &Trace, words: &str) -> Res
     write_histories(alloc, out, trace.histories())?;
     end_histories(out, nodes)?;
     write_words(out, words)
+}
+
+/// Ends the text of a trace of so many nodes behind its histories, as [`end_trace`](crate::end_trace) does, with the order of its turns.
+pub fn end_ordered(
+    alloc: Global,
+    text: Vec<u8>,
+    nodes: u8,
+    order: &Order,
+) -> Result<Vec<u8>, AllocError>
+    ensures { IfOk result (λ whole. whole.items ≡ text.items ++ ordered_end nodes (order_text (ordered_by order.now))) }
+{
+    let words = order_words(alloc, order)?;
+    let mut out = Writer::new(text);
+    end_histories(&mut out, nodes)?;
+    write_words(&mut out, &words)?;
+    Ok(out.into_inner())
 }
 
 /// Ends the whole behind the text of an order.

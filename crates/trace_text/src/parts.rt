@@ -12,8 +12,8 @@ use std::alloc::{AllocError, Global};
 pub fn begin_trace(alloc: Global) -> Result<Vec<u8>, AllocError>
     // Promise: Written in parts, an entry, a list of texts and what stands around them are those of that text.
     // Also: begin_items, push_item, begin_entry, begin_handled, write_spelled, end_entry, end_items, end_trace,
-    // threads_console::threads.
-    // Refuses: comma_before_the_first_item, every_event_named_check, message_written_as_its_payload.
+    // end_ordered, threads_console::threads.
+    // Refuses: comma_before_the_first_item, every_event_named_check, message_written_as_its_payload, order_ended_under_another_key.
     ensures { IfOk result (λ text. text.items ≡ trace_head) }
 {
     let mut out = Writer::new(Vec::new(alloc));

@@ -1,6 +1,6 @@
 //! Turns at locked nodes, in one thread.
 
-ghost use Rattle.std.specs.Prelude.{◌≡◌, ◌<◌, ◌-◌, [], ◌∷◌, IfOk};
+ghost use Rattle.std.specs.Prelude.{◌≡◌, ◌<◌, ◌-◌, [], ◌∷◌, IfOk, vec_len};
 ghost use Rattle.link_ring.specs.Sides.{unused};
 
 use group_task::NodeId;
@@ -9,11 +9,13 @@ use link_ring::{PutEnd, TakeEnd, link};
 use message_list::MessageList;
 use node_core::{Event, Timer};
 use node_lock::{
-    Gate, Held, HeldFault, HeldParts, History, NodeLock, Plans, Run, TurnFault, Worker,
+    Gate, Held, HeldFault, HeldParts, History, NodeLock, Plans, Run, TurnFault, TurnNumbers, Worker,
 };
+use node_threads::Gathered;
 use std::alloc::{AllocError, Global};
 use std::io::Print;
 use std::process::Abort;
+use threads_console::order_of;
 use wire_msg::{Body, Message};
 
 /// The only node of a run, which checks so often.
@@ -26,7 +28,8 @@ fn alone(alloc: Global, checks: usize) -> Result<Held, AllocError> {
     };
     let clock = vec![in alloc; Timer::Check; checks]?;
     let plans = Plans::new(Vec::new(alloc), clock, Vec::new(alloc));
-    Held::new(alloc, run, Vec::new(alloc), Vec::new(alloc), plans)
+    let numbers = TurnNumbers::new(alloc)?;
+    Held::new(alloc, run, Vec::new(alloc), Vec::new(alloc), plans, numbers)
 }
 
 /// A list of one.
@@ -38,18 +41,19 @@ fn one<T: Drop>(alloc: Global, item: T) -> Result<Vec<T>, AllocError>
     Ok(list)
 }
 
-/// One of two nodes, which polls the other so often, and then its clock fires Check.
+/// One of two nodes, which polls the other so often, and whose clock fires Check so often.
 fn paired(
     alloc: Global,
     node: u8,
     polls: usize,
+    checks: usize,
     capacity: usize,
-    put: PutEnd,
-    take: TakeEnd,
+    ends: (PutEnd, TakeEnd),
+    numbers: TurnNumbers,
 ) -> Result<Held, AllocError>
     requires within { node < 2 }
-    requires put { put ≡ unused node (1 - node) capacity }
-    requires take { take ≡ unused (1 - node) node capacity }
+    requires put { ends.0 ≡ unused node (1 - node) capacity }
+    requires take { ends.1 ≡ unused (1 - node) node capacity }
 {
     let run = Run {
         node: NodeId::numbered(node),
@@ -58,8 +62,17 @@ fn paired(
         capacity,
     };
     let intake = vec![in alloc; NodeId::numbered(1 - node); polls]?;
-    let plans = Plans::new(intake, one(alloc, Timer::Check)?, Vec::new(alloc));
-    Held::new(alloc, run, one(alloc, put)?, one(alloc, take)?, plans)
+    let clock = vec![in alloc; Timer::Check; checks]?;
+    let plans = Plans::new(intake, clock, Vec::new(alloc));
+    let (put, take) = ends;
+    Held::new(
+        alloc,
+        run,
+        one(alloc, put)?,
+        one(alloc, take)?,
+        plans,
+        numbers,
+    )
 }
 
 /// What node 1 asks node 0.
@@ -77,7 +90,8 @@ fn asked(alloc: Global) -> Result<Held, AllocError> {
     let (mut asking, take) = link(alloc, NodeId::numbered(1), NodeId::numbered(0), 2)?;
     asking.reserve(1)?;
     let _ = asking.put(question());
-    paired(alloc, 0, 1, 2, put, take)
+    let numbers = TurnNumbers::new(alloc)?;
+    paired(alloc, 0, 1, 1, 2, (put, take), numbers)
 }
 
 /// The same, asked for once more where there was no memory.
@@ -212,4 +226,52 @@ fn refused_next(rt: HostRuntime) {
     let parts = held.into_parts();
     assert_eq!(rt; parts.history.len(), 2);
     expect_answered_once(&rt, &parts);
+}
+
+/// Two nodes, whose links have one slot. The first one asks three times, the second one polls twice.
+fn asking(alloc: Global) -> Result<(Held, Held), AllocError> {
+    let (put, their_take) = link(alloc, NodeId::numbered(0), NodeId::numbered(1), 1)?;
+    let (their_put, take) = link(alloc, NodeId::numbered(1), NodeId::numbered(0), 1)?;
+    let numbers = TurnNumbers::new(alloc)?;
+    let first = paired(alloc, 0, 0, 3, 1, (put, take), numbers.try_clone()?)?;
+    let second = paired(alloc, 1, 2, 0, 1, (their_put, their_take), numbers)?;
+    Ok((first, second))
+}
+
+/// What was gathered of two histories.
+fn of_two(alloc: Global, first: History, second: History) -> Result<Gathered, AllocError>
+    ensures { IfOk result (λ run. vec_len run.histories ≡ 2) }
+{
+    let mut histories = one(alloc, first)?;
+    histories.push(second)?;
+    Ok(Gathered {
+        histories,
+        links: Vec::new(alloc),
+    })
+}
+
+/// The second question is lost, since the first still is on the link: so the second one that comes is the third, though all are equal.
+#[test]
+fn order_names_what_was_not_lost(rt: HostRuntime) {
+    let (mut first, mut second) = asking(rt.alloc()).expect(&rt, "memory for two nodes");
+    take(&rt, &mut first, Worker::Clock, 2);
+    take(&rt, &mut second, Worker::Intake, 1);
+    take(&rt, &mut first, Worker::Clock, 1);
+    take(&rt, &mut second, Worker::Intake, 1);
+    let run = of_two(
+        rt.alloc(),
+        first.into_parts().history,
+        second.into_parts().history,
+    )
+    .expect(&rt, "memory for a run");
+    let order = order_of(rt.alloc(), &run).expect(&rt, "memory for an order");
+    let order = order.expect(&rt, "an order");
+    let nodes = [0, 0, 1, 0, 1];
+    let messages = [None, None, Some(0), None, Some(3)];
+    assert_eq!(rt; order.nodes.len(), 5);
+    assert_eq!(rt; order.messages.len(), 5);
+    for turn in 0..5 {
+        assert!(rt; order.nodes.get(turn).map(|node| node.number()) == Some(nodes[turn]));
+        assert!(rt; order.messages.get(turn) == Some(&messages[turn]));
+    }
 }

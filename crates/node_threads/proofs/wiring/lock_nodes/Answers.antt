@@ -3,8 +3,8 @@ use Rattle.std.proofs.lemmas.List.{length-set, get_or-set_other}
 use Rattle.node_threads.proofs.Places.{polls_of}
 use Rattle.node_threads.proofs.wiring.lock_nodes.Goals as goal
 
-pub new-requires-in-loop-node-clause-intake : goal.new-requires-in-loop-node-clause-intake
-new-requires-in-loop-node-clause-intake c =
+pub new-requires-in-loop-node-2-clause-intake : goal.new-requires-in-loop-node-2-clause-intake
+new-requires-in-loop-node-2-clause-intake c =
     polls_of c.args.size c.args.plans.now c.run-run.result c.numbered.result c.loop-node.node c.index-plans-node.result c.in_ok-plan.plan c.requires.polls c.requires.nodes.0 c.loop-node-test.true c.index-plans-node.is c.in_ok-plan.ensures c.run-run.ensures c.numbered.ensures
 
 pub loop-node-preserved : goal.loop-node-preserved

@@ -1,7 +1,8 @@
-use Rattle.std.proofs.Common.{List, [], ◌∷◌, ◌++◌, ◌∙◌, subst}
+use Rattle.std.proofs.Common.{List, [], ◌∷◌, ◌++◌, ◌∙◌, ap, subst}
 use Rattle.wire_msg.specs.Envelope.{Envelope}
 use Rattle.histories.specs.HistoryEvent.{Entry}
 use Rattle.histories.specs.EventOutcomes.{what_of}
+use Rattle.node_lock.specs.Kept.{Log}
 use Rattle.node_lock.specs.Sending.{SentOn}
 use Rattle.node_lock.specs.Taking.{turn_of}
 use Rattle.node_lock.proofs.Keeping.{sent_since}
@@ -17,8 +18,8 @@ returns-clause-taken c =
         did = c.in_ok-event_outcome.ensures.did;
         id = c.in_ok-event_outcome.ensures.id;
         nodes = c.in_ok-event_outcome.ensures.nodes;
-        sent = sent_since c.in_ok-event_outcome.sent.items c.args.self.now.puts.items c.make_room.new.puts.items c.send_all.new.puts.items c.make_room.ensures.same (subst (λ (l : List Envelope). SentOn l c.make_room.new.puts.items c.send_all.new.puts.items) c.deref.ensures.value c.send_all.ensures);
-        turns = c.push.ensures ∙ (λ i. c.make_room.ensures.turns i ++ turn_of c.args.worker c.args.index (record { what = what; sent = c.deref-2.ensures.value i }) ∷ []);
+        sent = sent_since c.in_ok-event_outcome.sent.items c.args.self.now.puts.items c.make_room.new.puts.items c.send_all.new.puts.items c.make_room.ensures.same (subst (λ (l : List Envelope). SentOn l c.make_room.new.puts.items c.send_all.new.puts.items) c.deref.ensures.value c.send_all.ensures.sent);
+        turns = c.push.ensures.turns ∙ (λ i. (ap (λ (l : Log). l.turns) c.send_all.ensures.history ∙ c.make_room.ensures.turns) i ++ turn_of c.args.worker c.args.index (record { what = what; sent = c.deref-2.ensures.value i }) ∷ []);
       },
     )
 

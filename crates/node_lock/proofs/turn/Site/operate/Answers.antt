@@ -25,6 +25,6 @@ returns-in-Crash-clause-taken c =
         id = ap (λ (n : Node Memory). n.id) c.crash.ensures.down;
         nodes = ap (λ (n : Node Memory). n.nodes) c.crash.ensures.down;
         sent = nothing_sent _;
-        turns = c.push_quiet.ensures ∙ ap (λ (ts : List Turn). ts ++ turn_of Operator c.args.index (record { what = Crashed; sent = [] }) ∷ []) c.reserve_quiet.ensures.turns;
+        turns = c.push_quiet.ensures.turns ∙ ap (λ (ts : List Turn). ts ++ turn_of Operator c.args.index (record { what = Crashed; sent = [] }) ∷ []) c.reserve_quiet.ensures.turns;
       },
     )
