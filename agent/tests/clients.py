@@ -20,6 +20,7 @@ def odd_clients(bed):
     rubbish(agents, check)
     half_closed(agents, check)
     many(agents, check)
+    hanging(agents, check)
     deaf(agents, check)
     mode = stat.S_IMODE(os.stat(agents.path(0, "sock")).st_mode)
     check("the socket is its group's alone", mode == 0o660, oct(mode))
@@ -180,9 +181,16 @@ def many(agents, check):
     check("200 watch", all(json.loads(reader.readline())["event"] == "state" for reader in readers))
     agents.ask(0, do="submit", queue=3, text="seen by all")
     check("and each is told", all(json.loads(reader.readline())["event"] == "take" for reader in readers))
-    more = [agents.connect(0) for _ in range(60)]
-    agents.until(lambda: any(is_told(link, b"TooManyClients") for link in more))
-    check("more than 256 are told that there are too many", True)
+    more, told = [], {}
+    # each watches before the next one comes
+    while not told.get("error") and len(more) < 60:
+        more.append(agents.connect(0))
+        try:
+            more[-1].sendall(b'{"do":"watch"}\n')
+        except ConnectionError:              # it is cut off before it asks
+            pass
+        told = json.loads(more[-1].makefile().readline())
+    check("more than 256 that watch are told that there are too many", told.get("error") == "TooManyClients", (len(more), told))
     for words in (["status"], ["watch"], ["take"]):
         for _ in range(5):
             done = agents.ctl(0, *words)
@@ -198,6 +206,36 @@ def many(agents, check):
     check("a thousand come and go", served == 1000, "%d in %.1f s" % (served, time.monotonic() - begin))
     job = agents.ask(0, do="take")
     check("a job is finished", agents.ask(0, do="finish", origin=job["origin"], id=job["id"])["ok"], job)
+
+
+def hanging(agents, check):
+    """Clients that ask for nothing, as many as are served, keep nobody out; one that waits for a job stays, and so does one that works on a job."""
+    waiting, working = agents.connect(0), agents.connect(0)
+    agents.ask(0, do="submit", queue=4, text="first")
+    agents.until(lambda: agents.ask(0, do="jobs", queue=4)["total"] >= 2)
+    working.sendall(b'{"do":"take","queue":4}\n')
+    job = json.loads(working.makefile().readline())
+    waiting.sendall(b'{"do":"take","queue":5,"wait":true}\n')
+    agents.until(lambda: metric(agents, 0, "clients_waiting") == 1)
+    links = [agents.connect(0) for _ in range(300)]
+    for link in links[::2]:
+        try:
+            link.sendall(b'{"do":"sta')
+        except ConnectionError:
+            pass
+    for words in (["status"], ["jobs"], ["submit", "5", "second"]):
+        done = agents.ctl(0, *words)
+        check("clients that hang keep no `dumgerokctl %s` out" % words[0], done.returncode == 0, done)
+    check("the one that hung for the longest is told why it is cut off", is_told(links[0], b"TooManyClients"))
+    told = json.loads(waiting.makefile().readline())
+    check("one that waits for a job isn't", told.get("queue") == 5, told)
+    check("nor is one that works on a job", agents.ask(0, do="take", queue=4) == {"ok": False, "error": "NoJob"})
+    for link, one in ((working, job), (waiting, told)):
+        link.sendall(json.dumps(dict(do="finish", origin=one["origin"], id=one["id"])).encode() + b"\n")
+        check("and each finishes its job", json.loads(link.makefile().readline()).get("ok"))
+    for link in links + [waiting, working]:
+        link.close()
+    agents.until(lambda: (agents.status(0) or {}).get("ok"))
 
 
 def web(bed):

@@ -233,7 +233,7 @@ impl Daemon {
         }
         self.keep_socket();
         self.receive(now);
-        self.clients.accept(self.poll.registry(), now);
+        self.clients.accept(self.poll.registry(), now, || self.hand.holders());
         self.obey(now);
         self.give_up_gone();
         self.try_again(now);

@@ -2,6 +2,7 @@
 
 use mio::net::UnixStream;
 use std::io::{self, ErrorKind, Read, Write};
+use std::time::Instant;
 
 /// So long a request may be.
 const MAX_LINE: usize = 16 * 1024;
@@ -24,6 +25,8 @@ pub struct Client {
     /// Requests that have no answer yet.
     pub owed: usize,
     pub watches: bool,
+    /// When it came, or asked for something last.
+    pub asked: Instant,
 }
 
 /// What a look at a client's input gives.
@@ -35,7 +38,7 @@ pub enum Next {
 }
 
 impl Client {
-    pub fn new(stream: UnixStream) -> Client {
+    pub fn new(stream: UnixStream, now: Instant) -> Client {
         Client {
             stream,
             input: Vec::new(),
@@ -46,6 +49,7 @@ impl Client {
             has_hung_up: false,
             owed: 0,
             watches: false,
+            asked: now,
         }
     }
 
@@ -72,6 +76,7 @@ impl Client {
             if let Some(end) = self.input.iter().position(|byte| *byte == b'\n') {
                 let rest = self.input.split_off(end + 1);
                 let line = std::mem::replace(&mut self.input, rest);
+                self.asked = Instant::now();
                 return Next::Line(line);
             }
             if self.input.len() >= MAX_LINE {
@@ -114,6 +119,11 @@ impl Client {
     /// Whether it may have a request; one that was put back counts where those have their turn.
     pub fn has_input(&self, has_turn: bool) -> bool {
         (has_turn || !self.is_waiting) && (self.is_readable || self.input.contains(&b'\n'))
+    }
+
+    /// Whether it has asked for nothing that it wasn't told.
+    pub fn is_idle(&self) -> bool {
+        self.owed == 0 && !self.watches && !self.has_input(true)
     }
 
     /// Whether it leaves so much unread that it is cut off at the next line to it.

@@ -5,7 +5,7 @@ use crate::protocol::{Reply, Tag};
 use log::{debug, warn};
 use mio::net::{UnixListener, UnixStream};
 use mio::{Interest, Registry, Token};
-use std::collections::{BTreeMap, VecDeque};
+use std::collections::{BTreeMap, BTreeSet, VecDeque};
 use std::fs::{self, Permissions};
 use std::io::{self, ErrorKind};
 use std::ops::Bound::{Excluded, Unbounded};
@@ -13,7 +13,7 @@ use std::os::unix::fs::{FileTypeExt, MetadataExt, PermissionsExt};
 use std::path::{Path, PathBuf};
 use std::time::{Duration, Instant};
 
-/// So many are served at a time; one more is told so, and its connection ends.
+/// So many are served at a time. For one more the connection of another that is idle ends, else its own.
 const MAX_CLIENTS: usize = 256;
 
 /// So many requests to take a job may wait.
@@ -95,15 +95,20 @@ impl Clients {
         self.has_more && self.not_before.is_none()
     }
 
-    /// Takes those that came.
-    pub fn accept(&mut self, registry: &Registry, now: Instant) {
+    /// Takes those that came; `holders` are those that work on a job.
+    pub fn accept(&mut self, registry: &Registry, now: Instant, holders: impl Fn() -> BTreeSet<ClientId>) {
         if !self.has_more || self.not_before.map_or(false, |at| now < at) {
             return;
         }
         self.not_before = None;
         for _ in 0..MAX_AT_A_TIME {
             match self.listener.accept() {
-                Ok((stream, _)) => self.add(Client::new(stream), registry),
+                Ok((stream, _)) => {
+                    if self.all.len() >= MAX_CLIENTS {
+                        self.end_one(&holders());
+                    }
+                    self.add(Client::new(stream, now), registry);
+                }
                 Err(error) if error.kind() == ErrorKind::WouldBlock => {
                     self.has_more = false;
                     return;
@@ -116,6 +121,15 @@ impl Clients {
                     return;
                 }
             }
+        }
+    }
+
+    /// Ends the connection on which nothing was asked for the longest, of those whose client waits for nothing and works on nothing.
+    fn end_one(&mut self, holders: &BTreeSet<ClientId>) {
+        let idle = self.all.iter().filter(|(id, client)| client.is_idle() && !holders.contains(id));
+        if let Some(id) = idle.min_by_key(|(_, client)| client.asked).map(|(id, _)| *id) {
+            self.tell(id, &Reply::refused("TooManyClients"));
+            self.remove(id);
         }
     }
 

@@ -3,7 +3,7 @@
 use super::ClientId;
 use crate::node::{Job, JobKey};
 use serde::Serialize;
-use std::collections::BTreeMap;
+use std::collections::{BTreeMap, BTreeSet};
 
 /// A job as a client is given it.
 #[derive(Clone, Debug, PartialEq, Eq, Serialize)]
@@ -42,6 +42,11 @@ impl Hand {
 
     pub fn count(&self) -> usize {
         self.0.len()
+    }
+
+    /// The clients that work on a job.
+    pub fn holders(&self) -> BTreeSet<ClientId> {
+        self.0.values().filter_map(|in_hand| in_hand.holder).collect()
     }
 
     pub fn count_held(&self) -> usize {
@@ -98,7 +103,7 @@ mod tests {
         assert_eq!(ids(hand.give(9, Some(2))), Some(2), "handed to another where its holder ended");
         assert_eq!(hand.leave(JobKey { origin: 0, id: 0 }), Some(8));
         assert_eq!(hand.leave(JobKey { origin: 0, id: 0 }), None);
-        assert_eq!((hand.count(), hand.count_held()), (2, 1));
+        assert_eq!((hand.count(), hand.count_held(), hand.holders()), (2, 1, BTreeSet::from([9])));
         let key = JobKey { origin: 0, id: 1 };
         assert_eq!((ids(hand.give_this(key, 4)), ids(hand.give_this(key, 5))), (Some(1), None));
     }
