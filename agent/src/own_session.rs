@@ -1,14 +1,13 @@
 //! A command in a session of its own, by which it is ended with all that it started, and which no signal to the terminal ends.
 
 use crate::say::say;
-use rustix::process::{kill_process_group, setsid, Pid, Signal};
+use rustix::process::{kill_process, kill_process_group, setsid, Pid, Signal};
 use std::ffi::OsStr;
-use std::io;
 use std::os::unix::ffi::OsStrExt;
 use std::os::unix::fs::PermissionsExt;
 use std::os::unix::process::CommandExt;
 use std::path::Path;
-use std::process::{Child, Command};
+use std::process::Command;
 
 /// A program calls itself by this name, to begin a session and to become the command in it.
 const NAME: &str = "dumgerok: a command";
@@ -38,12 +37,10 @@ pub fn become_command() -> Option<u8> {
     Some(NOT_RUN)
 }
 
-/// Kills a command that wasn't waited for yet, and what it started.
-pub fn end(child: &mut Child) -> io::Result<()> {
-    // one that has no session yet has started nothing
-    let _none = kill_process_group(Pid::from_child(child), Signal::Kill);
-    child.kill()?;
-    child.wait().map(drop)
+/// Kills a command that wasn't waited for yet, and then what it started: one that has no session yet has started nothing.
+pub fn kill(command: Pid) {
+    let _ended_by_itself = kill_process(command, Signal::Kill);
+    let _none = kill_process_group(command, Signal::Kill);
 }
 
 /// Whether there is such a command.

@@ -1,5 +1,5 @@
 """`dumgerokctl take -- COMMAND` that is stopped: what the command started is ended with it."""
-import json, os, signal, subprocess
+import json, os, signal, subprocess, time
 
 from bed import PATIENCE, is_there
 from cluster import metric
@@ -19,6 +19,14 @@ def begun(agents, i, name):
         return worker, int(file.read())
 
 
+def ended(bed, started, name):
+    end = time.monotonic() + PATIENCE
+    while is_there(started) and time.monotonic() < end:
+        time.sleep(0.01)
+    if not bed.tally.check(name, not is_there(started)):
+        os.kill(started, signal.SIGKILL)
+
+
 def stopped_worker(bed):
     """By a signal, by its job that goes to another node, by its agent's end."""
     agents, check = bed.agents("worker", count=2), bed.tally.check
@@ -32,6 +40,10 @@ def stopped_worker(bed):
         worker.send_signal(number)
         check("a signal ends a worker", worker.wait(PATIENCE) == -number, worker.returncode)
         agents.until(lambda: not is_there(started))
+    worker, started = begun(agents, 0, "by-SIGKILL")
+    worker.kill()
+    worker.wait()
+    ended(bed, started, "what a command started ends with a worker that is killed")
     # in a group of two the second one works on queue 1
     worker, started = begun(agents, 0, "elsewhere")
     agents.start(1)

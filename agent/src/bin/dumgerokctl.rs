@@ -3,13 +3,13 @@
 #![forbid(unsafe_code)]
 
 use clap::Parser;
-use dumgerok_agent::ctl::{run, Arguments};
+use dumgerok_agent::ctl::{become_guard, run, Arguments};
 use dumgerok_agent::own_session::become_command;
 use dumgerok_agent::say::say;
 use std::process::ExitCode;
 
 fn main() -> ExitCode {
-    if let Some(status) = become_command() {
+    if let Some(status) = become_command().or_else(become_guard) {
         return ExitCode::from(status);
     }
     match run(Arguments::parse()) {

@@ -62,8 +62,8 @@ pub enum Command {
     ///
     /// COMMAND has the payload on its standard input, and DUMGEROK_ORIGIN, DUMGEROK_ID, DUMGEROK_QUEUE, DUMGEROK_PRIORITY and
     /// DUMGEROK_PAYLOAD (as hex digits) in its environment. A job whose command fails is left to be taken again. Where the job goes to
-    /// another node, its command is killed with what it started. Without COMMAND one job is printed, and may be given to others until it
-    /// is finished.
+    /// another node, or the worker is ended, its command is killed with what it started. Without COMMAND one job is printed, and may be
+    /// given to others until it is finished.
     Take {
         #[arg(long, value_parser = clap::value_parser!(u8).range(0..16))]
         queue: Option<u8>,

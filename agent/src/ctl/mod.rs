@@ -4,6 +4,7 @@ mod agent;
 mod arguments;
 mod commands;
 mod file;
+mod guarded;
 mod interrupts;
 mod left_alone;
 mod program;
@@ -13,6 +14,7 @@ mod worker;
 
 pub use arguments::{Arguments, Command};
 pub use commands::run;
+pub use guarded::become_guard;
 
 use std::process::ExitCode;
 use thiserror::Error;

@@ -1,17 +1,17 @@
 //! Works on jobs by running a command for each.
 
 use super::agent::Agent;
+use super::guarded::{Guarded, PAYLOAD};
 use super::interrupts::Interrupts;
 use super::left_alone::{Key, LeftAlone};
 use super::show;
 use super::Failure;
-use crate::own_session::{self, end};
+use crate::own_session;
 use crate::say::say;
 use serde_json::{json, Value};
 use std::ffi::OsString;
-use std::io::{self, Write};
+use std::io;
 use std::path::Path;
-use std::process::{Child, Stdio};
 use std::sync::mpsc::{channel, Receiver, RecvTimeoutError};
 use std::thread;
 use std::time::Duration;
@@ -106,20 +106,17 @@ impl Worker<'_> {
         }
     }
 
-    fn spawn(&self, job: &Value) -> Result<Child, Failure> {
-        let digits = job["payload"].as_str().unwrap_or_default();
-        let mut command = own_session::command(self.command);
-        command.stdin(Stdio::piped()).env("DUMGEROK_PAYLOAD", digits);
-        for (name, field) in [("ORIGIN", "origin"), ("ID", "id"), ("QUEUE", "queue"), ("PRIORITY", "priority")] {
-            command.env(format!("DUMGEROK_{name}"), job[field].to_string());
-        }
+    fn spawn(&self, job: &Value) -> Result<Guarded, Failure> {
+        let number = |name, field: &str| (name, job[field].to_string());
+        let variables = [
+            (PAYLOAD, job["payload"].as_str().unwrap_or_default().to_string()),
+            number("DUMGEROK_ORIGIN", "origin"),
+            number("DUMGEROK_ID", "id"),
+            number("DUMGEROK_QUEUE", "queue"),
+            number("DUMGEROK_PRIORITY", "priority"),
+        ];
         let named = |why| Failure::Usage(format!("the command can't be run: {why}"));
-        let mut child = command.spawn().map_err(named)?;
-        if let Some(mut input) = child.stdin.take() {
-            // 400 bytes at most, which a pipe holds; a command needn't read them
-            let _unread = input.write_all(&hex::decode(digits).unwrap_or_default());
-        }
-        Ok(child)
+        Guarded::start(self.command, variables).map_err(named)
     }
 }
 
@@ -151,25 +148,25 @@ fn is_stop(event: &Value, job: &Value) -> bool {
 
 /// Waits until a command ends: whether it ended well, or None where it was killed since its job went elsewhere or a signal came.
 fn watch_over(
-    child: &mut Child,
+    command: &mut Guarded,
     events: &Receiver<Value>,
     job: &Value,
     interrupts: &Interrupts,
 ) -> Result<Option<bool>, Failure> {
     loop {
-        if let Some(status) = child.try_wait()? {
+        if let Some(status) = command.try_wait()? {
             return Ok(Some(status.success()));
         }
         let has_ended = match events.recv_timeout(LOOK) {
             Ok(event) => is_stop(&event, job) || interrupts.have_come(),
             Err(RecvTimeoutError::Timeout) => interrupts.have_come(),
             Err(RecvTimeoutError::Disconnected) => {
-                end(child)?;
+                command.end()?;
                 return Err(io::Error::new(io::ErrorKind::UnexpectedEof, "the agent ended the connection").into());
             }
         };
         if has_ended {
-            end(child)?;
+            command.end()?;
             return Ok(None);
         }
     }
