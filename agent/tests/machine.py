@@ -1,5 +1,5 @@
 """A node that stops or dies, and a file that can't be used."""
-import fcntl, json, os, shutil, signal, socket, subprocess, sys, tempfile, time
+import fcntl, json, os, shutil, signal, socket, stat, subprocess, sys, tempfile, time
 
 from bed import PATIENCE
 from cluster import judged, metric, page
@@ -216,6 +216,25 @@ def at_once(bed):
         if not check("of agents that begin at the same time one stays, and the others end with 1", sorted(one.poll() or 0 for one in both) == [0, 1, 1, 1]):
             return
         agents.one_group()
+    agents.stop()
+
+
+def narrow_socket(bed):
+    """At no time may others come to a socket than those whom its mode lets in."""
+    if not shutil.which("strace"):
+        return bed.tally.left_out("the mode of a socket from its begin on", "there is no strace")
+    agents, modes = bed.agents("narrow", count=1, record=None), set()
+    # strace lets a socket be for a while between two calls of the agent
+    words = ["strace", "-D", "-f", "-qq", "-o", "/dev/null", "-e", "trace=bind", "-e", "inject=bind:delay_exit=300000", agents.daemon, agents.path(0, "toml")]
+    agents.processes[0] = subprocess.Popen(words, stderr=subprocess.DEVNULL, preexec_fn=lambda: os.umask(0))
+
+    def seen():
+        if os.path.exists(agents.path(0, "sock")):
+            modes.add(stat.S_IMODE(os.stat(agents.path(0, "sock")).st_mode))
+        return (modes and agents.status(0)) or agents.processes[0].poll() is not None
+
+    agents.until(seen)
+    bed.tally.check("a socket never is wider than its mode", modes == {0o660}, [oct(mode) for mode in modes])
     agents.stop()
 
 

@@ -5,6 +5,9 @@ use crate::protocol::{Reply, Tag};
 use log::{debug, warn};
 use mio::net::{UnixListener, UnixStream};
 use mio::{Interest, Registry, Token};
+use rustix::fd::OwnedFd;
+use rustix::fs::{fchmod, Mode};
+use rustix::net::{bind_unix, listen, socket_with, AddressFamily, Protocol, SocketAddrUnix, SocketFlags, SocketType};
 use std::collections::{BTreeMap, BTreeSet, VecDeque};
 use std::fs::{self, Permissions};
 use std::io::{self, ErrorKind};
@@ -18,6 +21,10 @@ const MAX_CLIENTS: usize = 256;
 
 /// So many requests to take a job may wait.
 const MAX_WAITING: usize = 1024;
+
+/// The owner and the group of the agent may come to its socket; so many that came may wait to be taken.
+const MODE: u32 = 0o660;
+const BACKLOG: i32 = 1024;
 
 /// So many that came are taken at a time.
 const MAX_AT_A_TIME: usize = 64;
@@ -300,10 +307,21 @@ fn bound(path: &Path, registry: &Registry, token: Token) -> io::Result<(UnixList
     if is_left(path)? {
         fs::remove_file(path)?;
     }
-    let mut listener = UnixListener::bind(path)?;
-    fs::set_permissions(path, Permissions::from_mode(0o660))?;
+    let mut listener = UnixListener::from_std(listening(path)?);
     registry.register(&mut listener, token, Interest::READABLE)?;
     Ok((listener, identity(path)?))
+}
+
+/// Who may come to a socket is set before it is bound, so that at no time others may; what the umask takes of that is given back.
+fn listening(path: &Path) -> io::Result<std::os::unix::net::UnixListener> {
+    let socket = socket_with(AddressFamily::UNIX, SocketType::STREAM, SocketFlags::CLOEXEC, Protocol::default())?;
+    fchmod(&socket, Mode::from_bits_truncate(MODE))?;
+    bind_unix(&socket, &SocketAddrUnix::new(path)?)?;
+    fs::set_permissions(path, Permissions::from_mode(MODE))?;
+    listen(&socket, BACKLOG)?;
+    let listener = std::os::unix::net::UnixListener::from(OwnedFd::from(socket));
+    listener.set_nonblocking(true)?;
+    Ok(listener)
 }
 
 fn identity(path: &Path) -> io::Result<(u64, u64)> {
