@@ -8,6 +8,8 @@
 
 use crate::config::Config;
 use log::warn;
+use rustix::fs::{flock, FlockOperation};
+use rustix::io::Errno;
 use std::fs::{self, File, OpenOptions};
 use std::io::{self, BufRead, BufReader, BufWriter, ErrorKind, Read, Seek, SeekFrom, Write};
 use std::os::unix::fs::OpenOptionsExt;
@@ -115,7 +117,16 @@ fn head(node: &str, part: u64, cluster: &str) -> String {
 }
 
 fn create(path: &Path) -> io::Result<File> {
-    OpenOptions::new().create_new(true).append(true).mode(0o640).open(path)
+    own(OpenOptions::new().create_new(true).append(true).mode(0o640).open(path)?)
+}
+
+/// A part that no other agent writes: two with one path would delete each other's parts. It is locked until it is closed.
+fn own(file: File) -> io::Result<File> {
+    match flock(&file, FlockOperation::NonBlockingLockExclusive) {
+        Ok(()) => Ok(file),
+        Err(why) if why == Errno::WOULDBLOCK => Err(io::Error::new(ErrorKind::AddrInUse, "another agent writes it")),
+        Err(why) => Err(why.into()),
+    }
 }
 
 /// Opens a part that was begun, and its length. A last line without a line feed, of an agent that was killed, is cut off. None where it has another first
@@ -123,7 +134,7 @@ fn create(path: &Path) -> io::Result<File> {
 fn go_on(path: &Path, head: &str) -> io::Result<Option<(File, u64)>> {
     let mut file = match OpenOptions::new().read(true).append(true).open(path) {
         Err(error) if error.kind() == ErrorKind::PermissionDenied => return Ok(None),
-        opened => opened?,
+        opened => own(opened?)?,
     };
     let mut first = Vec::new();
     BufReader::new(&file).take(MAX_LINE).read_until(b'\n', &mut first)?;
@@ -218,6 +229,25 @@ mod tests {
         let head = "# dumgerok record 1 node 1 of 2 part 1 cluster c\n".to_string();
         let text = fs::read_to_string(folder.join("record.1")).unwrap();
         assert_eq!(text, head + &"start\n> recover\n".repeat(9) + "ok");
+        fs::remove_dir_all(&folder).unwrap();
+    }
+
+    #[test]
+    fn a_record_that_another_agent_writes_is_left_alone() {
+        let (folder, config) = (folder("locked"), Config::parse(TEXT).unwrap());
+        let path = folder.join("record");
+        let mut record = Record::open(&path, &config).unwrap();
+        let other = Config { id: 0, ..config.clone() };
+        for config in [&config, &other] {
+            let refused = Record::open(&path, config).map(drop).unwrap_err().to_string();
+            assert_eq!(refused, "another agent writes it");
+        }
+        let line = "x".repeat(400_000);
+        (0..3).for_each(|_| record.write([line.as_str()]).unwrap());
+        assert!(Record::open(&path, &other).is_err(), "in its next part, too");
+        assert_eq!(names(&folder), ["record.1", "record.2"]);
+        drop(record);
+        Record::open(&path, &config).unwrap();
         fs::remove_dir_all(&folder).unwrap();
     }
 
