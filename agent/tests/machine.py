@@ -435,6 +435,28 @@ def failed_write_back(bed):
     agents.stop()
 
 
+def jumping_clock(bed):
+    """Machines whose clocks are set, and set back: what agents and nodes wait for doesn't go by them."""
+    if not shutil.which("cc"):
+        return bed.tally.left_out("clocks that jump", "there is no C compiler")
+    agents, check, kept = bed.agents("clocks", key=bed.key("ab")), bed.tally.check, set()
+    library = compiled(bed, "jumping_clock", os.path.join(os.path.dirname(os.path.abspath(__file__)), "jumping_clock.c"))
+    for turn in range(3):
+        for i in range(3):
+            agents.start(i, LD_PRELOAD=library)
+        agents.one_group()
+        answers = [agents.ask(i, do="submit", queue=i, text="x") for i in range(3)]
+        kept |= {(one["origin"], one["id"]) for one in answers if one and one["ok"]}
+        for i in range(3):
+            agents.kill(i)
+    for i in range(3):
+        agents.start(i)
+    agents.one_group()
+    found = {(job["origin"], job["id"]) for i in range(3) for job in agents.ask(i, do="jobs")["jobs"] if job["kept"]}
+    check("what is kept while clocks jump stays", len(kept) > 0 and kept <= found, (kept, found))
+    judged(bed, agents, "clocks that jump")
+
+
 def slow_sync(bed):
     """Syncs of 15 ms: a group forms, and a job is kept."""
     if not shutil.which("cc"):
