@@ -300,6 +300,21 @@ mod tests {
     }
 
     #[test]
+    fn what_a_coordinator_left_without_an_answer_may_be_kept_though_the_next_one_refuses_it() {
+        let now = Instant::now();
+        let (mut outbox, serial) = outbox(now);
+        let token = Token { life: 9, serial };
+        for to in [1, 2] {
+            outbox.datagram(serial, to);
+            outbox.replied(to, token, Outcome::Stale { life: 77, last: 0 });
+            outbox.datagram(serial, to);
+        }
+        let (_, given) = outbox.replied(2, token, Outcome::Refused { error: "Full".to_string() }).unwrap();
+        let (_, said) = outbox.settle(serial, given, now).unwrap();
+        assert_eq!(serde_json::from_slice::<Value>(&said.line()).unwrap()["may_be_kept"], true);
+    }
+
+    #[test]
     fn agents_that_do_not_agree_on_stamps_pause() {
         let now = Instant::now();
         let (mut outbox, serial) = outbox(now);
