@@ -219,7 +219,7 @@ impl Daemon {
     /// Reads what the node answered, and answers whether it goes on.
     fn hear(&mut self) -> bool {
         let mut answers: Vec<Answer<Asker>> = Vec::new();
-        let goes_on = self.node.read(&mut answers);
+        let goes_on = self.node.read_answers(&mut answers);
         for answer in answers {
             self.take_answer(answer);
         }

@@ -204,7 +204,7 @@ impl<A> NodeProcess<A> {
     }
 
     /// Reads some of what the node wrote, and answers whether it goes on. Whole answers are put to `answers`; a piece of one that has no end is dropped.
-    pub fn read(&mut self, answers: &mut Vec<Answer<A>>) -> bool {
+    pub fn read_answers(&mut self, answers: &mut Vec<Answer<A>>) -> bool {
         let mut piece = [0; 16 * 1024];
         for _ in 0..MAX_AT_A_TIME / piece.len() {
             match self.output.read(&mut piece) {
