@@ -101,4 +101,9 @@ def lasting_worker(bed):
         check("and an agent, too", done.returncode == 2, done)
     agents.until(lambda: agents.ctl(0, "take", "--once", "--", "true").returncode == 0)
     check("by another worker, too, once that one is gone", kept() == 0)
+    check("one is kept", submitted(agents, ["by hand"]) == 1)
+    given = agents.ctl(0, "take")
+    words = [agents.ctl_path, "finish", *given.stdout.split()[:2], "-s", agents.path(0, "sock")]
+    done = subprocess.run(words, capture_output=True, text=True, timeout=PATIENCE)
+    check("`finish` takes what `take` prints of a job, and the socket behind it", done.returncode == 0 and kept() == 0, (given, done))
     agents.stop()

@@ -13,7 +13,7 @@ use std::path::PathBuf;
 #[command(name = "dumgerokctl", version)]
 pub struct Arguments {
     /// The agent's socket; else that of $DUMGEROK_SOCKET, or /run/dumgerok/agent.sock
-    #[arg(short, long, value_name = "PATH")]
+    #[arg(short, long, value_name = "PATH", global = true)]
     pub socket: Option<PathBuf>,
     /// Prints what the agent answers, a line of JSON each
     #[arg(long, global = true)]

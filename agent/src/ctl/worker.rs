@@ -188,8 +188,8 @@ impl Agent {
     }
 }
 
-/// One job for a person.
+/// One job for a person, as `finish` takes it.
 pub fn shown(job: &Value) -> String {
     let [origin, id, queue] = ["origin", "id", "queue"].map(|name| job[name].to_string());
-    format!("{origin}:{id} of queue {queue}: {}\n", show::payload(job["payload"].as_str().unwrap_or_default()))
+    format!("{origin} {id} of queue {queue}: {}\n", show::payload(job["payload"].as_str().unwrap_or_default()))
 }
