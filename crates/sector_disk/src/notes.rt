@@ -90,7 +90,9 @@ impl Notes {
     pub fn forget(&mut self)
         ensures { self.new ≡ record self.old { times = [] } }
     {
-        self.notes.rotate_left(self.closed);
+        if self.closed < self.notes.len() {
+            self.notes.rotate_left(self.closed);
+        }
         self.notes.truncate(self.notes.len() - self.closed);
         self.ends.clear();
         self.closed = 0;

@@ -10,6 +10,20 @@ use sector_disk::{DiskFault, Sector, SectorDisk};
 
 const SEALED: u8 = 0xa5;
 
+/// The gate of a sealed slot.
+const SEALED_GATE: Sector =
+    *b"\xa5\0\0\0\0\0\0\0\0\0\0\0\0\0\0\0\0\0\0\0\0\0\0\0\0\0\0\0\0\0\0\0\0\0\0\0\0\0\0\0\0\0\0\0\0\0\0\0\
+    \0\0\0\0\0\0\0\0\0\0\0\0\0\0\0\0\0\0\0\0\0\0\0\0\0\0\0\0\0\0\0\0\0\0\0\0\0\0\0\0\0\0\0\0\0\0\0\0\
+    \0\0\0\0\0\0\0\0\0\0\0\0\0\0\0\0\0\0\0\0\0\0\0\0\0\0\0\0\0\0\0\0\0\0\0\0\0\0\0\0\0\0\0\0\0\0\0\0\
+    \0\0\0\0\0\0\0\0\0\0\0\0\0\0\0\0\0\0\0\0\0\0\0\0\0\0\0\0\0\0\0\0\0\0\0\0\0\0\0\0\0\0\0\0\0\0\0\0\
+    \0\0\0\0\0\0\0\0\0\0\0\0\0\0\0\0\0\0\0\0\0\0\0\0\0\0\0\0\0\0\0\0\0\0\0\0\0\0\0\0\0\0\0\0\0\0\0\0\
+    \0\0\0\0\0\0\0\0\0\0\0\0\0\0\0\0\0\0\0\0\0\0\0\0\0\0\0\0\0\0\0\0\0\0\0\0\0\0\0\0\0\0\0\0\0\0\0\0\
+    \0\0\0\0\0\0\0\0\0\0\0\0\0\0\0\0\0\0\0\0\0\0\0\0\0\0\0\0\0\0\0\0\0\0\0\0\0\0\0\0\0\0\0\0\0\0\0\0\
+    \0\0\0\0\0\0\0\0\0\0\0\0\0\0\0\0\0\0\0\0\0\0\0\0\0\0\0\0\0\0\0\0\0\0\0\0\0\0\0\0\0\0\0\0\0\0\0\0\
+    \0\0\0\0\0\0\0\0\0\0\0\0\0\0\0\0\0\0\0\0\0\0\0\0\0\0\0\0\0\0\0\0\0\0\0\0\0\0\0\0\0\0\0\0\0\0\0\0\
+    \0\0\0\0\0\0\0\0\0\0\0\0\0\0\0\0\0\0\0\0\0\0\0\0\0\0\0\0\0\0\0\0\0\0\0\0\0\0\0\0\0\0\0\0\0\0\0\0\
+    \0\0\0\0\0\0\0\0\0\0\0\0\0\0\0\0\0\0\0\0\0\0\0\0\0\0\0\0\0\0\0\0";
+
 /// Opens the gate of a slot, in two device calls. Meant for a slot that is sealed: over a gate that
 /// is unsealed already, a torn write could seal whatever bytes the body holds.
 #[tactic(auto, unfolding(crate::specs::Slot::unsealed_gate))]
@@ -70,7 +84,7 @@ pub fn seal<D: SectorDisk>(disk: &mut D, slot: u64) -> Result<(), DiskFault>
     ensures synced { IsTrue (D.state disk.old).honest → IsOk result
         → AllSynced (D.state disk.new) }
 {
-    write_synced(disk, slot + 1, &sealed_gate_bytes())
+    write_synced(disk, slot + 1, sealed_gate_bytes())
 }
 
 /// The body of a slot that reads as sealed. Reads the gate, and the body only where it is sealed.
@@ -112,10 +126,8 @@ fn write_synced<D: SectorDisk>(disk: &mut D, at: u64, sector: &Sector) -> Result
 }
 
 #[tactic(auto, unfolding(crate::specs::Slot::sealed_gate))]
-fn sealed_gate_bytes() -> Sector
-    ensures { result ≡ sealed_gate }
+fn sealed_gate_bytes() -> &'static Sector
+    ensures { result.now ≡ sealed_gate }
 {
-    let mut gate = [0; 512];
-    gate[0] = SEALED;
-    gate
+    &SEALED_GATE
 }
