@@ -34,17 +34,17 @@ abbrev pub written_by : Option Kept → ℕ
 written_by None = 0
 written_by (Some kept) = kept.written
 
--- how many messages had been sent before an act
+-- how many messages had been sent before the acts of which something is kept in this place
 abbrev pub sent_at : List Kept → ℕ → ℕ
 sent_at kept zero = 0
 sent_at kept (suc i) = sent_by (slice_get kept i)
 
--- how long the text was before an act
+-- how long the text was before them
 abbrev pub written_at : List Kept → ℕ → ℕ
 written_at kept zero = 0
 written_at kept (suc i) = written_by (slice_get kept i)
 
--- What is kept of an act, where so many messages had been sent before it, and the text was so long: both only grow.
+-- What is kept of an act that sent messages, where so many had been sent before it, and the text was so long: both only grow.
 pub record IsKept (sent written messages text : ℕ) (kept : Kept) : Type 0 where
   pub sent_grows : sent ≤ kept.sent
   pub sent_within : kept.sent ≤ messages
@@ -54,17 +54,17 @@ pub record IsKept (sent written messages text : ℕ) (kept : Kept) : Type 0 wher
 abbrev pub AreKept : List Kept → ℕ → ℕ → Type 0
 AreKept kept messages text = (i : ℕ) (k : Kept) → slice_get kept i ≡ Some k → IsKept (sent_at kept i) (written_at kept i) messages text k
 
--- the nodes as they were before an act, where they are asked for, and its line
+-- what the text has since the last act that sent messages, which ends with the line of the next such act, and that one's messages
 abbrev pub lines_of : Bool → Option Kept → ℕ → ℕ → List ℕ → List Envelope → List ℕ
 lines_of names None sent written text messages = []
 lines_of names (Some k) sent written text messages = between written k.written text ++ (sent_text names sent (between sent k.sent messages) ++ codes "\n")
 
--- the lines of the first acts, so many
+-- the lines up to this act among those that sent messages
 abbrev pub lines : Bool → List Kept → List ℕ → List Envelope → ℕ → List ℕ
 lines names kept text messages zero = []
 lines names kept text messages (suc i) = lines names kept text messages i ++ lines_of names (slice_get kept i) (sent_at kept i) (written_at kept i) text messages
 
--- the lines of all acts, and then the nodes at their end
+-- the lines up to the last of them, and what the text has behind: the lines of further acts, and the nodes at their end
 abbrev pub run_text : Bool → List Kept → List ℕ → List Envelope → List ℕ
 run_text names kept text messages = lines names kept text messages (length kept) ++ between (written_at kept (length kept)) (length text) text
 
@@ -75,8 +75,7 @@ pub record IsRun (details : Details) (nodes slots : ℕ) (acts : List Act) (kept
 
 -- the acts so far were done, and this is kept of them
 pub record IsKeptSoFar (details : Details) (nodes slots : ℕ) (view : WorldView) (acts : List Act) (kept : List Kept) (text : List ℕ) : Type 0 where
-  pub count : length kept ≡ length acts
   pub are : AreKept kept (length view.net.sent) (length text)
   pub all_sent : sent_at kept (length kept) ≡ length view.net.sent
-  pub all_written : written_at kept (length kept) ≡ length text
-  pub so : IsSoFar details nodes slots view acts (lines details.names kept text view.net.sent (length kept))
+  pub within : written_at kept (length kept) ≤ length text
+  pub so : IsSoFar details nodes slots view acts (run_text details.names kept text view.net.sent)

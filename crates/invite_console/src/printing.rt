@@ -27,11 +27,12 @@ pub(crate) fn print_run<W: Write>(
     let mut written = 0;
     for number in 0..run.kept.len() {
         let kept = run.kept[number];
-        print_part(output, page, text_in(&run.text, written, kept.written))?;
-        print_sent(output, page, bytes, names, messages, sent, kept.sent)?;
+        let (sent_by_then, written_by_then) = (kept.sent as usize, kept.written as usize);
+        print_part(output, page, text_in(&run.text, written, written_by_then))?;
+        print_sent(output, page, bytes, names, messages, sent, sent_by_then)?;
         push_text(page, "\n")?;
-        sent = kept.sent;
-        written = kept.written;
+        sent = sent_by_then;
+        written = written_by_then;
     }
     print_part(output, page, text_in(&run.text, written, run.text.len()))?;
     Ok(())

@@ -1,17 +1,18 @@
 //! A schedule on a simulated cluster, and what is kept of each act until it is printed.
 
-ghost use Rattle.std.specs.Prelude.{◌≡◌, ◌++◌, [], ◌∷◌, ℕ, List, IfOk, OnOk, length};
+ghost use Rattle.std.specs.Prelude.{◌≡◌, ◌≤◌, ◌<◌, ◌++◌, [], ◌∷◌, ℕ, List, IfOk, OnOk, length};
 ghost use Rattle.schedule.specs.Limits.{IsWithinLimits};
 ghost use Rattle.schedule.specs.declared.act.Act.{Act as ActValue};
 ghost use Rattle.cluster_sim.specs.World.{StandsFor};
 ghost use Rattle.runs.specs.World.{World as RunWorld};
-ghost use Rattle.invite_console.specs.Kept.{act_head, IsKeptSoFar, IsRun};
+ghost use Rattle.invite_console.specs.Kept.{IsKeptSoFar, IsRun};
 ghost use Rattle.invite_console.specs.Sim.{AddsNodes, AddsRows, HasWorld};
 
 use crate::acts::push_head;
 use crate::details::Details;
 use crate::rows::push_row;
-use cluster_sim::{Outcome, World};
+use cluster_sim::World;
+use console_text::push_text;
 use group_task::NodeId;
 use runs::left_by_a_run;
 use schedule::{Act, Schedule};
@@ -20,13 +21,14 @@ use std::alloc::{AllocError, Global};
 /// The line of an act takes about so many bytes.
 const LINE: usize = 12;
 
-/// Where what is kept of an act ends: it begins where that of the act before it ended.
+/// Where what is kept of an act that sent messages ends: it begins where that of the one before it ended. It takes 8 bytes: so a run with
+/// 4 GiB of text, or as many messages, finds no memory.
 #[derive(Clone, Copy)]
 pub(crate) struct Kept {
     /// How many messages had been sent by then.
-    pub sent: usize,
+    pub sent: u32,
     /// How long the text was by then.
-    pub written: usize,
+    pub written: u32,
 }
 
 /// A schedule that was run.
@@ -34,16 +36,17 @@ pub(crate) struct Kept {
 pub(crate) struct Run {
     pub world: World,
     pub kept: Vec<Kept>,
-    /// Of each act the nodes as they were before it, where they are asked for, and its line without the messages; and then the nodes as
-    /// the last act left them.
+    /// Of each act the nodes as they were before it, where they are asked for, and its line, which lacks its end where it sent messages:
+    /// these come in between. And then the nodes as the last act left them.
     pub text: Vec<u8>,
 }
 
-/// A cluster through a schedule.
+/// A cluster through a schedule. The bytes of the input aren't read: their memory is taken for the text.
 pub(crate) fn run_schedule(
     alloc: Global,
     details: Details,
     schedule: &Schedule,
+    input: Vec<u8>,
 ) -> Result<Run, AllocError>
     requires { IsWithinLimits schedule.now.size schedule.now.acts.items }
     ensures { IfOk result (λ run. IsRun details schedule.now.size.nodes schedule.now.size.slots schedule.now.acts.items run.kept.items run.text.items run.world.net.sent) }
@@ -51,7 +54,7 @@ pub(crate) fn run_schedule(
     left_by_a_run();
     let mut world = World::open(alloc, schedule.size.nodes, schedule.size.slots)?;
     let mut kept = Vec::with_capacity(alloc, schedule.acts.len())?;
-    let mut text = Vec::with_capacity(alloc, schedule.acts.len().saturating_mul(LINE))?;
+    let mut text = text_in_place_of(alloc, input, schedule.acts.len().saturating_mul(LINE))?;
     keep_acts(
         alloc,
         details,
@@ -64,6 +67,20 @@ pub(crate) fn run_schedule(
     Ok(Run { world, kept, text })
 }
 
+/// An empty text with room for so many bytes, in the memory of an input, unless that is far more.
+fn text_in_place_of(alloc: Global, input: Vec<u8>, room: usize) -> Result<Vec<u8>, AllocError>
+    ensures { IfOk result (λ text. text.items ≡ []) }
+{
+    if input.capacity() / 2 > room {
+        drop(input);
+        return Ok(Vec::with_capacity(alloc, room)?);
+    }
+    let mut text = input;
+    text.clear();
+    text.reserve(room)?;
+    Ok(text)
+}
+
 /// Does acts, and keeps what came of each.
 fn keep_acts(
     alloc: Global,
@@ -73,54 +90,58 @@ fn keep_acts(
     world: &mut World,
     acts: &[Act],
 ) -> Result<(), AllocError>
-    requires { HasWorld world.old }
+    requires world { HasWorld world.old }
+    requires few { length acts.now ≤ 65536 }
     ensures { (nodes slots : ℕ) → IsKeptSoFar details nodes slots world.old [] kept.old.items text.old.items
         → OnOk result (IsKeptSoFar details nodes slots world.new acts.now kept.new.items text.new.items) }
 {
-    for act in acts {
-        keep_act(alloc, details, text, kept, world, act)?;
+    for number in 0..acts.len() {
+        let act = &acts[number];
+        keep_act(alloc, details, text, kept, world, number as u64, act)?;
     }
     Ok(())
 }
 
-/// Does one act, and keeps what came of it.
+/// Does the act of this number, and keeps what came of it.
 fn keep_act(
     alloc: Global,
     details: Details,
     text: &mut Vec<u8>,
     kept: &mut Vec<Kept>,
     world: &mut World,
+    number: u64,
     act: &Act,
 ) -> Result<(), AllocError>
-    requires { HasWorld world.old }
+    requires world { HasWorld world.old }
+    requires few { number < 65536 }
     ensures world { OnOk result (HasWorld world.new) }
-    ensures kept { (nodes slots : ℕ) (before : List ActValue) → IsKeptSoFar details nodes slots world.old before kept.old.items text.old.items
+    ensures kept { (nodes slots : ℕ) (before : List ActValue) → length before ≡ number → IsKeptSoFar details nodes slots world.old before kept.old.items text.old.items
         → OnOk result (IsKeptSoFar details nodes slots world.new (before ++ act.now ∷ []) kept.new.items text.new.items) }
 {
     left_by_a_run();
     push_nodes(alloc, details, text, world)?;
+    let sent_before = world.net().sent().len();
     match world.step(act) {
-        Ok(report) => keep(text, kept, world.net().sent().len(), act, report.outcome),
+        Ok(report) => {
+            push_head(text, number, act, report.outcome)?;
+            let sent = world.net().sent().len();
+            if sent == sent_before {
+                return push_text(text, "\n");
+            }
+            keep(text.len(), kept, sent)
+        }
         Err(error) => Err(error),
     }
 }
 
-/// Keeps what came of an act, by whose end so many messages had been sent.
-fn keep(
-    text: &mut Vec<u8>,
-    kept: &mut Vec<Kept>,
-    sent: usize,
-    act: &Act,
-    outcome: Outcome,
-) -> Result<(), AllocError>
-    ensures head { OnOk result (text.new.items ≡ text.old.items ++ act_head (length kept.old.items) act.now outcome) }
-    ensures kept { OnOk result (kept.new.items ≡ kept.old.items ++ record { sent = sent; written = length text.new.items } ∷ []) }
+/// Keeps how many messages had been sent by the end of an act, and how long the text was.
+fn keep(written: usize, kept: &mut Vec<Kept>, sent: usize) -> Result<(), AllocError>
+    ensures { OnOk result (kept.new.items ≡ kept.old.items ++ record { sent = sent; written = written } ∷ []) }
 {
-    push_head(text, kept.len() as u64, act, outcome)?;
-    kept.push(Kept {
-        sent,
-        written: text.len(),
-    })?;
+    let (Ok(sent), Ok(written)) = (u32::try_from(sent), u32::try_from(written)) else {
+        return Err(AllocError);
+    };
+    kept.push(Kept { sent, written })?;
     Ok(())
 }
 

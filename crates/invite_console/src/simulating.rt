@@ -48,16 +48,16 @@ pub fn sim<R: Read, W: Write>(
     }
 }
 
-/// Prints what `sim` prints for the bytes of an input. They are let go before the run.
+/// Prints what `sim` prints for the bytes of an input. Their memory is the run's, once they are read.
 fn sim_to<W: Write>(alloc: Global, details: Details, input: Vec<u8>, output: &mut W) -> Ended
     ensures prints { Prints (IsSimOutcome details) (Some input.items) (W.contents output.old) (W.contents output.new) result.ending }
     ensures why { IsWhy schedule_flaw (Some input.items) result.ending result.why.items }
 {
     match read_schedule(alloc, &input) {
         Ok(schedule) => {
-            drop(input);
+            let ending = simulate(alloc, details, &schedule, input, output);
             Ended {
-                ending: simulate(alloc, details, &schedule, output),
+                ending,
                 why: Vec::new(alloc),
             }
         }
@@ -69,17 +69,18 @@ fn sim_to<W: Write>(alloc: Global, details: Details, input: Vec<u8>, output: &mu
     }
 }
 
-/// Runs a schedule, and prints its run.
+/// Runs a schedule in the memory of its input, and prints its run.
 fn simulate<W: Write>(
     alloc: Global,
     details: Details,
     schedule: &Schedule,
+    input: Vec<u8>,
     output: &mut W,
 ) -> ExitKind
     requires { IsWithinLimits schedule.now.size schedule.now.acts.items }
     ensures { Prints (λ _ outcome. PrintsPlan details (Ok (plan schedule.now.size schedule.now.acts.items)) outcome) None (W.contents output.old) (W.contents output.new) result }
 {
-    match run_schedule(alloc, details, schedule) {
+    match run_schedule(alloc, details, schedule, input) {
         Ok(run) => print_pages(alloc, output, details.names, &run),
         Err(_) => print(output, Err(IoTrouble::NoMemory)),
     }
