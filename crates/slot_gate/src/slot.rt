@@ -10,7 +10,7 @@ use sector_disk::{DiskFault, Sector, SectorDisk};
 
 const SEALED: u8 = 0xa5;
 
-/// The gate of a sealed slot.
+/// The gate of a sealed slot: one byte, and zeros. They are spelled out, since a constant is one expression.
 const SEALED_GATE: Sector =
     *b"\xa5\0\0\0\0\0\0\0\0\0\0\0\0\0\0\0\0\0\0\0\0\0\0\0\0\0\0\0\0\0\0\0\0\0\0\0\0\0\0\0\0\0\0\0\0\0\0\0\
     \0\0\0\0\0\0\0\0\0\0\0\0\0\0\0\0\0\0\0\0\0\0\0\0\0\0\0\0\0\0\0\0\0\0\0\0\0\0\0\0\0\0\0\0\0\0\0\0\
