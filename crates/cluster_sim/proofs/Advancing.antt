@@ -19,7 +19,7 @@ use Rattle.runs.specs.Step.{Step, Takes, step_sent, world_after}
 use Rattle.node_core.specs.declared.fault.Refusal.TheVariants.{AreaExhausted}
 use Rattle.runs.specs.declared.outcome.Outcome.{Outcome}
 use Rattle.runs.specs.declared.outcome.Outcome.TheVariants.{Refused}
-use Rattle.runs.specs.declared.outcome.Refusal.TheVariants.{Node as OfNode}
+use Rattle.runs.specs.declared.outcome.ActRefusal.TheVariants.{Node as OfNode}
 use Rattle.runs.specs.Acts.{IsStepOf}
 use Rattle.runs.specs.Reporting.{Moment, Report, own_commands, node_of, moment_of, grown}
 use Rattle.runs.specs.declared.attempt_at.AttemptAt.{AttemptAt}

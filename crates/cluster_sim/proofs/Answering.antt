@@ -12,7 +12,7 @@ use Rattle.sector_disk.specs.Memory.{Memory, state_of}
 use Rattle.node_core.specs.declared.event.Event.{Event}
 use Rattle.node_core.specs.declared.fault.CoreFault.{CoreFault}
 use Rattle.node_core.specs.declared.fault.CoreFault.TheVariants.{NoMemory}
-use Rattle.node_core.specs.declared.fault.Refusal.{Refusal as NodeRefusal}
+use Rattle.node_core.specs.declared.fault.Refusal.{Refusal}
 use Rattle.node_core.specs.declared.fault.Refusal.TheVariants.{Core, Full, Exhausted, AreaExhausted}
 use Rattle.node_core.specs.NodeStep.{IsAppended, IsSpent}
 use Rattle.node_core.specs.Refusals.{refusal_of}
@@ -41,7 +41,7 @@ use Rattle.durable_node.specs.Stepping.{CountsOf, Does, Steps, Stuck}
 use Rattle.durable_node.proofs.PublicLaws.{is_some}
 use Rattle.runs.specs.declared.outcome.Outcome.{Outcome}
 use Rattle.runs.specs.declared.outcome.Outcome.TheVariants as outcome
-use Rattle.runs.specs.declared.outcome.Refusal.TheVariants.{Node as OfNode}
+use Rattle.runs.specs.declared.outcome.ActRefusal.TheVariants.{Node as OfNode}
 use Rattle.cluster_sim.specs.Answering.{IsAnswered, IsAnsweredAt, IsAnsweredBy, event_by, first_of}
 use Rattle.cluster_sim.specs.declared.act_report.ActReport.{ActReport}
 use Rattle.cluster_sim.specs.Operated.{IsRefusedAs}
@@ -138,7 +138,7 @@ module _ (slots self nodes first : ℕ) (s : NodeState) (event : Event) (came : 
   by_none (Refused AreaExhausted) core does either why is = ⊎_elim (λ e. absurd (let bad = e in cc)) (λ or. ⊎_elim (λ e. absurd (let bad = e in cc)) (λ e. absurd (let bad = e in cc)) or) either
 
   -- its disk refuses it
-  by_disk : (area : Area) (why : NodeRefusal) (end : EventOutcome) → s.durable.next < 2 ^ 64 → refusal_of nodes self event s.state ≡ None → disk_refusal s.durable area (wants_at self nodes s event) ≡ Some why
+  by_disk : (area : Area) (why : Refusal) (end : EventOutcome) → s.durable.next < 2 ^ 64 → refusal_of nodes self event s.state ≡ None → disk_refusal s.durable area (wants_at self nodes s event) ≡ Some why
       → Does slots self nodes s event came shows (what_of event end) → IsErrOf (answered_as came (fault_of end)) (node.Core NoMemory) ⊎ (answered_as came (fault_of end) ≡ Err (shown why))
       → came_outcome end first came ≡ outcome.Refused (OfNode why)
   by_disk area why Done few core is does either = ⊎_elim (λ e. absurd (let bad = e in cc)) (λ e. absurd cc) either
@@ -148,7 +148,7 @@ module _ (slots self nodes first : ℕ) (s : NodeState) (event : Event) (came : 
   by_disk area why (RaiseRefused kept) few core is does either = absurd (let both : true ≡ false = sym does.possible.0 ∙ up in cc)
   by_disk area why (Refused (Core f)) few core is does either = absurd (let both = sym core ∙ does.possible.1 in cc)
   by_disk area why (Refused Exhausted) few core is does either =
-      (let same : Exhausted ≡ why = cc (sym (spent_refused s.durable area (wants_at self nodes s event) does.possible.1.1) ∙ is) in ap (λ (x : NodeRefusal). outcome.Refused (OfNode x)) same)
+      (let same : Exhausted ≡ why = cc (sym (spent_refused s.durable area (wants_at self nodes s event) does.possible.1.1) ∙ is) in ap (λ (x : Refusal). outcome.Refused (OfNode x)) same)
   by_disk area (Core f) Faulted few core is does either = ⊎_elim (λ e. absurd (let bad = e in cc)) (λ e. absurd cc) either
   by_disk area Full Faulted few core is does either = ⊎_elim (λ e. absurd (let bad = e in cc)) (λ e. absurd cc) either
   by_disk area Exhausted Faulted few core is does either = ⊎_elim (λ e. absurd (let bad = e in cc)) (λ e. absurd cc) either
@@ -167,7 +167,7 @@ module _ (slots self nodes first : ℕ) (s : NodeState) (event : Event) (came : 
       → IsRefusedAs (first_of (refusal_of nodes self event s.state) (disk_refusal s.durable area (wants_at self nodes s event))) (came_outcome came.event_outcome first came)
   refused_so area few does answers = by_both (refusal_of nodes self event s.state) refl (disk_refusal s.durable area (wants_at self nodes s event)) refl answers
     where
-      by_both : (core : Option CoreFault) → refusal_of nodes self event s.state ≡ core → (why : Option NodeRefusal) → disk_refusal s.durable area (wants_at self nodes s event) ≡ why
+      by_both : (core : Option CoreFault) → refusal_of nodes self event s.state ≡ core → (why : Option Refusal) → disk_refusal s.durable area (wants_at self nodes s event) ≡ why
           → AnswersEvent core why (answered_as came (fault_of came.event_outcome)) → IsRefusedAs (first_of core why) (came_outcome came.event_outcome first came)
       by_both (Some fault) core why is answers = by_core fault came.event_outcome answers
       by_both None core None is answers = by_none came.event_outcome core does answers
@@ -192,7 +192,7 @@ answered_so old new event came first s has steps answers down_shows few stands d
 -- ---- an area that can be raised
 
 -- nothing but an area that is used up is refused as worn
-worn_alone : (core : Option CoreFault) (disk : Option NodeRefusal) (o : Outcome) → IsRefusedAs (first_of core disk) o → o ≡ outcome.Refused (OfNode AreaExhausted) → disk ≡ Some AreaExhausted
+worn_alone : (core : Option CoreFault) (disk : Option Refusal) (o : Outcome) → IsRefusedAs (first_of core disk) o → o ≡ outcome.Refused (OfNode AreaExhausted) → disk ≡ Some AreaExhausted
 worn_alone (Some fault) disk o is worn = (let both = sym is ∙ worn in absurd cc)
 worn_alone None None o is worn = absurd (is (OfNode AreaExhausted) worn)
 worn_alone None (Some why) o is worn = (let both = sym is ∙ worn in cc)

@@ -13,10 +13,10 @@ use Rattle.schedule.specs.declared.act.Act.{Act}
 use Rattle.schedule.specs.declared.act.Act.TheVariants as act
 use Rattle.runs.specs.declared.outcome.Outcome.{Outcome}
 use Rattle.runs.specs.declared.outcome.Outcome.TheVariants as outcome
-use Rattle.runs.specs.declared.outcome.Refusal.TheVariants as refusal
+use Rattle.runs.specs.declared.outcome.ActRefusal.TheVariants as refusal
 use Rattle.histories.specs.NodeState.{NodeState}
 use Rattle.runs.specs.World.{World, node_in}
-use Rattle.runs.specs.declared.outcome.Refusal.{Refusal}
+use Rattle.runs.specs.declared.outcome.ActRefusal.{ActRefusal}
 use Rattle.runs.specs.Step.{Step, Changes, Denies}
 use Rattle.runs.specs.Run.{IsBrought}
 use Rattle.runs.specs.Acts.{At, IsStepOf, IsCompaction}
@@ -101,10 +101,10 @@ no_err (Ok a) none = (a, refl)
 no_err (Err e) none = absurd (none e refl)
 
 -- nothing is done, for this reason
-pub denied : (w : World) (a : Act) (n : ℕ) (why : Refusal) (Q : Step → Type 0) (view : WorldView) → StandsFor view w → Q (Denies n why) → Makes a Q w (bare (outcome.Refused why)) view
+pub denied : (w : World) (a : Act) (n : ℕ) (why : ActRefusal) (Q : Step → Type 0) (view : WorldView) → StandsFor view w → Q (Denies n why) → Makes a Q w (bare (outcome.Refused why)) view
 denied w a n why Q view stands is = record { step = Denies n why; is = is; allowed = tt; of_slots = tt; outcome_is = refl; shows = tt; reports = (refl, refl, refl); stands = stands }
 
-pub denies : (w : World) (a : Act) (n : ℕ) (why : Refusal) (view : WorldView) → StandsFor view w → IsStepOf (length w.states) w a (Denies n why) → Performed w a (bare (outcome.Refused why)) view
+pub denies : (w : World) (a : Act) (n : ℕ) (why : ActRefusal) (view : WorldView) → StandsFor view w → IsStepOf (length w.states) w a (Denies n why) → Performed w a (bare (outcome.Refused why)) view
 denies w a n why view stands of = performed {E = ℕ} (IsStepOf (length w.states) w a) w a (Ok _) view (λ step at. at) (denied w a n why _ view stands of)
 
 -- the nodes stay, nothing is sent, and the network is what the step makes of it

@@ -11,7 +11,7 @@ use Rattle.histories.specs.HistoryEvent.{event_of, brought, AreAddressed}
 use Rattle.histories.specs.After.{after, sent_at, mounted_at}
 use Rattle.durable_node.proofs.PublicLaws.{is_some}
 use Rattle.runs.specs.declared.outcome.Outcome.TheVariants as outcome
-use Rattle.runs.specs.declared.outcome.Refusal.TheVariants as refusal
+use Rattle.runs.specs.declared.outcome.ActRefusal.TheVariants as refusal
 use Rattle.runs.specs.World.{World, node_in}
 use Rattle.runs.specs.Step.{Takes, Denies}
 use Rattle.runs.specs.Run.{IsBrought}

@@ -8,7 +8,7 @@ use Rattle.schedule.specs.declared.act.Act.TheVariants as act
 use Rattle.sim_net.specs.declared.fault.NetFault.{NetFault}
 use Rattle.sim_net.specs.Network.{Network, message_at, delivery, after_lost, after_cut, after_mend}
 use Rattle.runs.specs.World.{World}
-use Rattle.runs.specs.declared.outcome.Refusal.TheVariants.{Net as OfNet, Stranger}
+use Rattle.runs.specs.declared.outcome.ActRefusal.TheVariants.{Net as OfNet, Stranger}
 use Rattle.runs.specs.Step.{Step, Changes, Denies}
 use Rattle.runs.specs.Acts.{At, IsStepOf, receiver_or_first}
 use Rattle.histories.specs.HistoryEvent.{IsOf}

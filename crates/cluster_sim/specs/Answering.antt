@@ -10,7 +10,7 @@ use Rattle.sim_net.specs.Network.{Network, delivery}
 use Rattle.node_core.specs.declared.event.Event.{Event}
 use Rattle.node_core.specs.declared.event.Event.TheVariants as on
 use Rattle.node_core.specs.declared.fault.CoreFault.{CoreFault}
-use Rattle.node_core.specs.declared.fault.Refusal.{Refusal as NodeRefusal}
+use Rattle.node_core.specs.declared.fault.Refusal.{Refusal}
 use Rattle.node_core.specs.declared.fault.Refusal.TheVariants.{Core}
 use Rattle.node_core.specs.Refusals.{refusal_of}
 use Rattle.node_core.specs.Wants.{wants_of}
@@ -24,7 +24,7 @@ use Rattle.cluster_sim.specs.Operated.{IsRefusedAs}
 use Rattle.cluster_sim.specs.World.{WorldView}
 
 -- the vector's reason comes before the disk's
-abbrev pub first_of : Option CoreFault → Option NodeRefusal → Option NodeRefusal
+abbrev pub first_of : Option CoreFault → Option Refusal → Option Refusal
 first_of core why = option_or (option_map Core core) why
 
 -- a node that is up refuses the event just for these reasons: those of its vector, and then those of its disk

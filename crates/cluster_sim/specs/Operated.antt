@@ -10,11 +10,11 @@ use Rattle.histories.specs.NodeState.{NodeState}
 use Rattle.histories.specs.declared.history_event.HistoryEvent.{HistoryEvent}
 use Rattle.histories.specs.declared.history_event.HistoryEvent.TheVariants.{NoOp, Crashed}
 use Rattle.histories.specs.declared.history_event.NoOpKind.TheVariants.{Nothing}
-use Rattle.node_core.specs.declared.fault.Refusal.{Refusal as NodeRefusal}
+use Rattle.node_core.specs.declared.fault.Refusal.{Refusal}
 use Rattle.runs.specs.declared.outcome.Outcome.{Outcome}
 use Rattle.runs.specs.declared.outcome.Outcome.TheVariants as outcome
-use Rattle.runs.specs.declared.outcome.Refusal.{Refusal}
-use Rattle.runs.specs.declared.outcome.Refusal.TheVariants.{Node as OfNode}
+use Rattle.runs.specs.declared.outcome.ActRefusal.{ActRefusal}
+use Rattle.runs.specs.declared.outcome.ActRefusal.TheVariants.{Node as OfNode}
 use Rattle.runs.specs.Acts.{IsCompaction}
 use Rattle.schedule.specs.declared.act.Act.{Act}
 use Rattle.schedule.specs.declared.act.Act.TheVariants as act
@@ -25,9 +25,9 @@ abbrev pub IsLeftWith : List ℕ → Option Memory → Option Memory → Type 0
 IsLeftWith fill old new = (was now : Memory) → old ≡ Some was → new ≡ Some now → IsCrashed was fill now.contents × (now ≡ all_synced now.contents was.failures)
 
 -- an act is refused by its node for this reason, or isn't refused
-abbrev pub IsRefusedAs : Option NodeRefusal → Outcome → Type 0
+abbrev pub IsRefusedAs : Option Refusal → Outcome → Type 0
 IsRefusedAs (Some why) o = o ≡ outcome.Refused (OfNode why)
-IsRefusedAs None o = (why : Refusal) → o ≢ outcome.Refused why
+IsRefusedAs None o = (why : ActRefusal) → o ≢ outcome.Refused why
 
 -- what a compaction that ended so leaves: the jobs are in the other area, nothing has changed, or the node is down
 abbrev pub IsLeftBy : Outcome → Node Memory → Node Memory → Type 0

@@ -8,7 +8,7 @@ use Rattle.histories.specs.declared.event_outcome.EventOutcome.{EventOutcome}
 use Rattle.histories.specs.declared.event_outcome.EventOutcome.TheVariants as event_outcome
 use Rattle.runs.specs.declared.outcome.Outcome.{Outcome}
 use Rattle.runs.specs.declared.outcome.Outcome.TheVariants as outcome
-use Rattle.runs.specs.declared.outcome.Refusal.TheVariants.{Node}
+use Rattle.runs.specs.declared.outcome.ActRefusal.TheVariants.{Node}
 
 -- the outcome of what came of an event, where so many messages were sent before it: it was done or refused, or else the device failed
 abbrev pub came_outcome : EventOutcome → ℕ → StepReport → Outcome

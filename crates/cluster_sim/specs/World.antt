@@ -23,7 +23,7 @@ use Rattle.histories.specs.declared.event_outcome.EventOutcome.{EventOutcome}
 use Rattle.histories.specs.declared.event_outcome.EventOutcome.TheVariants as event_outcome
 use Rattle.runs.specs.declared.outcome.Outcome.{Outcome}
 use Rattle.runs.specs.declared.outcome.Outcome.TheVariants as outcome
-use Rattle.runs.specs.declared.outcome.Refusal.TheVariants.{Node as OfNode}
+use Rattle.runs.specs.declared.outcome.ActRefusal.TheVariants.{Node as OfNode}
 use Rattle.runs.specs.World.{World}
 use Rattle.runs.specs.Step.{Step, Takes, world_after}
 use Rattle.runs.specs.Run.{IsAllowed}

@@ -7,7 +7,7 @@ ghost use Rattle.cluster_sim.specs.Operated.{Operates};
 ghost use Rattle.cluster_sim.specs.Cluster.{report_in, cluster_with, Reports, GoesOn, HasRun, IsCluster};
 ghost use Rattle.node_core.specs.declared.fault.Refusal.TheVariants.{AreaExhausted};
 ghost use Rattle.runs.specs.declared.outcome.Outcome.TheVariants as outcomes;
-ghost use Rattle.runs.specs.declared.outcome.Refusal.TheVariants.{Node as OfNode};
+ghost use Rattle.runs.specs.declared.outcome.ActRefusal.TheVariants.{Node as OfNode};
 ghost use Rattle.runs.specs.Growth.{acts_in};
 ghost use Rattle.cluster_sim.specs.Names.{node_named};
 ghost use Rattle.runs.specs.Headline.{Headline};

@@ -27,6 +27,6 @@ mod world;
 pub use act_report::ActReport;
 pub use cluster::{Cluster, run};
 pub use report::{Moment, Mounted, Report};
-pub use runs::{AttemptAt, Outcome, Refusal};
+pub use runs::{ActRefusal, AttemptAt, Outcome};
 pub use tracing::{Recorded, record_of, trace_of};
 pub use world::World;

@@ -21,8 +21,8 @@ ghost use Rattle.cluster_sim.specs.Outcomes.{came_outcome, compaction_outcome};
 use crate::act_report::ActReport;
 use durable_node::{DurableNode, NodeFault, StepReport};
 use histories::EventOutcome;
-use node_core::{Event, Refusal as NodeRefusal};
-use runs::{Outcome, Refusal};
+use node_core::{Event, Refusal};
+use runs::{ActRefusal, Outcome};
 use schedule::{Act, Fill};
 use sector_disk::MemDisk;
 use sim_net::Net;
@@ -107,8 +107,8 @@ fn outcome_of(came: &StepReport, first: u64) -> Outcome
             first,
             many: came.sent.len() as u64,
         },
-        EventOutcome::Refused(why) => Outcome::Refused(Refusal::Node(why)),
-        EventOutcome::RaiseRefused(_) => Outcome::Refused(Refusal::Node(NodeRefusal::Exhausted)),
+        EventOutcome::Refused(why) => Outcome::Refused(ActRefusal::Node(why)),
+        EventOutcome::RaiseRefused(_) => Outcome::Refused(ActRefusal::Node(Refusal::Exhausted)),
         EventOutcome::Faulted | EventOutcome::MountFailed | EventOutcome::RaiseFailed(_) =>
             Outcome::Faulted,
     }
@@ -190,8 +190,8 @@ fn compaction_outcome(net: &Net, answer: Result<(), NodeFault>) -> Outcome
     match answer {
         Ok(()) => nothing_sent(net),
         Err(NodeFault::Device) => Outcome::Faulted,
-        Err(NodeFault::Core(fault)) => Outcome::Refused(Refusal::Node(NodeRefusal::Core(fault))),
-        Err(_) => Outcome::Refused(Refusal::Node(NodeRefusal::AreaExhausted)),
+        Err(NodeFault::Core(fault)) => Outcome::Refused(ActRefusal::Node(Refusal::Core(fault))),
+        Err(_) => Outcome::Refused(ActRefusal::Node(Refusal::AreaExhausted)),
     }
 }
 

@@ -6,7 +6,7 @@ ghost use Rattle.schedule.specs.declared.act.Act.{Act as AnyAct};
 ghost use Rattle.schedule.specs.declared.act.Act.TheVariants as acts;
 ghost use Rattle.node_core.specs.declared.fault.Refusal.TheVariants.{AreaExhausted};
 ghost use Rattle.runs.specs.declared.outcome.Outcome.TheVariants as outcome;
-ghost use Rattle.runs.specs.declared.outcome.Refusal.TheVariants.{Node as OfNode};
+ghost use Rattle.runs.specs.declared.outcome.ActRefusal.TheVariants.{Node as OfNode};
 ghost use Rattle.runs.specs.Acts.{At};
 ghost use Rattle.runs.specs.Events.{event_at};
 ghost use Rattle.cluster_sim.specs.World.{AreasRise, AreOpened, IsUntouched, StandsFor, Makes, Performed, FaultsAt, bare, linked, link_act};
@@ -21,7 +21,7 @@ use crate::member::{handle, nothing_sent, operate};
 use durable_node::{DurableNode, formatted_disk};
 use group_task::NodeId;
 use node_core::Event;
-use runs::{Outcome, Refusal};
+use runs::{ActRefusal, Outcome};
 use schedule::Act;
 use sector_disk::MemDisk;
 use sim_net::Net;
@@ -101,7 +101,7 @@ impl Nodes {
         let place = usize::from(id.number());
         if place >= self.nodes.len() {
             return Ok(ActReport {
-                outcome: Outcome::Refused(Refusal::Stranger),
+                outcome: Outcome::Refused(ActRefusal::Stranger),
                 event_outcome: None,
                 tried: None,
                 acked: None,
@@ -121,7 +121,7 @@ impl Nodes {
     {
         match self.net.lose(number) {
             Ok(()) => nothing_sent(&self.net),
-            Err(fault) => Outcome::Refused(Refusal::Net(fault)),
+            Err(fault) => Outcome::Refused(ActRefusal::Net(fault)),
         }
     }
 
@@ -134,7 +134,7 @@ impl Nodes {
         ensures own { result ≢ outcome.Refused (OfNode AreaExhausted) }
     {
         if !self.has_both(a, b) {
-            return Outcome::Refused(Refusal::Stranger);
+            return Outcome::Refused(ActRefusal::Stranger);
         }
         link(&mut self.net, a, b, joined);
         nothing_sent(&self.net)
@@ -159,7 +159,7 @@ impl Nodes {
     {
         let place = usize::from(id.number());
         if place >= self.nodes.len() {
-            return Outcome::Refused(Refusal::Stranger);
+            return Outcome::Refused(ActRefusal::Stranger);
         }
         operate(&mut self.nodes[place], &self.net, act)
     }

@@ -16,8 +16,8 @@ use crate::deeds::deed_by;
 use crate::world::World;
 use group_task::NodeId;
 use message_list::MessageList;
-use node_core::{CoreFault, Refusal as NodeRefusal};
-use runs::{Outcome, Refusal};
+use node_core::{CoreFault, Refusal};
+use runs::{ActRefusal, Outcome};
 use schedule::{Act, Schedule};
 use std::alloc::{AllocError, Global};
 use trace_check::{History, Order, Trace, TraceAction};
@@ -151,7 +151,7 @@ fn perform(world: &mut World, act: &Act, brought: &Brought) -> Result<TraceActio
 {
     let told = world.step(act)?;
     match told.outcome {
-        Outcome::Refused(Refusal::Node(NodeRefusal::Core(CoreFault::NoMemory))) => Err(AllocError),
+        Outcome::Refused(ActRefusal::Node(Refusal::Core(CoreFault::NoMemory))) => Err(AllocError),
         _ => Ok(deed_by(told.event_outcome, brought, told.outcome)),
     }
 }

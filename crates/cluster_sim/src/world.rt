@@ -15,7 +15,7 @@ use crate::nodes::{Nodes, opened};
 use durable_node::DurableNode;
 use group_task::NodeId;
 use node_core::Event;
-use runs::{Outcome, Refusal};
+use runs::{ActRefusal, Outcome};
 use schedule::Act;
 use sector_disk::MemDisk;
 use sim_net::Net;
@@ -162,7 +162,7 @@ impl World {
         match read_delivery(self.nodes.net(), number, &mut self.delivery) {
             Ok(receiver) => self.nodes.take(receiver, &self.delivery),
             Err(fault) => Ok(ActReport {
-                outcome: Outcome::Refused(Refusal::Net(fault)),
+                outcome: Outcome::Refused(ActRefusal::Net(fault)),
                 event_outcome: None,
                 tried: None,
                 acked: None,

@@ -9,8 +9,8 @@ use Rattle.disk_sector.specs.declared.layout.TheConstants.{LEAST_SLOTS, MOST_SLO
 use Rattle.line_words.specs.Words.{number_of}
 use Rattle.trace_draw.specs.declared.judging.Stage.{Stage}
 use Rattle.trace_draw.specs.declared.judging.Stage.TheVariants.{Over, Ongoing}
-use Rattle.trace_draw.specs.declared.drawing.Form.{Form}
-use Rattle.trace_draw.specs.declared.drawing.Form.TheVariants as form
+use Rattle.trace_draw.specs.declared.drawing.OutputFormat.{OutputFormat}
+use Rattle.trace_draw.specs.declared.drawing.OutputFormat.TheVariants as format
 use Rattle.command_line.specs.declared.invocation.TheConstants.{MOST_ROUND_TRIP, ROUND_TRIP}
 use Rattle.command_line.specs.declared.invocation.NodePlace.{NodePlace}
 use Rattle.command_line.specs.declared.invocation.Making.{Making}
@@ -64,9 +64,9 @@ is_ongoing Over = false
 is_ongoing Ongoing = true
 
 -- whether a page is drawn, and no picture
-abbrev pub is_page : Form → Bool
-is_page form.Picture = false
-is_page form.Page = true
+abbrev pub is_page : OutputFormat → Bool
+is_page format.Picture = false
+is_page format.Page = true
 
 abbrev pub asked_batch : Batch → Asked
 asked_batch (Answer place) = answers (placed place)
@@ -76,7 +76,7 @@ asked_batch (Store path) = stores (string_bytes path)
 asked_batch (Trace stage) = traces (is_ongoing stage) []
 asked_batch Record = records
 asked_batch Threads = runs_threads
-asked_batch (Draw form) = draws (is_page form)
+asked_batch (Draw format) = draws (is_page format)
 
 abbrev pub asked : Invocation → Asked
 asked (invocation.Batch batch) = asked_batch batch

@@ -26,7 +26,7 @@ IsOutcomeOf (Store path) = IsSession
 IsOutcomeOf (Trace stage) = IsJudgedAt stage
 IsOutcomeOf Record = IsRecording
 IsOutcomeOf Threads = IsThreading
-IsOutcomeOf (Draw form) = IsDrawn form
+IsOutcomeOf (Draw format) = IsDrawn format
 
 -- this is what is wrong with the input, or why its entries are no run; what is wrong with a text that is no trace is printed, and not said again
 abbrev pub IsWhyOf : Batch → Option (List ℕ) → ExitKind → List ℕ → Type 0
@@ -37,4 +37,4 @@ IsWhyOf (Store path) = IsWhy session_flaw
 IsWhyOf (Trace stage) = IsTold
 IsWhyOf Record = IsWhy schedule_flaw
 IsWhyOf Threads = IsWhy plans_flaw
-IsWhyOf (Draw form) = IsTold
+IsWhyOf (Draw format) = IsTold

@@ -13,7 +13,7 @@ use group_task::{NODES, NodeId};
 use invite_console::Details;
 use line_words::number;
 use std::alloc::{AllocError, Global};
-use trace_draw::{Form, Stage};
+use trace_draw::{OutputFormat, Stage};
 
 /// What the command of this name asks for, with these arguments. None where a number is out of its range.
 pub fn invocation(
@@ -42,7 +42,7 @@ pub fn invocation(
     } else if is(name, "threads") {
         Ok(Some(Invocation::Batch(Batch::Threads)))
     } else if is(name, "draw") {
-        Ok(Some(Invocation::Batch(Batch::Draw(form(words)))))
+        Ok(Some(Invocation::Batch(Batch::Draw(output_format(words)))))
     } else if is(name, "format") {
         format(alloc, words)
     } else if is(name, "node") {
@@ -117,13 +117,13 @@ fn stage(words: &ArgMatches<'_>) -> Stage
 }
 
 /// As what a run is to be drawn.
-fn form(words: &ArgMatches<'_>) -> Form
+fn output_format(words: &ArgMatches<'_>) -> OutputFormat
     ensures { is_page result ≡ is_set (first_value (found_of words.now) (codes "html")) }
 {
     if is_set(words, "html") {
-        Form::Page
+        OutputFormat::Page
     } else {
-        Form::Picture
+        OutputFormat::Picture
     }
 }
 

@@ -7,7 +7,7 @@ const VERSION: &str = "0.1.0";
 
 /// How an argument is given.
 #[derive(Clone, Copy)]
-enum Form {
+enum ArgumentKind {
     /// A word at its place.
     Word,
     /// A word at its place, which may be left out.
@@ -26,7 +26,7 @@ enum Form {
 #[derive(Clone, Copy)]
 struct Argument {
     name: &'static str,
-    form: Form,
+    kind: ArgumentKind,
     help: &'static str,
 }
 
@@ -41,103 +41,103 @@ struct Described {
 
 const SELF: Argument = Argument {
     name: "SELF",
-    form: Form::Word,
+    kind: ArgumentKind::Word,
     help: "The number of this node, below NODES",
 };
 
 const NODES: Argument = Argument {
     name: "NODES",
-    form: Form::Word,
+    kind: ArgumentKind::Word,
     help: "How many nodes the cluster has",
 };
 
 const FILE: Argument = Argument {
     name: "FILE",
-    form: Form::Word,
+    kind: ArgumentKind::Word,
     help: "The file of the node",
 };
 
 const LOOKED_AT: Argument = Argument {
     name: "FILE",
-    form: Form::Word,
+    kind: ArgumentKind::Word,
     help: "The file of a node or of a store",
 };
 
 const JUDGED: Argument = Argument {
     name: "FILE",
-    form: Form::Several,
+    kind: ArgumentKind::Several,
     help: "A file of the run, in place of standard input: the nodes of each come behind those of the files before it",
 };
 
 const PATH: Argument = Argument {
     name: "PATH",
-    form: Form::Word,
+    kind: ArgumentKind::Word,
     help: "The file of the store",
 };
 
 const SLOTS: Argument = Argument {
     name: "SLOTS",
-    form: Form::Word,
+    kind: ArgumentKind::Word,
     help: "How many records an area of its journal holds, 4 to 4096",
 };
 
 const FIRST: Argument = Argument {
     name: "FIRST",
-    form: Form::MayBeLeftOut,
+    kind: ArgumentKind::MayBeLeftOut,
     help: "The number that its group numbers and its ids begin behind, 0 if not given",
 };
 
 const JOBS: Argument = Argument {
     name: "jobs",
-    form: Form::Valued,
+    kind: ArgumentKind::Valued,
     help: "A file of jobs that it begins with, as export prints them, or - for standard input; their ids are below FIRST",
 };
 
 const STRIDE: Argument = Argument {
     name: "stride",
-    form: Form::Valued,
+    kind: ArgumentKind::Valued,
     help: "The bytes of the file for each sector: 512, if not given, or 4096, for devices of large sectors",
 };
 
 const KEY: Argument = Argument {
     name: "key",
-    form: Form::Beside("KEYFILE", "cluster"),
+    kind: ArgumentKind::Beside("KEYFILE", "cluster"),
     help: "Seals the messages by the key in this file: 64 hex digits; a second line has a key that only opens",
 };
 
 const CLUSTER: Argument = Argument {
     name: "cluster",
-    form: Form::Beside("NAME", "key"),
+    kind: ArgumentKind::Beside("NAME", "key"),
     help: "The name of the cluster, which the key is bound to",
 };
 
 const ROUND_TRIP_MS: Argument = Argument {
     name: "ROUND_TRIP_MS",
-    form: Form::MayBeLeftOut,
+    kind: ArgumentKind::MayBeLeftOut,
     help: "The milliseconds that a message and its answer take, 20 if not given; all that it waits for counts these",
 };
 
 const NAMES: Argument = Argument {
     name: "names",
-    form: Form::Flag,
+    kind: ArgumentKind::Flag,
     help: "Prints what each message says, on a line of its own, in place of its bytes",
 };
 
 const TABLES: Argument = Argument {
     name: "nodes",
-    form: Form::Flag,
+    kind: ArgumentKind::Flag,
     help: "Prints the nodes in front of each act, too",
 };
 
 const ONGOING: Argument = Argument {
     name: "ongoing",
-    form: Form::Flag,
+    kind: ArgumentKind::Flag,
     help: "The run may go on: prints Ongoing and the nodes of the entries that can be taken, where all others wait",
 };
 
 const HTML: Argument = Argument {
     name: "html",
-    form: Form::Flag,
+    kind: ArgumentKind::Flag,
     help: "Prints a page of HTML that scrolls and zooms, for long runs, in place of an SVG",
 };
 
@@ -251,13 +251,13 @@ fn with_command<'a>(
 
 fn made<'a>(alloc: Global, argument: &Argument) -> Result<Arg<'a>, AllocError> {
     let named = Arg::new(alloc, argument.name).help(argument.help);
-    match argument.form {
-        Form::Word => Ok(named.required(true)),
-        Form::MayBeLeftOut => Ok(named),
-        Form::Several => Ok(named.num_args(1..)),
-        Form::Flag => Ok(named.long(argument.name).action(ArgAction::SetTrue)),
-        Form::Valued => Ok(named.long(argument.name)),
-        Form::Beside(value, other) => named
+    match argument.kind {
+        ArgumentKind::Word => Ok(named.required(true)),
+        ArgumentKind::MayBeLeftOut => Ok(named),
+        ArgumentKind::Several => Ok(named.num_args(1..)),
+        ArgumentKind::Flag => Ok(named.long(argument.name).action(ArgAction::SetTrue)),
+        ArgumentKind::Valued => Ok(named.long(argument.name)),
+        ArgumentKind::Beside(value, other) => named
             .long(argument.name)
             .value_name(value)
             .requires_arg(other),

@@ -6,7 +6,7 @@ ghost use Rattle.disk_sector.specs.declared.layout.TheConstants.{LEAST_SLOTS, MO
 use file_disk::Stride;
 use group_task::NodeId;
 use invite_console::Details;
-use trace_draw::{Form, Stage};
+use trace_draw::{OutputFormat, Stage};
 
 /// What a round trip between nodes takes where nothing else is said, and at most, in milliseconds of the clock that ticks tell.
 pub const ROUND_TRIP: u16 = 20;
@@ -43,7 +43,7 @@ pub enum Batch {
     Trace(Stage),
     Record,
     Threads,
-    Draw(Form),
+    Draw(OutputFormat),
 }
 
 /// What a file is made for.

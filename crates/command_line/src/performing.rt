@@ -42,7 +42,7 @@ pub fn perform<T: Threads + Wait + Sync, R: Read, W: Write>(
         Batch::Trace(stage) => trace_draw::trace(alloc, *stage, input, output),
         Batch::Record => invite_console::record(alloc, input, output),
         Batch::Threads => threads_console::threads(threads, alloc, input, output),
-        Batch::Draw(form) => trace_draw::draw(alloc, *form, input, output),
+        Batch::Draw(format) => trace_draw::draw(alloc, *format, input, output),
     };
     let status = ended.ending.status();
     Performed { ended, status }

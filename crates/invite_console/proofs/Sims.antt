@@ -14,7 +14,7 @@ use Rattle.runs.specs.declared.outcome.Outcome.TheVariants.{Done}
 use Rattle.runs.specs.World.{World, start}
 use Rattle.node_core.specs.declared.fault.Refusal.TheVariants.{AreaExhausted}
 use Rattle.runs.specs.declared.outcome.Outcome.TheVariants.{Refused}
-use Rattle.runs.specs.declared.outcome.Refusal.TheVariants.{Node as OfNode}
+use Rattle.runs.specs.declared.outcome.ActRefusal.TheVariants.{Node as OfNode}
 use Rattle.runs.proofs.PublicLaws.{IsSaid, step_adds, step_length, step_said, length_openings}
 use Rattle.runs.specs.Step.{Step, step_sent, world_after}
 use Rattle.runs.specs.Acts.{act_outcome}

@@ -3,15 +3,15 @@ use Rattle.std.specs.Prelude.{ℕ, ◌+◌, List, [], ◌∷◌, ◌++◌, codes
 use Rattle.hex.specs.Hex.{encode_lower}
 use Rattle.wire_msg.specs.Envelope.{Envelope}
 use Rattle.wire_msg.specs.Spelling.{spelling}
-use Rattle.node_core.specs.declared.fault.Refusal.{Refusal as NodeRefusal}
+use Rattle.node_core.specs.declared.fault.Refusal.{Refusal}
 use Rattle.node_core.specs.declared.fault.Refusal.TheVariants as node
 use Rattle.sim_net.specs.declared.fault.NetFault.TheVariants as net
 use Rattle.schedule.specs.declared.act.Act.{Act}
 use Rattle.schedule.specs.declared.act.Act.TheVariants as act
 use Rattle.runs.specs.declared.outcome.Outcome.{Outcome}
 use Rattle.runs.specs.declared.outcome.Outcome.TheVariants.{Done, Refused, Faulted}
-use Rattle.runs.specs.declared.outcome.Refusal.{Refusal}
-use Rattle.runs.specs.declared.outcome.Refusal.TheVariants.{Node, Net, Stranger}
+use Rattle.runs.specs.declared.outcome.ActRefusal.{ActRefusal}
+use Rattle.runs.specs.declared.outcome.ActRefusal.TheVariants.{Node, Net, Stranger}
 use Rattle.runs.specs.Reporting.{Moment}
 use Rattle.node_words.specs.Words.{core_name, id_text}
 use Rattle.invite_console.specs.Show.{message_text as text_shown}
@@ -27,13 +27,13 @@ sent_text names number [] = []
 sent_text names number (m ∷ ms) = message_text names number m ++ sent_text names (number + 1) ms
 
 -- why a node refused: a reader sees no areas
-abbrev pub fault_name : NodeRefusal → List ℕ
+abbrev pub fault_name : Refusal → List ℕ
 fault_name (node.Core fault) = core_name fault
 fault_name node.Full = codes "Full"
 fault_name node.Exhausted = codes "Exhausted"
 fault_name node.AreaExhausted = codes "Exhausted"
 
-abbrev pub refusal_name : Refusal → List ℕ
+abbrev pub refusal_name : ActRefusal → List ℕ
 refusal_name (Node fault) = fault_name fault
 refusal_name (Net net.NoSuch) = codes "NoSuch"
 refusal_name (Net net.Lost) = codes "Lost"

@@ -5,10 +5,10 @@ ghost use Rattle.invite_console.specs.Acts.{answer_text, fault_name, message_tex
 ghost use Rattle.invite_console.specs.Kept.{act_head, outcome_head};
 
 use crate::showing::push_shown;
-use cluster_sim::{Outcome, Refusal};
+use cluster_sim::{ActRefusal, Outcome};
 use console_text::{push_hex, push_named_number, push_number, push_text};
 use message_list::MessageList;
-use node_core::Refusal as NodeRefusal;
+use node_core::Refusal;
 use node_words::{push_core_fault, push_id};
 use schedule::Act;
 use sim_net::NetFault;
@@ -54,26 +54,26 @@ fn push_answer(text: &mut Vec<u8>, act: &Act, answer: Option<u64>) -> Result<(),
     }
 }
 
-fn push_refusal(text: &mut Vec<u8>, why: Refusal) -> Result<(), AllocError>
+fn push_refusal(text: &mut Vec<u8>, why: ActRefusal) -> Result<(), AllocError>
     ensures { OnOk result (text.new.items ≡ text.old.items ++ refusal_name why) }
 {
     match why {
-        Refusal::Node(why) => push_fault(text, why),
-        Refusal::Net(NetFault::NoSuch) => push_text(text, "NoSuch"),
-        Refusal::Net(NetFault::Lost) => push_text(text, "Lost"),
-        Refusal::Net(NetFault::Cut) => push_text(text, "Cut"),
-        Refusal::Net(NetFault::NoMemory) => push_text(text, "NoMemory"),
-        Refusal::Stranger => push_text(text, "Stranger"),
+        ActRefusal::Node(why) => push_fault(text, why),
+        ActRefusal::Net(NetFault::NoSuch) => push_text(text, "NoSuch"),
+        ActRefusal::Net(NetFault::Lost) => push_text(text, "Lost"),
+        ActRefusal::Net(NetFault::Cut) => push_text(text, "Cut"),
+        ActRefusal::Net(NetFault::NoMemory) => push_text(text, "NoMemory"),
+        ActRefusal::Stranger => push_text(text, "Stranger"),
     }
 }
 
-fn push_fault(text: &mut Vec<u8>, why: NodeRefusal) -> Result<(), AllocError>
+fn push_fault(text: &mut Vec<u8>, why: Refusal) -> Result<(), AllocError>
     ensures { OnOk result (text.new.items ≡ text.old.items ++ fault_name why) }
 {
     match why {
-        NodeRefusal::Core(fault) => push_core_fault(text, fault),
-        NodeRefusal::Full => push_text(text, "Full"),
-        NodeRefusal::Exhausted | NodeRefusal::AreaExhausted => push_text(text, "Exhausted"),
+        Refusal::Core(fault) => push_core_fault(text, fault),
+        Refusal::Full => push_text(text, "Full"),
+        Refusal::Exhausted | Refusal::AreaExhausted => push_text(text, "Exhausted"),
     }
 }
 

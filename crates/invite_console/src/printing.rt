@@ -27,12 +27,11 @@ pub(crate) fn print_run<W: Write>(
     let mut written = 0;
     for number in 0..run.kept.len() {
         let kept = run.kept[number];
-        let (sent_by_then, written_by_then) = (kept.sent as usize, kept.written as usize);
-        print_part(output, page, text_in(&run.text, written, written_by_then))?;
-        print_sent(output, page, bytes, names, messages, sent, sent_by_then)?;
+        print_part(output, page, text_in(&run.text, written, kept.written))?;
+        print_sent(output, page, bytes, names, messages, sent, kept.sent)?;
         push_text(page, "\n")?;
-        sent = sent_by_then;
-        written = written_by_then;
+        sent = kept.sent;
+        written = kept.written;
     }
     print_part(output, page, text_in(&run.text, written, run.text.len()))?;
     Ok(())

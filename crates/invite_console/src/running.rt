@@ -21,14 +21,13 @@ use std::alloc::{AllocError, Global};
 /// The line of an act takes about so many bytes.
 const LINE: usize = 12;
 
-/// Where what is kept of an act that sent messages ends: it begins where that of the one before it ended. It takes 8 bytes: so a run with
-/// 4 GiB of text, or as many messages, finds no memory.
+/// Where what is kept of an act that sent messages ends: it begins where that of the one before it ended.
 #[derive(Clone, Copy)]
 pub(crate) struct Kept {
     /// How many messages had been sent by then.
-    pub sent: u32,
+    pub sent: usize,
     /// How long the text was by then.
-    pub written: u32,
+    pub written: usize,
 }
 
 /// A schedule that was run.
@@ -138,9 +137,6 @@ fn keep_act(
 fn keep(written: usize, kept: &mut Vec<Kept>, sent: usize) -> Result<(), AllocError>
     ensures { OnOk result (kept.new.items ≡ kept.old.items ++ record { sent = sent; written = written } ∷ []) }
 {
-    let (Ok(sent), Ok(written)) = (u32::try_from(sent), u32::try_from(written)) else {
-        return Err(AllocError);
-    };
     kept.push(Kept { sent, written })?;
     Ok(())
 }

@@ -1,5 +1,5 @@
 -- What a turn says that is lent.
-use Rattle.node_lock.specs.declared.history.Entry.{Entry}
+use Rattle.node_lock.specs.declared.turn_log.Entry.{Entry}
 use Rattle.node_lock.specs.History.{Turn}
 
 -- the turn that is lent

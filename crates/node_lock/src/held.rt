@@ -8,10 +8,10 @@ ghost use Rattle.node_lock.specs.declared.held.TheConstants.{MOST_ENTRIES};
 ghost use Rattle.node_lock.specs.declared.held.HeldFault.TheVariants.{HistoryFull, NoMemory};
 ghost use Rattle.node_lock.specs.declared.worker.Worker.TheVariants.{Intake, Clock, Operator};
 
-use crate::history::History;
 use crate::plans::Plans;
 use crate::run::Run;
 use crate::turn::{Site, clear, fetch};
+use crate::turn_log::TurnLog;
 use crate::turn_numbers::TurnNumbers;
 use crate::worker::{Turns, Worker};
 use durable_node::DurableNode;
@@ -79,7 +79,7 @@ impl Model for Held {
 pub struct HeldParts {
     pub run: Run,
     pub plans: Plans,
-    pub history: History,
+    pub history: TurnLog,
     pub puts: Vec<PutEnd>,
     pub takes: Vec<TakeEnd>,
     pub waiting: Option<Message>,
@@ -111,7 +111,7 @@ impl Held {
             site: Site {
                 node,
                 puts,
-                history: History::new(alloc),
+                history: TurnLog::new(alloc),
                 numbers,
             },
             run,

@@ -14,7 +14,6 @@
 
 mod event_list;
 mod held;
-mod history;
 mod laws;
 mod line;
 mod links;
@@ -24,11 +23,11 @@ mod perform;
 mod plans;
 mod run;
 mod turn;
+mod turn_log;
 mod turn_numbers;
 mod worker;
 
 pub use held::{Held, HeldFault, HeldParts, MOST_ENTRIES};
-pub use history::{Entry, History, Loss};
 pub use laws::limits;
 pub use line::Quiet;
 pub use lock::{Gate, NodeLock, TurnFault};
@@ -36,5 +35,6 @@ pub use order::{CrashFill, OperatorOrder};
 pub use plans::Plans;
 pub use run::Run;
 pub use trace_check::Sent;
+pub use turn_log::{Entry, Loss, TurnLog};
 pub use turn_numbers::TurnNumbers;
 pub use worker::{Turns, Worker};

@@ -12,11 +12,11 @@ ghost use Rattle.link_ring.specs.Sides.{Side};
 ghost use Rattle.node_lock.specs.Sending.{HasRoomFor, SameSides, Brings, most_to};
 
 use crate::held::HeldFault;
-use crate::history::History;
 use crate::line::Quiet;
 use crate::links::{reserve_puts, send_all};
 use crate::order::OperatorOrder;
 use crate::perform::{most_to, perform};
+use crate::turn_log::TurnLog;
 use crate::turn_numbers::TurnNumbers;
 use crate::worker::Worker;
 use durable_node::DurableNode;
@@ -31,7 +31,7 @@ use wire_msg::Message;
 pub(crate) struct Site {
     pub(crate) node: DurableNode<MemDisk>,
     pub(crate) puts: Vec<PutEnd>,
-    pub(crate) history: History,
+    pub(crate) history: TurnLog,
     pub(crate) numbers: TurnNumbers,
 }
 
@@ -115,7 +115,7 @@ impl Site {
 fn make_room(
     node: &DurableNode<MemDisk>,
     puts: &mut Vec<PutEnd>,
-    history: &mut History,
+    history: &mut TurnLog,
     event: &Event,
 ) -> Result<(), AllocError>
     ensures turns { history.new.turns ≡ history.old.turns }
@@ -131,7 +131,7 @@ fn make_room(
 
 /// A turn that hands no event to the node and leaves it as it is.
 fn rest(
-    history: &mut History,
+    history: &mut TurnLog,
     numbers: &TurnNumbers,
     worker: Worker,
     index: u64,

@@ -14,7 +14,7 @@ use crate::fault::ThreadsFault;
 use crate::size::RunSize;
 use crate::workers::Stopped;
 use group_task::NodeId;
-use node_lock::{Gate, Held, History, MOST_ENTRIES, NodeLock, Plans, Run, TurnFault, Worker};
+use node_lock::{Gate, Held, MOST_ENTRIES, NodeLock, Plans, Run, TurnFault, TurnLog, Worker};
 use std::alloc::Global;
 use std::vec::IntoIter;
 
@@ -24,7 +24,7 @@ pub(crate) fn take_all(
     size: RunSize,
     locks: Vec<NodeLock>,
     plans: &[Plans],
-) -> Result<(Vec<History>, Vec<Left>), ThreadsFault>
+) -> Result<(Vec<TurnLog>, Vec<Left>), ThreadsFault>
     requires nodes { (length plans.now ≡ size.nodes) × (size.nodes ≤ NODES) }
     ensures { IfOk result (λ r. AreEnded size plans.now r.0.items r.1.items) }
 {
@@ -45,7 +45,7 @@ pub(crate) fn take_all(
 }
 
 /// What is left of a node, where it is this node of this run, has these plans, and its workers have taken all their turns.
-fn take_out(lock: NodeLock, run: Run, plan: &Plans) -> Result<(History, Left), ThreadsFault>
+fn take_out(lock: NodeLock, run: Run, plan: &Plans) -> Result<(TurnLog, Left), ThreadsFault>
     ensures { IfOk result (λ r. HasEnded run plan.now r.0.turns r.1) }
 {
     let held = lock.into_held();

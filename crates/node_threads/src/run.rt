@@ -15,7 +15,7 @@ use crate::size::RunSize;
 use crate::wiring::{lock_nodes, wire};
 use crate::workers::run_workers;
 use link_ring::LinkEnd;
-use node_lock::{Gate, History, Plans};
+use node_lock::{Gate, Plans, TurnLog};
 use std::alloc::{AllocError, Global};
 use std::sync::Wait;
 use std::thread::Threads;
@@ -24,7 +24,7 @@ use std::thread::Threads;
 /// then receiver.
 #[derive(Debug, Drop)]
 pub struct Gathered {
-    pub histories: Vec<History>,
+    pub histories: Vec<TurnLog>,
     pub links: Vec<LinkEnd>,
 }
 

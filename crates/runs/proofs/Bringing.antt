@@ -7,7 +7,7 @@ use Rattle.histories.specs.HistoryEvent.{IsOf}
 use Rattle.histories.specs.declared.history_event.HistoryEvent.{HistoryEvent}
 use Rattle.sim_net.specs.declared.fault.NetFault.{NetFault}
 use Rattle.sim_net.specs.Network.{Network}
-use Rattle.runs.specs.declared.outcome.Refusal.TheVariants.{Net as OfNet}
+use Rattle.runs.specs.declared.outcome.ActRefusal.TheVariants.{Net as OfNet}
 use Rattle.runs.specs.Step.{Step, Denies}
 use Rattle.runs.specs.Acts.{At, receiver_or_first}
 

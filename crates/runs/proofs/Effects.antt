@@ -28,8 +28,8 @@ use Rattle.schedule.specs.declared.act.Act.TheVariants as act
 use Rattle.sim_net.specs.declared.fault.NetFault.{NetFault}
 use Rattle.sim_net.specs.Network.{Network, delivery}
 use Rattle.runs.specs.declared.outcome.Outcome.TheVariants as outcome
-use Rattle.runs.specs.declared.outcome.Refusal.{Refusal}
-use Rattle.runs.specs.declared.outcome.Refusal.TheVariants.{Node as OfNode}
+use Rattle.runs.specs.declared.outcome.ActRefusal.{ActRefusal}
+use Rattle.runs.specs.declared.outcome.ActRefusal.TheVariants.{Node as OfNode}
 use Rattle.runs.specs.declared.attempt_at.AttemptAt.{AttemptAt}
 use Rattle.runs.specs.World.{World, node_in, start}
 use Rattle.runs.specs.Step.{Step, Takes, Changes, Denies, step_sent, world_after}
@@ -119,7 +119,7 @@ record IsQuiet (self nodes : ℕ) (s : NodeState) (what : HistoryEvent) : Type 0
   silent : sent_at self nodes s what ≡ []
   untried : tries self nodes s what ≡ []
 
-refused_what : (n nodes first : ℕ) (s : NodeState) (what : HistoryEvent) (a : Act) (why : Refusal) → what_outcome n nodes first s what a ≡ outcome.Refused why → IsQuiet n nodes s what
+refused_what : (n nodes first : ℕ) (s : NodeState) (what : HistoryEvent) (a : Act) (why : ActRefusal) → what_outcome n nodes first s what a ≡ outcome.Refused why → IsQuiet n nodes s what
 refused_what n nodes first s (Did event) a why is = absurd cc
 refused_what n nodes first s (Refused event fault) a why is = record { stays = refl; silent = refl; untried = refl }
 refused_what n nodes first s (Faulted event) a why is = absurd cc
@@ -137,7 +137,7 @@ record IsIdle (nodes : ℕ) (w : World) (a : Act) (step : Step) : Type 0 where
   untried : commands_at nodes w step ≡ []
   last : (r : Report) (n : ℕ) → IsLast w r n → last_state (grown nodes w a step r) n ≡ last_state r n
 
-refused_step : (nodes : ℕ) (w : World) (a : Act) (step : Step) (why : Refusal) → act_outcome nodes w a step ≡ outcome.Refused why → IsIdle nodes w a step
+refused_step : (nodes : ℕ) (w : World) (a : Act) (step : Step) (why : ActRefusal) → act_outcome nodes w a step ≡ outcome.Refused why → IsIdle nodes w a step
 refused_step nodes w a (Takes m number what) why is =
     let quiet = refused_what m nodes _ (node_in w.states m) what a why is in record {
       silent = quiet.silent;

@@ -25,7 +25,7 @@ use Rattle.runs.specs.Step.{Step, Takes, Changes, Denies, world_after}
 use Rattle.runs.specs.Run.{IsAllowed, world_at}
 use Rattle.runs.specs.Acts.{IsStepOf, IsLawful, IsRunOf}
 use Rattle.runs.specs.declared.outcome.Outcome.TheVariants as outcome
-use Rattle.runs.specs.declared.outcome.Refusal.{Refusal}
+use Rattle.runs.specs.declared.outcome.ActRefusal.{ActRefusal}
 use Rattle.runs.specs.declared.attempt_at.AttemptAt.{AttemptAt}
 use Rattle.runs.specs.Reporting.{Moment, Report, moment_of, tries, commands_at, grown, report_from}
 use Rattle.runs.proofs.Finishing.{SaysFinished, finish_act, acted_outcome}
@@ -39,7 +39,7 @@ pub record Finishes (nodes : ℕ) (w : World) (acts : List Act) (steps : List St
   pub moment : Moment
   pub at : slice_get (moments_from nodes w acts steps) place ≡ Some moment
   pub of_act : moment.act ≡ act.Finish worker origin id
-  pub not_refused : (why : Refusal) → moment.outcome ≢ outcome.Refused why
+  pub not_refused : (why : ActRefusal) → moment.outcome ≢ outcome.Refused why
   pub was : NodeState
   pub is_state : slice_get (world_at nodes w (take place steps)).states worker ≡ Some was
   pub work : HasWork worker was.state origin id

@@ -10,7 +10,7 @@ use Rattle.schedule.specs.declared.act.Act.{Act}
 use Rattle.sim_net.specs.declared.fault.NetFault.{NetFault}
 use Rattle.sim_net.specs.Network.{Network, delivery}
 use Rattle.runs.specs.World.{World, node_in}
-use Rattle.runs.specs.declared.outcome.Refusal.{Refusal as ActRefusal}
+use Rattle.runs.specs.declared.outcome.ActRefusal.{ActRefusal}
 use Rattle.runs.specs.Step.{Step, Takes as TakesStep, Changes, Denies, world_after}
 use Rattle.runs.specs.Run.{RunFrom, history_in}
 use Rattle.runs.specs.Acts.{At, IsRunOf}

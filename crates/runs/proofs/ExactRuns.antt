@@ -35,7 +35,7 @@ use Rattle.schedule.specs.declared.act.Act.{Act}
 use Rattle.schedule.specs.declared.act.Act.TheVariants as act
 use Rattle.runs.specs.declared.outcome.Outcome.{Outcome}
 use Rattle.runs.specs.declared.outcome.Outcome.TheVariants as outcome
-use Rattle.runs.specs.declared.outcome.Refusal.TheVariants.{Node}
+use Rattle.runs.specs.declared.outcome.ActRefusal.TheVariants.{Node}
 use Rattle.runs.specs.World.{World, node_in, start}
 use Rattle.runs.specs.Step.{Step, Takes, Changes, Denies, world_after}
 use Rattle.runs.specs.Acts.{At, IsCompaction, IsStepBy, IsStepOf, IsLawful, IsRunOf, act_outcome, what_outcome}

@@ -3,7 +3,7 @@ use Rattle.std.proofs.Common.{◌≡◌, ◌≢◌, ℕ, zero, suc, ◌<◌, ◌
 use Rattle.std.specs.Prelude.{option_map}
 use Rattle.std.proofs.lemmas.Option.{slice_get-map, slice_get_within}
 use Rattle.runs.specs.declared.outcome.Outcome.TheVariants as outcome
-use Rattle.runs.specs.declared.outcome.Refusal.{Refusal}
+use Rattle.runs.specs.declared.outcome.ActRefusal.{ActRefusal}
 use Rattle.std.proofs.lemmas.List.{append-nil, length-take}
 use Rattle.job_model.specs.declared.work.Work.{Work}
 use Rattle.job_model.specs.declared.node_command.NodeCommand.TheVariants.{Raise, Put, Done}
@@ -190,6 +190,6 @@ done_was_finished nodes slots acts r h k t id i within is =
       by.earlier,
       m.1,
       m.2,
-      subst (λ (x : Moment). (why : Refusal) → x.outcome ≢ outcome.Refused why) same by.not_refused,
+      subst (λ (x : Moment). (why : ActRefusal) → x.outcome ≢ outcome.Refused why) same by.not_refused,
       (by.state, job, (shows, by.works.1), among job by.state.hand by.in_hand, refl, refl, by.owned, (by.put.0, among by.put.0 commands by.put.1, by.put.2, by.put.3)),
     )

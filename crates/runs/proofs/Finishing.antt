@@ -15,8 +15,8 @@ use Rattle.sim_net.specs.declared.fault.NetFault.{NetFault}
 use Rattle.sim_net.specs.Network.{Network, message_at, delivery, after_lost, after_cut, after_mend}
 use Rattle.runs.specs.World.{World, node_in}
 use Rattle.runs.specs.declared.outcome.Outcome.TheVariants as outcome
-use Rattle.runs.specs.declared.outcome.Refusal.{Refusal}
-use Rattle.runs.specs.declared.outcome.Refusal.TheVariants.{Net as OfNet, Stranger}
+use Rattle.runs.specs.declared.outcome.ActRefusal.{ActRefusal}
+use Rattle.runs.specs.declared.outcome.ActRefusal.TheVariants.{Net as OfNet, Stranger}
 use Rattle.runs.specs.Step.{Takes, Changes, Denies}
 use Rattle.histories.specs.NodeState.{NodeState}
 use Rattle.histories.specs.HistoryEvent.{IsOf}
@@ -90,7 +90,7 @@ finish_act nodes w (act.Compact n) m number what o i h says = absurd (at_rest (n
 
 -- what a node didn't refuse isn't reported as refused
 pub acted_outcome : (self nodes first : ℕ) (s : NodeState) (what : HistoryEvent) (a : Act) (event : Event) → IsAmong event (acted what)
-    → (why : Refusal) → what_outcome self nodes first s what a ≢ outcome.Refused why
+    → (why : ActRefusal) → what_outcome self nodes first s what a ≢ outcome.Refused why
 acted_outcome self nodes first s (Did e) a event i why is = absurd (let bad = is in cc)
 acted_outcome self nodes first s (Faulted e) a event i why is = absurd (let bad = is in cc)
 acted_outcome self nodes first s _ a event i why is = absurd i

@@ -9,7 +9,7 @@ use Rattle.runs.specs.Run.{world_at}
 use Rattle.runs.specs.Acts.{IsRunOf, act_outcome}
 use Rattle.runs.specs.ExactRuns.{IsExactRun, IsExactStep}
 use Rattle.runs.specs.declared.outcome.Outcome.TheVariants.{Refused}
-use Rattle.runs.specs.declared.outcome.Refusal.TheVariants.{Node as OfNode}
+use Rattle.runs.specs.declared.outcome.ActRefusal.TheVariants.{Node as OfNode}
 use Rattle.runs.specs.Reporting.{Moment, Report, moment_of, report_of, first_report, grown, report_from}
 use Rattle.runs.specs.Headline.{Headline}
 use Rattle.runs.specs.Growth.{acts_in, IsNext, RunsOpen, RunsGrow, LeftKeeps}

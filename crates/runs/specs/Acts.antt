@@ -21,7 +21,7 @@ use Rattle.sim_net.specs.Network.{Network, message_at, delivery, after_lost, aft
 use Rattle.runs.specs.World.{World, node_in}
 use Rattle.runs.specs.declared.outcome.Outcome.{Outcome}
 use Rattle.runs.specs.declared.outcome.Outcome.TheVariants as outcome
-use Rattle.runs.specs.declared.outcome.Refusal.TheVariants.{Node, Net as OfNet, Stranger}
+use Rattle.runs.specs.declared.outcome.ActRefusal.TheVariants.{Node, Net as OfNet, Stranger}
 use Rattle.runs.specs.Step.{Step, Takes, Changes, Denies, world_after}
 
 -- it came of a compaction at a node in this state, which is done, is refused, or meets a device that fails: then a node that is up falls

@@ -12,7 +12,7 @@ use Rattle.schedule.specs.declared.act.Act.{Act}
 use Rattle.schedule.specs.declared.act.Act.TheVariants as act
 use Rattle.sim_net.specs.Network.{delivery}
 use Rattle.runs.specs.World.{World}
-use Rattle.runs.specs.declared.outcome.Refusal.{Refusal as ActRefusal}
+use Rattle.runs.specs.declared.outcome.ActRefusal.{ActRefusal}
 use Rattle.runs.specs.Step.{Step, Denies}
 use Rattle.runs.specs.Run.{RunFrom, history_in}
 use Rattle.runs.specs.Acts.{IsStepOf, IsRunOf}

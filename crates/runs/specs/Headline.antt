@@ -19,8 +19,8 @@ use Rattle.schedule.specs.declared.act.Act.{Act}
 use Rattle.schedule.specs.declared.act.Act.TheVariants as act
 use Rattle.runs.specs.World.{start}
 use Rattle.runs.specs.declared.outcome.Outcome.TheVariants.{Refused}
-use Rattle.runs.specs.declared.outcome.Refusal.{Refusal}
-use Rattle.runs.specs.declared.outcome.Refusal.TheVariants.{Node as OfNode}
+use Rattle.runs.specs.declared.outcome.ActRefusal.{ActRefusal}
+use Rattle.runs.specs.declared.outcome.ActRefusal.TheVariants.{Node as OfNode}
 use Rattle.runs.specs.Step.{Step}
 use Rattle.runs.specs.Acts.{IsRunOf}
 use Rattle.runs.specs.ExactRuns.{IsExactRun}
@@ -45,7 +45,7 @@ pub record IsFinished (nodes : ℕ) (acts : List Act) (steps : List Step) (count
   pub at : slice_get (take count acts) place ≡ Some (act.Finish worker origin id)
   pub moment : Moment
   pub told : slice_get (report_of nodes acts steps).moments place ≡ Some moment
-  pub not_refused : (why : Refusal) → moment.outcome ≢ Refused why
+  pub not_refused : (why : ActRefusal) → moment.outcome ≢ Refused why
   pub earlier : worker ≢ origin → suc place < count
   pub state : State
   pub works : IsWorking (report_of nodes (take place acts) steps) worker state

@@ -4,7 +4,7 @@ use Rattle.wire_msg.specs.Envelope.{Envelope}
 use Rattle.sim_net.specs.Network.{Network, after_all_sent}
 use Rattle.histories.specs.declared.history_event.HistoryEvent.{HistoryEvent}
 use Rattle.histories.specs.After.{after, sent_at}
-use Rattle.runs.specs.declared.outcome.Refusal.{Refusal}
+use Rattle.runs.specs.declared.outcome.ActRefusal.{ActRefusal}
 use Rattle.runs.specs.World.{World, node_in}
 
 pub data Step : Type 0 where
@@ -13,7 +13,7 @@ pub data Step : Type 0 where
   -- the network alone changes, and is this from then on
   Changes : (net : Network) → Step
   -- nothing is done, for this reason, and it is reported of this node
-  Denies : (node : ℕ) (why : Refusal) → Step
+  Denies : (node : ℕ) (why : ActRefusal) → Step
 
 -- the messages that a step sends
 abbrev pub step_sent : ℕ → World → Step → List Envelope

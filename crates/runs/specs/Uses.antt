@@ -27,8 +27,8 @@ use Rattle.histories.specs.Kept.{Mounting}
 use Rattle.runs.specs.Reporting.{Moment, Report, own_commands, report_of}
 use Rattle.runs.specs.declared.attempt_at.AttemptAt.{AttemptAt}
 use Rattle.runs.specs.declared.outcome.Outcome.TheVariants as outcome
-use Rattle.runs.specs.declared.outcome.Refusal.{Refusal}
-use Rattle.runs.specs.declared.outcome.Refusal.TheVariants.{Node as OfNode}
+use Rattle.runs.specs.declared.outcome.ActRefusal.{ActRefusal}
+use Rattle.runs.specs.declared.outcome.ActRefusal.TheVariants.{Node as OfNode}
 use Rattle.runs.specs.World.{node_in, start}
 use Rattle.runs.specs.Step.{Step}
 use Rattle.runs.specs.Run.{world_at}
@@ -68,7 +68,7 @@ event_in r a = event_at a
 
 -- an act that is refused changes nothing: nothing is sent, no command is tried and no group given, and each node is as it was shown last
 abbrev pub RefusedChangesNothing : Type 0
-RefusedChangesNothing = (nodes slots : ℕ) (acts : List Act) (r : Report) (h : Headline nodes slots acts r) (k : ℕ) (m : Moment) (why : Refusal) →
+RefusedChangesNothing = (nodes slots : ℕ) (acts : List Act) (r : Report) (h : Headline nodes slots acts r) (k : ℕ) (m : Moment) (why : ActRefusal) →
     slice_get r.moments k ≡ Some m → m.outcome ≡ outcome.Refused why →
     (m.sent ≡ []) × ((report_within nodes (suc k) acts h.steps).commands ≡ (report_within nodes k acts h.steps).commands) × ((report_within nodes (suc k) acts h.steps).groups ≡ (report_within nodes k acts h.steps).groups)
     × ((n : ℕ) → n < nodes → last_state (report_within nodes (suc k) acts h.steps) n ≡ last_state (report_within nodes k acts h.steps) n)
@@ -216,6 +216,6 @@ first_moments k r = record r { moments = take k r.moments }
 abbrev pub DoneWasFinished : Type 0
 DoneWasFinished = (nodes slots : ℕ) (acts : List Act) (r : Report) (h : Headline nodes slots acts r) →
     (k : ℕ) (t : AttemptAt) (id : ℕ) → IsAmong t (report_within nodes k acts h.steps).commands → t.node < nodes → t.tried.command ≡ Done id →
-    (worker : ℕ) × (place : ℕ) × (m : Moment) × (place < k) × (worker ≢ t.node → suc place < k) × (slice_get r.moments place ≡ Some m) × (m.act ≡ act.Finish worker t.node id) × ((why : Refusal) → m.outcome ≢ outcome.Refused why)
+    (worker : ℕ) × (place : ℕ) × (m : Moment) × (place < k) × (worker ≢ t.node → suc place < k) × (slice_get r.moments place ≡ Some m) × (m.act ≡ act.Finish worker t.node id) × ((why : ActRefusal) → m.outcome ≢ outcome.Refused why)
     × ((s : State) × (job : InHand) × IsWorking (first_moments place r) worker s × IsAmong job s.hand × (job.origin ≡ t.node) × (job.id ≡ id) × (owner s job.work.queue ≡ worker)
     × WasPut (own_commands t.node (report_within nodes place acts h.steps).commands) id job.work)

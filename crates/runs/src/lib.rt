@@ -15,4 +15,4 @@ pub use laws::{
     jobs_have_one_worker, kept, left_by_a_run, no_strangers, number_is_a_fence,
     number_names_the_leader, numbers_are_new,
 };
-pub use outcome::{Outcome, Refusal};
+pub use outcome::{ActRefusal, Outcome};

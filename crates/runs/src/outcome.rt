@@ -1,5 +1,5 @@
 // What comes of an act.
-use node_core::Refusal as NodeRefusal;
+use node_core::Refusal;
 use sim_net::NetFault;
 use thiserror::Error;
 
@@ -14,16 +14,16 @@ pub enum Outcome {
         many: u64,
     },
     /// Nothing changed.
-    Refused(Refusal),
+    Refused(ActRefusal),
     /// The device failed, and the node is Down.
     Faulted,
 }
 
 /// Why an act was refused.
 #[derive(Clone, Copy, Debug, PartialEq, Eq, Error)]
-pub enum Refusal {
+pub enum ActRefusal {
     #[error(transparent)]
-    Node(NodeRefusal),
+    Node(Refusal),
     #[error(transparent)]
     Net(NetFault),
     /// It names a node outside the cluster.

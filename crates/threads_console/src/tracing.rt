@@ -5,7 +5,7 @@ ghost use Rattle.group_task.specs.declared.node.TheConstants.{NODES};
 ghost use Rattle.threads_console.specs.Texts.{log_claims, run_claims};
 
 use crate::writing::deed_of;
-use node_lock::{History as Turns, Sent};
+use node_lock::{Sent, TurnLog};
 use node_threads::Gathered;
 use std::alloc::{AllocError, Global};
 use trace_check::{History, Trace};
@@ -26,7 +26,7 @@ pub fn trace_of(alloc: Global, run: &Gathered) -> Result<Trace, AllocError>
 }
 
 /// The entries of the turns of a node.
-fn history_of(alloc: Global, turns: &Turns) -> Result<History, AllocError>
+fn history_of(alloc: Global, turns: &TurnLog) -> Result<History, AllocError>
     ensures { IfOk result (λ history. history ≡ log_claims turns.now) }
 {
     let mut history = History::new(alloc);

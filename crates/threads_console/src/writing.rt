@@ -14,7 +14,7 @@ use crate::ordering::order_of;
 use histories::HistoryEvent;
 use json::Writer;
 use node_core::Event;
-use node_lock::{History, Quiet, Sent};
+use node_lock::{Quiet, Sent, TurnLog};
 use node_threads::Gathered;
 use std::alloc::{AllocError, Global};
 use trace_check::{RecoverFault, TraceAction};
@@ -84,7 +84,7 @@ fn write_histories(
     alloc: Global,
     known: &Known,
     text: &mut Vec<u8>,
-    left: Vec<History>,
+    left: Vec<TurnLog>,
 ) -> Result<(), AllocError>
     requires { AreKnown known.now }
     ensures { OnOk result (text.new.items ++ 93 ∷ [] ≡ text.old.items ++ histories_text false left.items) }
@@ -104,7 +104,7 @@ fn write_history(
     known: &Known,
     text: &mut Vec<u8>,
     later: bool,
-    history: &History,
+    history: &TurnLog,
 ) -> Result<(), AllocError>
     requires { AreKnown known.now }
     ensures { OnOk result (text.new.items ≡ text.old.items ++ (comma_if later ++ compact_text (history_data (log_claims history.now)))) }
@@ -120,7 +120,7 @@ fn write_turns(
     alloc: Global,
     known: &Known,
     text: &mut Vec<u8>,
-    history: &History,
+    history: &TurnLog,
 ) -> Result<(), AllocError>
     requires { AreKnown known.now }
     ensures { OnOk result (text.new.items ++ 93 ∷ [] ≡ text.old.items ++ entries_text false history.now.turns) }
@@ -158,7 +158,7 @@ fn text_of(known: &Known, quiet: Quiet) -> &[u8]
 #[inline(never)]
 fn entry_text(
     alloc: Global,
-    history: &History,
+    history: &TurnLog,
     place: usize,
     mut room: Vec<u8>,
     event: &mut Event,
@@ -192,7 +192,7 @@ fn begin_done(alloc: Global, out: &mut Writer, event: &Event) -> Result<(), Allo
 #[inline(never)]
 fn other_text(
     alloc: Global,
-    history: &History,
+    history: &TurnLog,
     place: usize,
     mut room: Vec<u8>,
     spelled: &mut Vec<u8>,

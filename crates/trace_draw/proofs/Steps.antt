@@ -15,7 +15,7 @@ use Rattle.trace_check.specs.Claims.{Claim, brought_by}
 use Rattle.trace_check.specs.Followed.{before}
 use Rattle.trace_check.specs.Orders.{history, taken, IsLegal, IsSent}
 use Rattle.trace_check.proofs.PublicLaws.{before_more, may_take, none_past}
-use Rattle.trace_draw.specs.declared.turn.Source.{Source}
+use Rattle.trace_draw.specs.declared.turn.MessageSource.{MessageSource}
 use Rattle.trace_draw.specs.declared.step.Step.{Step}
 use Rattle.trace_draw.specs.Turns.{IsSourceAt, IsSourceOf, Takes, WasSent, sendings, sendings_of, sent_of}
 use Rattle.trace_draw.specs.Walks.{AreSteps, IsStepOf}
@@ -58,7 +58,7 @@ takes_one hs order turn n m c d one other =
     let same : m ≡ n = same_Some m n (sym other.node ∙ one.node) in
     same_Some c d (sym one.entry ∙ subst (λ (k : ℕ). slice_get (history hs k) (taken k (before order turn)) ≡ Some d) same other.entry)
 
-pub source_of_turn : (hs : List (List Claim)) (order : Order) (turn node : ℕ) (c : Claim) (source : Option Source) → Takes hs order.nodes.items turn node c → IsSourceOf hs order turn c source → IsSourceAt hs order turn source
+pub source_of_turn : (hs : List (List Claim)) (order : Order) (turn node : ℕ) (c : Claim) (source : Option MessageSource) → Takes hs order.nodes.items turn node c → IsSourceOf hs order turn c source → IsSourceAt hs order turn source
 source_of_turn hs order turn node c source takes is = λ n d other. subst (λ (e : Claim). IsSourceOf hs order turn e source) (takes_one hs order.nodes.items turn node n c d takes other) is
 
 event_brings_one : (e : Event) → length (brought (Some e)) ≤ 1

@@ -13,41 +13,41 @@ use Rattle.trace_text.specs.declared.fault.Location.{Location}
 use Rattle.trace_text.specs.Ordered.{Ordered, order_of, ordered_by}
 use Rattle.trace_text.specs.Wholes.{trace_of}
 use Rattle.trace_draw.specs.Judged.{bad_trace}
-use Rattle.trace_draw.specs.declared.drawing.Form.{Form}
-use Rattle.trace_draw.specs.declared.drawing.Form.TheVariants as form
+use Rattle.trace_draw.specs.declared.drawing.OutputFormat.{OutputFormat}
+use Rattle.trace_draw.specs.declared.drawing.OutputFormat.TheVariants as format
 use Rattle.trace_draw.specs.declared.turn.Plot.{Plot}
 use Rattle.trace_draw.specs.Page.{page_text}
 use Rattle.trace_draw.specs.Picture.{picture}
 use Rattle.trace_draw.specs.Turns.{IsPlot}
 
 -- what is drawn, as a picture or as a page
-abbrev pub drawn_as : Form → List (List Claim) → Plot → List Leftover → List ℕ
-drawn_as form.Picture hs p left = picture hs p left
-drawn_as form.Page hs p left = page_text hs p left
+abbrev pub drawn_as : OutputFormat → List (List Claim) → Plot → List Leftover → List ℕ
+drawn_as format.Picture hs p left = picture hs p left
+drawn_as format.Page hs p left = page_text hs p left
 
 -- the text shows the turns of this order, and the entries that are left
-pub record Shows (form : Form) (hs : List (List Claim)) (order : Order) (recorded : Bool) (left : List Leftover) (text : List ℕ) : Type 0 where
+pub record Shows (format : OutputFormat) (hs : List (List Claim)) (order : Order) (recorded : Bool) (left : List Leftover) (text : List ℕ) : Type 0 where
   pub plot : Plot
   pub is_plot : IsPlot hs order recorded plot
-  pub is_text : text ≡ drawn_as form hs plot left
+  pub is_text : text ≡ drawn_as format hs plot left
 
 -- all entries can be taken in this order
 abbrev pub IsRunIn : List (List Claim) → List ℕ → Type 0
 IsRunIn hs order = IsLegal hs (reverse order) × IsComplete hs (reverse order)
 
 -- the run that was recorded is drawn, in the order and with the messages' numbers that the record gives
-pub record DrawsRecorded (form : Form) (hs : List (List Claim)) (given : Ordered) (outcome : Outcome) : Type 0 where
+pub record DrawsRecorded (format : OutputFormat) (hs : List (List Claim)) (given : Ordered) (outcome : Outcome) : Type 0 where
   pub order : Order
   pub is_order : ordered_by order ≡ given
   pub good : outcome.good ≡ true
-  pub shows : Shows form hs order true [] outcome.text
+  pub shows : Shows format hs order true [] outcome.text
 
 abbrev pub is_run : Verdict → Bool
 is_run (Run order) = true
 is_run (NotARun node index) = false
 
 -- what can be taken is drawn, in the order that the checker takes it, and what is left
-pub record DrawsTaken (form : Form) (hs : List (List Claim)) (outcome : Outcome) : Type 0 where
+pub record DrawsTaken (format : OutputFormat) (hs : List (List Claim)) (outcome : Outcome) : Type 0 where
   pub verdict : Verdict
   pub order : Order
   pub left : List Leftover
@@ -57,16 +57,16 @@ pub record DrawsTaken (form : Form) (hs : List (List Claim)) (outcome : Outcome)
   pub unnumbered : order.messages.items ≡ []
   pub are_left : AreLeftovers hs left
   pub good : outcome.good ≡ is_run verdict
-  pub shows : Shows form hs order false left outcome.text
+  pub shows : Shows format hs order false left outcome.text
 
 -- the order that the text gives is drawn where all entries can be taken in it, and only there
-abbrev pub IsDrawing : Form → List (List Claim) → Option Ordered → Outcome → Type 0
-IsDrawing form hs None outcome = DrawsTaken form hs outcome
-IsDrawing form hs (Some given) outcome = (IsRunIn hs given.0 × DrawsRecorded form hs given outcome) ⊎ ((IsRunIn hs given.0 → ⊥) × DrawsTaken form hs outcome)
+abbrev pub IsDrawing : OutputFormat → List (List Claim) → Option Ordered → Outcome → Type 0
+IsDrawing format hs None outcome = DrawsTaken format hs outcome
+IsDrawing format hs (Some given) outcome = (IsRunIn hs given.0 × DrawsRecorded format hs given outcome) ⊎ ((IsRunIn hs given.0 → ⊥) × DrawsTaken format hs outcome)
 
-abbrev pub IsDrawnBy : Form → Option Ordered → Result (List (List Claim)) (Option Location) → Outcome → Type 0
-IsDrawnBy form given (Ok hs) outcome = IsDrawing form hs given outcome
-IsDrawnBy form given (Err location) outcome = outcome ≡ refused (bad_trace location)
+abbrev pub IsDrawnBy : OutputFormat → Option Ordered → Result (List (List Claim)) (Option Location) → Outcome → Type 0
+IsDrawnBy format given (Ok hs) outcome = IsDrawing format hs given outcome
+IsDrawnBy format given (Err location) outcome = outcome ≡ refused (bad_trace location)
 
-abbrev pub IsDrawn : Form → List ℕ → Outcome → Type 0
-IsDrawn form text outcome = IsDrawnBy form (order_of text) (trace_of text) outcome
+abbrev pub IsDrawn : OutputFormat → List ℕ → Outcome → Type 0
+IsDrawn format text outcome = IsDrawnBy format (order_of text) (trace_of text) outcome

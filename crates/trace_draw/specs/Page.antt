@@ -6,8 +6,8 @@ use Rattle.trace_check.specs.Claims.{Claim, brought_by}
 use Rattle.trace_check.specs.declared.leftover.Leftover.{Leftover}
 use Rattle.trace_text.specs.Written.{deed_name}
 use Rattle.trace_draw.specs.Reported.{leftover_text, message_text as message_hex}
-use Rattle.trace_draw.specs.declared.turn.Source.{Source}
-use Rattle.trace_draw.specs.declared.turn.Turn.{Turn}
+use Rattle.trace_draw.specs.declared.turn.MessageSource.{MessageSource}
+use Rattle.trace_draw.specs.declared.turn.DrawnTurn.{DrawnTurn}
 use Rattle.trace_draw.specs.declared.turn.Stand.{Stand}
 use Rattle.trace_draw.specs.declared.turn.Stay.{Stay}
 use Rattle.trace_draw.specs.declared.turn.Plot.{Plot}
@@ -21,17 +21,17 @@ use Rattle.trace_draw.specs.Picture.{order_said}
 -- ---- a turn, as an array: node, index, look, deed, the turn that sent what it was brought and whether that is sure, the message in words and
 -- in hex digits, and the nodes for which it sent what no turn was brought
 
-unfoldable pub place_data : Turn → List ℕ
+unfoldable pub place_data : DrawnTurn → List ℕ
 place_data t = codes "[" ++ decimal t.at.node ++ codes "," ++ decimal t.index
 
-unfoldable pub deed_data : Turn → List ℕ
+unfoldable pub deed_data : DrawnTurn → List ℕ
 deed_data t = codes ",\"" ++ look t.deed ++ codes "\",\"" ++ deed_name t.deed ++ codes "\","
 
 abbrev pub sure_data : Bool → List ℕ
 sure_data true = codes ",1,\""
 sure_data false = codes ",0,\""
 
-abbrev pub source_data : Option Source → List ℕ
+abbrev pub source_data : Option MessageSource → List ℕ
 source_data None = codes "-1,1,\""
 source_data (Some from) = decimal from.at.turn ++ sure_data from.sure
 
@@ -39,10 +39,10 @@ abbrev pub message_data : List Envelope → List ℕ
 message_data [] = codes "\",\"\",\""
 message_data (m ∷ ms) = message_text m ++ codes "\",\"" ++ message_hex m ++ codes "\",\""
 
-unfoldable pub end_data : Turn → List ℕ
+unfoldable pub end_data : DrawnTurn → List ℕ
 end_data t = message_data (brought_by t.deed) ++ ids_text t.untaken ++ codes "\"],\n"
 
-unfoldable pub turn_data : Turn → List ℕ
+unfoldable pub turn_data : DrawnTurn → List ℕ
 turn_data t = place_data t ++ deed_data t ++ source_data t.from ++ end_data t
 
 -- ---- a stay, as an array: node, the turns from which and until which, phase, group, coordinator, members; none of a node that is down
@@ -73,7 +73,7 @@ left_item hs left = codes "<li data-node=\"" ++ decimal left.node ++ codes "\">"
 
 -- ---- the whole
 
-abbrev pub turns_data : List Turn → List ℕ
+abbrev pub turns_data : List DrawnTurn → List ℕ
 turns_data turns = flat_map turn_data turns
 
 abbrev pub stays_data : List Stay → List ℕ
@@ -83,7 +83,7 @@ abbrev pub left_items : List (List Claim) → List Leftover → List ℕ
 left_items hs left = flat_map (left_item hs) left
 
 -- how many nodes there are, and the arrays, each with null behind its last item
-unfoldable pub run_data : ℕ → List Turn → List ℕ
+unfoldable pub run_data : ℕ → List DrawnTurn → List ℕ
 run_data nodes turns = codes "{\"nodes\":" ++ decimal nodes ++ codes ",\"turns\":[\n" ++ turns_data turns ++ codes "null],\"stays\":[\n"
 
 unfoldable pub data_drawn : ℕ → Plot → List ℕ

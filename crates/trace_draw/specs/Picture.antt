@@ -3,7 +3,7 @@ use Rattle.std.specs.Prelude.{ℕ, zero, suc, ◌/◌, max, Bool, true, false, L
 use Rattle.std.specs.List.{flat_map}
 use Rattle.trace_check.specs.Claims.{Claim}
 use Rattle.trace_check.specs.declared.leftover.Leftover.{Leftover}
-use Rattle.trace_draw.specs.declared.turn.Turn.{Turn}
+use Rattle.trace_draw.specs.declared.turn.DrawnTurn.{DrawnTurn}
 use Rattle.trace_draw.specs.declared.turn.Plot.{Plot}
 use Rattle.trace_draw.specs.declared.style.TheConstants.{STYLE, LEGEND, RECORDED, POSSIBLE, LEFT}
 use Rattle.trace_draw.specs.Bands.{bands}
@@ -37,10 +37,10 @@ abbrev pub names_below : ℕ → ℕ → List ℕ
 names_below turns zero = []
 names_below turns (suc node) = names_below turns node ++ name node ++ names_again node (turns / 40)
 
-abbrev pub arrows : List Turn → List ℕ
+abbrev pub arrows : List DrawnTurn → List ℕ
 arrows turns = flat_map arrow turns
 
-abbrev pub marks : List Turn → List ℕ
+abbrev pub marks : List DrawnTurn → List ℕ
 marks turns = flat_map (mark (are_few (length turns))) turns
 
 abbrev pub all_left : List (List Claim) → ℕ → List Leftover → List ℕ

@@ -12,8 +12,8 @@ use Rattle.trace_check.specs.declared.leftover.Leftover.{Leftover}
 use Rattle.trace_text.specs.Written.{deed_name}
 use Rattle.trace_draw.specs.Reported.{leftover_text}
 use Rattle.trace_draw.specs.declared.turn.Point.{Point}
-use Rattle.trace_draw.specs.declared.turn.Source.{Source}
-use Rattle.trace_draw.specs.declared.turn.Turn.{Turn}
+use Rattle.trace_draw.specs.declared.turn.MessageSource.{MessageSource}
+use Rattle.trace_draw.specs.declared.turn.DrawnTurn.{DrawnTurn}
 use Rattle.node_words.specs.Words.{ids_text}
 use Rattle.trace_draw.specs.Labels.{kind_text, message_text}
 use Rattle.trace_draw.specs.Places.{across, below, down, place}
@@ -36,10 +36,10 @@ cross d = []
 unfoldable pub sign : TraceAction → List ℕ
 sign d = codes "<circle r=\"4\" class=\"" ++ look d ++ codes "\"/>" ++ cross d
 
-unfoldable pub entry_place : Turn → List ℕ
+unfoldable pub entry_place : DrawnTurn → List ℕ
 entry_place t = codes "<title>turn " ++ decimal t.at.turn ++ codes ": node " ++ decimal t.at.node
 
-unfoldable pub entry_text : Turn → List ℕ
+unfoldable pub entry_text : DrawnTurn → List ℕ
 entry_text t = codes ", entry " ++ decimal t.index ++ codes ": " ++ deed_name t.deed ++ codes "</title>"
 
 abbrev pub event_word : Event → List ℕ
@@ -72,10 +72,10 @@ kind_labels ms = flat_map kind_label ms
 unfoldable pub number_label : ℕ → List ℕ
 number_label index = codes "<text x=\"-3\" y=\"14\" class=\"entry\">" ++ decimal index ++ codes "</text>"
 
-unfoldable pub words_by : Turn → List ℕ
+unfoldable pub words_by : DrawnTurn → List ℕ
 words_by t = number_label t.index ++ label (word t.deed) ++ kind_labels (brought_by t.deed)
 
-abbrev pub words_at : Bool → Turn → List ℕ
+abbrev pub words_at : Bool → DrawnTurn → List ℕ
 words_at true t = words_by t
 words_at false t = []
 
@@ -87,10 +87,10 @@ abbrev pub stub : List ℕ → List ℕ
 stub [] = []
 stub (id ∷ ids) = stub_of (id ∷ ids)
 
-unfoldable pub mark_parts : Bool → Turn → List ℕ
+unfoldable pub mark_parts : Bool → DrawnTurn → List ℕ
 mark_parts few t = entry_place t ++ entry_text t ++ sign t.deed ++ words_at few t ++ stub t.untaken
 
-unfoldable pub mark : Bool → Turn → List ℕ
+unfoldable pub mark : Bool → DrawnTurn → List ℕ
 mark few t = codes "<g transform=\"translate(" ++ place t.at ++ codes ")\">" ++ mark_parts few t ++ codes "</g>\n"
 
 -- ---- a message
@@ -104,17 +104,17 @@ doubt true = []
 doubt false = codes ", perhaps from another turn"
 
 -- from the turn that sent it to the one that was brought it
-unfoldable pub arrow_path : Source → Point → List ℕ
+unfoldable pub arrow_path : MessageSource → Point → List ℕ
 arrow_path from to = codes "\" d=\"M" ++ place from.at ++ codes "L" ++ place to ++ codes "\"><title>"
 
-unfoldable pub arrow_of : Source → Point → List Envelope → List ℕ
+unfoldable pub arrow_of : MessageSource → Point → List Envelope → List ℕ
 arrow_of from to ms = codes "<path class=\"" ++ arrow_class from.sure ++ arrow_path from to ++ flat_map message_text ms ++ doubt from.sure
 
-abbrev pub arrow_from : Option Source → Point → List Envelope → List ℕ
+abbrev pub arrow_from : Option MessageSource → Point → List Envelope → List ℕ
 arrow_from None to ms = []
 arrow_from (Some from) to ms = arrow_of from to ms ++ codes "</title></path>\n"
 
-unfoldable pub arrow : Turn → List ℕ
+unfoldable pub arrow : DrawnTurn → List ℕ
 arrow t = arrow_from t.from t.at (brought_by t.deed)
 
 -- ---- an entry that is left, behind the last turn

@@ -10,8 +10,8 @@ use Rattle.trace_check.specs.Orders.{history, taken}
 use Rattle.trace_draw.specs.declared.mail.Sending.{Sending}
 use Rattle.trace_draw.specs.declared.turn.Plot.{Plot}
 use Rattle.trace_draw.specs.declared.turn.Point.{Point}
-use Rattle.trace_draw.specs.declared.turn.Source.{Source}
-use Rattle.trace_draw.specs.declared.turn.Turn.{Turn}
+use Rattle.trace_draw.specs.declared.turn.MessageSource.{MessageSource}
+use Rattle.trace_draw.specs.declared.turn.DrawnTurn.{DrawnTurn}
 use Rattle.trace_draw.specs.Stays.{AreStays}
 
 -- the turn of this number takes this entry of this node
@@ -71,23 +71,23 @@ sent_in hs = flat_map sent_by hs
 abbrev pub IsSole : List Envelope → Envelope → Type 0
 IsSole ms m = (j k : ℕ) → slice_get ms j ≡ Some m → slice_get ms k ≡ Some m → j ≡ k
 
-abbrev pub source_at : Sending → Bool → Source
+abbrev pub source_at : Sending → Bool → MessageSource
 source_at s sure = record { at = s.at; place = s.place; sure = sure }
 
 -- The last sending of the message. It is sure where no two of these are the same: one that stands later in the order may have been the one
 -- that came, since clocks may have put it there, and so may one of an entry that is left.
-pub record IsLastSource (said : List Envelope) (all : List Sending) (m : Envelope) (source : Source) : Type 0 where
+pub record IsLastSource (said : List Envelope) (all : List Sending) (m : Envelope) (source : MessageSource) : Type 0 where
   pub number : ℕ
   pub is : IsLast all m number
   pub at : source ≡ source_at is.sending source.sure
   pub sole : IsTrue source.sure ↔ IsSole said m
 
 -- the sending that the record names, where it is one of the message, and sure; else the last one
-abbrev pub IsSource : List Envelope → List Sending → Envelope → Option ℕ → Source → Type 0
+abbrev pub IsSource : List Envelope → List Sending → Envelope → Option ℕ → MessageSource → Type 0
 IsSource said all m named source = ((is : IsNamed all m named) × (source ≡ source_at is.sending true)) ⊎ ((IsNamed all m named → ⊥) × IsLastSource said all m source)
 
 -- where the message that was brought comes from, if one was
-abbrev pub ComeFrom : List Envelope → List Sending → List Envelope → Option ℕ → Option Source → Type 0
+abbrev pub ComeFrom : List Envelope → List Sending → List Envelope → Option ℕ → Option MessageSource → Type 0
 ComeFrom said all ms named None = ms ≡ []
 ComeFrom said all ms named (Some source) = (m : Envelope) × (ms ≡ m ∷ []) × IsSource said all m named source
 
@@ -100,46 +100,46 @@ abbrev pub named_at : List (Option ℕ) → ℕ → Option ℕ
 named_at messages number = named_by (slice_get messages number)
 
 -- of the turn of this number: only what was sent before it can have been brought
-abbrev pub IsSourceOf : List (List Claim) → Order → ℕ → Claim → Option Source → Type 0
+abbrev pub IsSourceOf : List (List Claim) → Order → ℕ → Claim → Option MessageSource → Type 0
 IsSourceOf hs order number c source = ComeFrom (sent_in hs) (sendings hs (before order.nodes.items number)) (brought_by c.deed) (named_at order.messages.items number) source
 
-abbrev pub IsSourceAt : List (List Claim) → Order → ℕ → Option Source → Type 0
+abbrev pub IsSourceAt : List (List Claim) → Order → ℕ → Option MessageSource → Type 0
 IsSourceAt hs order number source = (n : ℕ) (c : Claim) → Takes hs order.nodes.items number n c → IsSourceOf hs order number c source
 
-abbrev pub AreSources : List (List Claim) → Order → List (Option Source) → Type 0
-AreSources hs order sources = (length sources ≡ length order.nodes.items) × ((k : ℕ) (source : Option Source) → slice_get sources k ≡ Some source → IsSourceAt hs order k source)
+abbrev pub AreSources : List (List Claim) → Order → List (Option MessageSource) → Type 0
+AreSources hs order sources = (length sources ≡ length order.nodes.items) × ((k : ℕ) (source : Option MessageSource) → slice_get sources k ≡ Some source → IsSourceAt hs order k source)
 
 -- ---- what was never brought
 
 -- some turn was brought the message that this turn sent at this place of its messages
-pub record IsTaken (sources : List (Option Source)) (number place : ℕ) : Type 0 where
+pub record IsTaken (sources : List (Option MessageSource)) (number place : ℕ) : Type 0 where
   pub later : ℕ
-  pub source : Source
+  pub source : MessageSource
   pub brought : slice_get sources later ≡ Some (Some source)
   pub turn : source.at.turn ≡ number
   pub place_is : source.place ≡ place
 
 -- of these messages, sent by the turn of this number, one for this node was never brought
-pub record IsLeft (sources : List (Option Source)) (number : ℕ) (sent : List Envelope) (n : ℕ) : Type 0 where
+pub record IsLeft (sources : List (Option MessageSource)) (number : ℕ) (sent : List Envelope) (n : ℕ) : Type 0 where
   pub place : ℕ
   pub message : Envelope
   pub at : slice_get sent place ≡ Some message
   pub receiver : message.receiver ≡ n
   pub untaken : IsTaken sources number place → ⊥
 
-abbrev pub AreLeft : List (Option Source) → ℕ → List Envelope → List ℕ → Type 0
+abbrev pub AreLeft : List (Option MessageSource) → ℕ → List Envelope → List ℕ → Type 0
 AreLeft sources number sent ids = (n : ℕ) → (has ids n ≡ true) ↔ IsLeft sources number sent n
 
-abbrev pub AreLeftAt : List (List Claim) → List ℕ → List (Option Source) → ℕ → List ℕ → Type 0
+abbrev pub AreLeftAt : List (List Claim) → List ℕ → List (Option MessageSource) → ℕ → List ℕ → Type 0
 AreLeftAt hs order sources number ids = (n : ℕ) (c : Claim) → Takes hs order number n c → AreLeft sources number c.sent ids
 
-abbrev pub AreUntaken : List (List Claim) → List ℕ → List (Option Source) → List (List ℕ) → Type 0
+abbrev pub AreUntaken : List (List Claim) → List ℕ → List (Option MessageSource) → List (List ℕ) → Type 0
 AreUntaken hs order sources all = (length all ≡ length order) × ((k : ℕ) (ids : List ℕ) → slice_get all k ≡ Some ids → AreLeftAt hs order sources k ids)
 
 -- ---- turns
 
 -- what is drawn of the turn of this number, which takes this entry, where the turns have these sources
-pub record IsTurnOf (hs : List (List Claim)) (order : Order) (sources : List (Option Source)) (number : ℕ) (c : Claim) (t : Turn) : Type 0 where
+pub record IsTurnOf (hs : List (List Claim)) (order : Order) (sources : List (Option MessageSource)) (number : ℕ) (c : Claim) (t : DrawnTurn) : Type 0 where
   pub takes : Takes hs order.nodes.items number t.at.node c
   pub number_is : t.at.turn ≡ number
   pub index : t.index ≡ taken t.at.node (before order.nodes.items number)
@@ -147,15 +147,15 @@ pub record IsTurnOf (hs : List (List Claim)) (order : Order) (sources : List (Op
   pub from : IsSourceOf hs order number c t.from
   pub untaken : AreLeft sources number c.sent t.untaken
 
-abbrev pub IsTurn : List (List Claim) → Order → List (Option Source) → ℕ → Turn → Type 0
+abbrev pub IsTurn : List (List Claim) → Order → List (Option MessageSource) → ℕ → DrawnTurn → Type 0
 IsTurn hs order sources number t = (c : Claim) × IsTurnOf hs order sources number c t
 
-abbrev pub sources_of : List Turn → List (Option Source)
-sources_of turns = map (λ (t : Turn). t.from) turns
+abbrev pub sources_of : List DrawnTurn → List (Option MessageSource)
+sources_of turns = map (λ (t : DrawnTurn). t.from) turns
 
 -- each turn of the order is drawn, in its place
-abbrev pub AreTurns : List (List Claim) → Order → List Turn → Type 0
-AreTurns hs order turns = (length turns ≡ length order.nodes.items) × ((k : ℕ) (t : Turn) → slice_get turns k ≡ Some t → IsTurn hs order (sources_of turns) k t)
+abbrev pub AreTurns : List (List Claim) → Order → List DrawnTurn → Type 0
+AreTurns hs order turns = (length turns ≡ length order.nodes.items) × ((k : ℕ) (t : DrawnTurn) → slice_get turns k ≡ Some t → IsTurn hs order (sources_of turns) k t)
 
 pub record IsPlot (hs : List (List Claim)) (order : Order) (recorded : Bool) (p : Plot) : Type 0 where
   pub turns : AreTurns hs order p.turns.items

@@ -19,7 +19,7 @@ use trace_text::{TraceFault, read, read_order};
 
 /// As what a run is drawn.
 #[derive(Clone, Copy, Debug, PartialEq, Eq)]
-pub enum Form {
+pub enum OutputFormat {
     /// An SVG.
     Picture,
     /// A page of HTML, which scrolls and zooms.
@@ -31,7 +31,7 @@ pub enum Form {
 /// on are then those of `trace`. A text that is no trace is answered as `trace` does.
 pub fn draw<R: Read, W: Write>(
     alloc: Global,
-    form: Form,
+    format: OutputFormat,
     input: &mut Source<R>,
     output: &mut W,
 ) -> Ended
@@ -49,26 +49,26 @@ pub fn draw<R: Read, W: Write>(
     // Refuses: taken_message_marked.
     // Promise: Of a trace that is no run what can be taken is drawn, and each entry that is left, and `draw` ends as `trace` does.
     // Refuses: no_run_drawn_as_a_run, nothing_is_left.
-    ensures prints { Prints (IsDrawn form) (R.remaining input.old.reader) (W.contents output.old) (W.contents output.new) result.ending }
+    ensures prints { Prints (IsDrawn format) (R.remaining input.old.reader) (W.contents output.old) (W.contents output.new) result.ending }
     ensures why { IsTold (R.remaining input.old.reader) result.ending result.why.items }
     ensures reads { input.old.left ≤ input.new.left + 16777216 }
 {
     let outcome = match read_source(alloc, input) {
-        Ok(bytes) => draw_text(alloc, form, &bytes).map_err(IoTrouble::from),
+        Ok(bytes) => draw_text(alloc, format, &bytes).map_err(IoTrouble::from),
         Err(trouble) => Err(trouble),
     };
     print_explained(alloc, output, outcome)
 }
 
 /// What `draw` prints for an input, and what it says of it.
-fn draw_text(alloc: Global, form: Form, text: &[u8]) -> Result<CommandError, AllocError>
-    ensures printed { IfOk result (λ explained. IsDrawn form text.now (outcome_of explained.printout)) }
+fn draw_text(alloc: Global, format: OutputFormat, text: &[u8]) -> Result<CommandError, AllocError>
+    ensures printed { IfOk result (λ explained. IsDrawn format text.now (outcome_of explained.printout)) }
     ensures why { IfOk result (λ explained. IsReported text.now explained.why.items) }
 {
     match read(alloc, text) {
         Ok(trace) => {
             let order = read_order(alloc, text)?;
-            draw_trace(alloc, form, &trace, &order)
+            draw_trace(alloc, format, &trace, &order)
         }
         Err(TraceFault::BadTrace(location)) => {
             let printout = bad_printout(alloc, location)?;
@@ -81,32 +81,32 @@ fn draw_text(alloc: Global, form: Form, text: &[u8]) -> Result<CommandError, All
 /// What is drawn of a trace beside which this order stands.
 fn draw_trace(
     alloc: Global,
-    form: Form,
+    format: OutputFormat,
     trace: &Trace,
     order: &Option<Order>,
 ) -> Result<CommandError, AllocError>
-    ensures printed { IfOk result (λ explained. IsDrawing form trace.now (option_map ordered_by order.now) (outcome_of explained.printout)) }
+    ensures printed { IfOk result (λ explained. IsDrawing format trace.now (option_map ordered_by order.now) (outcome_of explained.printout)) }
     ensures why { IfOk result (λ explained. IsReport trace.now explained.why.items) }
 {
     let Some(order) = order else {
-        return draw_taken(alloc, form, trace);
+        return draw_taken(alloc, format, trace);
     };
     if is_order(alloc, trace, &order.nodes)? {
-        draw_recorded(alloc, form, trace, order)
+        draw_recorded(alloc, format, trace, order)
     } else {
-        draw_taken(alloc, form, trace)
+        draw_taken(alloc, format, trace)
     }
 }
 
 /// The run that was recorded.
 fn draw_recorded(
     alloc: Global,
-    form: Form,
+    format: OutputFormat,
     trace: &Trace,
     order: &Order,
 ) -> Result<CommandError, AllocError>
     requires { IsRunIn trace.now order.now.nodes.items }
-    ensures printed { IfOk result (λ explained. DrawsRecorded form trace.now (ordered_by order.now) (outcome_of explained.printout)) }
+    ensures printed { IfOk result (λ explained. DrawsRecorded format trace.now (ordered_by order.now) (outcome_of explained.printout)) }
     ensures why { IfOk result (λ explained. IsReport trace.now explained.why.items) }
 {
     let plot = plot(alloc, trace, order, true)?;
@@ -115,14 +115,18 @@ fn draw_recorded(
         plot: &plot,
         left: &[],
     };
-    let text = drawn_as(alloc, form, &drawing)?;
+    let text = drawn_as(alloc, format, &drawing)?;
     let printout = Output { text, good: true };
     Ok(printout.without_why(alloc))
 }
 
 /// What can be taken, and what is left.
-fn draw_taken(alloc: Global, form: Form, trace: &Trace) -> Result<CommandError, AllocError>
-    ensures printed { IfOk result (λ explained. DrawsTaken form trace.now (outcome_of explained.printout)) }
+fn draw_taken(
+    alloc: Global,
+    format: OutputFormat,
+    trace: &Trace,
+) -> Result<CommandError, AllocError>
+    ensures printed { IfOk result (λ explained. DrawsTaken format trace.now (outcome_of explained.printout)) }
     ensures why { IfOk result (λ explained. IsReport trace.now explained.why.items) }
 {
     let Examined {
@@ -140,7 +144,7 @@ fn draw_taken(alloc: Global, form: Form, trace: &Trace) -> Result<CommandError, 
         plot: &plot,
         left: &left,
     };
-    let text = drawn_as(alloc, form, &drawing)?;
+    let text = drawn_as(alloc, format, &drawing)?;
     let why = report(alloc, trace, &left)?;
     let good = is_run(&verdict);
     Ok(CommandError {
@@ -160,11 +164,15 @@ fn is_run(verdict: &Verdict) -> bool
 }
 
 /// The picture or the page.
-fn drawn_as(alloc: Global, form: Form, drawing: &Drawing<'_>) -> Result<Vec<u8>, AllocError>
-    ensures { IfOk result (λ text. text.items ≡ drawn_as form drawing.now.trace.now drawing.now.plot.now drawing.now.left.now) }
+fn drawn_as(
+    alloc: Global,
+    format: OutputFormat,
+    drawing: &Drawing<'_>,
+) -> Result<Vec<u8>, AllocError>
+    ensures { IfOk result (λ text. text.items ≡ drawn_as format drawing.now.trace.now drawing.now.plot.now drawing.now.left.now) }
 {
-    match form {
-        Form::Picture => picture(alloc, drawing),
-        Form::Page => page(alloc, drawing),
+    match format {
+        OutputFormat::Picture => picture(alloc, drawing),
+        OutputFormat::Page => page(alloc, drawing),
     }
 }

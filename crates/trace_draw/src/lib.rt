@@ -28,10 +28,10 @@ mod turns;
 mod untaken;
 mod walk;
 
-pub use drawing::{Form, draw};
+pub use drawing::{OutputFormat, draw};
 pub use files::{TraceFile, trace_files};
 pub use judging::{Stage, trace};
 pub use paging::page;
 pub use svg::picture;
-pub use turn::{Drawing, Plot, Point, Source, Stand, Stay, Turn};
+pub use turn::{Drawing, DrawnTurn, MessageSource, Plot, Point, Stand, Stay};
 pub use turns::plot;

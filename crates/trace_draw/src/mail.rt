@@ -10,7 +10,7 @@ ghost use Rattle.trace_draw.specs.Walks.{AreSteps};
 
 use crate::step::Step;
 use crate::tally::{Tally, count_trace, is_sole};
-use crate::turn::{Point, Source};
+use crate::turn::{MessageSource, Point};
 use message_list::LentMessage;
 use std::alloc::{AllocError, Global};
 use std::collections::HashMap;
@@ -38,7 +38,7 @@ pub(crate) fn sources(
     trace: &Trace,
     order: &Order,
     steps: &[Step],
-) -> Result<Vec<Option<Source>>, AllocError>
+) -> Result<Vec<Option<MessageSource>>, AllocError>
     requires legal { IsLegal trace.now (reverse order.now.nodes.items) }
     requires steps { AreSteps trace.now order.now.nodes.items steps.now }
     ensures { IfOk result (λ sources. AreSources trace.now order.now sources.items) }
@@ -64,7 +64,7 @@ fn take_turn<'a>(
     tally: &Tally<'_>,
     turn: usize,
     mail: &mut Mail<'a>,
-) -> Result<Option<Source>, AllocError>
+) -> Result<Option<MessageSource>, AllocError>
     requires within { turn < length steps.now }
     requires legal { IsLegal trace.now (reverse order.now.nodes.items) }
     requires steps { AreSteps trace.now order.now.nodes.items steps.now }
@@ -102,7 +102,7 @@ fn find(
     tally: &Tally<'_>,
     brought: &Sent<'_>,
     named: Option<u64>,
-) -> Option<Source>
+) -> Option<MessageSource>
     requires few { length brought.now ≤ 1 }
     requires latest { AreLatest mail.now.sendings.items mail.now.latest }
     requires sent { (m : Envelope) → brought.now ≡ m ∷ [] → WasSent mail.now.sendings.items m }
@@ -116,14 +116,18 @@ fn find(
 }
 
 /// The sending that the record names, where it is one of this message.
-fn named_source(mail: &Mail<'_>, message: &LentMessage<'_>, named: Option<u64>) -> Option<Source>
+fn named_source(
+    mail: &Mail<'_>,
+    message: &LentMessage<'_>,
+    named: Option<u64>,
+) -> Option<MessageSource>
     ensures { MatchOption result (IsNamed mail.now.sendings.items message.now named → ⊥)
         (λ source. (is : IsNamed mail.now.sendings.items message.now named) × (source ≡ source_at is.sending true)) }
 {
     let number = named?;
     let sending = mail.sendings.get(number as usize)?;
     if is_same(&sending.message, message) {
-        Some(Source {
+        Some(MessageSource {
             at: sending.at,
             place: sending.place,
             sure: true,
@@ -141,7 +145,7 @@ fn is_same(message: &LentMessage<'_>, other: &LentMessage<'_>) -> bool
 }
 
 /// The last sending of the message, which is sure where it was sent once in all.
-fn last_source(mail: &Mail<'_>, tally: &Tally<'_>, message: &LentMessage<'_>) -> Source
+fn last_source(mail: &Mail<'_>, tally: &Tally<'_>, message: &LentMessage<'_>) -> MessageSource
     requires latest { AreLatest mail.now.sendings.items mail.now.latest }
     requires sent { WasSent mail.now.sendings.items message.now }
     ensures { (said : List Envelope) → IsTally said tally.now → IsLastSource said mail.now.sendings.items message.now result }
@@ -150,7 +154,7 @@ fn last_source(mail: &Mail<'_>, tally: &Tally<'_>, message: &LentMessage<'_>) ->
         unreachable!()
     };
     let sending = &mail.sendings[*number];
-    Source {
+    MessageSource {
         at: sending.at,
         place: sending.place,
         sure: is_sole(tally, message),

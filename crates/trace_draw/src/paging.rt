@@ -11,7 +11,7 @@ use crate::script::{HEAD, LIST, SCRIPT, TOOLS};
 use crate::signs::look;
 use crate::style::{LEGEND, STYLE};
 use crate::svg::push_order;
-use crate::turn::{Drawing, Plot, Source, Stand, Stay, Turn};
+use crate::turn::{Drawing, DrawnTurn, MessageSource, Plot, Stand, Stay};
 use console_text::{push_number, push_text};
 use node_words::{phase_word, push_group, push_ids};
 use std::alloc::{AllocError, Global};
@@ -86,7 +86,12 @@ fn push_data(alloc: Global, text: &mut Vec<u8>, nodes: u8, plot: &Plot) -> Resul
 }
 
 #[tactic(auto, unfolding(crate::specs::Page::run_data))]
-fn push_run(alloc: Global, text: &mut Vec<u8>, nodes: u8, turns: &[Turn]) -> Result<(), AllocError>
+fn push_run(
+    alloc: Global,
+    text: &mut Vec<u8>,
+    nodes: u8,
+    turns: &[DrawnTurn],
+) -> Result<(), AllocError>
     ensures { OnOk result (text.new.items ≡ text.old.items ++ run_data nodes turns.now) }
 {
     push_text(text, "{\"nodes\":")?;
@@ -103,7 +108,7 @@ fn push_nodes(text: &mut Vec<u8>, nodes: u8) -> Result<(), AllocError>
     push_number(text, u64::from(nodes))
 }
 
-fn push_turns(alloc: Global, text: &mut Vec<u8>, turns: &[Turn]) -> Result<(), AllocError>
+fn push_turns(alloc: Global, text: &mut Vec<u8>, turns: &[DrawnTurn]) -> Result<(), AllocError>
     ensures { OnOk result (text.new.items ≡ text.old.items ++ turns_data turns.now) }
 {
     for turn in turns {
@@ -113,7 +118,7 @@ fn push_turns(alloc: Global, text: &mut Vec<u8>, turns: &[Turn]) -> Result<(), A
 }
 
 #[tactic(auto, unfolding(crate::specs::Page::turn_data))]
-fn push_turn(alloc: Global, text: &mut Vec<u8>, turn: &Turn) -> Result<(), AllocError>
+fn push_turn(alloc: Global, text: &mut Vec<u8>, turn: &DrawnTurn) -> Result<(), AllocError>
     ensures { OnOk result (text.new.items ≡ text.old.items ++ turn_data turn.now) }
 {
     push_place(text, turn)?;
@@ -123,7 +128,7 @@ fn push_turn(alloc: Global, text: &mut Vec<u8>, turn: &Turn) -> Result<(), Alloc
 }
 
 #[tactic(auto, unfolding(crate::specs::Page::place_data))]
-fn push_place(text: &mut Vec<u8>, turn: &Turn) -> Result<(), AllocError>
+fn push_place(text: &mut Vec<u8>, turn: &DrawnTurn) -> Result<(), AllocError>
     ensures { OnOk result (text.new.items ≡ text.old.items ++ place_data turn.now) }
 {
     push_text(text, "[")?;
@@ -133,7 +138,7 @@ fn push_place(text: &mut Vec<u8>, turn: &Turn) -> Result<(), AllocError>
 }
 
 #[tactic(auto, unfolding(crate::specs::Page::deed_data))]
-fn push_deed(text: &mut Vec<u8>, turn: &Turn) -> Result<(), AllocError>
+fn push_deed(text: &mut Vec<u8>, turn: &DrawnTurn) -> Result<(), AllocError>
     ensures { OnOk result (text.new.items ≡ text.old.items ++ deed_data turn.now) }
 {
     push_text(text, ",\"")?;
@@ -143,7 +148,7 @@ fn push_deed(text: &mut Vec<u8>, turn: &Turn) -> Result<(), AllocError>
     push_text(text, "\",")
 }
 
-fn push_source(text: &mut Vec<u8>, from: &Option<Source>) -> Result<(), AllocError>
+fn push_source(text: &mut Vec<u8>, from: &Option<MessageSource>) -> Result<(), AllocError>
     ensures { OnOk result (text.new.items ≡ text.old.items ++ source_data from.now) }
 {
     match from {
@@ -162,7 +167,7 @@ fn push_sure(text: &mut Vec<u8>, sure: bool) -> Result<(), AllocError>
 }
 
 #[tactic(auto, unfolding(crate::specs::Page::end_data))]
-fn push_end(alloc: Global, text: &mut Vec<u8>, turn: &Turn) -> Result<(), AllocError>
+fn push_end(alloc: Global, text: &mut Vec<u8>, turn: &DrawnTurn) -> Result<(), AllocError>
     ensures { OnOk result (text.new.items ≡ text.old.items ++ end_data turn.now) }
 {
     push_brought(alloc, text, &turn.deed)?;

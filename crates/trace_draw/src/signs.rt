@@ -9,7 +9,7 @@ ghost use Rattle.trace_draw.specs.Signs.{arrow, arrow_class, arrow_of, arrow_pat
 use crate::labels::{push_kind, push_message, push_node};
 use crate::places::{push_across, push_below, push_down, push_point};
 use crate::reporting::push_leftover;
-use crate::turn::{Point, Source, Turn};
+use crate::turn::{DrawnTurn, MessageSource, Point};
 use console_text::{push_number, push_text};
 use group_task::{Members, NodeId};
 use node_core::Event;
@@ -24,7 +24,7 @@ const AGAIN: usize = 40;
 
 /// Adds the mark of an entry, with words where there are few.
 #[tactic(auto, unfolding(crate::specs::Signs::mark))]
-pub(crate) fn push_mark(text: &mut Vec<u8>, few: bool, turn: &Turn) -> Result<(), AllocError>
+pub(crate) fn push_mark(text: &mut Vec<u8>, few: bool, turn: &DrawnTurn) -> Result<(), AllocError>
     ensures { OnOk result (text.new.items ≡ text.old.items ++ mark few turn.now) }
 {
     push_text(text, "<g transform=\"translate(")?;
@@ -35,7 +35,7 @@ pub(crate) fn push_mark(text: &mut Vec<u8>, few: bool, turn: &Turn) -> Result<()
 }
 
 #[tactic(auto, unfolding(crate::specs::Signs::mark_parts))]
-fn push_parts(text: &mut Vec<u8>, few: bool, turn: &Turn) -> Result<(), AllocError>
+fn push_parts(text: &mut Vec<u8>, few: bool, turn: &DrawnTurn) -> Result<(), AllocError>
     ensures { OnOk result (text.new.items ≡ text.old.items ++ mark_parts few turn.now) }
 {
     push_place(text, turn)?;
@@ -46,7 +46,7 @@ fn push_parts(text: &mut Vec<u8>, few: bool, turn: &Turn) -> Result<(), AllocErr
 }
 
 #[tactic(auto, unfolding(crate::specs::Signs::entry_place))]
-fn push_place(text: &mut Vec<u8>, turn: &Turn) -> Result<(), AllocError>
+fn push_place(text: &mut Vec<u8>, turn: &DrawnTurn) -> Result<(), AllocError>
     ensures { OnOk result (text.new.items ≡ text.old.items ++ entry_place turn.now) }
 {
     push_text(text, "<title>turn ")?;
@@ -56,7 +56,7 @@ fn push_place(text: &mut Vec<u8>, turn: &Turn) -> Result<(), AllocError>
 }
 
 #[tactic(auto, unfolding(crate::specs::Signs::entry_text))]
-fn push_entry(text: &mut Vec<u8>, turn: &Turn) -> Result<(), AllocError>
+fn push_entry(text: &mut Vec<u8>, turn: &DrawnTurn) -> Result<(), AllocError>
     ensures { OnOk result (text.new.items ≡ text.old.items ++ entry_text turn.now) }
 {
     push_text(text, ", entry ")?;
@@ -108,7 +108,7 @@ fn push_cross(text: &mut Vec<u8>, deed: &TraceAction) -> Result<(), AllocError>
 }
 
 /// Adds the words at a mark, where there are few.
-fn push_words(text: &mut Vec<u8>, few: bool, turn: &Turn) -> Result<(), AllocError>
+fn push_words(text: &mut Vec<u8>, few: bool, turn: &DrawnTurn) -> Result<(), AllocError>
     ensures { OnOk result (text.new.items ≡ text.old.items ++ words_at few turn.now) }
 {
     if few {
@@ -119,7 +119,7 @@ fn push_words(text: &mut Vec<u8>, few: bool, turn: &Turn) -> Result<(), AllocErr
 }
 
 #[tactic(auto, unfolding(crate::specs::Signs::words_by))]
-fn push_all_words(text: &mut Vec<u8>, turn: &Turn) -> Result<(), AllocError>
+fn push_all_words(text: &mut Vec<u8>, turn: &DrawnTurn) -> Result<(), AllocError>
     ensures { OnOk result (text.new.items ≡ text.old.items ++ words_by turn.now) }
 {
     push_index(text, turn.index)?;
@@ -218,7 +218,7 @@ fn push_all_untaken(text: &mut Vec<u8>, untaken: Members) -> Result<(), AllocErr
 
 /// Adds the arrow of the message that an entry was brought.
 #[tactic(auto, unfolding(crate::specs::Signs::arrow))]
-pub(crate) fn push_arrow(text: &mut Vec<u8>, turn: &Turn) -> Result<(), AllocError>
+pub(crate) fn push_arrow(text: &mut Vec<u8>, turn: &DrawnTurn) -> Result<(), AllocError>
     ensures { OnOk result (text.new.items ≡ text.old.items ++ arrow turn.now) }
 {
     let Some(from) = &turn.from else {
@@ -231,7 +231,7 @@ pub(crate) fn push_arrow(text: &mut Vec<u8>, turn: &Turn) -> Result<(), AllocErr
 #[tactic(auto, unfolding(crate::specs::Signs::arrow_of))]
 fn push_arrow_from(
     text: &mut Vec<u8>,
-    from: &Source,
+    from: &MessageSource,
     to: Point,
     deed: &TraceAction,
 ) -> Result<(), AllocError>
@@ -251,7 +251,7 @@ fn push_class(text: &mut Vec<u8>, sure: bool) -> Result<(), AllocError>
 }
 
 #[tactic(auto, unfolding(crate::specs::Signs::arrow_path))]
-fn push_path(text: &mut Vec<u8>, from: &Source, to: Point) -> Result<(), AllocError>
+fn push_path(text: &mut Vec<u8>, from: &MessageSource, to: Point) -> Result<(), AllocError>
     ensures { OnOk result (text.new.items ≡ text.old.items ++ arrow_path from.now to) }
 {
     push_text(text, "\" d=\"M")?;

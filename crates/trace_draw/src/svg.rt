@@ -9,7 +9,7 @@ use crate::places::{are_few, push_height, push_width};
 use crate::reporting::push_leftover;
 use crate::signs::{push_again, push_arrow, push_left, push_mark, push_name};
 use crate::style::{LEFT, LEGEND, POSSIBLE, RECORDED, STYLE};
-use crate::turn::{Drawing, Turn};
+use crate::turn::{Drawing, DrawnTurn};
 use console_text::push_text;
 use group_task::NodeId;
 use std::alloc::{AllocError, Global};
@@ -110,7 +110,7 @@ fn push_names(text: &mut Vec<u8>, nodes: u8, turns: usize) -> Result<(), AllocEr
     Ok(())
 }
 
-fn push_arrows(text: &mut Vec<u8>, turns: &[Turn]) -> Result<(), AllocError>
+fn push_arrows(text: &mut Vec<u8>, turns: &[DrawnTurn]) -> Result<(), AllocError>
     ensures { OnOk result (text.new.items ≡ text.old.items ++ arrows turns.now) }
 {
     for turn in turns {
@@ -119,7 +119,7 @@ fn push_arrows(text: &mut Vec<u8>, turns: &[Turn]) -> Result<(), AllocError>
     Ok(())
 }
 
-fn push_marks(text: &mut Vec<u8>, turns: &[Turn]) -> Result<(), AllocError>
+fn push_marks(text: &mut Vec<u8>, turns: &[DrawnTurn]) -> Result<(), AllocError>
     ensures { OnOk result (text.new.items ≡ text.old.items ++ marks turns.now) }
 {
     let few = are_few(turns.len());

@@ -11,7 +11,7 @@ pub struct Point {
 
 /// The sending of a message.
 #[derive(Clone, Copy, Debug, PartialEq, Eq)]
-pub struct Source {
+pub struct MessageSource {
     /// The turn that sent it.
     pub at: Point,
     /// Which of the messages that turn sent.
@@ -22,13 +22,13 @@ pub struct Source {
 
 /// An entry of a run, as it is drawn.
 #[derive(Clone, Copy, Debug, PartialEq, Eq)]
-pub struct Turn {
+pub struct DrawnTurn {
     pub at: Point,
     /// Its index in the history of its node.
     pub index: usize,
     pub deed: TraceAction,
     /// The sending of the message that it was brought; None where it was brought none.
-    pub from: Option<Source>,
+    pub from: Option<MessageSource>,
     /// The nodes for which this turn sent a message that no turn was brought, as far as is known.
     pub untaken: Members,
 }
@@ -58,7 +58,7 @@ pub struct Stay {
 /// What is drawn of a run.
 #[derive(Debug, Drop)]
 pub struct Plot {
-    pub turns: Vec<Turn>,
+    pub turns: Vec<DrawnTurn>,
     pub stays: Vec<Stay>,
     /// Whether the turns are in the order that was recorded; else in one in which they can have come.
     pub recorded: bool,

@@ -7,7 +7,7 @@ ghost use Rattle.trace_draw.specs.Walks.{AreSteps};
 use crate::mail::sources;
 use crate::stays::stays;
 use crate::step::Step;
-use crate::turn::{Plot, Point, Source, Turn};
+use crate::turn::{DrawnTurn, MessageSource, Plot, Point};
 use crate::untaken::untaken;
 use crate::walk::steps;
 use group_task::{Members, NodeId};
@@ -36,8 +36,8 @@ fn turns(
     trace: &Trace,
     order: &Order,
     steps: &[Step],
-    sources: &[Option<Source>],
-) -> Result<Vec<Turn>, AllocError>
+    sources: &[Option<MessageSource>],
+) -> Result<Vec<DrawnTurn>, AllocError>
     requires steps { AreSteps trace.now order.now.nodes.items steps.now }
     requires sources { AreSources trace.now order.now sources.now }
     ensures { IfOk result (λ turns. AreTurns trace.now order.now turns.items) }
@@ -50,7 +50,7 @@ fn turns(
         let Some(entry) = trace.entry(node, index) else {
             unreachable!()
         };
-        turns.push(Turn {
+        turns.push(DrawnTurn {
             at: Point { turn, node },
             index,
             deed: entry.deed,

@@ -1,13 +1,13 @@
 //! The messages that no turn was brought.
 ghost use Rattle.std.specs.Prelude.{◌≡◌, ◌<◌, ◌++◌, ◌∷◌, ℕ, List, [], length, Option, IfOk, OnOk};
 ghost use Rattle.wire_msg.specs.Envelope.{Envelope};
-ghost use Rattle.trace_draw.specs.declared.turn.Source.{Source};
+ghost use Rattle.trace_draw.specs.declared.turn.MessageSource.{MessageSource};
 ghost use Rattle.trace_draw.specs.Turns.{AreLeft, AreUntaken};
 ghost use Rattle.trace_draw.specs.Untaken.{ArePlaces};
 ghost use Rattle.trace_draw.specs.Walks.{AreSteps};
 
 use crate::step::Step;
-use crate::turn::Source;
+use crate::turn::MessageSource;
 use group_task::{Members, NodeId};
 use std::alloc::{AllocError, Global};
 use std::collections::HashSet;
@@ -19,7 +19,7 @@ pub(crate) fn untaken(
     trace: &Trace,
     order: &[NodeId],
     steps: &[Step],
-    sources: &[Option<Source>],
+    sources: &[Option<MessageSource>],
 ) -> Result<Vec<Members>, AllocError>
     requires { AreSteps trace.now order.now steps.now }
     ensures { IfOk result (λ all. AreUntaken trace.now order.now sources.now all.items) }
@@ -38,7 +38,7 @@ pub(crate) fn untaken(
 /// The turns and places at which messages were sent that some turn was brought.
 fn taken_places(
     alloc: Global,
-    sources: &[Option<Source>],
+    sources: &[Option<MessageSource>],
 ) -> Result<HashSet<(usize, usize)>, AllocError>
     ensures { IfOk result (ArePlaces sources.now) }
 {
@@ -52,9 +52,9 @@ fn taken_places(
 /// Adds the place at which the message was sent, if there is one.
 fn add_place(
     places: &mut HashSet<(usize, usize)>,
-    source: &Option<Source>,
+    source: &Option<MessageSource>,
 ) -> Result<(), AllocError>
-    ensures { (sources : List (Option Source)) → ArePlaces sources places.old → OnOk result (ArePlaces (sources ++ source.now ∷ []) places.new) }
+    ensures { (sources : List (Option MessageSource)) → ArePlaces sources places.old → OnOk result (ArePlaces (sources ++ source.now ∷ []) places.new) }
 {
     let Some(source) = source else {
         return Ok(());
@@ -67,7 +67,7 @@ fn add_place(
 
 /// The nodes for which a turn sent a message at none of these places.
 fn receivers(places: &HashSet<(usize, usize)>, turn: usize, sent: &Sent<'_>) -> Members
-    ensures { (sources : List (Option Source)) → ArePlaces sources places.now → AreLeft sources turn sent.now result }
+    ensures { (sources : List (Option MessageSource)) → ArePlaces sources places.now → AreLeft sources turn sent.now result }
 {
     let mut all = Members::new();
     for place in 0..sent.len() {
@@ -87,7 +87,7 @@ fn receive(
     place: usize,
     receiver: NodeId,
 )
-    ensures { (sources : List (Option Source)) (sent : List Envelope) (m : Envelope) → ArePlaces sources places.now → place ≡ length sent → receiver ≡ m.receiver
+    ensures { (sources : List (Option MessageSource)) (sent : List Envelope) (m : Envelope) → ArePlaces sources places.now → place ≡ length sent → receiver ≡ m.receiver
         → AreLeft sources turn sent all.old → AreLeft sources turn (sent ++ m ∷ []) all.new }
 {
     if !places.contains(&(turn, place)) {

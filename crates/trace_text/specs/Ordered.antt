@@ -17,7 +17,7 @@ use Rattle.trace_check.specs.Claims.{Claim}
 use Rattle.trace_check.specs.declared.order.Order.{Order}
 use Rattle.trace_text.specs.Entries.{below}
 use Rattle.trace_text.specs.Written.{history_data}
-use Rattle.trace_text.specs.declared.ordered.Turn.{Turn}
+use Rattle.trace_text.specs.declared.ordered.OrderedTurn.{OrderedTurn}
 use Rattle.json.specs.declared.error.Error.{Error}
 use Rattle.json.specs.declared.error.Error.TheVariants.{Invalid, OutOfMemory, TooLong, DuplicateKey}
 
@@ -110,7 +110,7 @@ words_behind None = []
 words_behind (Some text) = words_of text.now
 
 -- the text begins with this turn
-pub record CutsTurn (text : List ℕ) (turn : Turn) : Type 0 where
+pub record CutsTurn (text : List ℕ) (turn : OrderedTurn) : Type 0 where
   pub turns : turns_of (words_of text) ≡ with_turn (Some turn.node) (Some turn.message) (turns_of (words_behind turn.behind))
   pub fewer : length (words_behind turn.behind) < length (words_of text)
 

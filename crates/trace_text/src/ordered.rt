@@ -30,7 +30,7 @@ use trace_check::{Order, Trace};
 
 /// A turn at the front of a text of turns.
 #[derive(Clone, Copy, Drop)]
-pub struct Turn<'a> {
+pub struct OrderedTurn<'a> {
     pub node: NodeId,
     pub message: Option<u64>,
     /// The turns behind it, if there are some.
@@ -141,7 +141,7 @@ fn some_words(text: &[u8]) -> Option<&[u8]>
 }
 
 /// The first turn of a text that isn't empty.
-fn cut_turn(text: &[u8]) -> Option<Turn<'_>>
+fn cut_turn(text: &[u8]) -> Option<OrderedTurn<'_>>
     ensures { MatchOption result (turns_of (words_of text.now) ≡ None) (λ turn. CutsTurn text.now turn) }
 {
     let (node, more) = cut_word(text)?;
@@ -149,7 +149,7 @@ fn cut_turn(text: &[u8]) -> Option<Turn<'_>>
         Some((message, behind)) => (message, Some(behind)),
         None => (more, None),
     };
-    Some(Turn {
+    Some(OrderedTurn {
         node: node_of(number(node))?,
         message: message_of(message)?,
         behind,

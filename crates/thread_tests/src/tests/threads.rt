@@ -11,7 +11,7 @@ use group_task::{NODES, NodeId};
 use histories::HistoryEvent;
 use link_ring::LinkEnd;
 use node_core::{Event, Timer};
-use node_lock::{Gate, History, MOST_ENTRIES, Plans, Worker};
+use node_lock::{Gate, MOST_ENTRIES, Plans, TurnLog, Worker};
 use node_threads::{Gathered, RunSize, ThreadsFault, poll_others, run_threads};
 use std::alloc::{AllocError, Global};
 use std::process::Abort;
@@ -135,7 +135,7 @@ impl Gate for Meeting {
 }
 
 /// Expects one turn, in which the clock fired Check.
-fn expect_check(rt: &impl Abort, history: &History) {
+fn expect_check(rt: &impl Abort, history: &TurnLog) {
     assert_eq!(rt; history.len(), 1);
     assert!(rt;
         came(history, 0, Worker::Clock, 0) == Some(HistoryEvent::Did(Event::Timer(Timer::Check)))
@@ -227,12 +227,12 @@ impl Gate for PollLater {
 }
 
 /// The message that the first turn sent first.
-fn sent_first(history: &History) -> Option<Message> {
+fn sent_first(history: &TurnLog) -> Option<Message> {
     history.entry(0)?.sent.get(0)
 }
 
 /// Expects that all that the receiver did was to take what the sender sent first.
-fn expect_delivered(rt: &impl Abort, sender: &History, receiver: &History) {
+fn expect_delivered(rt: &impl Abort, sender: &TurnLog, receiver: &TurnLog) {
     let question = sent_first(sender).expect(rt, "a question");
     assert_eq!(rt; receiver.len(), 1);
     let told = came(receiver, 0, Worker::Intake, 0);

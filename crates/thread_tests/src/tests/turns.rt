@@ -9,7 +9,7 @@ use link_ring::{PutEnd, TakeEnd, link};
 use message_list::MessageList;
 use node_core::{Event, Timer};
 use node_lock::{
-    Gate, Held, HeldFault, HeldParts, History, NodeLock, Plans, Run, TurnFault, TurnNumbers, Worker,
+    Gate, Held, HeldFault, HeldParts, NodeLock, Plans, Run, TurnFault, TurnLog, TurnNumbers, Worker,
 };
 use node_threads::Gathered;
 use std::alloc::{AllocError, Global};
@@ -130,7 +130,7 @@ fn take<R: Abort + Print>(rt: &R, held: &mut Held, worker: Worker, turns: usize)
 
 /// What came of the turn at this place, where it is that of this worker and has this number in its plan.
 pub(crate) fn came(
-    history: &History,
+    history: &TurnLog,
     place: usize,
     worker: Worker,
     index: u64,
@@ -146,7 +146,7 @@ pub(crate) fn came(
 /// Expects this polled message, or none, at this place and of this number in the intake's plan.
 fn expect_polled(
     rt: &impl Abort,
-    history: &History,
+    history: &TurnLog,
     place: usize,
     index: u64,
     found: Option<Message>,
@@ -239,7 +239,7 @@ fn asking(alloc: Global) -> Result<(Held, Held), AllocError> {
 }
 
 /// What was gathered of two histories.
-fn of_two(alloc: Global, first: History, second: History) -> Result<Gathered, AllocError>
+fn of_two(alloc: Global, first: TurnLog, second: TurnLog) -> Result<Gathered, AllocError>
     ensures { IfOk result (λ run. vec_len run.histories ≡ 2) }
 {
     let mut histories = one(alloc, first)?;

@@ -4,7 +4,7 @@ use Rattle.std.proofs.lemmas.Option.{slice_get_read}
 use Rattle.histories.specs.declared.command_kind.CommandKind.{CommandKind}
 use Rattle.node_core.specs.declared.fault.Refusal.TheVariants.{AreaExhausted}
 use Rattle.runs.specs.declared.outcome.Outcome.TheVariants.{Refused}
-use Rattle.runs.specs.declared.outcome.Refusal.TheVariants.{Node as OfNode}
+use Rattle.runs.specs.declared.outcome.ActRefusal.TheVariants.{Node as OfNode}
 use Rattle.runs.specs.Reporting.{own_commands}
 use Rattle.runs.proofs.PublicLaws.{own_few}
 use Rattle.cluster_sim.specs.Names.{node_named}

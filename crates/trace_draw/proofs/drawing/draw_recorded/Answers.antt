@@ -9,7 +9,7 @@ pub returns-clause-printed : goal.returns-clause-printed
 returns-clause-printed c =
     let hs = c.args.trace.now in
     let order = c.args.order.now in
-    subst (λ (outcome : Outcome). DrawsRecorded c.args.form hs (ordered_by order) outcome) (sym c.without_why.ensures.outcome) (record {
+    subst (λ (outcome : Outcome). DrawsRecorded c.args.format hs (ordered_by order) outcome) (sym c.without_why.ensures.outcome) (record {
       order = order;
       is_order = refl;
       good = refl;

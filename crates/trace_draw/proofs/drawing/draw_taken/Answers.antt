@@ -15,5 +15,5 @@ returns-clause-printed c =
       unnumbered = c.new.ensures.items;
       are_left = c.in_ok-verdict.ensures.left;
       good = c.is_run-good.ensures;
-      shows = record { plot = c.in_ok-plot.plot; is_plot = c.in_ok-plot.ensures; is_text = c.in_ok-text.ensures ∙ ap (λ (left : List Leftover). drawn_as c.args.form hs c.in_ok-plot.plot left) c.deref.ensures.value };
+      shows = record { plot = c.in_ok-plot.plot; is_plot = c.in_ok-plot.ensures; is_text = c.in_ok-text.ensures ∙ ap (λ (left : List Leftover). drawn_as c.args.format hs c.in_ok-plot.plot left) c.deref.ensures.value };
     }

@@ -3,16 +3,16 @@ use Rattle.std.proofs.Math.Seq.{take-length}
 use Rattle.std.proofs.lemmas.Option.{same_Some, slice_get_read}
 use Rattle.trace_check.specs.Claims.{Claim}
 use Rattle.trace_check.specs.Traces.{claim_seen}
-use Rattle.trace_draw.specs.declared.turn.Source.{Source}
-use Rattle.trace_draw.specs.declared.turn.Turn.{Turn}
+use Rattle.trace_draw.specs.declared.turn.MessageSource.{MessageSource}
+use Rattle.trace_draw.specs.declared.turn.DrawnTurn.{DrawnTurn}
 use Rattle.trace_draw.specs.Turns.{AreUntaken, IsTurn, sources_of}
 use Rattle.trace_draw.proofs.Lists.{each_more, take_more}
 use Rattle.trace_draw.proofs.Steps.{entry_at, step_read}
 use Rattle.trace_draw.proofs.turns.turns.Goals as goal
 
-sources_more : (ts : List Turn) (t : Turn) → sources_of (ts ++ t ∷ []) ≡ sources_of ts ++ t.from ∷ []
+sources_more : (ts : List DrawnTurn) (t : DrawnTurn) → sources_of (ts ++ t ∷ []) ≡ sources_of ts ++ t.from ∷ []
 sources_more [] t = refl
-sources_more (x ∷ ts) t = ap (λ (ss : List (Option Source)). x.from ∷ ss) (sources_more ts t)
+sources_more (x ∷ ts) t = ap (λ (ss : List (Option MessageSource)). x.from ∷ ss) (sources_more ts t)
 
 pub loop-turn-preserved : goal.loop-turn-preserved
 loop-turn-preserved c =
@@ -33,7 +33,7 @@ loop-turn-preserved c =
     let ids = c.index.result.now in
     let all = c.in_ok-untaken.untaken.items in
     let ids_at = slice_get_read all (length all) turn ids refl (let many = c.in_ok-untaken.ensures.0 in let steps_many = c.requires.steps.0 in let nodes = ap (λ (ns : List ℕ). length ns) c.deref.ensures.value in omega (arith, less, many, steps_many, nodes)) c.index.ensures in
-    let t : Turn = record { at = record { turn = turn; node = node }; index = s.index; deed = c.in-Some.entry.deed; from = source; untaken = ids } in
+    let t : DrawnTurn = record { at = record { turn = turn; node = node }; index = s.index; deed = c.in-Some.entry.deed; from = source; untaken = ids } in
     let is : IsTurn hs order sources turn t = (
       step.0,
       record {
@@ -47,9 +47,9 @@ loop-turn-preserved c =
     ) in
     let len = c.loop-turn.invariant.count in
     let pushed : c.push.new.self.items ≡ ts ++ t ∷ [] = c.in_ok-push.ensures.items in record {
-      count = ap (λ (xs : List Turn). length xs) pushed ∙ length-append ts (t ∷ []) ∙ ap (λ (k : ℕ). k + 1) len;
-      sources = ap sources_of pushed ∙ sources_more ts t ∙ ap (λ (ss : List (Option Source)). ss ++ source ∷ []) c.loop-turn.invariant.sources ∙ sym (take_more sources turn source source_at);
-      first = subst (λ (xs : List Turn). (k : ℕ) (v : Turn) → slice_get xs k ≡ Some v → IsTurn hs order sources k v) (sym pushed)
+      count = ap (λ (xs : List DrawnTurn). length xs) pushed ∙ length-append ts (t ∷ []) ∙ ap (λ (k : ℕ). k + 1) len;
+      sources = ap sources_of pushed ∙ sources_more ts t ∙ ap (λ (ss : List (Option MessageSource)). ss ++ source ∷ []) c.loop-turn.invariant.sources ∙ sym (take_more sources turn source source_at);
+      first = subst (λ (xs : List DrawnTurn). (k : ℕ) (v : DrawnTurn) → slice_get xs k ≡ Some v → IsTurn hs order sources k v) (sym pushed)
           (each_more (λ k v. IsTurn hs order sources k v) ts t c.loop-turn.invariant.first (subst (λ (k : ℕ). IsTurn hs order sources k t) (sym len) is));
     }
 
@@ -61,4 +61,4 @@ returns c =
     let last : c.loop-turn.turn ≡ length c.args.steps.now = (let test = c.loop-turn-test.false in let end = c.loop-turn.auto.turn-end in omega (arith, test, end)) in
     let many : length c.args.steps.now ≡ length sources = c.requires.steps.0 ∙ sym c.requires.sources.0 in
     let all : sources ≡ sources_of c.loop-turn.turns.items = sym (c.loop-turn.invariant.sources ∙ ap (λ (k : ℕ). take k sources) (last ∙ many) ∙ take-length sources) in
-    (c.loop-turn.invariant.count ∙ last ∙ c.requires.steps.0, λ k t at. subst (λ (ss : List (Option Source)). IsTurn hs order ss k t) all (c.loop-turn.invariant.first k t at))
+    (c.loop-turn.invariant.count ∙ last ∙ c.requires.steps.0, λ k t at. subst (λ (ss : List (Option MessageSource)). IsTurn hs order ss k t) all (c.loop-turn.invariant.first k t at))

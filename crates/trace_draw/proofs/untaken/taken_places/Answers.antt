@@ -1,6 +1,6 @@
 use Rattle.std.proofs.Common.{List, length, take, Option, refl, sym, subst}
 use Rattle.std.proofs.lemmas.Option.{slice_get_read}
-use Rattle.trace_draw.specs.declared.turn.Source.{Source}
+use Rattle.trace_draw.specs.declared.turn.MessageSource.{MessageSource}
 use Rattle.trace_draw.specs.Untaken.{ArePlaces}
 use Rattle.trace_draw.proofs.Lists.{take_more}
 use Rattle.trace_draw.proofs.untaken.taken_places.Goals as goal
@@ -11,4 +11,4 @@ loop-turn-preserved c =
     let turn = c.loop-turn.turn in
     let source = c.index-sources-turn.result in
     let at = slice_get_read sources (length sources) turn source refl c.loop-turn-test.true c.index-sources-turn.is in
-    subst (λ (ss : List (Option Source)). ArePlaces ss c.add_place.new.places) (sym (take_more sources turn source at)) (c.in_ok-add_place.ensures (take turn sources) c.loop-turn.invariant)
+    subst (λ (ss : List (Option MessageSource)). ArePlaces ss c.add_place.new.places) (sym (take_more sources turn source at)) (c.in_ok-add_place.ensures (take turn sources) c.loop-turn.invariant)

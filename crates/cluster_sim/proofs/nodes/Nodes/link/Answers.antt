@@ -1,5 +1,5 @@
 use Rattle.std.proofs.Common.{false, sym, ◌∙◌}
-use Rattle.runs.specs.declared.outcome.Refusal.TheVariants.{Stranger}
+use Rattle.runs.specs.declared.outcome.ActRefusal.TheVariants.{Stranger}
 use Rattle.cluster_sim.specs.World.{linked, link_act}
 use Rattle.cluster_sim.proofs.Doings.{linked_by, is_link, denies, known_step}
 use Rattle.cluster_sim.proofs.nodes.Nodes.link.Goals as goal

@@ -1,7 +1,7 @@
 use Rattle.std.proofs.Common.{◌≡◌, Err, IfOk, subst, None, Some, refl, length, slice_get, sym, ◌∙◌, ap}
 use Rattle.sim_net.specs.Network.{Network, delivery}
 use Rattle.runs.specs.Acts.{receiver_or_first}
-use Rattle.runs.specs.declared.outcome.Refusal.TheVariants.{Net}
+use Rattle.runs.specs.declared.outcome.ActRefusal.TheVariants.{Net}
 use Rattle.schedule.specs.declared.act.Act.TheVariants as act
 use Rattle.node_core.specs.declared.event.Event.TheVariants as on
 use Rattle.cluster_sim.specs.Answering.{IsAnsweredBy, delivered as delivered_event, event_by}

@@ -1,7 +1,7 @@
 use Rattle.std.proofs.Common.{[], ◌∷◌, ◌++◌, length, ap}
 use Rattle.node_lock.specs.Kept.{Log, what_quiet}
 use Rattle.node_lock.proofs.Lines.{turn_by, turns_quiet, all_stand_quiet}
-use Rattle.node_lock.proofs.history.History.push_quiet.Goals as goal
+use Rattle.node_lock.proofs.turn_log.TurnLog.push_quiet.Goals as goal
 
 pub returns-clause-turns : goal.returns-clause-turns
 returns-clause-turns c =

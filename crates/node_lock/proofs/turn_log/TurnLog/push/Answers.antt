@@ -3,7 +3,7 @@ use Rattle.histories.specs.EventOutcomes.{what_of}
 use Rattle.node_lock.specs.Events.{EventsKept}
 use Rattle.node_lock.specs.Kept.{Log}
 use Rattle.node_lock.proofs.Lines.{pushed, turn_by, turns_more, all_stand_more}
-use Rattle.node_lock.proofs.history.History.push.Goals as goal
+use Rattle.node_lock.proofs.turn_log.TurnLog.push.Goals as goal
 
 pub returns-clause-turns : goal.returns-clause-turns
 returns-clause-turns c =

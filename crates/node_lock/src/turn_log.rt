@@ -25,7 +25,7 @@ use wire_msg::Message;
 /// A turn takes 64 bytes, with an event 24 more; a message that was delivered or sent takes 16 for most, one that was lost 16 more, and a
 /// new job the bytes of its payload.
 #[derive(Debug, Drop)]
-pub struct History {
+pub struct TurnLog {
     lines: Vec<Line>,
     sent: MessageList,
     events: EventList,
@@ -41,7 +41,7 @@ pub struct Loss {
     pub message: usize,
 }
 
-impl Model for History {
+impl Model for TurnLog {
     ghost use Rattle.std.specs.Prelude.{◌-◌, All, length, map, vec_len, vec_capacity};
     ghost use Rattle.node_lock.specs.Kept.{LineStands, Log, turn_in};
     ghost use Rattle.node_lock.specs.declared.line.Line.{Line};
@@ -53,12 +53,12 @@ impl Model for History {
     ghost invariant = { λ a. All (LineStands (length a.sent.messages) (length a.events.events)) a.lines.items };
 }
 
-impl History {
+impl TurnLog {
     /// A history of no turns. It takes no memory.
-    pub(crate) fn new(alloc: Global) -> History
+    pub(crate) fn new(alloc: Global) -> TurnLog
         ensures { result.turns ≡ [] }
     {
-        History {
+        TurnLog {
             lines: Vec::new(alloc),
             sent: MessageList::new(alloc),
             events: EventList::new(alloc),

@@ -1,7 +1,7 @@
 use Rattle.std.proofs.Common.{sym, subst}
 use Rattle.node_lock.specs.Kept.{Log, IsQuietAt}
 use Rattle.node_lock.proofs.Lines.{line_read, quiet_at, event_at, sent_at}
-use Rattle.node_lock.proofs.history.History.quiet.Goals as goal
+use Rattle.node_lock.proofs.turn_log.TurnLog.quiet.Goals as goal
 
 pub returns-in-Quiet-clause-some : goal.returns-in-Quiet-clause-some
 returns-in-Quiet-clause-some c =

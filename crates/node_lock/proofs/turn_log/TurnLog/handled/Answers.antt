@@ -5,7 +5,7 @@ use Rattle.trace_check.specs.Kept.{part}
 use Rattle.node_lock.specs.declared.line.PackedHistoryEvent.TheVariants.{StepReport}
 use Rattle.node_lock.specs.Kept.{Log, IsHandledAt}
 use Rattle.node_lock.proofs.Lines.{handled_at, line_read}
-use Rattle.node_lock.proofs.history.History.handled.Goals as goal
+use Rattle.node_lock.proofs.turn_log.TurnLog.handled.Goals as goal
 
 pub returns-clause-some : goal.returns-clause-some
 returns-clause-some c =
