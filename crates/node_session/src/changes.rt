@@ -1,7 +1,7 @@
 // What changes at a node in a call, as lines.
 ghost use Rattle.std.specs.Prelude.{◌≡◌, ◌++◌, OnOk, Some};
 ghost use Rattle.std.specs.List.{flat_map};
-ghost use Rattle.node_session.specs.Changes.{drop_line, drops_by, gone_by, gone_line, gone_news, group_line, group_news, is_finish, news, take_line};
+ghost use Rattle.node_session.specs.Changes.{drops_by, gone_by, gone_line, gone_news, group_line, group_news, is_finish, news, take_line};
 
 use crate::call_outcome::CallOutcome;
 use crate::showing::push_held;
