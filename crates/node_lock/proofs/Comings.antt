@@ -21,7 +21,7 @@ use Rattle.durable_node.proofs.PublicLaws.{steps_and_forgets}
 use Rattle.durable_node.specs.Node.{Node, Stands}
 use Rattle.node_lock.specs.declared.order.OperatorOrder.{OperatorOrder}
 use Rattle.node_lock.specs.declared.order.OperatorOrder.TheVariants as order
-use Rattle.node_lock.specs.Asking.{Asked, Hand, NoOpKind, Arm, Crash, asked_in, asked_by}
+use Rattle.node_lock.specs.Asking.{Asked, Hand, NoEvent, Arm, Crash, asked_in, asked_by}
 use Rattle.node_lock.specs.Doing.{Did, Gives, HasSectors, TurnDid}
 use Rattle.node_lock.specs.History.{listed}
 
@@ -60,7 +60,7 @@ rests old new s asked w sent gives stands is none =
 -- one turn
 pub turn_comes : (old new : Node Memory) (asked : Asked) (w : HistoryEvent) (sent : List Envelope) → TurnDid old asked w sent new → (s : NodeState) → Stands state_of old s → Comes old s asked w sent new
 turn_comes old new (Hand event) w sent did s stands = did_comes old new event w sent did s stands
-turn_comes old new NoOpKind w sent did s stands = rests old new s NoOpKind w sent refl (subst (λ (n : Node Memory). Stands state_of n s) (sym did.0) stands) did.1 did.2
+turn_comes old new NoEvent w sent did s stands = rests old new s NoEvent w sent refl (subst (λ (n : Node Memory). Stands state_of n s) (sym did.0) stands) did.1 did.2
 turn_comes old new (Arm calls) w sent did s stands = rests old new s (Arm calls) w sent refl (did.0.stands s stands) did.1 did.2
 turn_comes old new (Crash fill) w sent did s stands =
     subst (λ (x : HistoryEvent). Comes old s (Crash fill) x sent new) (sym did.1) (record { gives = refl; possible = tt; is_sent = did.2; stands = did.0.stands s stands; of_slots = λ slots most size. tt })
@@ -80,7 +80,7 @@ pub turn_sectors : (n : ℕ) (old new : Node Memory) (asked : Asked) (w : Histor
 turn_sectors n old new (Hand event) w sent did size d at =
     let was = some_of old.disk did.counts.was_there in
     forgotten_size n did.left.disk (λ now here. (did.counts.counts was.0 now was.1 here).sectors ∙ size was.0 was.1) d (sym (ap (λ (m : Node Memory). m.disk) did.forgot) ∙ at)
-turn_sectors n old new NoOpKind w sent did size d at = size d (sym (ap (λ (m : Node Memory). m.disk) did.0) ∙ at)
+turn_sectors n old new NoEvent w sent did size d at = size d (sym (ap (λ (m : Node Memory). m.disk) did.0) ∙ at)
 turn_sectors n old new (Arm calls) w sent did size d at = armed_size n calls old.disk size d (sym (ap (λ (m : Node Memory). m.disk) did.0.armed) ∙ at)
 turn_sectors n old new (Crash fill) w sent did size d at =
     let was = some_of old.disk did.0.there in

@@ -30,7 +30,7 @@ turn_by worker index w sent = record { worker = worker; index = index; entry = r
 -- ---- more is kept, and a line says what it said
 
 what_same : (es more : List Event) (t : PackedHistoryEvent) → WhatStands (length es) t → what_in (es ++ more) t ≡ what_in es t
-what_same es more (kept.StepReport place event_outcome) h = ap (λ (o : Option Event). what_came o event_outcome) (get_same es more place h)
+what_same es more (kept.Handed place event_outcome) h = ap (λ (o : Option Event). what_came o event_outcome) (get_same es more place h)
 what_same es more (kept.Quiet q) h = refl
 
 line_same : (ms sent : List Envelope) (es more : List Event) (l : Line) → LineStands (length ms) (length es) l → turn_in (ms ++ sent) (es ++ more) l ≡ turn_in ms es l
@@ -48,14 +48,14 @@ lines_same ms sent es more (l ∷ ls) h =
 
 -- its line, behind so many messages and events
 abbrev pub line_for : Worker → ℕ → ℕ → EventOutcome → List Envelope → ℕ → ℕ → Line
-line_for worker index number event_outcome sent messages events = line_by worker index number (kept.StepReport events event_outcome) messages (messages + length sent)
+line_for worker index number event_outcome sent messages events = line_by worker index number (kept.Handed events event_outcome) messages (messages + length sent)
 
 pub pushed : (ls new : List Line) (ms sent all : List Envelope) (es : List Event) (worker : Worker) (index number : ℕ) (event_outcome : EventOutcome) (place start end : ℕ)
-    → new ≡ ls ++ line_by worker index number (kept.StepReport place event_outcome) start end ∷ [] → place ≡ length es → start ≡ length ms → end ≡ length all → all ≡ ms ++ sent
+    → new ≡ ls ++ line_by worker index number (kept.Handed place event_outcome) start end ∷ [] → place ≡ length es → start ≡ length ms → end ≡ length all → all ≡ ms ++ sent
     → new ≡ ls ++ line_for worker index number event_outcome sent (length ms) (length es) ∷ []
 pushed ls new ms sent all es worker index number event_outcome place start end is place_so start_so end_so all_so =
     let many : end ≡ length ms + length sent = end_so ∙ (ap (λ (xs : List Envelope). length xs) all_so ∙ length-append ms sent) in
-    is ∙ (λ i. ls ++ line_by worker index number (kept.StepReport (place_so i) event_outcome) (start_so i) (many i) ∷ [])
+    is ∙ (λ i. ls ++ line_by worker index number (kept.Handed (place_so i) event_outcome) (start_so i) (many i) ∷ [])
 
 line_again : (ms : List Envelope) (es : List Event) (worker : Worker) (index number : ℕ) (e : Event) (event_outcome : EventOutcome) (sent : List Envelope)
     → turn_in (ms ++ sent) (es ++ e ∷ []) (line_for worker index number event_outcome sent (length ms) (length es)) ≡ turn_by worker index (what_of e event_outcome) sent
@@ -75,7 +75,7 @@ turns_more ls ms es worker index number e event_outcome sent h =
     ∙ ap (λ (t : Turn). map (turn_in ms es) ls ++ t ∷ []) (line_again ms es worker index number e event_outcome sent))
 
 what_longer : (n m : ℕ) → n ≤ m → (t : PackedHistoryEvent) → WhatStands n t → WhatStands m t
-what_longer n m le (kept.StepReport place event_outcome) h = omega (arith, h, le)
+what_longer n m le (kept.Handed place event_outcome) h = omega (arith, h, le)
 what_longer n m le (kept.Quiet q) h = tt
 
 longer : (n n' m m' : ℕ) → n ≤ n' → m ≤ m' → (l : Line) → LineStands n m l → LineStands n' m' l
@@ -128,7 +128,7 @@ came_of e event_outcome.MountFailed = refl
 came_of e (event_outcome.RaiseFailed kept) = refl
 came_of e (event_outcome.RaiseRefused kept) = refl
 
-came_in : (es : List Event) (place : ℕ) (f : EventOutcome) → place < length es → is_quiet (what_in es (kept.StepReport place f)) ≡ false
+came_in : (es : List Event) (place : ℕ) (f : EventOutcome) → place < length es → is_quiet (what_in es (kept.Handed place f)) ≡ false
 came_in [] place f within = absurd (omega (arith, within))
 came_in (e ∷ es) zero f within = came_of e f
 came_in (e ∷ es) (suc place) f within = came_in es place f (omega (arith, within))
@@ -150,10 +150,10 @@ turn_at : (ls : List Line) (ms : List Envelope) (es : List Event) (place : ℕ) 
 turn_at ls ms es place l q at h =
     same_Some h.turn (turn_in ms es l) (sym h.at ∙ (slice_get-map (turn_in ms es) ls place ∙ ap (λ (o : Option Line). option_map (turn_in ms es) o) at))
 
-pub event_at : (ls : List Line) (ms : List Envelope) (es : List Event) (place : ℕ) (l : Line) (q : Quiet) (k : ℕ) (f : EventOutcome) → All (LineStands (length ms) (length es)) ls → slice_get ls place ≡ Some l → l.what ≡ kept.StepReport k f → IsQuietAt place q (map (turn_in ms es) ls) → ⊥
+pub event_at : (ls : List Line) (ms : List Envelope) (es : List Event) (place : ℕ) (l : Line) (q : Quiet) (k : ℕ) (f : EventOutcome) → All (LineStands (length ms) (length es)) ls → slice_get ls place ≡ Some l → l.what ≡ kept.Handed k f → IsQuietAt place q (map (turn_in ms es) ls) → ⊥
 event_at ls ms es place l q k f all at is h =
     let stands : k < length es = subst (WhatStands (length es)) is (stands_at (LineStands (length ms) (length es)) ls place l all at).what in
-    let what : what_in es (kept.StepReport k f) ≡ what_quiet q = ap (λ (t : PackedHistoryEvent). what_in es t) (sym is) ∙ (ap (λ (t : Turn). t.entry.what) (sym (turn_at ls ms es place l q at h)) ∙ h.what) in
+    let what : what_in es (kept.Handed k f) ≡ what_quiet q = ap (λ (t : PackedHistoryEvent). what_in es t) (sym is) ∙ (ap (λ (t : Turn). t.entry.what) (sym (turn_at ls ms es place l q at h)) ∙ h.what) in
     let bad : false ≡ true = sym (came_in es k f stands) ∙ (ap is_quiet what ∙ quiet_of q) in
     absurd cc
 
@@ -168,7 +168,7 @@ sent_at ls ms es place l q all at some h =
 
 -- ---- a turn in which an event was handled
 
-pub handled_at : (ls : List Line) (ms : List Envelope) (es : List Event) (place : ℕ) (l : Line) (k : ℕ) (e : Event) → slice_get ls place ≡ Some l → l.what ≡ kept.StepReport k event_outcome.Done → slice_get es k ≡ Some e
+pub handled_at : (ls : List Line) (ms : List Envelope) (es : List Event) (place : ℕ) (l : Line) (k : ℕ) (e : Event) → slice_get ls place ≡ Some l → l.what ≡ kept.Handed k event_outcome.Done → slice_get es k ≡ Some e
     → IsHandledAt place e (part l.start l.end ms) (map (turn_in ms es) ls)
 handled_at ls ms es place l k e at is event = record {
   turn = turn_in ms es l;

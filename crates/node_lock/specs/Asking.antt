@@ -14,7 +14,7 @@ use Rattle.node_lock.specs.Planned.{Planned}
 -- are left in the sectors that weren't synced
 pub data Asked : Type 0 where
   Hand : (event : Event) → Asked
-  NoOpKind : Asked
+  NoEvent : Asked
   Arm : (calls : ℕ) → Asked
   Crash : (fill : List ℕ) → Asked
 
@@ -29,7 +29,7 @@ asked_in order.Recover = Hand on.Recover
 -- what a poll asks that took this
 abbrev pub asked_by : Option Envelope → Asked
 asked_by (Some m) = Hand (on.Deliver m)
-asked_by None = NoOpKind
+asked_by None = NoEvent
 
 -- the worker's plan asks this at this turn
 abbrev pub IsAsked : Planned → Worker → ℕ → Asked → Type 0

@@ -23,7 +23,7 @@ use Rattle.durable_node.specs.Reading.{ReadsDisk}
 use Rattle.durable_node.specs.Refusing.{Answers}
 use Rattle.durable_node.specs.Remounting.{IsMountedBy, Remounted}
 use Rattle.durable_node.specs.Stepping.{AreaGoesOn, CountsOf, Steps, most_by}
-use Rattle.node_lock.specs.Asking.{Asked, Hand, NoOpKind, Arm, Crash}
+use Rattle.node_lock.specs.Asking.{Asked, Hand, NoEvent, Arm, Crash}
 
 -- there is a state that the node and its disk stand for
 abbrev pub StandsForSome : Node Memory → Type 0
@@ -66,13 +66,13 @@ pub record WasCrashed (fill : List ℕ) (old new : Node Memory) : Type 0 where
 -- the node did what was asked, this is what came of it, and these messages were sent
 abbrev pub TurnDid : Node Memory → Asked → HistoryEvent → List Envelope → Node Memory → Type 0
 TurnDid old (Hand event) w sent new = Did old event w sent new
-TurnDid old NoOpKind w sent new = (new ≡ old) × (w ≡ what.NoOp Nothing) × (sent ≡ [])
+TurnDid old NoEvent w sent new = (new ≡ old) × (w ≡ what.NoOp Nothing) × (sent ≡ [])
 TurnDid old (Arm calls) w sent new = WasArmed calls old new × (w ≡ what.NoOp Nothing) × (sent ≡ [])
 TurnDid old (Crash fill) w sent new = WasCrashed fill old new × (w ≡ what.Crashed) × (sent ≡ [])
 
 -- what may be written down of what was asked
 abbrev pub Gives : Asked → HistoryEvent → Type 0
 Gives (Hand event) w = IsOf event w
-Gives NoOpKind w = w ≡ what.NoOp Nothing
+Gives NoEvent w = w ≡ what.NoOp Nothing
 Gives (Arm calls) w = w ≡ what.NoOp Nothing
 Gives (Crash fill) w = w ≡ what.Crashed

@@ -17,7 +17,7 @@ pub enum Quiet {
 #[derive(Clone, Copy, Debug)]
 pub enum PackedHistoryEvent {
     /// What came of the event that stands at this place of the list of events.
-    StepReport(usize, EventOutcome),
+    Handed(usize, EventOutcome),
     Quiet(Quiet),
 }
 

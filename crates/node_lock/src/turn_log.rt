@@ -130,7 +130,7 @@ impl TurnLog {
             worker,
             index,
             number,
-            what: PackedHistoryEvent::StepReport(place, event_outcome),
+            what: PackedHistoryEvent::Handed(place, event_outcome),
             start,
             end: self.sent.len(),
         });
@@ -193,7 +193,7 @@ impl TurnLog {
         ensures none { IsNone result → (event : Event) → (sent : List Envelope) → IsHandledAt place event sent self.now.turns → ⊥ }
     {
         let line = self.lines.get(place)?;
-        let PackedHistoryEvent::StepReport(at, event_outcome) = line.what else {
+        let PackedHistoryEvent::Handed(at, event_outcome) = line.what else {
             return None;
         };
         let EventOutcome::Done = event_outcome else {
@@ -224,7 +224,7 @@ fn what_in(events: &EventList, what: PackedHistoryEvent) -> HistoryEvent
     ensures { result ≡ what_in events.now.events what }
 {
     match what {
-        PackedHistoryEvent::StepReport(place, event_outcome) => match events.get(place) {
+        PackedHistoryEvent::Handed(place, event_outcome) => match events.get(place) {
             Some(event) => event_outcome.what(&event),
             None => unreachable!(),
         },

@@ -199,23 +199,23 @@ run_all_sent slots nodes (a ∷ acts) (step ∷ steps) w r run h =
     run_all_sent slots nodes acts steps (world_after nodes w step) (grown nodes w a step r) run.2 (step_all_sent slots nodes w r a step run.0 h)
 
 -- this event came to this node
-abbrev StepReport : ℕ → HistoryEvent → ℕ → Event → Type 0
-StepReport m what n event = (m ≡ n) × IsOf event what
+abbrev CameTo : ℕ → HistoryEvent → ℕ → Event → Type 0
+CameTo m what n event = (m ≡ n) × IsOf event what
 
-pair_came : (m j n : ℕ) (what : HistoryEvent) (x event : Event) → (m ≡ j) × IsOf x what → ◌≡◌ {A = Option (ℕ × Event)} (Some (j, x)) (Some (n, event)) → StepReport m what n event
+pair_came : (m j n : ℕ) (what : HistoryEvent) (x event : Event) → (m ≡ j) × IsOf x what → ◌≡◌ {A = Option (ℕ × Event)} (Some (j, x)) (Some (n, event)) → CameTo m what n event
 pair_came m j n what x event there is =
     let both : ◌≡◌ {A = ℕ × Event} (j, x) (n, event) = cc is in
     (there.0 ∙ ap (λ (p : ℕ × Event). p.0) both, subst (λ (e : Event). IsOf e what) (ap (λ (p : ℕ × Event). p.1) both) there.1)
 
 delivery_came : (nodes : ℕ) (net : Network) (k m number n : ℕ) (what : HistoryEvent) (event : Event) (d : Result Envelope NetFault) → delivery net k ≡ d → Brings nodes net k d (Takes m number what)
-    → option_map {U = ℕ × Event} (λ (x : Envelope). (x.receiver, on.Deliver x)) (slice_get net.sent k) ≡ Some (n, event) → StepReport m what n event
+    → option_map {U = ℕ × Event} (λ (x : Envelope). (x.receiver, on.Deliver x)) (slice_get net.sent k) ≡ Some (n, event) → CameTo m what n event
 delivery_came nodes net k m number n what event (Ok x) is h named =
     pair_came m x.receiver n what (on.Deliver x) event (taken_there (nat_lt x.receiver nodes) x.receiver k (IsOf (on.Deliver x)) m number what h)
     (ap (option_map {U = ℕ × Event} (λ (y : Envelope). (y.receiver, on.Deliver y))) (sym (comes_sent net k x is)) ∙ named)
 delivery_came nodes net k m number n what event (Err why) is h named = absurd cc
 
 event_came : (nodes : ℕ) (w : World) (r : Report) (a : Act) (m number n : ℕ) (what : HistoryEvent) (event : Event) → all_sent r ≡ w.net.sent → IsStepOf nodes w a (Takes m number what)
-    → event_in r a ≡ Some (n, event) → StepReport m what n event
+    → event_in r a ≡ Some (n, event) → CameTo m what n event
 event_came nodes w r (act.Timer j timer) m number n what event all h is = pair_came m j n what (on.Timer timer) event (taken_there (nat_lt j nodes) j 0 (IsOf (on.Timer timer)) m number what h) is
 event_came nodes w r (act.Deliver k) m number n what event all h is =
     delivery_came nodes w.net k m number n what event (delivery w.net k) refl h (ap (λ (ms : List Envelope). option_map {U = ℕ × Event} (λ (x : Envelope). (x.receiver, on.Deliver x)) (slice_get ms k)) (sym all) ∙ is)

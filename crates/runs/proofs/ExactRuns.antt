@@ -199,7 +199,7 @@ compact_exact n nodes s _ is may up = absurd is
 -- ---- what came may have come
 
 -- it is one of those of which P holds, and may have come
-record StepReport (P : HistoryEvent → Type 0) (slots n nodes : ℕ) (s : NodeState) (what : HistoryEvent) : Type 0 where
+record MayHaveCome (P : HistoryEvent → Type 0) (slots n nodes : ℕ) (s : NodeState) (what : HistoryEvent) : Type 0 where
   of : P what
   possible : IsPossible n nodes s what
   of_slots : IsOfSlots slots n nodes s what
@@ -209,11 +209,11 @@ module _ (slots n nodes limit : ℕ) (s : NodeState) (few : FewGiven limit n s) 
   unspent wants spent = spent_high few.low s.durable wants few.below (omega (arith, few.sum, short)) spent
 
   came_of : (event : Event) (what : HistoryEvent) → IsForNode s.state event → (core : Option CoreFault) (room : Option Refusal) → refusal_of nodes n event s.state ≡ core → no_room slots s.durable (wants_at n nodes s event) ≡ room
-      → ComesOf (option_or (option_map Core core) room) n nodes s event what → StepReport (IsOf event) slots n nodes s what
-  came_of event what up (Some fault) room core_is room_is h = subst (StepReport (IsOf event) slots n nodes s) (sym h) (record { of = refl; possible = (up, core_is); of_slots = tt })
+      → ComesOf (option_or (option_map Core core) room) n nodes s event what → MayHaveCome (IsOf event) slots n nodes s what
+  came_of event what up (Some fault) room core_is room_is h = subst (MayHaveCome (IsOf event) slots n nodes s) (sym h) (record { of = refl; possible = (up, core_is); of_slots = tt })
   came_of event what up None (Some why) core_is room_is h =
       let put = full_why slots s.durable (wants_at n nodes s event) why room_is in
-      subst (StepReport (IsOf event) slots n nodes s) (sym (h ∙ ap (λ (x : Refusal). Refused event x) put.is)) (record {
+      subst (MayHaveCome (IsOf event) slots n nodes s) (sym (h ∙ ap (λ (x : Refusal). Refused event x) put.is)) (record {
         of = refl;
         possible = (up, (core_is, (unspent (wants_at n nodes s event), put.appended)));
         of_slots = put.full;
@@ -222,41 +222,41 @@ module _ (slots n nodes limit : ℕ) (s : NodeState) (few : FewGiven limit n s) 
       let fits = fits_room slots s.durable (wants_at n nodes s event) room_is in
       let taken : IsTaken nodes n s.state s.durable event = record { by_core = core_is; not_spent = unspent (wants_at n nodes s event) } in
       elim h [
-        | inl did ↦ subst (StepReport (IsOf event) slots n nodes s) (sym did) (record { of = refl; possible = (up, taken); of_slots = fits })
-        | inr failed ↦ subst (StepReport (IsOf event) slots n nodes s) (sym failed.0) (record { of = refl; possible = ((up, taken), failed.1); of_slots = fits })
+        | inl did ↦ subst (MayHaveCome (IsOf event) slots n nodes s) (sym did) (record { of = refl; possible = (up, taken); of_slots = fits })
+        | inr failed ↦ subst (MayHaveCome (IsOf event) slots n nodes s) (sym failed.0) (record { of = refl; possible = ((up, taken), failed.1); of_slots = fits })
       ]
 
-  came_up : (event : Event) (what : HistoryEvent) → IsForNode s.state event → ComesOf (refusal_at slots n nodes s event) n nodes s event what → StepReport (IsOf event) slots n nodes s what
+  came_up : (event : Event) (what : HistoryEvent) → IsForNode s.state event → ComesOf (refusal_at slots n nodes s event) n nodes s event what → MayHaveCome (IsOf event) slots n nodes s what
   came_up event what up h = came_of event what up _ _ refl refl (subst (λ (x : Option Refusal). ComesOf x n nodes s event what) (refusal_is slots n nodes s event) h)
 
   low : (kept : Bool) → (settled kept s).counter + 1 < 2 ^ 64
   low kept = (let below = settled_below few.low kept s few.below in omega (arith, below.counts, few.sum, short))
 
-  came : (event : Event) (what : HistoryEvent) → MayCome slots n nodes s event what → StepReport (IsOf event) slots n nodes s what
+  came : (event : Event) (what : HistoryEvent) → MayCome slots n nodes s event what → MayHaveCome (IsOf event) slots n nodes s what
   came (on.Timer timer) what h = came_up (on.Timer timer) what (λ e. absurd cc) h
   came (on.Deliver m) what h = came_up (on.Deliver m) what (λ e. absurd cc) h
   came (on.Submit work) what h = came_up (on.Submit work) what (λ e. absurd cc) h
   came (on.Finish origin id) what h = came_up (on.Finish origin id) what (λ e. absurd cc) h
   came on.Recover what h = pick (is_down s.state.phase) refl h
     where
-      pick : (b : Bool) → is_down s.state.phase ≡ b → Recovers b s what → StepReport (IsOf on.Recover) slots n nodes s what
+      pick : (b : Bool) → is_down s.state.phase ≡ b → Recovers b s what → MayHaveCome (IsOf on.Recover) slots n nodes s what
       pick true down it = elim it [
-        | inl failed ↦ subst (StepReport (IsOf on.Recover) slots n nodes s) (sym failed) (record { of = refl; possible = down; of_slots = tt })
+        | inl failed ↦ subst (MayHaveCome (IsOf on.Recover) slots n nodes s) (sym failed) (record { of = refl; possible = down; of_slots = tt })
         | inr mounts ↦ elim mounts.2 [
-          | inl e ↦ subst (StepReport (IsOf on.Recover) slots n nodes s) (sym e) (record { of = refl; possible = (down, mounts.1, low mounts.0); of_slots = tt })
-          | inr e ↦ subst (StepReport (IsOf on.Recover) slots n nodes s) (sym e) (record { of = refl; possible = (down, mounts.1, low mounts.0); of_slots = tt })
+          | inl e ↦ subst (MayHaveCome (IsOf on.Recover) slots n nodes s) (sym e) (record { of = refl; possible = (down, mounts.1, low mounts.0); of_slots = tt })
+          | inr e ↦ subst (MayHaveCome (IsOf on.Recover) slots n nodes s) (sym e) (record { of = refl; possible = (down, mounts.1, low mounts.0); of_slots = tt })
         ]
       ]
       pick false up it = came_up on.Recover what (λ e. up) (elim it [ inl did ↦ inl did | inr failed ↦ inr (failed, refl) ])
 
-compacted : (slots n nodes : ℕ) (s : NodeState) (what : HistoryEvent) → MayCompact s what → StepReport (IsCompaction s) slots n nodes s what
+compacted : (slots n nodes : ℕ) (s : NodeState) (what : HistoryEvent) → MayCompact s what → MayHaveCome (IsCompaction s) slots n nodes s what
 compacted slots n nodes s what h = pick (is_down s.state.phase) refl h
   where
-    pick : (b : Bool) → is_down s.state.phase ≡ b → ByPhase b what → StepReport (IsCompaction s) slots n nodes s what
-    pick true down it = subst (StepReport (IsCompaction s) slots n nodes s) (sym it) (record { of = tt; possible = down; of_slots = tt })
+    pick : (b : Bool) → is_down s.state.phase ≡ b → ByPhase b what → MayHaveCome (IsCompaction s) slots n nodes s what
+    pick true down it = subst (MayHaveCome (IsCompaction s) slots n nodes s) (sym it) (record { of = tt; possible = down; of_slots = tt })
     pick false up it = elim it [
-      | inl e ↦ subst (StepReport (IsCompaction s) slots n nodes s) (sym e) (record { of = tt; possible = up; of_slots = tt })
-      | inr e ↦ subst (StepReport (IsCompaction s) slots n nodes s) (sym e) (record { of = up; possible = tt; of_slots = tt })
+      | inl e ↦ subst (MayHaveCome (IsCompaction s) slots n nodes s) (sym e) (record { of = tt; possible = up; of_slots = tt })
+      | inr e ↦ subst (MayHaveCome (IsCompaction s) slots n nodes s) (sym e) (record { of = up; possible = tt; of_slots = tt })
     ]
 
 -- ---- the step of an act
@@ -330,8 +330,8 @@ used_up_outcome n nodes first s (RaiseRefused kept) a up = inl refl
 used_up_outcome n nodes first s _ a up = absurd up
 
 -- what comes there may come there
-there : (slots nodes : ℕ) (w : World) (n number : ℕ) (what : HistoryEvent) → IsLawful slots nodes w (Takes n number what) → StepReport (λ x. Unit {0}) slots n nodes (node_in w.states n) what
-there slots nodes w n number what may = subst (λ (x : NodeState). StepReport (λ y. Unit {0}) slots n nodes x what) (sym (node_there w.states n may.0 may.1)) (record { of = tt; possible = may.2; of_slots = may.3 })
+there : (slots nodes : ℕ) (w : World) (n number : ℕ) (what : HistoryEvent) → IsLawful slots nodes w (Takes n number what) → MayHaveCome (λ x. Unit {0}) slots n nodes (node_in w.states n) what
+there slots nodes w n number what may = subst (λ (x : NodeState). MayHaveCome (λ y. Unit {0}) slots n nodes x what) (sym (node_there w.states n may.0 may.1)) (record { of = tt; possible = may.2; of_slots = may.3 })
 
 exact_step : (slots nodes : ℕ) (w : World) (a : Act) (step : Step) → IsStepOf nodes w a step → IsLawful slots nodes w step
     → act_outcome nodes w a step ≢ outcome.Refused (Node Exhausted) → act_outcome nodes w a step ≢ outcome.Refused (Node AreaExhausted) → IsExactStep nodes slots w a step
@@ -341,7 +341,7 @@ exact_step slots nodes w a step of may unspent unworn =
     (λ n number what known is of. let it = came_there n number what is in compact_exact n nodes (node_in w.states n) what of it.possible (left n number what is))
     w.net a of
   where
-    came_there : (n number : ℕ) (what : HistoryEvent) → step ≡ Takes n number what → StepReport (λ x. Unit {0}) slots n nodes (node_in w.states n) what
+    came_there : (n number : ℕ) (what : HistoryEvent) → step ≡ Takes n number what → MayHaveCome (λ x. Unit {0}) slots n nodes (node_in w.states n) what
     came_there n number what is = there slots nodes w n number what (subst (IsLawful slots nodes w) is may)
 
     left : (n number : ℕ) (what : HistoryEvent) → step ≡ Takes n number what → IsUsedUp what → ⊥
@@ -372,8 +372,8 @@ exact_run slots nodes acts steps short run unworn =
 
 run_step : (slots nodes limit : ℕ) (w : World) (a : Act) (step : Step) → IsExactStep nodes slots w a step → length w.states ≡ nodes → AllStates (FewGiven limit) w → limit + 1 < 2 ^ 64 → IsStepOf nodes w a step × IsLawful slots nodes w step
 run_step slots nodes limit w a step exact many few short = (
-  step_by _ _ _ _ nodes step (λ n number event what known is (e : StepReport (IsOf event) slots n nodes (node_in w.states n) what). e.of)
-      (λ n number what known is (c : StepReport (IsCompaction (node_in w.states n)) slots n nodes (node_in w.states n) what). c.of) w.net a by,
+  step_by _ _ _ _ nodes step (λ n number event what known is (e : MayHaveCome (IsOf event) slots n nodes (node_in w.states n) what). e.of)
+      (λ n number what known is (c : MayHaveCome (IsCompaction (node_in w.states n)) slots n nodes (node_in w.states n) what). c.of) w.net a by,
   lawful step by,
 )
   where
@@ -383,20 +383,20 @@ run_step slots nodes limit w a step exact many few short = (
     few_here : (n : ℕ) → nat_lt n nodes ≡ true → FewGiven limit n (node_in w.states n)
     few_here n known = (let at = here n known in subst (FewGiven limit n) (sym (node_there w.states n at.0 at.1)) (few n at.0 at.1))
 
-    by : IsStepBy (λ (n : ℕ) (event : Event). StepReport (IsOf event) slots n nodes (node_in w.states n)) (λ (n : ℕ). StepReport (IsCompaction (node_in w.states n)) slots n nodes (node_in w.states n)) nodes w.net a step
+    by : IsStepBy (λ (n : ℕ) (event : Event). MayHaveCome (IsOf event) slots n nodes (node_in w.states n)) (λ (n : ℕ). MayHaveCome (IsCompaction (node_in w.states n)) slots n nodes (node_in w.states n)) nodes w.net a step
     by = step_by _ _ _ _ nodes step (λ n number event what known is e. came slots n nodes limit (node_in w.states n) (few_here n known) short event what e)
         (λ n number what known is c. compacted slots n nodes (node_in w.states n) what c) w.net a exact
 
     Lawful : ℕ → HistoryEvent → Type 0
     Lawful n what = IsLawful slots nodes w (Takes n 0 what)
 
-    lawful_at : (P : HistoryEvent → Type 0) (n : ℕ) (what : HistoryEvent) → nat_lt n nodes ≡ true → StepReport P slots n nodes (node_in w.states n) what → Lawful n what
+    lawful_at : (P : HistoryEvent → Type 0) (n : ℕ) (what : HistoryEvent) → nat_lt n nodes ≡ true → MayHaveCome P slots n nodes (node_in w.states n) what → Lawful n what
     lawful_at P n what known it =
         let at = here n known in
         let is = node_there w.states n at.0 at.1 in
         (at.0, at.1, subst (λ (x : NodeState). IsPossible n nodes x what) is it.possible, subst (λ (x : NodeState). IsOfSlots slots n nodes x what) is it.of_slots)
 
-    lawful : (x : Step) → IsStepBy (λ (n : ℕ) (event : Event). StepReport (IsOf event) slots n nodes (node_in w.states n)) (λ (n : ℕ). StepReport (IsCompaction (node_in w.states n)) slots n nodes (node_in w.states n)) nodes w.net a x → IsLawful slots nodes w x
+    lawful : (x : Step) → IsStepBy (λ (n : ℕ) (event : Event). MayHaveCome (IsOf event) slots n nodes (node_in w.states n)) (λ (n : ℕ). MayHaveCome (IsCompaction (node_in w.states n)) slots n nodes (node_in w.states n)) nodes w.net a x → IsLawful slots nodes w x
     lawful (Takes m number what) h = step_there _ _ Lawful nodes m number what (λ n event x known e. lawful_at (IsOf event) n x known e) (λ n x known c. lawful_at (IsCompaction (node_in w.states n)) n x known c)
         (λ n known. (lawful_at (λ x. Unit {0}) n (NoOp Nothing) known (record { of = tt; possible = tt; of_slots = tt }), lawful_at (λ x. Unit {0}) n Crashed known (record { of = tt; possible = tt; of_slots = tt }))) w.net a h
     lawful (Changes net) h = tt

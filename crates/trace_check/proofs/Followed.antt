@@ -4,7 +4,7 @@ use Rattle.wire_msg.specs.Envelope.{Envelope}
 use Rattle.histories.specs.Lists.{Each}
 use Rattle.histories.specs.NodeState.{NodeState}
 use Rattle.histories.proofs.PublicLaws.{each_more}
-use Rattle.trace_check.specs.declared.search.NodeView.{NodeView}
+use Rattle.trace_check.specs.declared.search.NodeCursor.{NodeCursor}
 use Rattle.trace_check.specs.declared.search.Judgement.TheVariants.{Stops, Waits}
 use Rattle.trace_check.specs.Claims.{Claim, MayCome, after_claim, brought_by}
 use Rattle.trace_check.specs.Orders.{history, taken, state_of, IsSent, MayTake}
@@ -16,17 +16,17 @@ use Rattle.trace_check.proofs.Searches.{same_or_other, taken_same, taken_other, 
 use Rattle.trace_check.proofs.Turning.{turns}
 use Rattle.trace_check.proofs.Turns.{reseats_set, none_past}
 
-module _ (hs : List (List Claim)) (seats : List NodeView) (posted : List Envelope) (past : List ℕ) (n : ℕ) (old new : NodeView) (are : AreFollowed hs seats posted past) (at : slice_get seats n ≡ Some old) where
+module _ (hs : List (List Claim)) (seats : List NodeCursor) (posted : List Envelope) (past : List ℕ) (n : ℕ) (old new : NodeCursor) (are : AreFollowed hs seats posted past) (at : slice_get seats n ≡ Some old) where
   pub stops_cant : Judges hs posted n old new Stops → MayTake hs past n → ⊥
   stops_cant judged may =
       let is = are.fits n old at in
-      judged.1 may.claim (subst (λ (s : NodeView). slice_get (history hs n) s.place ≡ Some may.claim) (sym is) may.next)
-      (subst (λ (s : NodeView). MayCome s.node_model.id s.node_model.nodes s.node_model.node may.claim) (sym is) may.possible) may.addressed
+      judged.1 may.claim (subst (λ (s : NodeCursor). slice_get (history hs n) s.place ≡ Some may.claim) (sym is) may.next)
+      (subst (λ (s : NodeCursor). MayCome s.node_model.id s.node_model.nodes s.node_model.node may.claim) (sym is) may.possible) may.addressed
 
   pub waits_cant : Judges hs posted n old new Waits → MayTake hs past n → ⊥
   waits_cant judged may =
       let unsent = judged.1 in
-      let brought = unsent.brought may.claim (subst (λ (s : NodeView). slice_get (history hs n) s.place ≡ Some may.claim) (sym (are.fits n old at)) may.next) in
+      let brought = unsent.brought may.claim (subst (λ (s : NodeCursor). slice_get (history hs n) s.place ≡ Some may.claim) (sym (are.fits n old at)) may.next) in
       let sent : Each (λ (m : Envelope). IsSent hs past m) (unsent.message ∷ []) = subst (λ (ms : List Envelope). Each (λ (m : Envelope). IsSent hs past m) ms) brought may.sent in
       unsent.unsent ((are.posts unsent.message).1 sent.0)
 
@@ -35,8 +35,8 @@ module _ (hs : List (List Claim)) (seats : List NodeView) (posted : List Envelop
       let is = are.fits n old at in
       record {
         claim = t.claim;
-        next = subst (λ (s : NodeView). slice_get (history hs n) s.place ≡ Some t.claim) is t.next;
-        possible = subst (λ (s : NodeView). MayCome s.node_model.id s.node_model.nodes s.node_model.node t.claim) is t.possible;
+        next = subst (λ (s : NodeCursor). slice_get (history hs n) s.place ≡ Some t.claim) is t.next;
+        possible = subst (λ (s : NodeCursor). MayCome s.node_model.id s.node_model.nodes s.node_model.node t.claim) is t.possible;
         sent = each_more (λ (m : Envelope). IsPosted posted m) (λ (m : Envelope). IsSent hs past m) (brought_by t.claim.deed) (λ m there. (are.posts m).0 there) t.sent;
         addressed = t.addressed;
       }
@@ -48,9 +48,9 @@ module _ (hs : List (List Claim)) (seats : List NodeView) (posted : List Envelop
       let may = taken_may t in
       let more = taken_same n past in
       let turned : Turned hs past n t.claim = turns hs past n t.claim may.next in
-      let place : new.place ≡ taken n (n ∷ past) = t.place ∙ ap (λ (s : NodeView). s.place + 1) is ∙ sym more in
+      let place : new.place ≡ taken n (n ∷ past) = t.place ∙ ap (λ (s : NodeCursor). s.place + 1) is ∙ sym more in
       let node_model : new.node_model ≡ twin_at hs (n ∷ past) n =
-      t.node_model ∙ ap (λ (s : NodeView). record s.node_model { node = after_claim s.node_model.id s.node_model.nodes s.node_model.node t.claim }) is
+      t.node_model ∙ ap (λ (s : NodeCursor). record s.node_model { node = after_claim s.node_model.id s.node_model.nodes s.node_model.node t.claim }) is
       ∙ ap (λ (x : NodeState). twin_in n (length hs) x) (sym turned.state) ∙ ap (λ (p : ℕ). twin_in n (length hs) (state_of hs n p)) (sym more) in
       λ i. record { node_model = node_model i; place = place i }
 
@@ -59,7 +59,7 @@ module _ (hs : List (List Claim)) (seats : List NodeView) (posted : List Envelop
   takes_on ready ready' stopped posted' c t next all =
       let reseats = reseats_set seats n new in
       let is = are.fits n old at in
-      let turned : Turned hs past n c = turns hs past n c (subst (λ (s : NodeView). slice_get (history hs n) s.place ≡ Some c) is next) in
+      let turned : Turned hs past n c = turns hs past n c (subst (λ (s : NodeCursor). slice_get (history hs n) s.place ≡ Some c) is next) in
       record {
         count = reseats.count ∙ are.count;
         fits = λ k s here. elim (same_or_other k n) [
@@ -74,14 +74,14 @@ module _ (hs : List (List Claim)) (seats : List NodeView) (posted : List Envelop
       }
 
 -- a node that isn't there takes nothing
-pub outside_cant : (hs : List (List Claim)) (seats : List NodeView) (posted : List Envelope) (past : List ℕ) (n : ℕ) → AreFollowed hs seats posted past → length seats ≤ n → MayTake hs past n → ⊥
+pub outside_cant : (hs : List (List Claim)) (seats : List NodeCursor) (posted : List Envelope) (past : List ℕ) (n : ℕ) → AreFollowed hs seats posted past → length seats ≤ n → MayTake hs past n → ⊥
 outside_cant hs seats posted past n are outside may =
     let count = are.count in
     let none : slice_get [] (taken n past) ≡ Some may.claim = subst (λ (h : List Claim). slice_get h (taken n past) ≡ Some may.claim) (none_past hs n (omega (arith, count, outside))) may.next in absurd cc
 
 -- ---- the beginning
 
-pub followed_opens : (hs : List (List Claim)) (seats : List NodeView) (ready stopped : List ℕ) (posted : List Envelope) (order : List ℕ) → IsDesk hs seats ready stopped posted (reverse order) → stopped ≡ [] → order ≡ []
+pub followed_opens : (hs : List (List Claim)) (seats : List NodeCursor) (ready stopped : List ℕ) (posted : List Envelope) (order : List ℕ) → IsDesk hs seats ready stopped posted (reverse order) → stopped ≡ [] → order ≡ []
     → AreFollowed hs seats posted []
 followed_opens hs seats ready stopped posted order search none empty =
     let desk' : IsDesk hs seats ready [] posted [] = subst (λ (ss : List ℕ). IsDesk hs seats ready ss posted []) none (subst (λ (o : List ℕ). IsDesk hs seats ready stopped posted (reverse o)) empty search) in

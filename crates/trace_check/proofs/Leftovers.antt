@@ -18,7 +18,7 @@ use Rattle.trace_check.specs.declared.trace.RecoverFault.TheVariants as recover
 use Rattle.trace_check.specs.declared.leftover.Holdup.{Holdup}
 use Rattle.trace_check.specs.declared.leftover.Holdup.TheVariants.{Waits, Misaddressed, Refused, Sends}
 use Rattle.trace_check.specs.declared.leftover.Leftover.{Leftover}
-use Rattle.trace_check.specs.declared.search.NodeView.{NodeView}
+use Rattle.trace_check.specs.declared.search.NodeCursor.{NodeCursor}
 use Rattle.trace_check.specs.Claims.{Claim, MayCome, what_at, what_of, after_claim, brought_by}
 use Rattle.trace_check.specs.Orders.{history, taken, state_of, IsSent, MayTake, IsLegal, IsStuck}
 use Rattle.trace_check.specs.Leftovers.{HoldsUp, HoldupsHold, IsMissing, IsHeldUp, AddsLeft, AreLeftBelow, CanReplay, IsFound}
@@ -168,11 +168,11 @@ left_one hs past n k place left new holdup up stuck is found pushed before =
     (left_some hs past n left at.0 holdup stuck (ap (λ (p : ℕ). slice_get (history hs n) p) (sym is) ∙ at.1) (subst (λ (p : ℕ). HoldsUp n (length hs) (state_of hs n p) at.0 holdup) is at.2) before))
 
 -- the nodes from this number on stand as they did, and each at its place
-pub record StandStill (hs : List (List Claim)) (olds seats : List NodeView) (past : List ℕ) (number : ℕ) : Type 0 where
+pub record StandStill (hs : List (List Claim)) (olds seats : List NodeCursor) (past : List ℕ) (number : ℕ) : Type 0 where
   pub rests : IsAtRest hs seats past
   pub kept : (n : ℕ) → number ≤ n → slice_get seats n ≡ slice_get olds n
 
-pub still_on : (hs : List (List Claim)) (olds seats : List NodeView) (past : List ℕ) (number k : ℕ) (s new : NodeView) → StandStill hs olds seats past number → k ≡ number → slice_get seats number ≡ Some s → new.place ≡ s.place
+pub still_on : (hs : List (List Claim)) (olds seats : List NodeCursor) (past : List ℕ) (number k : ℕ) (s new : NodeCursor) → StandStill hs olds seats past number → k ≡ number → slice_get seats number ≡ Some s → new.place ≡ s.place
     → StandStill hs olds (slice_set seats k new) past (number + 1)
 still_on hs olds seats past number k s new still is at same = record {
   rests = subst (λ (j : ℕ). IsAtRest hs (slice_set seats j new) past) (sym is) (rests_spoiled hs seats past number s new still.rests at same);

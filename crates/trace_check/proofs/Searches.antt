@@ -9,7 +9,7 @@ use Rattle.histories.specs.Lists.{IsAmong, Each}
 use Rattle.histories.specs.NodeState.{NodeState}
 use Rattle.histories.specs.HistoryEvent.{AreAddressed}
 use Rattle.histories.proofs.PublicLaws.{among_left, among_right, among_either, each_more}
-use Rattle.trace_check.specs.declared.search.NodeView.{NodeView}
+use Rattle.trace_check.specs.declared.search.NodeCursor.{NodeCursor}
 use Rattle.trace_check.specs.Claims.{Claim, MayCome, after_claim, brought_by}
 use Rattle.trace_check.specs.Orders.{history, taken, state_of, IsSent, MayTake}
 use Rattle.trace_check.specs.Posts.{IsPosted, Posts}
@@ -52,9 +52,9 @@ abbrev pub twin_in : ℕ → ℕ → NodeState → Twin
 twin_in id nodes node = record { id = id; nodes = nodes; node = node }
 
 -- nodes are the same but for one
-pub record Reseats (old new : List NodeView) (n : ℕ) (s : NodeView) : Type 0 where
+pub record Reseats (old new : List NodeCursor) (n : ℕ) (s : NodeCursor) : Type 0 where
   pub count : length new ≡ length old
-  pub here : (t : NodeView) → slice_get new n ≡ Some t → t ≡ s
+  pub here : (t : NodeCursor) → slice_get new n ≡ Some t → t ≡ s
   pub others : (k : ℕ) → k ≢ n → slice_get new k ≡ slice_get old k
 
 -- ---- what is taken
@@ -65,7 +65,7 @@ taken_same n past = let same : (n == n) ≡ true = grind (arith, nat_tests) in r
 pub taken_other : (k n : ℕ) (past : List ℕ) → k ≢ n → taken k (n ∷ past) ≡ taken k past
 taken_other k n past other = let apart : (n == k) ≡ false = test_other n k (λ same. other (sym same)) in rw apart refl
 
-module _ (hs : List (List Claim)) (seats seats' : List NodeView) (ready stopped : List ℕ) (posted : List Envelope) (past : List ℕ) (n : ℕ) (old new : NodeView) (search : IsDesk hs seats ready stopped posted past) (reseats : Reseats seats seats' n new) (at : slice_get seats n ≡ Some old) where
+module _ (hs : List (List Claim)) (seats seats' : List NodeCursor) (ready stopped : List ℕ) (posted : List Envelope) (past : List ℕ) (n : ℕ) (old new : NodeCursor) (search : IsDesk hs seats ready stopped posted past) (reseats : Reseats seats seats' n new) (at : slice_get seats n ≡ Some old) where
   -- the node is stopped
   pub stop_desk : new.place ≡ old.place → IsDead hs past n → IsDesk hs seats' (without_id ready n) (with_id stopped n) posted past
   stop_desk same is_dead = record {
@@ -74,7 +74,7 @@ module _ (hs : List (List Claim)) (seats seats' : List NodeView) (ready stopped 
       | inl is ↦ record {
         place =
             let s_is : s ≡ new = reseats.here s (subst (λ (j : ℕ). slice_get seats' j ≡ Some s) is here) in
-            ap (λ (t : NodeView). t.place) s_is ∙ same ∙ (search.fits n old at).place ∙ ap (λ (j : ℕ). taken j past) (sym is);
+            ap (λ (t : NodeCursor). t.place) s_is ∙ same ∙ (search.fits n old at).place ∙ ap (λ (j : ℕ). taken j past) (sym is);
         node_model = λ going. absurd (clash (has (with_id stopped n) k) (ap (λ (j : ℕ). has (with_id stopped n) j) is ∙ with_same stopped n) going);
       }
       | inr other ↦ (
@@ -100,7 +100,7 @@ module _ (hs : List (List Claim)) (seats seats' : List NodeView) (ready stopped 
   }
 
 -- the node waits
-pub wait_desk : (hs : List (List Claim)) (seats : List NodeView) (ready stopped : List ℕ) (posted : List Envelope) (past : List ℕ) (n : ℕ) → IsDesk hs seats ready stopped posted past
+pub wait_desk : (hs : List (List Claim)) (seats : List NodeCursor) (ready stopped : List ℕ) (posted : List Envelope) (past : List ℕ) (n : ℕ) → IsDesk hs seats ready stopped posted past
     → (MayTake hs past n → ⊥) → IsDesk hs seats (without_id ready n) stopped posted past
 wait_desk hs seats ready stopped posted past n search cant = record {
   count = search.count;
@@ -130,7 +130,7 @@ sent_before hs past n c (m ∷ ms) k turned none sent addressed = (
   sent_before hs past n c ms k turned none sent.1 addressed.1,
 )
 
-module _ (hs : List (List Claim)) (seats seats' : List NodeView) (ready ready' stopped : List ℕ) (posted posted' : List Envelope) (past : List ℕ) (n : ℕ) (old new : NodeView) where
+module _ (hs : List (List Claim)) (seats seats' : List NodeCursor) (ready ready' stopped : List ℕ) (posted posted' : List Envelope) (past : List ℕ) (n : ℕ) (old new : NodeCursor) where
   pub may_take : IsDesk hs seats ready stopped posted past → slice_get seats n ≡ Some old → has ready n ≡ true → (t : IsTaken hs posted n old new) → MayTake hs past n
   may_take search at is_ready t =
       let fits = search.fits n old at in
@@ -161,9 +161,9 @@ module _ (hs : List (List Claim)) (seats seats' : List NodeView) (ready ready' s
               let s_is : s ≡ new = reseats.here s (subst (λ (j : ℕ). slice_get seats' j ≡ Some s) is here) in
               let more : taken n (n ∷ past) ≡ taken n past + 1 = taken_same n past in
               subst (λ (j : ℕ). SeatFits hs (n ∷ past) j (has stopped j) s) (sym is) (record {
-                place = ap (λ (x : NodeView). x.place) s_is ∙ t.place ∙ ap (λ (p : ℕ). p + 1) fits.place ∙ sym more;
+                place = ap (λ (x : NodeCursor). x.place) s_is ∙ t.place ∙ ap (λ (p : ℕ). p + 1) fits.place ∙ sym more;
                 node_model = λ _.
-                    ap (λ (x : NodeView). x.node_model) s_is ∙ t.node_model
+                    ap (λ (x : NodeCursor). x.node_model) s_is ∙ t.node_model
                     ∙ ap (λ (w : Twin). record w { node = after_claim w.id w.nodes w.node c }) twin
                     ∙ ap (λ (x : NodeState). twin_in n (length hs) x) (sym turned.state)
                     ∙ ap (λ (p : ℕ). twin_in n (length hs) (state_of hs n p)) (sym more);

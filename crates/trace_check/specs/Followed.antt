@@ -1,7 +1,7 @@
 -- Where a check stands that takes the entries in an order that is given.
 use Rattle.std.specs.Prelude.{◌≡◌, ◌↔◌, ℕ, ◌∷◌, Bool, true, false, List, length, reverse, take, Some, slice_get}
 use Rattle.wire_msg.specs.Envelope.{Envelope}
-use Rattle.trace_check.specs.declared.search.NodeView.{NodeView}
+use Rattle.trace_check.specs.declared.search.NodeCursor.{NodeCursor}
 use Rattle.trace_check.specs.declared.search.Search.{Search}
 use Rattle.trace_check.specs.Claims.{Claim}
 use Rattle.trace_check.specs.Orders.{taken, IsSent, IsLegal, MayTake}
@@ -12,13 +12,13 @@ use Rattle.trace_check.specs.Searches.{twin_at}
 abbrev pub before : List ℕ → ℕ → List ℕ
 before order number = reverse (take number order)
 
-abbrev pub seat_at : List (List Claim) → List ℕ → ℕ → NodeView
+abbrev pub seat_at : List (List Claim) → List ℕ → ℕ → NodeCursor
 seat_at hs past n = record { node_model = twin_at hs past n; place = taken n past }
 
 -- after the turns of the past, newest first
-pub record AreFollowed (hs : List (List Claim)) (seats : List NodeView) (posted : List Envelope) (past : List ℕ) : Type 0 where
+pub record AreFollowed (hs : List (List Claim)) (seats : List NodeCursor) (posted : List Envelope) (past : List ℕ) : Type 0 where
   pub count : length seats ≡ length hs
-  pub fits : (n : ℕ) (s : NodeView) → slice_get seats n ≡ Some s → s ≡ seat_at hs past n
+  pub fits : (n : ℕ) (s : NodeCursor) → slice_get seats n ≡ Some s → s ≡ seat_at hs past n
   pub posts : (m : Envelope) → IsPosted posted m ↔ IsSent hs past m
   pub legal : IsLegal hs past
 

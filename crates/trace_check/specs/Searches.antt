@@ -4,7 +4,7 @@ use Rattle.group_task.specs.Ids.{has}
 use Rattle.wire_msg.specs.Envelope.{Envelope}
 use Rattle.histories.specs.Lists.{IsAmong, Each}
 use Rattle.histories.specs.HistoryEvent.{AreAddressed}
-use Rattle.trace_check.specs.declared.search.NodeView.{NodeView}
+use Rattle.trace_check.specs.declared.search.NodeCursor.{NodeCursor}
 use Rattle.trace_check.specs.declared.search.Search.{Search}
 use Rattle.trace_check.specs.declared.search.Judgement.{Judgement}
 use Rattle.trace_check.specs.declared.search.Judgement.TheVariants.{Stops, Waits, Takes}
@@ -26,14 +26,14 @@ abbrev pub IsDead : List (List Claim) → List ℕ → ℕ → Type 0
 IsDead hs past n = (c : Claim) → slice_get (history hs n) (taken n past) ≡ Some c → MayCome n (length hs) (state_of hs n (taken n past)) c → AreAddressed n (brought_by c.deed) → ⊥
 
 -- a node represents its node: one that is stopped keeps its place alone
-pub record SeatFits (hs : List (List Claim)) (past : List ℕ) (n : ℕ) (stopped : Bool) (s : NodeView) : Type 0 where
+pub record SeatFits (hs : List (List Claim)) (past : List ℕ) (n : ℕ) (stopped : Bool) (s : NodeCursor) : Type 0 where
   pub place : s.place ≡ taken n past
   pub node_model : stopped ≡ false → s.node_model ≡ twin_at hs past n
 
 -- after the turns of the past, newest first
-pub record IsDesk (hs : List (List Claim)) (seats : List NodeView) (ready stopped : List ℕ) (posted : List Envelope) (past : List ℕ) : Type 0 where
+pub record IsDesk (hs : List (List Claim)) (seats : List NodeCursor) (ready stopped : List ℕ) (posted : List Envelope) (past : List ℕ) : Type 0 where
   pub count : length seats ≡ length hs
-  pub fits : (n : ℕ) (s : NodeView) → slice_get seats n ≡ Some s → SeatFits hs past n (has stopped n) s
+  pub fits : (n : ℕ) (s : NodeCursor) → slice_get seats n ≡ Some s → SeatFits hs past n (has stopped n) s
   pub legal : IsLegal hs past
   pub least : IsLeast hs past
   pub posts : (m : Envelope) → IsPosted posted m ↔ IsSent hs past m
@@ -45,9 +45,9 @@ abbrev pub Fits : List (List Claim) → Search → Type 0
 Fits hs d = IsDesk hs d.seats.items d.ready d.stopped d.posted (reverse d.order.items)
 
 -- no entry more can be taken, and each node stands at its next
-pub record IsAtRest (hs : List (List Claim)) (seats : List NodeView) (past : List ℕ) : Type 0 where
+pub record IsAtRest (hs : List (List Claim)) (seats : List NodeCursor) (past : List ℕ) : Type 0 where
   pub count : length seats ≡ length hs
-  pub places : (n : ℕ) (s : NodeView) → slice_get seats n ≡ Some s → s.place ≡ taken n past
+  pub places : (n : ℕ) (s : NodeCursor) → slice_get seats n ≡ Some s → s.place ≡ taken n past
   pub legal : IsLegal hs past
   pub least : IsLeast hs past
   pub stuck : IsStuck hs past
@@ -64,7 +64,7 @@ pub record IsUnsent (hs : List (List Claim)) (posted : List Envelope) (n place :
   pub brought : (c : Claim) → slice_get (history hs n) place ≡ Some c → brought_by c.deed ≡ message ∷ []
 
 -- it can be taken, and the node stands after it
-pub record IsTaken (hs : List (List Claim)) (posted : List Envelope) (n : ℕ) (old new : NodeView) : Type 0 where
+pub record IsTaken (hs : List (List Claim)) (posted : List Envelope) (n : ℕ) (old new : NodeCursor) : Type 0 where
   pub claim : Claim
   pub next : slice_get (history hs n) old.place ≡ Some claim
   pub possible : MayCome old.node_model.id old.node_model.nodes old.node_model.node claim
@@ -73,16 +73,16 @@ pub record IsTaken (hs : List (List Claim)) (posted : List Envelope) (n : ℕ) (
   pub place : new.place ≡ old.place + 1
   pub node_model : new.node_model ≡ record { id = old.node_model.id; nodes = old.node_model.nodes; node = after_claim old.node_model.id old.node_model.nodes old.node_model.node claim }
 
-abbrev pub Judges : List (List Claim) → List Envelope → ℕ → NodeView → NodeView → Judgement → Type 0
+abbrev pub Judges : List (List Claim) → List Envelope → ℕ → NodeCursor → NodeCursor → Judgement → Type 0
 Judges hs posted n old new Stops =
     (new.place ≡ old.place) × ((c : Claim) → slice_get (history hs n) old.place ≡ Some c → MayCome old.node_model.id old.node_model.nodes old.node_model.node c → AreAddressed n (brought_by c.deed) → ⊥)
 Judges hs posted n old new Waits = (new ≡ old) × IsUnsent hs posted n old.place
 Judges hs posted n old new Takes = IsTaken hs posted n old new
 
 -- each node of the list is at its next entry
-pub record AreAtPlaces (hs : List (List Claim)) (seats : List NodeView) (past : List ℕ) : Type 0 where
+pub record AreAtPlaces (hs : List (List Claim)) (seats : List NodeCursor) (past : List ℕ) : Type 0 where
   pub legal : IsLegal hs past
-  pub places : (n : ℕ) (s : NodeView) → slice_get seats n ≡ Some s → s.place ≡ taken n past
+  pub places : (n : ℕ) (s : NodeCursor) → slice_get seats n ≡ Some s → s.place ≡ taken n past
 
 -- these messages are sent, and wake their receivers
 pub record PostsAll (stopped : List ℕ) (posted posted' : List Envelope) (ready ready' : List ℕ) (sent : List Envelope) : Type 0 where
@@ -100,8 +100,8 @@ SendsIts hs old new n place answer = (new.posted ≡ old.posted) × (new.ready �
 
 -- its next entry is judged, and the other nodes stay where they are
 pub record IsTurn (hs : List (List Claim)) (old new : Search) (n : ℕ) (answer : Judgement) : Type 0 where
-  pub was : NodeView
-  pub is : NodeView
+  pub was : NodeCursor
+  pub is : NodeCursor
   pub at : slice_get old.seats.items n ≡ Some was
   pub judged : Judges hs old.posted n was is answer
   pub sends : SendsIts hs old new n was.place answer

@@ -8,7 +8,7 @@ ghost use Rattle.trace_check.specs.Verdicts.{AreTaken, IsVerdict, IsOrderOf, Dec
 use crate::leaving::leftovers;
 use crate::leftover::Leftover;
 use crate::node_model::{EntryRoom, NodeModel};
-use crate::search::{Judgement, NodeView, Search, first_left, turn};
+use crate::search::{Judgement, NodeCursor, Search, first_left, turn};
 use crate::sent_messages::SentMessages;
 use crate::trace::{Trace, Verdict};
 use group_task::{Members, NodeId};
@@ -88,7 +88,7 @@ pub(crate) fn open<'a>(alloc: Global, trace: &'a Trace) -> Result<Search<'a>, Al
     let mut seats = Vec::with_capacity(alloc, usize::from(nodes))?;
     for number in 0..nodes {
         let node_model = NodeModel::new(alloc, NodeId::numbered(number), nodes)?;
-        seats.push(NodeView {
+        seats.push(NodeCursor {
             node_model,
             place: 0,
         })?;

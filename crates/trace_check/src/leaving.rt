@@ -11,7 +11,7 @@ ghost use Rattle.trace_check.specs.Traces.{claim_seen};
 use crate::history::EntryView;
 use crate::leftover::{Holdup, Leftover};
 use crate::node_model::{EntryRoom, NodeModel, same};
-use crate::search::{NodeView, Search};
+use crate::search::{NodeCursor, Search};
 use crate::trace::{Trace, TraceAction};
 use group_task::NodeId;
 use std::alloc::{AllocError, Global};
@@ -52,7 +52,7 @@ fn next_holdup(
     trace: &Trace,
     node: NodeId,
     is_stopped: bool,
-    seat: &mut NodeView,
+    seat: &mut NodeCursor,
 ) -> Result<Option<Holdup>, AllocError>
     requires within { node < length trace.now }
     requires before { CanReplay trace.now node seat.old.place }
@@ -76,7 +76,7 @@ fn renew(
     trace: &Trace,
     node: NodeId,
     is_stopped: bool,
-    seat: &mut NodeView,
+    seat: &mut NodeCursor,
 ) -> Result<(), AllocError>
     requires within { node < length trace.now }
     requires before { CanReplay trace.now node seat.old.place }

@@ -16,7 +16,7 @@ use std::alloc::AllocError;
 
 /// A node of the trace: its node model, and the index of its next entry.
 #[derive(Drop)]
-pub(crate) struct NodeView {
+pub(crate) struct NodeCursor {
     pub(crate) node_model: NodeModel,
     pub(crate) place: usize,
 }
@@ -24,7 +24,7 @@ pub(crate) struct NodeView {
 /// A check that is under way.
 #[derive(Drop)]
 pub(crate) struct Search<'a> {
-    pub(crate) seats: Vec<NodeView>,
+    pub(crate) seats: Vec<NodeCursor>,
     /// The nodes whose next entry may be possible: the others' isn't, before more is sent.
     pub(crate) ready: Members,
     /// The nodes whose next entry isn't possible, whatever is sent. Their node models are spoiled.
@@ -50,12 +50,12 @@ pub(crate) fn judge<'a>(
     kept: &KeptView<'a>,
     posted: &SentMessages<'a>,
     room: &mut EntryRoom,
-    node_view: &mut NodeView,
+    node_cursor: &mut NodeCursor,
     id: NodeId,
 ) -> Result<Judgement, AllocError>
     requires stands { Stands kept.now }
-    requires fits { node_view.old.place + 1 < 2 ^ 64 }
-    ensures { (hs : List (List Claim)) → slice_get (history hs id) node_view.old.place ≡ Some (claim_kept kept.now) → IfOk result (Judges hs posted.now id node_view.old node_view.new) }
+    requires fits { node_cursor.old.place + 1 < 2 ^ 64 }
+    ensures { (hs : List (List Claim)) → slice_get (history hs id) node_cursor.old.place ≡ Some (claim_kept kept.now) → IfOk result (Judges hs posted.now id node_cursor.old node_cursor.new) }
 {
     let brought = kept.brought();
     if let Some(receiver) = brought.receiver(0) {
@@ -66,10 +66,10 @@ pub(crate) fn judge<'a>(
             return Ok(Judgement::Waits);
         }
     }
-    if !node_view.node_model.take_kept(kept, room)? {
+    if !node_cursor.node_model.take_kept(kept, room)? {
         return Ok(Judgement::Stops);
     }
-    node_view.place += 1;
+    node_cursor.place += 1;
     Ok(Judgement::Takes)
 }
 
@@ -82,11 +82,11 @@ pub(crate) fn turn<'a>(
     requires { id < length search.old.seats.items }
     ensures { IfOk result (IsTurn trace.now search.old search.new id) }
 {
-    let node_view = &mut search.seats[usize::from(id.number())];
-    let Some(kept) = trace.kept(id, node_view.place) else {
+    let node_cursor = &mut search.seats[usize::from(id.number())];
+    let Some(kept) = trace.kept(id, node_cursor.place) else {
         return Ok(Judgement::Stops);
     };
-    match judge(&kept, &search.posted, &mut search.room, node_view, id)? {
+    match judge(&kept, &search.posted, &mut search.room, node_cursor, id)? {
         Judgement::Stops => Ok(Judgement::Stops),
         Judgement::Waits => Ok(Judgement::Waits),
         Judgement::Takes => {

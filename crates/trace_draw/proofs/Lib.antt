@@ -1,5 +1,5 @@
 mod Lists
-mod NodeViews
+mod NodeCursors
 mod Tallies
 mod Mails
 mod Steps

@@ -13,7 +13,7 @@ use Rattle.trace_draw.specs.declared.turn.Stay.{Stay}
 use Rattle.trace_draw.specs.Poses.{AreUnderWay, IsPosed, IsPoseFrom}
 use Rattle.trace_draw.specs.Stays.{AreStays, IsCovered, IsStay, IsStayFrom, stand_after, stand_of}
 use Rattle.trace_draw.proofs.Lists.{each_more, last_at, present, set_apart, set_at, set_here, set_length, still_at}
-use Rattle.trace_draw.proofs.NodeViews.{taken_other}
+use Rattle.trace_draw.proofs.NodeCursors.{taken_other}
 
 -- another node stands as it did
 stands_on : (hs : List (List Claim)) (order : List ℕ) (turn node n : ℕ) → slice_get order turn ≡ Some node → n ≢ node → stand_after hs order n (turn + 1) ≡ stand_after hs order n turn

@@ -4,17 +4,17 @@ use Rattle.trace_check.specs.Claims.{Claim}
 use Rattle.trace_check.specs.Searches.{twin_at}
 use Rattle.trace_check.specs.Followed.{before}
 use Rattle.trace_check.specs.Orders.{taken}
-use Rattle.trace_draw.specs.declared.walk.NodeView.{NodeView}
+use Rattle.trace_draw.specs.declared.walk.NodeCursor.{NodeCursor}
 use Rattle.trace_draw.specs.declared.step.Step.{Step}
 use Rattle.trace_draw.specs.Stays.{stand_after}
 use Rattle.trace_draw.specs.Turns.{Takes}
 
 -- a node after these turns, the newest first
-abbrev pub seat_at : List (List Claim) → List ℕ → ℕ → NodeView
+abbrev pub seat_at : List (List Claim) → List ℕ → ℕ → NodeCursor
 seat_at hs past n = record { node_model = twin_at hs past n; index = taken n past }
 
-abbrev pub AreSeats : List (List Claim) → List ℕ → List NodeView → Type 0
-AreSeats hs past seats = (length seats ≡ length hs) × ((n : ℕ) (s : NodeView) → slice_get seats n ≡ Some s → s ≡ seat_at hs past n)
+abbrev pub AreSeats : List (List Claim) → List ℕ → List NodeCursor → Type 0
+AreSeats hs past seats = (length seats ≡ length hs) × ((n : ℕ) (s : NodeCursor) → slice_get seats n ≡ Some s → s ≡ seat_at hs past n)
 
 -- the turn of this number, which takes this entry of this node
 pub record IsStepOf (hs : List (List Claim)) (order : List ℕ) (number n : ℕ) (c : Claim) (s : Step) : Type 0 where

@@ -14,7 +14,7 @@ use trace_check::{NodeModel, Trace};
 
 /// A node of the trace, after the turns so far, and the index of its next entry.
 #[derive(Drop)]
-pub(crate) struct NodeView {
+pub(crate) struct NodeCursor {
     pub(crate) node_model: NodeModel,
     pub(crate) index: usize,
 }
@@ -33,14 +33,14 @@ pub(crate) fn steps(alloc: Global, trace: &Trace, order: &[NodeId]) -> Result<Ve
 }
 
 /// All nodes, before the first turn.
-fn open(alloc: Global, trace: &Trace) -> Result<Vec<NodeView>, AllocError>
+fn open(alloc: Global, trace: &Trace) -> Result<Vec<NodeCursor>, AllocError>
     ensures { IfOk result (λ seats. AreSeats trace.now [] seats.items) }
 {
     let nodes = trace.nodes();
     let mut seats = Vec::new(alloc);
     for number in 0..nodes {
         let node_model = NodeModel::new(alloc, NodeId::numbered(number), nodes)?;
-        seats.push(NodeView {
+        seats.push(NodeCursor {
             node_model,
             index: 0,
         })?;
@@ -53,7 +53,7 @@ fn take_turn(
     trace: &Trace,
     order: &[NodeId],
     turn: usize,
-    seats: &mut Vec<NodeView>,
+    seats: &mut Vec<NodeCursor>,
     steps: &mut Vec<Step>,
 ) -> Result<(), AllocError>
     requires more { turn < length order.now }
@@ -66,16 +66,16 @@ fn take_turn(
     ensures steps { OnOk result (AreFirst trace.now order.now steps.new.items) }
 {
     let node = order[turn];
-    let node_view = &mut seats[usize::from(node.number())];
-    let index = node_view.index;
+    let node_cursor = &mut seats[usize::from(node.number())];
+    let index = node_cursor.index;
     let Some(entry) = trace.entry(node, index) else {
         unreachable!()
     };
-    if !node_view.node_model.take(&entry)? {
+    if !node_cursor.node_model.take(&entry)? {
         unreachable!()
     }
-    node_view.index += 1;
-    let stand = stand_of(&node_view.node_model);
+    node_cursor.index += 1;
+    let stand = stand_of(&node_cursor.node_model);
     steps.push(Step { index, stand })?;
     Ok(())
 }

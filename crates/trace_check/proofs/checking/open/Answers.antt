@@ -1,6 +1,6 @@
 use Rattle.std.proofs.Common.{◌≡◌, ℕ, ◌+◌, List, [], ◌∷◌, ◌++◌, length, reverse, sym, ap, ◌∙◌, subst, arith, refl, length-append}
 use Rattle.histories.specs.NodeState.{opening}
-use Rattle.trace_check.specs.declared.search.NodeView.{NodeView}
+use Rattle.trace_check.specs.declared.search.NodeCursor.{NodeCursor}
 use Rattle.trace_check.specs.Twins.{Twin}
 use Rattle.trace_check.specs.Searches.{IsDesk}
 use Rattle.trace_check.proofs.Turns.{AreOpen, open_more, desk_opens, desk_same}
@@ -9,7 +9,7 @@ use Rattle.trace_check.proofs.checking.open.Goals as goal
 pub loop-number-init : goal.loop-number-init
 loop-number-init c =
     let none = c.in_ok-seats.ensures.items in
-    (ap (λ (ss : List NodeView). length ss) none, subst (λ (ss : List NodeView). AreOpen c.nodes-nodes.result ss) (sym none) (λ n s at. absurd cc))
+    (ap (λ (ss : List NodeCursor). length ss) none, subst (λ (ss : List NodeCursor). AreOpen c.nodes-nodes.result ss) (sym none) (λ n s at. absurd cc))
 
 pub loop-number-preserved : goal.loop-number-preserved
 loop-number-preserved c =
@@ -18,11 +18,11 @@ loop-number-preserved c =
     let len = c.loop-number.invariant.0 in
     let pushed = c.in_ok-push.ensures.items in
     let here : c.numbered.result ≡ length seats = c.numbered.ensures ∙ sym len in
-    let node_view : NodeView = record { node_model = c.in_ok-node_model.node_model; place = 0 } in
-    let many : length (seats ++ node_view ∷ []) ≡ length seats + 1 = length-append seats (node_view ∷ []) in (
-      ap (λ (ss : List NodeView). length ss) pushed ∙ many ∙ ap (λ (k : ℕ). k + 1) len,
-      subst (λ (ss : List NodeView). AreOpen nodes ss) (sym pushed)
-          (open_more nodes seats node_view c.loop-number.invariant.1
+    let node_cursor : NodeCursor = record { node_model = c.in_ok-node_model.node_model; place = 0 } in
+    let many : length (seats ++ node_cursor ∷ []) ≡ length seats + 1 = length-append seats (node_cursor ∷ []) in (
+      ap (λ (ss : List NodeCursor). length ss) pushed ∙ many ∙ ap (λ (k : ℕ). k + 1) len,
+      subst (λ (ss : List NodeCursor). AreOpen nodes ss) (sym pushed)
+          (open_more nodes seats node_cursor c.loop-number.invariant.1
           (ap (λ (t : Twin). record { node_model = t; place = 0 }) (c.in_ok-node_model.ensures ∙ ap (λ (k : ℕ). record { id = k; nodes = nodes; node = opening k }) here))),
     )
 

@@ -2,7 +2,7 @@ use Rattle.std.proofs.Common.{◌≡◌, ℕ, suc, ◌+◌, Bool, true, false, L
 use Rattle.std.proofs.lemmas.List.{take_all}
 use Rattle.std.proofs.lemmas.Option.{slice_get_read}
 use Rattle.std.specs.Prelude.{IsTrue, MatchOption, is_some, not, ◌↔◌}
-use Rattle.trace_check.specs.declared.search.NodeView.{NodeView}
+use Rattle.trace_check.specs.declared.search.NodeCursor.{NodeCursor}
 use Rattle.trace_check.specs.Claims.{Claim}
 use Rattle.trace_check.specs.Followed.{AreFollowed, Followed, before}
 use Rattle.trace_check.specs.Orders.{IsComplete}
@@ -44,6 +44,6 @@ returns c =
     let hs = c.args.trace.now in
     let all : before order c.loop-turn.turn ≡ reverse order = ap (λ (xs : List ℕ). reverse xs) (take_all c.loop-turn.turn order (let test = c.loop-turn-test.false in omega (arith, test))) in
     let are = subst (λ (past : List ℕ). AreFollowed hs c.loop-turn.search.seats.items c.loop-turn.search.posted past) all c.loop-turn.invariant in
-    let left = c.first_left.ensures (reverse order) (record { legal = are.legal; places = λ n s at. ap (λ (v : NodeView). v.place) (are.fits n s at) }) in
+    let left = c.first_left.ensures (reverse order) (record { legal = are.legal; places = λ n s at. ap (λ (v : NodeCursor). v.place) (are.fits n s at) }) in
     let ends = none_left hs (reverse order) _ c.is_none.result c.is_none.ensures left in
     (λ yes. (are.legal, ends.0 yes), λ run. ends.1 run.1)

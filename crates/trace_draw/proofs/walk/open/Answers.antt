@@ -1,7 +1,7 @@
 use Rattle.std.proofs.Common.{ℕ, ap, ◌∙◌}
 use Rattle.histories.specs.NodeState.{opening}
 use Rattle.trace_check.specs.Twins.{Twin}
-use Rattle.trace_draw.proofs.NodeViews.{opens}
+use Rattle.trace_draw.proofs.NodeCursors.{opens}
 use Rattle.trace_draw.proofs.walk.open.Goals as goal
 
 pub loop-number-preserved : goal.loop-number-preserved

@@ -1,5 +1,5 @@
 use Rattle.std.proofs.Common.{◌≡◌, length}
-use Rattle.trace_draw.proofs.NodeViews.{AreOpen}
+use Rattle.trace_draw.proofs.NodeCursors.{AreOpen}
 use Rattle.trace_draw.proofs.walk.open.Given as goal
 
 abbrev pub invariant-loop-number : goal.invariant-loop-number

@@ -9,7 +9,7 @@ use Rattle.trace_check.specs.Followed.{before}
 use Rattle.trace_check.specs.Orders.{history, taken, state_of, IsLegal, MayTake}
 use Rattle.trace_check.specs.Twins.{Twin}
 use Rattle.trace_check.proofs.PublicLaws.{may_take, twin_in, turns, none_past}
-use Rattle.trace_draw.specs.declared.walk.NodeView.{NodeView}
+use Rattle.trace_draw.specs.declared.walk.NodeCursor.{NodeCursor}
 use Rattle.trace_draw.specs.Walks.{AreSeats, seat_at}
 use Rattle.trace_draw.proofs.Lists.{set_length, set_at, last_or_before}
 
@@ -28,14 +28,14 @@ seat_more hs past n c t at id nodes node =
     (λ i. record { node_model = record { id = id i; nodes = nodes i; node = (node ∙ sym (turns hs past n c at).state) i }; index = taken n past + 1 })
     ∙ ap (λ (k : ℕ). record { node_model = twin_in n (length hs) (state_of hs n k); index = k }) (sym (taken_same n past))
 
-pub seat_after : (hs : List (List Claim)) (past : List ℕ) (n : ℕ) (c : Claim) (s : NodeView) (t : Twin) → s ≡ seat_at hs past n → slice_get (history hs n) s.index ≡ Some c → t.id ≡ s.node_model.id → t.nodes ≡ s.node_model.nodes
+pub seat_after : (hs : List (List Claim)) (past : List ℕ) (n : ℕ) (c : Claim) (s : NodeCursor) (t : Twin) → s ≡ seat_at hs past n → slice_get (history hs n) s.index ≡ Some c → t.id ≡ s.node_model.id → t.nodes ≡ s.node_model.nodes
     → t.node ≡ after_claim s.node_model.id s.node_model.nodes s.node_model.node c → record { node_model = t; index = s.index + 1 } ≡ seat_at hs (n ∷ past) n
 seat_after hs past n c s t is at id nodes node =
-    ap (λ (x : NodeView). record { node_model = t; index = x.index + 1 }) is
-    ∙ seat_more hs past n c t (ap (λ (x : NodeView). slice_get (history hs n) x.index) (sym is) ∙ at) (id ∙ ap (λ (x : NodeView). x.node_model.id) is) (nodes ∙ ap (λ (x : NodeView). x.node_model.nodes) is)
-    (node ∙ ap (λ (x : NodeView). after_claim x.node_model.id x.node_model.nodes x.node_model.node c) is)
+    ap (λ (x : NodeCursor). record { node_model = t; index = x.index + 1 }) is
+    ∙ seat_more hs past n c t (ap (λ (x : NodeCursor). slice_get (history hs n) x.index) (sym is) ∙ at) (id ∙ ap (λ (x : NodeCursor). x.node_model.id) is) (nodes ∙ ap (λ (x : NodeCursor). x.node_model.nodes) is)
+    (node ∙ ap (λ (x : NodeCursor). after_claim x.node_model.id x.node_model.nodes x.node_model.node c) is)
 
-pub seats_more : (hs : List (List Claim)) (past : List ℕ) (n : ℕ) (seats : List NodeView) (s : NodeView) → AreSeats hs past seats → s ≡ seat_at hs (n ∷ past) n → AreSeats hs (n ∷ past) (slice_set seats n s)
+pub seats_more : (hs : List (List Claim)) (past : List ℕ) (n : ℕ) (seats : List NodeCursor) (s : NodeCursor) → AreSeats hs past seats → s ≡ seat_at hs (n ∷ past) n → AreSeats hs (n ∷ past) (slice_set seats n s)
 seats_more hs past n seats s are is = (
   set_length seats n s ∙ are.0,
   λ k t at. elim (set_at seats n s k t at) [
@@ -46,16 +46,16 @@ seats_more hs past n seats s are is = (
 
 -- ---- the opening
 
-abbrev pub AreOpen : ℕ → List NodeView → Type 0
-AreOpen nodes seats = (n : ℕ) (s : NodeView) → slice_get seats n ≡ Some s → s ≡ record { node_model = record { id = n; nodes = nodes; node = opening n }; index = 0 }
+abbrev pub AreOpen : ℕ → List NodeCursor → Type 0
+AreOpen nodes seats = (n : ℕ) (s : NodeCursor) → slice_get seats n ≡ Some s → s ≡ record { node_model = record { id = n; nodes = nodes; node = opening n }; index = 0 }
 
-open_more : (nodes : ℕ) (seats : List NodeView) (s : NodeView) → AreOpen nodes seats → s ≡ record { node_model = record { id = length seats; nodes = nodes; node = opening (length seats) }; index = 0 } → AreOpen nodes (seats ++ s ∷ [])
+open_more : (nodes : ℕ) (seats : List NodeCursor) (s : NodeCursor) → AreOpen nodes seats → s ≡ record { node_model = record { id = length seats; nodes = nodes; node = opening (length seats) }; index = 0 } → AreOpen nodes (seats ++ s ∷ [])
 open_more nodes seats s each is n t at = elim (last_or_before seats s t n at) [
   | inl early ↦ each n t early
   | inr now ↦ now.1 ∙ is ∙ ap (λ (k : ℕ). record { node_model = record { id = k; nodes = nodes; node = opening k }; index = 0 }) (sym now.0)
 ]
 
-pub opens : (nodes number : ℕ) (seats new : List NodeView) (s : NodeView) → (length seats ≡ number) × AreOpen nodes seats → new ≡ seats ++ s ∷ [] → s ≡ record { node_model = record { id = number; nodes = nodes; node = opening number }; index = 0 }
+pub opens : (nodes number : ℕ) (seats new : List NodeCursor) (s : NodeCursor) → (length seats ≡ number) × AreOpen nodes seats → new ≡ seats ++ s ∷ [] → s ≡ record { node_model = record { id = number; nodes = nodes; node = opening number }; index = 0 }
     → (length new ≡ number + 1) × AreOpen nodes new
 opens nodes number seats new s so_far pushed is =
     rw pushed (length-append seats (s ∷ []) ∙ ap (λ (k : ℕ). k + 1) so_far.0, open_more nodes seats s so_far.1 (is ∙ ap (λ (k : ℕ). record { node_model = record { id = k; nodes = nodes; node = opening k }; index = 0 }) (sym so_far.0)))
@@ -68,11 +68,11 @@ node_within hs past n may = elim (cases_lt n (length hs)) [
   | inr outside ↦ (let none : slice_get [] (taken n past) ≡ Some may.claim = subst (λ (h : List Claim). slice_get h (taken n past) ≡ Some may.claim) (none_past hs n outside) may.next in absurd cc)
 ]
 
-seat_here : (seats : List NodeView) (k n : ℕ) (s : NodeView) → k ≡ n → k < length seats → s ≡ slice_index_or seats k s → slice_get seats n ≡ Some s
+seat_here : (seats : List NodeCursor) (k n : ℕ) (s : NodeCursor) → k ≡ n → k < length seats → s ≡ slice_index_or seats k s → slice_get seats n ≡ Some s
 seat_here seats k n s is within at = subst (λ (j : ℕ). slice_get seats j ≡ Some s) is (slice_get_read seats (length seats) k s refl within at)
 
 -- the node of a turn can take it, and stands before it
-turn_seat : (hs : List (List Claim)) (order : List ℕ) (number node : ℕ) (seats : List NodeView) (k : ℕ) (s : NodeView) → IsLegal hs (reverse order) → slice_get order number ≡ Some node → AreSeats hs (before order number) seats → k ≡ node
+turn_seat : (hs : List (List Claim)) (order : List ℕ) (number node : ℕ) (seats : List NodeCursor) (k : ℕ) (s : NodeCursor) → IsLegal hs (reverse order) → slice_get order number ≡ Some node → AreSeats hs (before order number) seats → k ≡ node
     → s ≡ slice_index_or seats k s → MayTake hs (before order number) node × (s ≡ seat_at hs (before order number) node)
 turn_seat hs order number node seats k s legal now are here at =
     let may = may_take hs order number node legal now in
@@ -80,7 +80,7 @@ turn_seat hs order number node seats k s legal now are here at =
     let count = are.0 in (may, are.1 node s (seat_here seats k node s here (omega (arith, within, count, here)) at))
 
 -- as they are read
-pub seat_read : (hs : List (List Claim)) (order : List ℕ) (number node : ℕ) (seats : List NodeView) (k : ℕ) (s : NodeView) → IsLegal hs (reverse order) → number < length order → node ≡ slice_index_or order number node → AreSeats hs (before order number) seats → k ≡ node
+pub seat_read : (hs : List (List Claim)) (order : List ℕ) (number node : ℕ) (seats : List NodeCursor) (k : ℕ) (s : NodeCursor) → IsLegal hs (reverse order) → number < length order → node ≡ slice_index_or order number node → AreSeats hs (before order number) seats → k ≡ node
     → s ≡ slice_index_or seats k s → (slice_get order number ≡ Some node) × MayTake hs (before order number) node × (s ≡ seat_at hs (before order number) node)
 seat_read hs order number node seats k s legal less there are here at =
     let now = slice_get_read order (length order) number node refl less there in
