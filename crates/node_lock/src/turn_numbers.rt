@@ -8,7 +8,7 @@ use std::sync::atomic::{AtomicU64, Ordering};
 ///
 /// A turn draws its number with its node's lock held, once it has the message that it is brought and before any that it sends is on a
 /// link. So turns of one node have rising numbers, and the turn that is brought a message has a greater one than the turn that sent it.
-#[derive(Drop)]
+#[derive(Debug, Drop)]
 pub struct TurnNumbers {
     next: Arc<AtomicU64, Global>,
 }
