@@ -21,6 +21,7 @@ def odd_clients(bed):
     half_closed(agents, check)
     many(agents, check)
     hanging(agents, check)
+    crowd(bed, agents)
     deaf(agents, check)
     mode = stat.S_IMODE(os.stat(agents.path(0, "sock")).st_mode)
     check("the socket is its group's alone", mode == 0o660, oct(mode))
@@ -236,6 +237,25 @@ def hanging(agents, check):
     for link in links + [waiting, working]:
         link.close()
     agents.until(lambda: (agents.status(0) or {}).get("ok"))
+
+
+def crowd(bed, agents):
+    """Many clients that ask a lot at once: what one of them asks of the node doesn't wait for all that."""
+    links, last, each = [agents.connect(0) for _ in range(200)], agents.connect(0), 64
+    agents.until(lambda: metric(agents, 0, "clients") > 200)
+    agents.processes[0].send_signal(signal.SIGSTOP)
+    for link in links:
+        link.sendall(b'{"do":"status"}\n' * each)
+    last.sendall(b'{"do":"jobs"}\n')
+    agents.processes[0].send_signal(signal.SIGCONT)
+    told = last.makefile().readline()
+    agents.processes[0].send_signal(signal.SIGSTOP)
+    before = sum(link.recv(1 << 20, socket.MSG_DONTWAIT).count(b"\n") for link in links)
+    agents.processes[0].send_signal(signal.SIGCONT)
+    bed.tally.timed("a crowd that asks keeps nobody from the node", json.loads(told)["ok"] and before < each * len(links) / 2, before)
+    for link in links + [last]:
+        link.close()
+    agents.until(lambda: metric(agents, 0, "clients") == 0)
 
 
 def web(bed):

@@ -8,7 +8,8 @@ use crate::record::Record;
 use crate::service::{ClientId, Waiting};
 use std::time::Instant;
 
-/// So many requests of a client are taken at a time.
+/// So many requests of all clients together are taken at a time, and one of each at least: so the node and the network have their turn soon, however many
+/// ask.
 const MAX_AT_A_TIME: usize = 64;
 
 /// So many rows `jobs` has at most.
@@ -21,11 +22,13 @@ impl Daemon {
     /// Takes requests of all clients in turn. What the node is to be asked waits until it has room, as long as it answers at all; all else is answered
     /// all the same.
     pub(super) fn obey(&mut self, now: Instant) {
-        for client in self.clients.in_turn(self.takes_requests(now)) {
+        let clients = self.clients.in_turn(self.takes_requests(now));
+        let share = (MAX_AT_A_TIME / clients.len().max(1)).max(1);
+        for client in clients {
             if self.node.has_room(Lane::Local) {
                 self.clients.had_turn(client);
             }
-            for _ in 0..MAX_AT_A_TIME {
+            for _ in 0..share {
                 let line = match self.clients.next_line(client) {
                     Some(line) => line,
                     None => break,
