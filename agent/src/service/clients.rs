@@ -282,7 +282,9 @@ impl Clients {
         std::mem::take(&mut self.waiting)
     }
 
-    pub fn wait_on(&mut self, waiting: VecDeque<Waiting>) {
+    /// These go on waiting, but for those of clients that ended meanwhile: a job that is given to such a one would be given to nobody else.
+    pub fn wait_on(&mut self, mut waiting: VecDeque<Waiting>) {
+        waiting.retain(|one| self.all.contains_key(&one.client));
         self.waiting = waiting;
     }
 
@@ -342,5 +344,43 @@ pub fn is_left(path: &Path) -> io::Result<bool> {
         // where more wait to be taken than the system keeps somebody is there, too
         Err(error) if error.kind() != ErrorKind::WouldBlock => Err(error),
         _ => Err(io::Error::new(ErrorKind::AddrInUse, "another agent listens there")),
+    }
+}
+
+#[cfg(test)]
+mod tests {
+    use super::*;
+    use mio::Poll;
+
+    const FIRST: ClientId = 16;
+
+    /// The clients at a socket, and the ends of so many that came.
+    fn clients(name: &str, count: usize) -> (Clients, Vec<std::os::unix::net::UnixStream>) {
+        let path = std::env::temp_dir().join(format!("dumgerok-{name}-{}", std::process::id()));
+        let poll = Poll::new().unwrap();
+        let mut clients = Clients::listen(&path, poll.registry(), Token(0), FIRST).unwrap();
+        let connect = |_| std::os::unix::net::UnixStream::connect(&path).unwrap();
+        let links = (0..count).map(connect).collect();
+        while clients.count() < count {
+            clients.accept(poll.registry(), Instant::now(), BTreeSet::new);
+        }
+        (clients, links)
+    }
+
+    fn wait(clients: &mut Clients, client: ClientId, queue: u8) {
+        assert!(clients.wait(Waiting { client, tag: None, queue: Some(queue) }));
+    }
+
+    #[test]
+    fn a_client_that_ends_while_it_is_answered_waits_no_more() {
+        let (mut clients, mut links) = clients("waits", 2);
+        [(FIRST, 1), (FIRST, 2), (FIRST + 1, 2)].into_iter().for_each(|(id, queue)| wait(&mut clients, id, queue));
+        let waiting = clients.take_waiting();
+        drop(links.remove(0));
+        clients.answer(FIRST, &Reply::ok());
+        assert_eq!(clients.take_gone(), [FIRST]);
+        clients.wait_on(waiting);
+        assert_eq!(clients.take_first_waiting(2).map(|one| one.client), Some(FIRST + 1));
+        assert_eq!(clients.waiting_count(), 0);
     }
 }
