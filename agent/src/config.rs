@@ -149,9 +149,10 @@ impl Config {
         Err(ConfigError::Setting { setting: "nodes", why })
     }
 
-    /// Whether a changed configuration has other settings, too, which a restart takes.
+    /// Whether a changed configuration has other settings, too, which a restart takes: where the agent listens is one.
     pub fn differs_elsewhere(&self, changed: &Config) -> bool {
-        Config { nodes: self.nodes.clone(), ..changed.clone() } != *self
+        let is_moved = changed.listens_at() != self.listens_at();
+        is_moved || Config { nodes: self.nodes.clone(), ..changed.clone() } != *self
     }
 }
 
@@ -232,6 +233,8 @@ mod tests {
         assert_eq!(config.addresses_of(&moved).unwrap()[0], "b:1");
         let more = Config::parse(&format!("{WHOLE}log = \"debug\"\n")).unwrap();
         assert!(config.differs_elsewhere(&more) && !config.differs_elsewhere(&moved));
+        let own_moved = Config::parse(&WHOLE.replace("[::1]:2", "[::1]:3")).unwrap();
+        assert!(config.differs_elsewhere(&own_moved), "it listens elsewhere");
         let other = Config::parse(&WHOLE.replace("id = 1", "id = 0")).unwrap();
         assert!(config.addresses_of(&other).is_err());
     }

@@ -90,7 +90,6 @@ impl Daemon {
         match read {
             Ok((names, has_more)) => {
                 self.peers.rename(&names);
-                self.config.nodes = names;
                 info!("the addresses were read again");
                 if has_more {
                     warn!("{}: other settings changed, too: they are taken by a restart", self.path.display());
