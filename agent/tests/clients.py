@@ -186,17 +186,16 @@ def many(agents, check):
     # each watches before the next one comes
     while not told.get("error") and len(more) < 60:
         more.append(agents.connect(0))
-        try:
-            more[-1].sendall(b'{"do":"watch"}\n')
-        except ConnectionError:              # it is cut off before it asks
-            pass
+        more[-1].sendall(b'{"do":"watch"}\n')
         told = json.loads(more[-1].makefile().readline())
-    check("more than 256 that watch are told that there are too many", told.get("error") == "TooManyClients", (len(more), told))
-    for words in (["status"], ["watch"], ["take"]):
-        for _ in range(5):
-            done = agents.ctl(0, *words)
-            if not check("dumgerokctl %s says so" % words[0], done.returncode == 1 and "TooManyClients" in done.stderr, done):
-                break
+    check("more than 240 that watch are told that there are too many", (told.get("error"), len(more)) == ("TooManyClients", 41), (len(more), told))
+    for words in (["watch"], ["take"], ["take", "--", "true"]):
+        done = agents.ctl(0, *words)
+        check("`dumgerokctl %s` says so, too" % " ".join(words), done.returncode == 1 and "TooManyClients" in done.stderr, done)
+    for words in (["status"], ["jobs"], ["submit", "3", "by an operator"]):
+        done = agents.ctl(0, *words)
+        check("those that stay keep no `dumgerokctl %s` out" % words[0], done.returncode == 0, done)
+    more += all_at_work(agents, check)
     for link in links + more:
         link.close()
     agents.until(lambda: (agents.status(0) or {}).get("ok"))
@@ -207,6 +206,22 @@ def many(agents, check):
     check("a thousand come and go", served == 1000, "%d in %.1f s" % (served, time.monotonic() - begin))
     job = agents.ask(0, do="take")
     check("a job is finished", agents.ask(0, do="finish", origin=job["origin"], id=job["id"])["ok"], job)
+
+
+def all_at_work(agents, check):
+    """Beside those that stay as many as are served, each with a request that has no answer yet: one more is told so."""
+    links, node = [agents.connect(0) for _ in range(16)], agents.node(0)
+    os.kill(node, signal.SIGSTOP)
+    try:
+        for link in links:
+            link.sendall(b'{"do":"finish","origin":0,"id":99999}\n')
+        agents.until(lambda: (agents.status(0) or {}).get("error") == "TooManyClients")
+        done = agents.ctl(0, "status")
+        check("where all places are taken `dumgerokctl status` says so", done.returncode == 1 and "TooManyClients" in done.stderr, done)
+    finally:
+        os.kill(node, signal.SIGCONT)
+    check("and they are served on", all(json.loads(link.makefile().readline()).get("error") == "UnknownJob" for link in links))
+    return links
 
 
 def hanging(agents, check):

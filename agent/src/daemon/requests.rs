@@ -73,6 +73,9 @@ impl Daemon {
         Ok(match request {
             Request::Status {} => Some(self.status(now)),
             Request::Members {} => Some(Reply::ok().with("members", self.view.members(&self.peers, now))),
+            Request::Watch { .. } | Request::Take { .. } if !self.clients.may_stay(client, || self.hand.holders()) => {
+                Some(Reply::refused("TooManyClients"))
+            }
             Request::Watch { since } => self.watch(client, &tag, since, now),
             Request::Take { queue, wait } => self.give(client, tag, queue, wait),
             Request::Submit { queue, priority, text, hex } => {

@@ -19,6 +19,9 @@ use std::time::{Duration, Instant};
 /// So many are served at a time. For one more the connection of another that is idle ends, else its own.
 const MAX_CLIENTS: usize = 256;
 
+/// So many of them may stay: watch, wait for a job or work on one. The places that are left are for those who ask and go.
+const MAX_STAYING: usize = 240;
+
 /// So many requests to take a job may wait.
 const MAX_WAITING: usize = 1024;
 
@@ -247,6 +250,17 @@ impl Clients {
             }
             self.remove(id);
         }
+    }
+
+    /// Whether a client may watch, or take a job; `holders` are those that work on one.
+    pub fn may_stay(&self, id: ClientId, holders: impl Fn() -> BTreeSet<ClientId>) -> bool {
+        if self.all.len() <= MAX_STAYING {
+            return true;
+        }
+        let watchers = self.all.iter().filter(|(_, client)| client.watches).map(|(id, _)| *id);
+        let mut staying = holders();
+        staying.extend(watchers.chain(self.waiting.iter().map(|one| one.client)));
+        staying.contains(&id) || staying.len() < MAX_STAYING
     }
 
     pub fn watch(&mut self, id: ClientId) {
