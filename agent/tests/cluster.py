@@ -197,6 +197,8 @@ def partition(bed, agents):
     check("both sides of a partition say what they know", sides == [False, True, True], sides)
     alarms = [[metric(agents, i, name) for i in (out, *rest)] for name in ("majority", "coordinator")]
     check("and so do their metrics: no majority on one side, two coordinators", alarms[0] == [0, 1, 1] and sum(alarms[1]) == 2, alarms)
+    fewer = [metric(agents, i, "members") < metric(agents, i, "nodes") for i in (out, *rest)]
+    check("and fewer members than nodes on both", all(fewer), fewer)
     ready = [page(agents, i, "/readyz")[0] for i in (out, *rest)]
     check("and are ready or not by it", ready == [503, 200, 200], ready)
     kept = agents.ask(out, do="submit", queue=0, text="alone")
