@@ -29,6 +29,7 @@ def odd_clients(bed):
     check("the agent stays small", memory < 64_000, memory)
     pages(agents, check)
     long_words(agents, check)
+    earlier_life(agents, check)
     judged(bed, agents, "odd clients")
 
 
@@ -40,6 +41,21 @@ def long_words(agents, check):
     done = agents.ctl(0, "status")
     agents.processes[0].send_signal(signal.SIGCONT)
     check("an agent that was stopped isn't waited for without an end: 3", done.returncode == 3 and "says nothing" in done.stderr, done)
+
+
+def earlier_life(agents, check):
+    """A watcher that names a change of the agent's earlier life has missed what came between: it is told the state."""
+    lives = []
+    for _ in range(2):
+        agents.kill(0)
+        agents.start(0)
+        agents.one_group()
+        lives.append(agents.status(0)["change"])
+    agents.ask(0, do="submit", queue=6, text="one more change")
+    with agents.connect(0) as link:
+        link.sendall(json.dumps(dict(do="watch", since=lives[0])).encode() + b"\n")
+        told = json.loads(link.makefile().readline())
+    check("a change of an earlier life is none of this one", told.get("event") == "state", (lives, told))
 
 
 def rubbish(agents, check):

@@ -126,7 +126,7 @@ impl Daemon {
             waker,
             clients,
             hand: Hand::default(),
-            changes: Changes::default(),
+            changes: Changes::new(life),
             seal,
             inbox: Inbox::new(life, nodes),
             outbox: Outbox::new(life, nodes, Duration::from_millis(config.round_trip_ms)),

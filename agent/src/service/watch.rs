@@ -1,4 +1,5 @@
-//! The changes that watchers are told, numbered without a gap from the start of the agent.
+//! The changes that watchers are told, numbered without a gap. Each life of the agent begins at a number of its own: a change of an earlier one is known to
+//! be none of this one.
 
 use crate::protocol::Reply;
 use std::collections::VecDeque;
@@ -6,6 +7,9 @@ use std::collections::VecDeque;
 /// So many changes are kept for a watcher that comes back, and of so many bytes together: it is told them at once.
 const MAX_KEPT: usize = 1024;
 const MAX_BYTES: usize = 128 * 1024;
+
+/// Numbers have 48 bits, so that each language has them whole.
+const SPARE_BITS: u32 = 16;
 
 #[derive(Default)]
 pub struct Changes {
@@ -16,6 +20,11 @@ pub struct Changes {
 }
 
 impl Changes {
+    /// In a life of this name.
+    pub fn new(life: u64) -> Changes {
+        Changes { last: life >> SPARE_BITS, ..Changes::default() }
+    }
+
     pub fn last(&self) -> u64 {
         self.last
     }
@@ -57,6 +66,20 @@ mod tests {
         assert_eq!(changes.behind(last - MAX_KEPT as u64).unwrap().count(), MAX_KEPT);
         assert!(changes.behind(last - MAX_KEPT as u64 - 1).is_none());
         assert!(changes.behind(last + 1).is_none());
+    }
+
+    #[test]
+    fn those_of_another_life_are_none_of_this_one() {
+        let lives = [u64::MAX, 1 << 40, 0].map(|life| {
+            let mut changes = Changes::new(life);
+            (0..9).for_each(|_| drop(changes.put(Reply::event("group"))));
+            changes
+        });
+        for (at, changes) in lives.iter().enumerate() {
+            let known: Vec<bool> = lives.iter().map(|life| changes.behind(life.last() - 1).is_some()).collect();
+            assert_eq!(known, [0, 1, 2].map(|other| other == at));
+            assert!(changes.last() < 1 << 53);
+        }
     }
 
     #[test]
