@@ -1,5 +1,5 @@
 """Datagrams that nobody of the cluster sent now: spoiled, of another cluster, recorded and sent again."""
-import os, random, socket, time
+import os, random, signal, socket, time
 
 from cluster import judged, metric, page
 
@@ -38,7 +38,21 @@ def rubbish(bed):
     agents.until(lambda: counted() - before >= len(sent))
     check("bytes that are no message are refused and counted", agents.status(0)["alive"])
     check("the group stays", agents.one_group() >= 0)
+    burst(agents, check)
     agents.stop()
+
+
+def burst(agents, check):
+    """More at once than there is room for, of another node to one that answers: it waits until there is room."""
+    many, before = 100, metric(agents, 0, 'refused_total{reason="NoMessage"}')
+    agents.processes[0].send_signal(signal.SIGSTOP)
+    for _ in range(many):
+        agents.relay.links[0, 1].sendto(b"\1" * 500, agents.relay.real[0])
+    agents.processes[0].send_signal(signal.SIGCONT)
+    came = lambda: metric(agents, 0, 'refused_total{reason="NoMessage"}') - before
+    dropped = lambda: metric(agents, 0, 'dropped_total{reason="NoRoom"}')
+    agents.until(lambda: came() + dropped() >= many)
+    check("nothing of a burst is dropped where the node answers", (came(), dropped()) == (many, 0), (came(), dropped()))
 
 
 def forwarded(bed):

@@ -18,6 +18,9 @@ impl Daemon {
     pub(super) fn receive(&mut self, now: Instant) {
         let mut bytes = [0; MAX_DATAGRAM];
         for _ in 0..MAX_AT_A_TIME {
+            if !self.takes_datagrams(now) {
+                return;
+            }
             let (datagram, from) = match self.link.receive(&mut bytes) {
                 Some((datagram, from)) => (datagram.to_vec(), from),
                 None => return,
@@ -30,6 +33,12 @@ impl Daemon {
                 self.metrics.dropped.with_label_values(&["NoRoom"]).inc();
             }
         }
+    }
+
+    /// Whether what comes is taken now: while the node answers, it waits with the system until there is room for it. Where the node hangs it is taken, for what
+    /// agents send each other comes by the same socket.
+    pub(super) fn takes_datagrams(&self, now: Instant) -> bool {
+        self.node.has_room(Lane::Network) || !self.view.is_alive(now)
     }
 
     /// Half of the room is for those who are where the other nodes are: a flood from elsewhere keeps none of them from the node.

@@ -249,7 +249,8 @@ impl Daemon {
 
     /// How long to wait for something to come. Where the node has no room its answer is waited for.
     fn sleep(&self, now: Instant) -> Duration {
-        let is_behind = self.node.is_readable() || self.link.is_readable() || self.clients.has_more_to_take();
+        let has_datagrams = self.link.is_readable() && self.takes_datagrams(now);
+        let is_behind = self.node.is_readable() || has_datagrams || self.clients.has_more_to_take();
         if is_behind || self.clients.have_input(self.takes_requests(now)) {
             return Duration::ZERO;
         }
