@@ -1,10 +1,10 @@
 -- What a command that reads its whole input prints, and what is wrong with its input.
 use Rattle.std.specs.Prelude.{ℕ, List, Option}
-use Rattle.console_text.specs.Ends.{IsFixed, IsWhy, Outcome}
+use Rattle.console_text.specs.Ends.{IsFixed, IsWhy, Printout}
 use Rattle.console_text.specs.declared.ends.ExitKind.{ExitKind}
 use Rattle.invite_console.specs.Answer.{answer_text}
 use Rattle.invite_console.specs.Show.{show_text}
-use Rattle.invite_console.specs.Sim.{IsSimOutcome}
+use Rattle.invite_console.specs.Sim.{IsSimPrintout}
 use Rattle.invite_console.specs.Reasons.{answer_flaw, schedule_flaw, show_flaw}
 use Rattle.store_console.specs.Session.{IsSession}
 use Rattle.store_console.specs.Reasons.{session_flaw}
@@ -17,11 +17,11 @@ use Rattle.trace_draw.specs.Drawn.{IsDrawn}
 use Rattle.command_line.specs.declared.invocation.Batch.{Batch}
 use Rattle.command_line.specs.declared.invocation.Batch.TheVariants.{Answer, Show, Sim, Store, Trace, Record, Threads, Draw}
 
--- the outcome is what the command prints for these bytes
-abbrev pub IsOutcomeOf : Batch → List ℕ → Outcome → Type 0
+-- the printout is what the command prints for these bytes
+abbrev pub IsOutcomeOf : Batch → List ℕ → Printout → Type 0
 IsOutcomeOf (Answer place) = IsFixed (answer_text place.id place.nodes)
 IsOutcomeOf Show = IsFixed show_text
-IsOutcomeOf (Sim details) = IsSimOutcome details
+IsOutcomeOf (Sim details) = IsSimPrintout details
 IsOutcomeOf (Store path) = IsSession
 IsOutcomeOf (Trace stage) = IsJudgedAt stage
 IsOutcomeOf Record = IsRecording

@@ -13,20 +13,20 @@ abbrev pub line : List ℕ → List ℕ
 line text = text ++ 10 ∷ []
 
 -- what a command prints, and whether it ends with status 0
-pub record Outcome : Type 0 where
+pub record Printout : Type 0 where
   pub text : List ℕ
   pub good : Bool
 
 -- something was wrong: this line says what
-abbrev pub refused : List ℕ → Outcome
+abbrev pub refused : List ℕ → Printout
 refused text = record { text = line text; good = false }
 
 -- a text in front of what is printed
-abbrev pub before : List ℕ → Outcome → Outcome
-before text outcome = record { text = text ++ outcome.text; good = outcome.good }
+abbrev pub before : List ℕ → Printout → Printout
+before text printout = record { text = text ++ printout.text; good = printout.good }
 
-abbrev pub outcome_of : Output → Outcome
-outcome_of printout = record { text = printout.text.items; good = printout.good }
+abbrev pub printout_of : Output → Printout
+printout_of printout = record { text = printout.text.items; good = printout.good }
 
 abbrev pub ending_of : Bool → ExitKind
 ending_of good = if good then Done else Refused
@@ -73,17 +73,17 @@ IsWhy flaw input NoMemory why = Unit {0}
 IsWhy flaw input Unread why = Unit {0}
 IsWhy flaw input Unwritten why = Unit {0}
 
--- the outcome is this one
-abbrev pub IsFixed : (List ℕ → Outcome) → List ℕ → Outcome → Type 0
-IsFixed fixed bytes outcome = outcome ≡ fixed bytes
+-- the printout is this one
+abbrev pub IsFixed : (List ℕ → Printout) → List ℕ → Printout → Type 0
+IsFixed fixed bytes printout = printout ≡ fixed bytes
 
--- The text of an outcome for the bytes that were read, and nothing else, is written. Where the reader says its bytes, they are these.
-abbrev pub Answered : (List ℕ → Outcome → Type 0) → Option (List ℕ) → Option (List ℕ) → Option (List ℕ) → ExitKind → Type 0
+-- The text of a printout for the bytes that were read, and nothing else, is written. Where the reader says its bytes, they are these.
+abbrev pub Answered : (List ℕ → Printout → Type 0) → Option (List ℕ) → Option (List ℕ) → Option (List ℕ) → ExitKind → Type 0
 Answered Is input old new ending =
-    (bytes : List ℕ) × (outcome : Outcome) × IfSome input (λ known. known ≡ bytes) × Is bytes outcome × (ending ≡ ending_of outcome.good) × Appends old new outcome.text
+    (bytes : List ℕ) × (printout : Printout) × IfSome input (λ known. known ≡ bytes) × Is bytes printout × (ending ≡ ending_of printout.good) × Appends old new printout.text
 
 -- What a command writes for what it reads, by how it ends. Nothing is said of a writer that failed.
-abbrev pub Prints : (List ℕ → Outcome → Type 0) → Option (List ℕ) → Option (List ℕ) → Option (List ℕ) → ExitKind → Type 0
+abbrev pub Prints : (List ℕ → Printout → Type 0) → Option (List ℕ) → Option (List ℕ) → Option (List ℕ) → ExitKind → Type 0
 Prints Is input old new Done = Answered Is input old new Done
 Prints Is input old new Refused = Answered Is input old new Refused
 Prints Is input old new NoMemory = Appends old new (line (codes "no memory"))

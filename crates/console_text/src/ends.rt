@@ -51,11 +51,11 @@ pub struct Ended {
 
 impl Output {
     ghost use Rattle.std.specs.Prelude.{◌≡◌, []};
-    ghost use Rattle.console_text.specs.Ends.{outcome_of};
+    ghost use Rattle.console_text.specs.Ends.{printout_of};
 
     /// What is printed where nothing is wrong with the input.
     pub fn without_why(self, alloc: Global) -> CommandError
-        ensures outcome { outcome_of result.printout ≡ outcome_of self }
+        ensures printout { printout_of result.printout ≡ printout_of self }
         ensures why { result.why.items ≡ [] }
     {
         CommandError {

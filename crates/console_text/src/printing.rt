@@ -1,5 +1,5 @@
 ghost use Rattle.std.specs.Prelude.{◌≡◌, ◌++◌, IfOk, codes, decimal};
-ghost use Rattle.console_text.specs.Ends.{HandsOn, PrintsIt, PrintsExplained, outcome_of, refused};
+ghost use Rattle.console_text.specs.Ends.{HandsOn, PrintsIt, PrintsExplained, printout_of, refused};
 ghost use Rattle.console_text.specs.Output.{TellsProgress};
 
 use crate::ends::{CommandError, Ended, ExitKind, IoTrouble, Output};
@@ -69,7 +69,7 @@ pub fn print_explained<W: Write>(
 
 /// What a command prints where the line of this number can't be read.
 pub fn bad_line(alloc: Global, number: u64) -> Result<Output, AllocError>
-    ensures { IfOk result (λ printout. outcome_of printout ≡ refused (codes "bad line " ++ decimal number)) }
+    ensures { IfOk result (λ printout. printout_of printout ≡ refused (codes "bad line " ++ decimal number)) }
 {
     let mut text = Vec::new(alloc);
     push_text(&mut text, "bad line ")?;

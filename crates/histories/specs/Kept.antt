@@ -18,7 +18,7 @@ stands_after counts commands n = fold after_command formatted (map (λ (t : Atte
 
 -- the commands and mountings of a node are kept: one choice of the commands that count serves all mountings and all
 -- answers. A life runs from one mounting to the next
-pub record Kept (commands : List Attempt) (mountings : List Mounting) : Type 0 where
+pub record CommandsKept (commands : List Attempt) (mountings : List Mounting) : Type 0 where
   -- whether each command counts
   pub counts : List Bool
   pub as_many : length counts ≡ length commands
@@ -37,6 +37,6 @@ pub record Kept (commands : List Attempt) (mountings : List Mounting) : Type 0 w
 -- a command in doubt can't count at one mounting and not at the next
 abbrev pub CountsOnce : Type 0
 CountsOnce = (j k : ℕ) → j ≢ k →
-    Kept (record { command = Raise; acked = None } ∷ [])
+    CommandsKept (record { command = Raise; acked = None } ∷ [])
     (record { before = 1; state = record { counter = j; next = 0; pending = [] } }
     ∷ record { before = 1; state = record { counter = k; next = 0; pending = [] } } ∷ []) → ⊥

@@ -12,7 +12,7 @@ use Rattle.histories.specs.HistoryEvent.{Entry}
 use Rattle.histories.specs.After.{after}
 use Rattle.histories.specs.History.{Follows}
 use Rattle.histories.specs.Counts.{IsShort}
-use Rattle.histories.specs.Kept.{Mounting, Kept}
+use Rattle.histories.specs.Kept.{Mounting, CommandsKept}
 use Rattle.histories.specs.declared.attempt.Attempt.{Attempt}
 
 -- a command that was tried on the device, with the answer if it was acknowledged, or a mounting that succeeded
@@ -90,8 +90,8 @@ marks_of self nodes h = opening_marks ++ marks_from self nodes (opening self) 1 
 -- the commands and mountings of each history that memory can hold are kept
 abbrev pub EachKept : Type 0
 EachKept = (self nodes : ℕ) (h : List Entry) → Follows self nodes (opening self) h → IsShort h →
-    Kept (commands_of (marks_of self nodes h)) (mountings_of (marks_of self nodes h))
+    CommandsKept (commands_of (marks_of self nodes h)) (mountings_of (marks_of self nodes h))
 
 -- what is kept step by step is kept
 abbrev pub StepByStep : Type 0
-StepByStep = (ms : List Mark) → KeptFrom formatted None 0 ms → Kept (commands_of ms) (mountings_of ms)
+StepByStep = (ms : List Mark) → KeptFrom formatted None 0 ms → CommandsKept (commands_of ms) (mountings_of ms)

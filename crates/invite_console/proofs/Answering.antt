@@ -1,4 +1,4 @@
--- The outcome of `answer`, from what is left of the stream.
+-- The printout of `answer`, from what is left of the stream.
 use Rattle.std.proofs.Common.{◌≡◌, ℕ, List, [], ◌∷◌, ◌++◌, Bool, true, false, Option, Some, None, codes, ap, ◌∙◌, append-nil}
 use Rattle.std.specs.Prelude.{is_none}
 use Rattle.wire_msg.specs.Envelope.{Envelope}
@@ -6,7 +6,7 @@ use Rattle.wire_msg.specs.Framing.{Begins, Breaks, IsPartial}
 use Rattle.wire_msg.specs.Contents.{messages_in, unfinished_in, is_malformed}
 use Rattle.wire_msg.proofs.PublicLaws.{read_behind, partial_alone, broken_at_once}
 use Rattle.node_core.specs.Start.{alone}
-use Rattle.console_text.specs.Ends.{Outcome, line}
+use Rattle.console_text.specs.Ends.{Printout, line}
 use Rattle.invite_console.specs.Answer.{end_of_answers, first_count}
 use Rattle.invite_console.specs.Session.{Progress, onward, onward_if, TakesNext}
 use Rattle.invite_console.proofs.Sessions.{onward_end}
@@ -15,8 +15,8 @@ use Rattle.invite_console.proofs.Sessions.{onward_end}
 abbrev pub beginning : ℕ → ℕ → Progress
 beginning id nodes = record { id = id; nodes = nodes; state = alone id first_count; text = [] }
 
--- the whole outcome, where this is left of the stream
-abbrev pub onward_over : Progress → List ℕ → Outcome
+-- the whole printout, where this is left of the stream
+abbrev pub onward_over : Progress → List ℕ → Printout
 onward_over p left = onward p (end_of_answers (is_malformed left)) (messages_in left)
 
 -- a stream with these messages and this end is left

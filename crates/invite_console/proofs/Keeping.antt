@@ -16,7 +16,7 @@ use Rattle.runs.proofs.PublicLaws.{step_adds}
 use Rattle.runs.specs.World.{World, start}
 use Rattle.runs.specs.Step.{step_sent}
 use Rattle.runs.specs.Growth.{RunsGrow, RunsOpen}
-use Rattle.invite_console.specs.declared.running.Kept.{Kept}
+use Rattle.invite_console.specs.declared.running.ActEnd.{ActEnd}
 use Rattle.invite_console.specs.declared.details.Details.{Details}
 use Rattle.invite_console.specs.Acts.{act_line, sent_text}
 use Rattle.invite_console.specs.Kept.{AreKept, IsKept, IsKeptSoFar, IsRun, act_head, between, lines, lines_of, run_text, sent_at, sent_by, written_at, written_by}
@@ -69,17 +69,17 @@ between_front from to xs ys front order within =
 
 -- ---- the lines so far
 
-sent_front : (kept kept' : List Kept) (i : ℕ) → Front kept kept' → i ≤ length kept → sent_at kept' i ≡ sent_at kept i
+sent_front : (kept kept' : List ActEnd) (i : ℕ) → Front kept kept' → i ≤ length kept → sent_at kept' i ≡ sent_at kept i
 sent_front kept kept' zero front on = refl
 sent_front kept kept' (suc i) front on = ap sent_by (get_front kept kept' i front (omega (arith, on)))
 
-written_front : (kept kept' : List Kept) (i : ℕ) → Front kept kept' → i ≤ length kept → written_at kept' i ≡ written_at kept i
+written_front : (kept kept' : List ActEnd) (i : ℕ) → Front kept kept' → i ≤ length kept → written_at kept' i ≡ written_at kept i
 written_front kept kept' zero front on = refl
 written_front kept kept' (suc i) front on = ap written_by (get_front kept kept' i front (omega (arith, on)))
 
 -- the line of an act is the same, whatever was added behind
-line_stays : (names : Bool) (sent written : ℕ) (k : Option Kept) (text text' : List ℕ) (ms ms' : List Envelope) → Front text text' → Front ms ms'
-    → ((kept : Kept) → k ≡ Some kept → IsKept sent written (length ms) (length text) kept)
+line_stays : (names : Bool) (sent written : ℕ) (k : Option ActEnd) (text text' : List ℕ) (ms ms' : List Envelope) → Front text text' → Front ms ms'
+    → ((kept : ActEnd) → k ≡ Some kept → IsKept sent written (length ms) (length text) kept)
     → lines_of names k sent written text' ms' ≡ lines_of names k sent written text ms
 line_stays names sent written None text text' ms ms' front_t front_m is = refl
 line_stays names sent written (Some k) text text' ms ms' front_t front_m is =
@@ -87,7 +87,7 @@ line_stays names sent written (Some k) text text' ms ms' front_t front_m is =
     ap (λ t. t ++ (sent_text names sent (between sent k.sent ms') ++ codes "\n")) (between_front written k.written text text' front_t it.written_grows it.written_within)
     ∙ ap (λ m. between written k.written text ++ (sent_text names sent m ++ codes "\n")) (between_front sent k.sent ms ms' front_m it.sent_grows it.sent_within)
 
-lines_stay : (names : Bool) (kept kept' : List Kept) (text text' : List ℕ) (ms ms' : List Envelope) (n : ℕ)
+lines_stay : (names : Bool) (kept kept' : List ActEnd) (text text' : List ℕ) (ms ms' : List Envelope) (n : ℕ)
     → AreKept kept (length ms) (length text) → Front kept kept' → Front text text' → Front ms ms' → n ≤ length kept
     → lines names kept' text' ms' n ≡ lines names kept text ms n
 lines_stay names kept kept' text text' ms ms' zero are fk ft fm on = refl
@@ -147,7 +147,7 @@ grown_behind from xs ys front on =
     ∙ drop-append-le from xs front.more on
     ∙ ap (λ l. drop from xs ++ l) (sym (ap (λ l. drop (length xs) l) front.whole ∙ drop-append_seam xs front.more))
 
-lines_more : (names : Bool) (kept : List Kept) (k : Kept) (text text' : List ℕ) (ms ms' : List Envelope)
+lines_more : (names : Bool) (kept : List ActEnd) (k : ActEnd) (text text' : List ℕ) (ms ms' : List Envelope)
     → AreKept kept (length ms) (length text) → Front text text' → Front ms ms' → sent_at kept (length kept) ≡ length ms
     → k.sent ≡ length ms' → k.written ≡ length text'
     → lines names (kept ++ k ∷ []) text' ms' (suc (length kept))
@@ -170,11 +170,11 @@ lines_more names kept k text text' ms ms' are ft fm all_sent is_sent is_written 
     ∙ ap (λ x. before ++ (drop from text' ++ (sent_text names (length ms) x ++ codes "\n"))) said
 
 -- what is printed so far
-run_is : (names : Bool) (kept : List Kept) (text : List ℕ) (ms : List Envelope) → run_text names kept text ms ≡ lines names kept text ms (length kept) ++ drop (written_at kept (length kept)) text
+run_is : (names : Bool) (kept : List ActEnd) (text : List ℕ) (ms : List Envelope) → run_text names kept text ms ≡ lines names kept text ms (length kept) ++ drop (written_at kept (length kept)) text
 run_is names kept text ms = ap (λ l. lines names kept text ms (length kept) ++ l) (between_end (written_at kept (length kept)) text)
 
 -- The same, where the text grew.
-run_grows : (names : Bool) (kept : List Kept) (text text' : List ℕ) (ms ms' : List Envelope)
+run_grows : (names : Bool) (kept : List ActEnd) (text text' : List ℕ) (ms ms' : List Envelope)
     → AreKept kept (length ms) (length text) → Front text text' → Front ms ms' → written_at kept (length kept) ≤ length text
     → run_text names kept text' ms' ≡ run_text names kept text ms ++ drop (length text) text'
 run_grows names kept text text' ms ms' are ft fm within =
@@ -188,7 +188,7 @@ run_grows names kept text text' ms ms' are ft fm within =
     ∙ ap (λ l. l ++ drop (length text) text') (sym (run_is names kept text ms))
 
 -- The same, where an act that sent messages is kept.
-run_more : (names : Bool) (kept : List Kept) (k : Kept) (text text' : List ℕ) (ms ms' : List Envelope)
+run_more : (names : Bool) (kept : List ActEnd) (k : ActEnd) (text text' : List ℕ) (ms ms' : List Envelope)
     → AreKept kept (length ms) (length text) → Front text text' → Front ms ms' → written_at kept (length kept) ≤ length text → sent_at kept (length kept) ≡ length ms
     → k.sent ≡ length ms' → k.written ≡ length text'
     → run_text names (kept ++ k ∷ []) text' ms' ≡ run_text names kept text ms ++ (drop (length text) text' ++ (sent_text names (length ms) (drop (length ms) ms') ++ codes "\n"))
@@ -213,7 +213,7 @@ run_more names kept k text text' ms ms' are ft fm within all_sent is_sent is_wri
     ∙ ap (λ l. l ++ (added ++ said)) (sym (run_is names kept text ms))
 
 -- one more is kept
-one_kept : (kept : List Kept) (k : Kept) (m t m' t' : ℕ) → AreKept kept m t → m ≤ m' → t ≤ t' → sent_at kept (length kept) ≡ m → written_at kept (length kept) ≤ t
+one_kept : (kept : List ActEnd) (k : ActEnd) (m t m' t' : ℕ) → AreKept kept m t → m ≤ m' → t ≤ t' → sent_at kept (length kept) ≡ m → written_at kept (length kept) ≤ t
     → k.sent ≡ m' → k.written ≡ t' → AreKept (kept ++ k ∷ []) m' t'
 one_kept kept k m t m' t' are more_m more_t all_sent within is_sent is_written = λ i x at_i.
     let fk = front_of kept (kept ++ k ∷ []) (k ∷ []) refl in
@@ -242,7 +242,7 @@ sent_grows old new w a outcome stands acted =
     (ap (λ (net : Network). net.sent) acted.stands.net ∙ step_adds n w acted.step acted.next.allowed ∙ ap (λ (net : Network). net.sent ++ step_sent n w acted.step) (sym stands.net))
 
 -- more is kept of as many messages as before
-kept_longer : (kept : List Kept) (m m' t t' : ℕ) → AreKept kept m t → m ≤ m' → t ≤ t' → AreKept kept m' t'
+kept_longer : (kept : List ActEnd) (m m' t t' : ℕ) → AreKept kept m t → m ≤ m' → t ≤ t' → AreKept kept m' t'
 kept_longer kept m m' t t' are more_m more_t = λ i k at_i.
     let it = are i k at_i in
     let o1 = it.sent_within in
@@ -250,7 +250,7 @@ kept_longer kept m m' t t' are more_m more_t = λ i k at_i.
     record { sent_grows = it.sent_grows; sent_within = omega (arith, o1, more_m); written_grows = it.written_grows; written_within = omega (arith, o2, more_t) }
 
 -- an act was done that sent messages, and what came of it was kept
-pub act_kept : RunsGrow → (details : Details) (nodes slots : ℕ) (old new : WorldView) (before : List Act) (a : Act) (outcome : Outcome) (kept kept' : List Kept) (k : Kept) (text shown text' : List ℕ)
+pub act_kept : RunsGrow → (details : Details) (nodes slots : ℕ) (old new : WorldView) (before : List Act) (a : Act) (outcome : Outcome) (kept kept' : List ActEnd) (k : ActEnd) (text shown text' : List ℕ)
     → ((w : World) → StandsFor old w → Acted w a outcome new) → Operates a old new outcome → FaultsAt (node_named (length old.nodes) old.net.sent a) old new outcome → ((w : World) → StandsFor old w → AreasRise old new outcome) → length before + 3 < 2 ^ 64 → new.slots ≡ old.slots → ((w : World) → StandsFor old w → AddsNodes details.nodes w.states text shown)
     → text' ≡ shown ++ act_head (length before) a outcome → k.sent ≡ length new.net.sent → k.written ≡ length text' → kept' ≡ kept ++ k ∷ []
     → IsKeptSoFar details nodes slots old before kept text → IsKeptSoFar details nodes slots new (before ++ a ∷ []) kept' text'
@@ -279,7 +279,7 @@ act_kept grow details nodes slots old new before a outcome kept kept' k text sho
     let more : suc (length kept) ≡ length (kept ++ k ∷ []) = (let l = length-append kept (k ∷ []) in omega (arith, l)) in
     let seam = get_seam kept k in
     let longest : written_at (kept ++ k ∷ []) (length (kept ++ k ∷ [])) ≡ length text' = subst (λ (i : ℕ). written_at (kept ++ k ∷ []) i ≡ length text') more (ap written_by seam ∙ is_written) in
-    subst (λ (ks : List Kept). IsKeptSoFar details nodes slots new (before ++ a ∷ []) ks text') (sym is_more) (record {
+    subst (λ (ks : List ActEnd). IsKeptSoFar details nodes slots new (before ++ a ∷ []) ks text') (sym is_more) (record {
       are = one_kept kept k sent (length text) (length new.net.sent) (length text') so.are (front_length old.net.sent new.net.sent fm) (front_length text text' ft) so.all_sent so.within is_sent is_written;
       all_sent = subst (λ (i : ℕ). sent_at (kept ++ k ∷ []) i ≡ length new.net.sent) more (ap sent_by seam ∙ is_sent);
       within = omega (arith, longest);
@@ -288,7 +288,7 @@ act_kept grow details nodes slots old new before a outcome kept kept' k text sho
     })
 
 -- an act was done that sent nothing: its line is whole
-pub act_quiet : RunsGrow → (details : Details) (nodes slots : ℕ) (old new : WorldView) (before : List Act) (a : Act) (outcome : Outcome) (kept : List Kept) (text shown headed text' : List ℕ)
+pub act_quiet : RunsGrow → (details : Details) (nodes slots : ℕ) (old new : WorldView) (before : List Act) (a : Act) (outcome : Outcome) (kept : List ActEnd) (text shown headed text' : List ℕ)
     → ((w : World) → StandsFor old w → Acted w a outcome new) → Operates a old new outcome → FaultsAt (node_named (length old.nodes) old.net.sent a) old new outcome → ((w : World) → StandsFor old w → AreasRise old new outcome) → length before + 3 < 2 ^ 64 → new.slots ≡ old.slots → ((w : World) → StandsFor old w → AddsNodes details.nodes w.states text shown)
     → headed ≡ shown ++ act_head (length before) a outcome → text' ≡ headed ++ codes "\n" → length new.net.sent ≡ length old.net.sent
     → IsKeptSoFar details nodes slots old before kept text → IsKeptSoFar details nodes slots new (before ++ a ∷ []) kept text'
@@ -342,7 +342,7 @@ begins_kept opens details nodes slots view same stands unarmed areas = record {
 }
 
 -- all acts were done, and the nodes were added
-pub run_kept : (details : Details) (nodes slots : ℕ) (view : WorldView) (acts : List Act) (kept : List Kept) (text text' : List ℕ) → IsKeptSoFar details nodes slots view acts kept text
+pub run_kept : (details : Details) (nodes slots : ℕ) (view : WorldView) (acts : List Act) (kept : List ActEnd) (text text' : List ℕ) → IsKeptSoFar details nodes slots view acts kept text
     → ((w : World) → StandsFor view w → AddsRows 0 w.states text text') → IsRun details nodes slots acts kept text' view.net.sent
 run_kept details nodes slots view acts kept text text' so rows =
     let printed = run_text details.names kept text view.net.sent in

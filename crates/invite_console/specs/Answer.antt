@@ -11,7 +11,7 @@ use Rattle.node_core.specs.Effect.{Effect}
 use Rattle.node_core.specs.Effects.{effect_of}
 use Rattle.node_core.specs.Refusals.{refusal_of}
 use Rattle.node_core.specs.Start.{alone}
-use Rattle.console_text.specs.Ends.{Outcome, line, refused, before}
+use Rattle.console_text.specs.Ends.{Printout, line, refused, before}
 use Rattle.invite_console.specs.Lines.{over_hex_lines}
 
 -- the count of the group in which the node begins
@@ -40,19 +40,19 @@ abbrev pub is_strange : ℕ → ℕ → Envelope → State → Bool
 is_strange nodes self m s = is_some (refusal_of nodes self (Deliver m) s)
 
 -- The answers of a node to messages, in their order, and then the end of the stream. The first message that is refused ends them.
-unfoldable pub answers : ℕ → ℕ → State → Outcome → List Envelope → Outcome
+unfoldable pub answers : ℕ → ℕ → State → Printout → List Envelope → Printout
 answers nodes self s end [] = end
 answers nodes self s end (m ∷ rest) =
     if is_strange nodes self m s then refused (codes "refused Stranger")
     else before (message_lines (delivery nodes self m s).sent) (answers nodes self (delivery nodes self m s).state end rest)
 
 -- what is printed behind the last answer: an unfinished frame gives nothing
-abbrev pub end_of_answers : Bool → Outcome
+abbrev pub end_of_answers : Bool → Printout
 end_of_answers malformed = if malformed then refused (codes "malformed") else record { text = []; good = true }
 
-abbrev pub answers_to : ℕ → ℕ → List ℕ → Outcome
+abbrev pub answers_to : ℕ → ℕ → List ℕ → Printout
 answers_to id nodes bytes = answers nodes id (alone id first_count) (end_of_answers (is_malformed bytes)) (messages_in bytes)
 
 -- what `answer` prints for an input
-abbrev pub answer_text : ℕ → ℕ → List ℕ → Outcome
+abbrev pub answer_text : ℕ → ℕ → List ℕ → Printout
 answer_text id nodes input = over_hex_lines (answers_to id nodes) input

@@ -1,7 +1,7 @@
 -- Hex lines, put together.
 use Rattle.std.specs.Prelude.{ℕ, ◌+◌, List, [], ◌∷◌, ◌++◌, Option, Some, None, option_map, Result, Ok, Err, codes, decimal}
 use Rattle.line_words.specs.Lines.{bytes_of, lines_of}
-use Rattle.console_text.specs.Ends.{Outcome, refused}
+use Rattle.console_text.specs.Ends.{Printout, refused}
 
 -- the bytes of a line of `answer` or `show`; an empty line has none
 abbrev pub line_bytes : List ℕ → Option (List ℕ)
@@ -33,9 +33,9 @@ all_bytes [] = Some []
 all_bytes (line ∷ lines) = then_bytes (line_bytes line) (all_bytes lines)
 
 -- what a command prints for the bytes that its lines spell; nothing is run where a line can't be read
-abbrev pub over_read : (List ℕ → Outcome) → Result (List ℕ) ℕ → Outcome
-over_read outcome (Ok bytes) = outcome bytes
-over_read outcome (Err n) = refused (codes "bad line " ++ decimal n)
+abbrev pub over_read : (List ℕ → Printout) → Result (List ℕ) ℕ → Printout
+over_read printout (Ok bytes) = printout bytes
+over_read printout (Err n) = refused (codes "bad line " ++ decimal n)
 
-abbrev pub over_hex_lines : (List ℕ → Outcome) → List ℕ → Outcome
-over_hex_lines outcome input = over_read outcome (hex_lines_of input)
+abbrev pub over_hex_lines : (List ℕ → Printout) → List ℕ → Printout
+over_hex_lines printout input = over_read printout (hex_lines_of input)

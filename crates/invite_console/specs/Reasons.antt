@@ -6,9 +6,9 @@ use Rattle.line_words.specs.Lines.{line_numbered, lines_of}
 use Rattle.schedule.specs.declared.flaw.Flaw.{Flaw}
 use Rattle.schedule.specs.declared.flaw.Flaw.TheVariants.{Nothing, Cluster, NoAct, Fields, Misplaced}
 use Rattle.schedule.specs.Flaws.{flaw_of}
-use Rattle.schedule.specs.Text.{plan_of}
+use Rattle.schedule.specs.Text.{script_of}
 use Rattle.schedule.specs.Verbs.{form_of}
-use Rattle.console_text.specs.Ends.{Outcome}
+use Rattle.console_text.specs.Ends.{Printout}
 use Rattle.console_text.specs.Reasons.{line_flaw, line_head, word_shown}
 use Rattle.invite_console.specs.Answer.{answers_to}
 use Rattle.invite_console.specs.Lines.{hex_lines_of}
@@ -29,7 +29,7 @@ act_flaw line = flaw_text line (flaw_of line)
 
 -- what is wrong with a schedule, in its first line that can't be read
 abbrev pub schedule_flaw : List ℕ → List ℕ
-schedule_flaw input = line_flaw (λ n. act_flaw (line_numbered n (lines_of input))) (plan_of input)
+schedule_flaw input = line_flaw (λ n. act_flaw (line_numbered n (lines_of input))) (script_of input)
 
 -- ---- messages in hex lines
 
@@ -37,12 +37,12 @@ abbrev pub hex_flaw : List ℕ
 hex_flaw = codes "neither pairs of hex digits nor a dash"
 
 -- what is wrong with the messages of a stream that is shown so: its last line says it
-abbrev pub stream_flaw : Outcome → List ℕ
-stream_flaw outcome =
-    if outcome.good then [] else
-    if ends_with (λ (a b : ℕ). a == b) outcome.text (codes "malformed\n") then codes "a message can't be read" else codes "a message is for another node, or names one outside of the cluster"
+abbrev pub stream_flaw : Printout → List ℕ
+stream_flaw printout =
+    if printout.good then [] else
+    if ends_with (λ (a b : ℕ). a == b) printout.text (codes "malformed\n") then codes "a message can't be read" else codes "a message is for another node, or names one outside of the cluster"
 
-abbrev pub messages_flaw : (List ℕ → Outcome) → Result (List ℕ) ℕ → List ℕ
+abbrev pub messages_flaw : (List ℕ → Printout) → Result (List ℕ) ℕ → List ℕ
 messages_flaw shown (Ok bytes) = stream_flaw (shown bytes)
 messages_flaw shown (Err n) = line_head n ++ hex_flaw
 

@@ -3,7 +3,7 @@ use Rattle.std.specs.Prelude.{◌≡◌, ℕ, List, ◌∷◌, ◌++◌, Bool, t
 use Rattle.wire_msg.specs.Envelope.{Envelope}
 use Rattle.node_core.specs.State.{State}
 use Rattle.node_core.specs.Core.{Core}
-use Rattle.console_text.specs.Ends.{Outcome, before}
+use Rattle.console_text.specs.Ends.{Printout, before}
 use Rattle.invite_console.specs.Answer.{answers, delivery, message_lines}
 
 pub record Progress : Type 0 where
@@ -31,15 +31,15 @@ pub record Delivers (old : Core) (m : Envelope) (new : Core) (sent : List Envelo
   pub nodes : new.nodes ≡ old.nodes
   pub effect : delivery old.nodes old.id m old.state ≡ record { state = new.state; sent = sent }
 
--- the whole outcome, where these messages come next and then the end
-abbrev pub onward : Progress → Outcome → List Envelope → Outcome
+-- the whole printout, where these messages come next and then the end
+abbrev pub onward : Progress → Printout → List Envelope → Printout
 onward p end messages = before p.text (answers p.nodes p.id p.state end messages)
 
--- the whole outcome, or what was printed where a message was refused: then the others don't count
-abbrev pub onward_if : Bool → Progress → Outcome → List Envelope → Outcome
+-- the whole printout, or what was printed where a message was refused: then the others don't count
+abbrev pub onward_if : Bool → Progress → Printout → List Envelope → Printout
 onward_if true p end rest = onward p end rest
 onward_if false p end rest = record { text = p.text; good = false }
 
--- taking the message leaves the whole outcome as it is, whatever follows it
+-- taking the message leaves the whole printout as it is, whatever follows it
 abbrev pub TakesNext : Progress → Envelope → Progress → Bool → Type 0
-TakesNext old m new goes = (end : Outcome) (rest : List Envelope) → onward old end (m ∷ rest) ≡ onward_if goes new end rest
+TakesNext old m new goes = (end : Printout) (rest : List Envelope) → onward old end (m ∷ rest) ≡ onward_if goes new end rest

@@ -6,7 +6,7 @@ use Rattle.wire_msg.specs.declared.body.Body.{Body}
 use Rattle.wire_msg.specs.declared.body.Body.TheVariants.{Ready, Work, Done}
 use Rattle.wire_msg.specs.Kinds.{group_in}
 use Rattle.wire_msg.specs.Contents.{messages_in, unfinished_in}
-use Rattle.console_text.specs.Ends.{Outcome, line, refused, before}
+use Rattle.console_text.specs.Ends.{Printout, line, refused, before}
 use Rattle.console_text.specs.Words.{work_text}
 use Rattle.node_words.specs.Words.{answer_part, ids_text, kind_word, named_part}
 use Rattle.invite_console.specs.Lines.{over_hex_lines}
@@ -34,13 +34,13 @@ abbrev pub rest_text : ℕ → List ℕ
 rest_text rest = if rest == 0 then [] else line (codes "rest " ++ decimal rest)
 
 -- what is printed behind the last message
-abbrev pub end_of_show : Option (List ℕ) → Outcome
+abbrev pub end_of_show : Option (List ℕ) → Printout
 end_of_show None = refused (codes "malformed")
 end_of_show (Some rest) = record { text = rest_text (length rest); good = true }
 
-abbrev pub shown_of : List ℕ → Outcome
+abbrev pub shown_of : List ℕ → Printout
 shown_of bytes = before (shown (messages_in bytes)) (end_of_show (unfinished_in bytes))
 
 -- what `show` prints for an input
-abbrev pub show_text : List ℕ → Outcome
+abbrev pub show_text : List ℕ → Printout
 show_text input = over_hex_lines shown_of input

@@ -3,7 +3,7 @@ use Rattle.std.specs.Prelude.{◌≡◌, ℕ, ◌+◌, List, [], ◌∷◌, ◌+
 use Rattle.node_core.specs.State.{is_down}
 use Rattle.histories.specs.NodeState.{NodeState}
 use Rattle.schedule.specs.declared.act.Act.{Act}
-use Rattle.schedule.specs.Text.{Plan, plan_of}
+use Rattle.schedule.specs.Text.{Script, script_of}
 use Rattle.runs.specs.World.{World, start}
 use Rattle.runs.specs.Step.{Step, world_after}
 use Rattle.runs.specs.Reporting.{Report, grown, moment_of, report_of}
@@ -11,7 +11,7 @@ use Rattle.runs.specs.ExactRuns.{IsExactStep}
 use Rattle.runs.specs.Growth.{IsLeft, acts_in}
 use Rattle.cluster_sim.specs.Acting.{IsActed}
 use Rattle.cluster_sim.specs.World.{AreasWithin, AreUnarmed, WorldView, StandsFor}
-use Rattle.console_text.specs.Ends.{Outcome, line, refused}
+use Rattle.console_text.specs.Ends.{Printout, line, refused}
 use Rattle.invite_console.specs.declared.details.Details.{Details}
 use Rattle.invite_console.specs.Acts.{moment_line}
 use Rattle.invite_console.specs.Rows.{HasRow, down_row}
@@ -61,13 +61,13 @@ pub record PrintsRun (details : Details) (nodes slots : ℕ) (acts : List Act) (
   pub printed : PrintsSoFar details nodes slots view world report front
   pub ended : AddsRows 0 world.states front text
 
-abbrev pub PrintsPlan : Details → Result Plan ℕ → Outcome → Type 0
-PrintsPlan details (Err n) outcome = outcome ≡ refused (codes "bad line " ++ decimal n)
-PrintsPlan details (Ok plan) outcome = (outcome.good ≡ true) × PrintsRun details plan.size.nodes plan.size.slots plan.acts outcome.text
+abbrev pub PrintsScript : Details → Result Script ℕ → Printout → Type 0
+PrintsScript details (Err n) printout = printout ≡ refused (codes "bad line " ++ decimal n)
+PrintsScript details (Ok script) printout = (printout.good ≡ true) × PrintsRun details script.size.nodes script.size.slots script.acts printout.text
 
 -- what `sim` prints for an input
-abbrev pub IsSimOutcome : Details → List ℕ → Outcome → Type 0
-IsSimOutcome details input outcome = PrintsPlan details (plan_of input) outcome
+abbrev pub IsSimPrintout : Details → List ℕ → Printout → Type 0
+IsSimPrintout details input printout = PrintsScript details (script_of input) printout
 
 -- ---- on the way
 

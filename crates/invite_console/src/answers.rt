@@ -4,7 +4,7 @@ ghost use Rattle.wire_msg.specs.Envelope.{Envelope};
 ghost use Rattle.node_core.specs.declared.event.Event.TheVariants.{Deliver};
 ghost use Rattle.node_core.specs.Start.{alone};
 ghost use Rattle.node_core.specs.Wants.{wants_of};
-ghost use Rattle.console_text.specs.Ends.{outcome_of, IsFixed, IsWhy, Prints};
+ghost use Rattle.console_text.specs.Ends.{printout_of, IsFixed, IsWhy, Prints};
 ghost use Rattle.invite_console.specs.Reasons.{answer_flaw};
 ghost use Rattle.invite_console.specs.Answer.{answer_text, answers_to, first_count, state_after};
 
@@ -65,7 +65,7 @@ fn answer_to(
 ) -> Result<CommandError, AllocError>
     requires within { id < nodes }
     requires limit { nodes ≤ NODES }
-    ensures printed { IfOk result (λ explained. outcome_of explained.printout ≡ answer_text id nodes input.items) }
+    ensures printed { IfOk result (λ explained. printout_of explained.printout ≡ answer_text id nodes input.items) }
     ensures why { IfOk result (λ explained. explained.why.items ≡ answer_flaw id nodes input.items) }
 {
     match hex_lines(alloc, &input) {
@@ -90,7 +90,7 @@ fn answers_to(
     requires within { id < nodes }
     requires limit { nodes ≤ NODES }
     requires empty { text.items ≡ [] }
-    ensures { IfOk result (λ printout. outcome_of printout ≡ answers_to id nodes bytes.now) }
+    ensures { IfOk result (λ printout. printout_of printout ≡ answers_to id nodes bytes.now) }
 {
     let mut session = Session::new(alloc, id, nodes, text)?;
     let mut message = Message::blank();

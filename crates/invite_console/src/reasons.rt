@@ -2,7 +2,7 @@
 
 ghost use Rattle.std.specs.Prelude.{◌≡◌, ◌++◌, IfOk, OnOk, codes, decimal};
 ghost use Rattle.line_words.specs.Lines.{line_numbered, lines_of};
-ghost use Rattle.console_text.specs.Ends.{outcome_of, refused};
+ghost use Rattle.console_text.specs.Ends.{printout_of, refused};
 ghost use Rattle.console_text.specs.Reasons.{line_head};
 ghost use Rattle.invite_console.specs.Reasons.{act_flaw, flaw_text, hex_flaw, stream_flaw};
 
@@ -17,7 +17,7 @@ pub(crate) fn bad_schedule(
     input: &[u8],
     number: u64,
 ) -> Result<CommandError, AllocError>
-    ensures printed { IfOk result (λ explained. outcome_of explained.printout ≡ refused (codes "bad line " ++ decimal number)) }
+    ensures printed { IfOk result (λ explained. printout_of explained.printout ≡ refused (codes "bad line " ++ decimal number)) }
     ensures why { IfOk result (λ explained. explained.why.items ≡ line_head number ++ act_flaw (line_numbered number (lines_of input.now))) }
 {
     let line = line_numbered(input, number);
@@ -55,7 +55,7 @@ fn push_flaw(text: &mut Vec<u8>, line: &[u8], flaw: Flaw) -> Result<(), AllocErr
 
 /// What is printed for hex lines of which the line of this number can't be read.
 pub(crate) fn bad_hex(alloc: Global, number: u64) -> Result<CommandError, AllocError>
-    ensures printed { IfOk result (λ explained. outcome_of explained.printout ≡ refused (codes "bad line " ++ decimal number)) }
+    ensures printed { IfOk result (λ explained. printout_of explained.printout ≡ refused (codes "bad line " ++ decimal number)) }
     ensures why { IfOk result (λ explained. explained.why.items ≡ line_head number ++ hex_flaw) }
 {
     let mut why = line_reason(alloc, number)?;
@@ -68,8 +68,8 @@ pub(crate) fn bad_hex(alloc: Global, number: u64) -> Result<CommandError, AllocE
 
 /// What is printed for a stream of messages, with what is wrong with it.
 pub(crate) fn with_reason(alloc: Global, printout: Output) -> Result<CommandError, AllocError>
-    ensures printed { IfOk result (λ explained. outcome_of explained.printout ≡ outcome_of printout) }
-    ensures why { IfOk result (λ explained. explained.why.items ≡ stream_flaw (outcome_of printout)) }
+    ensures printed { IfOk result (λ explained. printout_of explained.printout ≡ printout_of printout) }
+    ensures why { IfOk result (λ explained. explained.why.items ≡ stream_flaw (printout_of printout)) }
 {
     let mut why = Vec::new(alloc);
     push_text(&mut why, stream_word(&printout))?;
@@ -77,7 +77,7 @@ pub(crate) fn with_reason(alloc: Global, printout: Output) -> Result<CommandErro
 }
 
 fn stream_word(printout: &Output) -> &'static str
-    ensures { result.now ≡ stream_flaw (outcome_of printout.now) }
+    ensures { result.now ≡ stream_flaw (printout_of printout.now) }
 {
     if printout.good {
         ""

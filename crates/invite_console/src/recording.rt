@@ -1,10 +1,10 @@
 //! The command `record`: a schedule in, the trace of its run out, with the order of its turns.
 ghost use Rattle.std.specs.Prelude.{◌≡◌, ◌≤◌, ◌+◌, IfOk};
-ghost use Rattle.console_text.specs.Ends.{outcome_of, IsWhy, Prints};
+ghost use Rattle.console_text.specs.Ends.{printout_of, IsWhy, Prints};
 ghost use Rattle.invite_console.specs.Reasons.{schedule_flaw};
 ghost use Rattle.invite_console.specs.Recording.{IsRecordText, IsRecording};
 ghost use Rattle.schedule.specs.Limits.{IsWithinLimits};
-ghost use Rattle.schedule.specs.Text.{plan};
+ghost use Rattle.schedule.specs.Text.{script};
 
 use crate::reasons::bad_schedule;
 use cluster_sim::record_of;
@@ -35,7 +35,7 @@ pub fn record<R: Read, W: Write>(alloc: Global, input: &mut Source<R>, output: &
 
 /// What `record` prints for an input, and what is wrong with it.
 fn record_text(alloc: Global, input: &[u8]) -> Result<CommandError, AllocError>
-    ensures printed { IfOk result (λ explained. IsRecording input.now (outcome_of explained.printout)) }
+    ensures printed { IfOk result (λ explained. IsRecording input.now (printout_of explained.printout)) }
     ensures why { IfOk result (λ explained. explained.why.items ≡ schedule_flaw input.now) }
 {
     match read_schedule(alloc, input) {
@@ -53,7 +53,7 @@ fn record_text(alloc: Global, input: &[u8]) -> Result<CommandError, AllocError>
 /// The trace of a schedule's run with the order of its turns, as text.
 fn recorded(alloc: Global, schedule: &Schedule) -> Result<Vec<u8>, AllocError>
     requires { IsWithinLimits schedule.now.size schedule.now.acts.items }
-    ensures { IfOk result (λ text. IsRecordText (plan schedule.now.size schedule.now.acts.items) text.items) }
+    ensures { IfOk result (λ text. IsRecordText (script schedule.now.size schedule.now.acts.items) text.items) }
 {
     let run = record_of(alloc, schedule)?;
     match write_ordered(alloc, &run.trace, &run.order) {

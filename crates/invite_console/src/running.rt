@@ -23,7 +23,7 @@ const LINE: usize = 12;
 
 /// Where what is kept of an act that sent messages ends: it begins where that of the one before it ended.
 #[derive(Clone, Copy)]
-pub(crate) struct Kept {
+pub(crate) struct ActEnd {
     /// How many messages had been sent by then.
     pub sent: usize,
     /// How long the text was by then.
@@ -34,7 +34,7 @@ pub(crate) struct Kept {
 #[derive(Drop)]
 pub(crate) struct Run {
     pub world: World,
-    pub kept: Vec<Kept>,
+    pub kept: Vec<ActEnd>,
     /// Of each act the nodes as they were before it, where they are asked for, and its line, which lacks its end where it sent messages:
     /// these come in between. And then the nodes as the last act left them.
     pub text: Vec<u8>,
@@ -85,7 +85,7 @@ fn keep_acts(
     alloc: Global,
     details: Details,
     text: &mut Vec<u8>,
-    kept: &mut Vec<Kept>,
+    kept: &mut Vec<ActEnd>,
     world: &mut World,
     acts: &[Act],
 ) -> Result<(), AllocError>
@@ -106,7 +106,7 @@ fn keep_act(
     alloc: Global,
     details: Details,
     text: &mut Vec<u8>,
-    kept: &mut Vec<Kept>,
+    kept: &mut Vec<ActEnd>,
     world: &mut World,
     number: u64,
     act: &Act,
@@ -134,10 +134,10 @@ fn keep_act(
 }
 
 /// Keeps how many messages had been sent by the end of an act, and how long the text was.
-fn keep(written: usize, kept: &mut Vec<Kept>, sent: usize) -> Result<(), AllocError>
+fn keep(written: usize, kept: &mut Vec<ActEnd>, sent: usize) -> Result<(), AllocError>
     ensures { OnOk result (kept.new.items ≡ kept.old.items ++ record { sent = sent; written = written } ∷ []) }
 {
-    kept.push(Kept { sent, written })?;
+    kept.push(ActEnd { sent, written })?;
     Ok(())
 }
 

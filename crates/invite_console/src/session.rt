@@ -3,7 +3,7 @@ ghost use Rattle.group_task.specs.declared.node.TheConstants.{NODES};
 ghost use Rattle.node_core.specs.Start.{alone};
 ghost use Rattle.hex.specs.Hex.{encode_lower};
 ghost use Rattle.wire_msg.specs.Spelling.{spelling};
-ghost use Rattle.console_text.specs.Ends.{line, outcome_of};
+ghost use Rattle.console_text.specs.Ends.{line, printout_of};
 ghost use Rattle.invite_console.specs.Answer.{is_strange, message_lines};
 ghost use Rattle.invite_console.specs.Session.{after_message, Delivers, SameButRoom, TakesNext};
 ghost use Rattle.node_core.specs.Quiet.{IsQuiet};
@@ -101,7 +101,7 @@ impl Session {
 
     /// What was printed, where the stream was good or not.
     pub fn ended(self, good: bool) -> Output
-        ensures { outcome_of result ≡ record { text = self.text; good = good } }
+        ensures { printout_of result ≡ record { text = self.text; good = good } }
     {
         Output {
             text: self.text,

@@ -1,5 +1,5 @@
 ghost use Rattle.std.specs.Prelude.{◌≡◌, ◌≤◌, ◌+◌, ◌++◌, [], IfOk, OnOk};
-ghost use Rattle.console_text.specs.Ends.{line, outcome_of, IsFixed, IsWhy, Prints};
+ghost use Rattle.console_text.specs.Ends.{line, printout_of, IsFixed, IsWhy, Prints};
 ghost use Rattle.invite_console.specs.Reasons.{show_flaw};
 ghost use Rattle.invite_console.specs.Show.{body_text, fields_text, message_text, rest_text, shown_of, show_text};
 
@@ -34,7 +34,7 @@ pub fn show<R: Read, W: Write>(alloc: Global, input: &mut Source<R>, output: &mu
 
 /// What `show` prints for an input, and what is wrong with it. The text is written in the input's memory.
 fn show_to(alloc: Global, mut input: Vec<u8>) -> Result<CommandError, AllocError>
-    ensures printed { IfOk result (λ explained. outcome_of explained.printout ≡ show_text input.items) }
+    ensures printed { IfOk result (λ explained. printout_of explained.printout ≡ show_text input.items) }
     ensures why { IfOk result (λ explained. explained.why.items ≡ show_flaw input.items) }
 {
     match hex_lines(alloc, &input) {
@@ -51,7 +51,7 @@ fn show_to(alloc: Global, mut input: Vec<u8>) -> Result<CommandError, AllocError
 /// The messages of a stream as text, written into `text`, which is empty.
 fn show_stream(bytes: &[u8], mut text: Vec<u8>) -> Result<Output, AllocError>
     requires { text.items ≡ [] }
-    ensures { IfOk result (λ printout. outcome_of printout ≡ shown_of bytes.now) }
+    ensures { IfOk result (λ printout. printout_of printout ≡ shown_of bytes.now) }
 {
     let mut message = Message::blank();
     let mut left = bytes;

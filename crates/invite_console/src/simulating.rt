@@ -2,11 +2,11 @@
 
 ghost use Rattle.std.specs.Prelude.{◌≡◌, ◌≤◌, ◌+◌, length, true, Some, None, Ok};
 ghost use Rattle.schedule.specs.Limits.{IsWithinLimits};
-ghost use Rattle.schedule.specs.Text.{plan};
+ghost use Rattle.schedule.specs.Text.{script};
 ghost use Rattle.console_text.specs.Ends.{IsWhy, Prints};
 ghost use Rattle.invite_console.specs.Kept.{run_text, AreKept};
 ghost use Rattle.invite_console.specs.Reasons.{schedule_flaw};
-ghost use Rattle.invite_console.specs.Sim.{IsSimOutcome, PrintsPlan};
+ghost use Rattle.invite_console.specs.Sim.{IsSimPrintout, PrintsScript};
 
 use crate::details::Details;
 use crate::printing::print_run;
@@ -38,7 +38,7 @@ pub fn sim<R: Read, W: Write>(
     // Promise: With `--names` each message is printed by name, and with `--nodes` the nodes as they are before each act, of the
     // same run; for a text with a line that can't be read, `bad line N` alone.
     // Refuses: nodes_not_asked_for.
-    ensures prints { Prints (IsSimOutcome details) (R.remaining input.old.reader) (W.contents output.old) (W.contents output.new) result.ending }
+    ensures prints { Prints (IsSimPrintout details) (R.remaining input.old.reader) (W.contents output.old) (W.contents output.new) result.ending }
     ensures why { IsWhy schedule_flaw (R.remaining input.old.reader) result.ending result.why.items }
     ensures reads { input.old.left ≤ input.new.left + 16777216 }
 {
@@ -50,7 +50,7 @@ pub fn sim<R: Read, W: Write>(
 
 /// Prints what `sim` prints for the bytes of an input. Their memory is the run's, once they are read.
 fn sim_to<W: Write>(alloc: Global, details: Details, input: Vec<u8>, output: &mut W) -> Ended
-    ensures prints { Prints (IsSimOutcome details) (Some input.items) (W.contents output.old) (W.contents output.new) result.ending }
+    ensures prints { Prints (IsSimPrintout details) (Some input.items) (W.contents output.old) (W.contents output.new) result.ending }
     ensures why { IsWhy schedule_flaw (Some input.items) result.ending result.why.items }
 {
     match read_schedule(alloc, &input) {
@@ -78,7 +78,7 @@ fn simulate<W: Write>(
     output: &mut W,
 ) -> ExitKind
     requires { IsWithinLimits schedule.now.size schedule.now.acts.items }
-    ensures { Prints (λ _ outcome. PrintsPlan details (Ok (plan schedule.now.size schedule.now.acts.items)) outcome) None (W.contents output.old) (W.contents output.new) result }
+    ensures { Prints (λ _ printout. PrintsScript details (Ok (script schedule.now.size schedule.now.acts.items)) printout) None (W.contents output.old) (W.contents output.new) result }
 {
     match run_schedule(alloc, details, schedule, input) {
         Ok(run) => print_pages(alloc, output, details.names, &run),

@@ -98,7 +98,7 @@ pub record AreRead (letters : List PackedMessage) (tasks : List Assignment) (wor
   pub each_work : All (HasPayload (length payloads)) works
 
 -- what contracts see of a list of messages: the messages, and for how many more there is room
-pub record Kept : Type 0 where
+pub record MessagesKept : Type 0 where
   pub messages : List Envelope
   pub room : ℕ
 

@@ -39,9 +39,9 @@ const AHEAD: usize = 16;
 
 impl Model for MessageList {
     ghost use Rattle.std.specs.Prelude.{map};
-    ghost use Rattle.message_list.specs.PackedMessages.{Kept, message_of};
+    ghost use Rattle.message_list.specs.PackedMessages.{MessagesKept, message_of};
 
-    ghost Value = { Kept };
+    ghost Value = { MessagesKept };
 
     ghost use Rattle.message_list.specs.Rooms.{IsKept};
 

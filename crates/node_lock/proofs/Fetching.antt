@@ -12,7 +12,7 @@ use Rattle.node_lock.specs.Asking.{asked_by}
 use Rattle.node_lock.specs.Doing.{Gives}
 use Rattle.node_lock.specs.Sending.{SameLink, SameSides, IsFirst, TookAt, Brings}
 use Rattle.node_lock.specs.History.{Turn, polled, from_link, listed}
-use Rattle.node_lock.specs.HeldView.{HeldView, Kept, IsTakeLink, IsOther, OfPolled, Finds}
+use Rattle.node_lock.specs.HeldView.{HeldView, HeldInvariant, IsTakeLink, IsOther, OfPolled, Finds}
 use Rattle.node_lock.proofs.Keeping.{polled-snoc, from_nothing}
 use Rattle.node_lock.proofs.Comings.{brought_polled}
 
@@ -117,7 +117,7 @@ from_took h m i place from old new k w a b is same messages =
       messages = messages ∙ (ap (λ l. l ++ cond (i == place) (m ∷ []) []) before ∙ ap (λ b. polled h.plans.intake old.sender h.history ++ cond b (m ∷ []) []) test);
     }
 
-pub fetched : (h : HeldView) (new : List Side) (place from : ℕ) (f : Option Envelope) → Kept h → IsOther h.run.node place from → from ≡ slice_index h.plans.intake h.turns.intake → IfNone f ((h.waiting ≡ None) × SameSides h.takes new) → IfSome f (λ m. Brings place m h.waiting h.takes new)
+pub fetched : (h : HeldView) (new : List Side) (place from : ℕ) (f : Option Envelope) → HeldInvariant h → IsOther h.run.node place from → from ≡ slice_index h.plans.intake h.turns.intake → IfNone f ((h.waiting ≡ None) × SameSides h.takes new) → IfSome f (λ m. Brings place m h.waiting h.takes new)
     → (length new ≡ length h.takes) × ((i : ℕ) (d : Side) → i < length h.takes → IsFetched h f (slice_index_or h.takes i d) (slice_index_or new i d))
 fetched h new place from None k b is none some =
     (none.1.len, λ i d lt. from_same h None (slice_index_or h.takes i d) (slice_index_or new i d) (k.takes i d lt).0 none.0 (none.1.each i d lt).0 (none.1.each i d lt).1)

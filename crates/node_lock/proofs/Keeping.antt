@@ -22,7 +22,7 @@ use Rattle.node_lock.specs.History.{Turn, IsReplay, PlanStep, entries_of, polled
 use Rattle.node_lock.specs.declared.held.TheConstants.{MOST_ENTRIES}
 use Rattle.node_lock.specs.declared.held.HeldFault.{HeldFault}
 use Rattle.node_lock.specs.declared.held.HeldFault.TheVariants.{NoMemory}
-use Rattle.node_lock.specs.HeldView.{HeldView, Kept, AreEnds, IsPutLink, IsTakeLink, IsOther, Takes, Unserved}
+use Rattle.node_lock.specs.HeldView.{HeldView, HeldInvariant, AreEnds, IsPutLink, IsTakeLink, IsOther, Takes, Unserved}
 use Rattle.node_lock.proofs.Carried.{puts_append, addressed-append}
 use Rattle.node_lock.proofs.Comings.{Comes, turn_comes, turn_sectors}
 
@@ -61,10 +61,10 @@ put_link_more run ts t p q h s =
 -- ---- the state, after one turn more
 
 -- the node stands for a state, and the ends of its links are in the order of the other nodes
-pub ready_in : (h : HeldView) → Kept h → StandsForSome h.node × AreEnds h.node.id h.puts
+pub ready_in : (h : HeldView) → HeldInvariant h → StandsForSome h.node × AreEnds h.node.id h.puts
 ready_in h k = ((_, k.replay.stands), λ i d lt. subst (λ (own : ℕ). IsOther own i (slice_index_or h.puts i d).receiver) (sym k.id) (k.puts i d lt).1)
 
-comes_in : (h : HeldView) (asked : Asked) (t : Turn) (new : Node Memory) → Kept h → TurnDid h.node asked t.entry.what t.entry.sent new → Comes h.node (replay h.run.node h.run.nodes (opening h.run.node) (entries_of h.history)) asked t.entry.what t.entry.sent new
+comes_in : (h : HeldView) (asked : Asked) (t : Turn) (new : Node Memory) → HeldInvariant h → TurnDid h.node asked t.entry.what t.entry.sent new → Comes h.node (replay h.run.node h.run.nodes (opening h.run.node) (entries_of h.history)) asked t.entry.what t.entry.sent new
 comes_in h asked t new k did = turn_comes h.node new asked t.entry.what t.entry.sent did (replay h.run.node h.run.nodes (opening h.run.node) (entries_of h.history)) k.replay.stands
 
 replay_at : (id nodes : ℕ) (ts : List Turn) (t : Turn) (asked : Asked) (old new : Node Memory) → old.id ≡ id → old.nodes ≡ nodes → IsReplay id nodes (entries_of ts) old
@@ -79,7 +79,7 @@ replay_at id nodes ts t asked old new same_id same_nodes r here =
       stands = subst (λ (x : NodeState). Stands state_of new x) ((λ i. after (same_id i) (same_nodes i) s what) ∙ sym on.1) here.stands;
     })
 
-replay_more : (h : HeldView) (asked : Asked) (t : Turn) (new : Node Memory) → Kept h → TurnDid h.node asked t.entry.what t.entry.sent new → IsReplay h.run.node h.run.nodes (entries_of (h.history ++ t ∷ [])) new
+replay_more : (h : HeldView) (asked : Asked) (t : Turn) (new : Node Memory) → HeldInvariant h → TurnDid h.node asked t.entry.what t.entry.sent new → IsReplay h.run.node h.run.nodes (entries_of (h.history ++ t ∷ [])) new
 replay_more h asked t new k did = replay_at h.run.node h.run.nodes h.history t asked h.node new k.id k.nodes k.replay (comes_in h asked t new k did)
 
 -- a history grows by what a journal of so many slots allows
@@ -87,7 +87,7 @@ slots_go_on : SlotsGoOn
 slots_go_on slots self nodes s [] e fits may = (may, tt)
 slots_go_on slots self nodes s (x ∷ es) e fits may = (fits.0, slots_go_on slots self nodes (after self nodes s x.what) es e fits.1 may)
 
-slots_more : (h : HeldView) (asked : Asked) (t : Turn) (new : Node Memory) → Kept h → TurnDid h.node asked t.entry.what t.entry.sent new → FollowsSlots h.run.slots h.run.node h.run.nodes (opening h.run.node) (entries_of (h.history ++ t ∷ []))
+slots_more : (h : HeldView) (asked : Asked) (t : Turn) (new : Node Memory) → HeldInvariant h → TurnDid h.node asked t.entry.what t.entry.sent new → FollowsSlots h.run.slots h.run.node h.run.nodes (opening h.run.node) (entries_of (h.history ++ t ∷ []))
 slots_more h asked t new k did =
     let s = replay h.run.node h.run.nodes (opening h.run.node) (entries_of h.history) in
     let what = t.entry.what in
@@ -96,14 +96,14 @@ slots_more h asked t new k did =
     rw (entries-snoc h.history t) (slots_go_on h.run.slots h.run.node h.run.nodes (opening h.run.node) (entries_of h.history) t.entry k.slots may)
 
 -- what is written down may come of what was asked
-pub gives_in : (h : HeldView) (asked : Asked) (t : Turn) (new : Node Memory) → Kept h → TurnDid h.node asked t.entry.what t.entry.sent new → Gives asked t.entry.what
+pub gives_in : (h : HeldView) (asked : Asked) (t : Turn) (new : Node Memory) → HeldInvariant h → TurnDid h.node asked t.entry.what t.entry.sent new → Gives asked t.entry.what
 gives_in h asked t new k did = (comes_in h asked t new k did).gives
 
 -- one turn more, and all that goes with it
-pub keeps : (h n : HeldView) (asked : Asked) (e : Turn) → Kept h → n.run ≡ h.run → n.plans ≡ h.plans → n.history ≡ h.history ++ e ∷ [] → n.node.id ≡ h.node.id → n.node.nodes ≡ h.node.nodes → PlanStep h.plans h.turns e n.turns
+pub keeps : (h n : HeldView) (asked : Asked) (e : Turn) → HeldInvariant h → n.run ≡ h.run → n.plans ≡ h.plans → n.history ≡ h.history ++ e ∷ [] → n.node.id ≡ h.node.id → n.node.nodes ≡ h.node.nodes → PlanStep h.plans h.turns e n.turns
     → TurnDid h.node asked e.entry.what e.entry.sent n.node → SentOn e.entry.sent h.puts n.puts
     → length n.takes ≡ length h.takes → ((k : ℕ) (d : Side) → k < length h.takes → IsTakeLink n (slice_index_or n.takes k d) × ((slice_index_or n.takes k d).sender ≡ (slice_index_or h.takes k d).sender)) → (IsSome n.waiting → n.turns.intake < length n.plans.intake) → length h.history < MOST_ENTRIES
-    → Kept n
+    → HeldInvariant n
 keeps h n asked e k run plans history id nodes plan did sent len takes waiting few = record {
   id = id ∙ (k.id ∙ ap (λ r. r.node) (sym run));
   nodes = nodes ∙ (k.nodes ∙ ap (λ r. r.nodes) (sym run));
@@ -151,10 +151,10 @@ take_link_past h n e t k run plans history turns waiting none =
     }
 
 -- one entry more of a worker that doesn't poll
-pub keeps_past : (h n : HeldView) (asked : Asked) (e : Turn) → Kept h → n.run ≡ h.run → n.plans ≡ h.plans → n.history ≡ h.history ++ e ∷ [] → n.node.id ≡ h.node.id → n.node.nodes ≡ h.node.nodes → PlanStep h.plans h.turns e n.turns
+pub keeps_past : (h n : HeldView) (asked : Asked) (e : Turn) → HeldInvariant h → n.run ≡ h.run → n.plans ≡ h.plans → n.history ≡ h.history ++ e ∷ [] → n.node.id ≡ h.node.id → n.node.nodes ≡ h.node.nodes → PlanStep h.plans h.turns e n.turns
     → TurnDid h.node asked e.entry.what e.entry.sent n.node → SentOn e.entry.sent h.puts n.puts
     → n.takes ≡ h.takes → n.turns.intake ≡ h.turns.intake → n.waiting ≡ h.waiting → brought (event_of e.entry.what) ≡ [] → length h.history < MOST_ENTRIES
-    → Kept n
+    → HeldInvariant n
 keeps_past h n asked e k run plans history id nodes plan did sent takes turns waiting none few =
     let all : (i : ℕ) (d : Side) → i < length h.takes → IsTakeLink n (slice_index_or n.takes i d) × ((slice_index_or n.takes i d).sender ≡ (slice_index_or h.takes i d).sender) = λ i d lt.
     subst (λ (l : List Side). IsTakeLink n (slice_index_or l i d) × ((slice_index_or l i d).sender ≡ (slice_index_or h.takes i d).sender)) (sym takes) (take_link_past h n e (slice_index_or h.takes i d) (k.takes i d lt).0 run plans history turns waiting none, refl) in

@@ -10,7 +10,7 @@ use Rattle.node_lock.specs.Asking.{Asked, IsAsked}
 use Rattle.node_lock.specs.Planned.{turns_of, with_turn}
 use Rattle.node_lock.specs.History.{Turn, PlanStep}
 use Rattle.node_lock.specs.Taking.{site, turn_of, TookTurn, TookNone}
-use Rattle.node_lock.specs.HeldView.{HeldView, Kept, IsTakeLink, Polls, Takes, WaitsSince, Unserved}
+use Rattle.node_lock.specs.HeldView.{HeldView, HeldInvariant, IsTakeLink, Polls, Takes, WaitsSince, Unserved}
 use Rattle.node_lock.proofs.Keeping.{gives_in, keeps, keeps_past}
 
 -- the next turn of a worker
@@ -22,10 +22,10 @@ abbrev pub TookNext : HeldView → Worker → Asked → Entry → HeldView → T
 TookNext h w asked e n =
     IsAsked h.plans w (turns_of h.turns w) asked × TookTurn w (turns_of h.turns w) asked e (site h.node h.puts h.history) (site n.node n.puts n.history) × (n.turns ≡ with_turn h.turns w)
 
-step_of : (h n : HeldView) (w : Worker) (asked : Asked) (e : Entry) → Kept h → TookNext h w asked e n → PlanStep h.plans h.turns (next_of h w e) n.turns
+step_of : (h n : HeldView) (w : Worker) (asked : Asked) (e : Entry) → HeldInvariant h → TookNext h w asked e n → PlanStep h.plans h.turns (next_of h w e) n.turns
 step_of h n w asked e k took = record { asked = asked; asks = took.0; gives = gives_in h asked (next_of h w e) n.node k took.1.did; index = refl; turns = took.2 }
 
-pub takes_next : (h n : HeldView) (w : Worker) (asked : Asked) (e : Entry) → Kept h → TookNext h w asked e n → Polls h w (next_of h w e) → (t : Turn) × Takes h w t n
+pub takes_next : (h n : HeldView) (w : Worker) (asked : Asked) (e : Entry) → HeldInvariant h → TookNext h w asked e n → Polls h w (next_of h w e) → (t : Turn) × Takes h w t n
 takes_next h n w asked e k took polls = (
   next_of h w e,
   record {
@@ -37,16 +37,16 @@ takes_next h n w asked e k took polls = (
   },
 )
 
-pub keeps_next : (h n : HeldView) (w : Worker) (asked : Asked) (e : Entry) → Kept h → TookNext h w asked e n → n.run ≡ h.run → n.plans ≡ h.plans → length h.history < MOST_ENTRIES
+pub keeps_next : (h n : HeldView) (w : Worker) (asked : Asked) (e : Entry) → HeldInvariant h → TookNext h w asked e n → n.run ≡ h.run → n.plans ≡ h.plans → length h.history < MOST_ENTRIES
     → length n.takes ≡ length h.takes → ((k : ℕ) (d : Side) → k < length h.takes → IsTakeLink n (slice_index_or n.takes k d) × ((slice_index_or n.takes k d).sender ≡ (slice_index_or h.takes k d).sender)) → (IsSome n.waiting → n.turns.intake < length n.plans.intake)
-    → Kept n
+    → HeldInvariant n
 keeps_next h n w asked e k took run plans few len takes waiting =
     keeps h n asked (next_of h w e) k run plans took.1.turns took.1.id took.1.nodes (step_of h n w asked e k took) took.1.did took.1.sent len takes waiting few
 
 -- the same of a worker that doesn't poll
-pub keeps_next_past : (h n : HeldView) (w : Worker) (asked : Asked) (e : Entry) → Kept h → TookNext h w asked e n → n.run ≡ h.run → n.plans ≡ h.plans → length h.history < MOST_ENTRIES
+pub keeps_next_past : (h n : HeldView) (w : Worker) (asked : Asked) (e : Entry) → HeldInvariant h → TookNext h w asked e n → n.run ≡ h.run → n.plans ≡ h.plans → length h.history < MOST_ENTRIES
     → n.takes ≡ h.takes → n.turns.intake ≡ h.turns.intake → n.waiting ≡ h.waiting → brought (event_of e.what) ≡ []
-    → Kept n
+    → HeldInvariant n
 keeps_next_past h n w asked e k took run plans few takes turns waiting none =
     keeps_past h n asked (next_of h w e) k run plans took.1.turns took.1.id took.1.nodes (step_of h n w asked e k took) took.1.did took.1.sent takes turns waiting none few
 

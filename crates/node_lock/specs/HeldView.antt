@@ -58,7 +58,7 @@ abbrev pub IsPolled : Run → ℕ → Type 0
 IsPolled run j = (run.node ≢ j) × (j < run.nodes)
 
 -- what is true whenever the lock is free
-pub record Kept (h : HeldView) : Type 0 where
+pub record HeldInvariant (h : HeldView) : Type 0 where
   pub id : h.node.id ≡ h.run.node
   pub nodes : h.node.nodes ≡ h.run.nodes
   pub member : h.run.node < h.run.nodes
@@ -132,6 +132,6 @@ pub record Turned (by : Worker) (answer : Result Bool TurnFault) (old new : Held
 pub record TurnedSome (by : Worker) (answer : Result Bool TurnFault) : Type 0 where
   pub old : HeldView
   pub new : HeldView
-  pub was : Kept old
-  pub is : Kept new
+  pub was : HeldInvariant old
+  pub is : HeldInvariant new
   pub turned : Turned by answer old new

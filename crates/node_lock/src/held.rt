@@ -1,7 +1,7 @@
 // What one lock holds.
 ghost use Rattle.std.specs.Prelude.{◌≡◌, ◌≢◌, ◌<◌, ◌≤◌, ◌+◌, ◌↔◌, [], length, IfOk, OnOk, OnErr, IfErr, vec_len, vec_capacity, slice_index_or, ℕ, Ok, Err, true, false, Some, None, IsTrue};
 ghost use Rattle.group_task.specs.declared.node.TheConstants.{NODES};
-ghost use Rattle.node_lock.specs.HeldView.{HeldView, Kept, IsOther, IsPolled, Takes, SameRun, Unserved};
+ghost use Rattle.node_lock.specs.HeldView.{HeldView, HeldInvariant, IsOther, IsPolled, Takes, SameRun, Unserved};
 ghost use Rattle.node_lock.specs.History.{Turn};
 ghost use Rattle.node_lock.specs.Planned.{no_turns, plan_len, turns_of};
 ghost use Rattle.node_lock.specs.declared.held.TheConstants.{MOST_ENTRIES};
@@ -50,7 +50,7 @@ pub struct Held {
 }
 
 impl Model for Held {
-    ghost use Rattle.node_lock.specs.HeldView.{HeldView, Kept};
+    ghost use Rattle.node_lock.specs.HeldView.{HeldView, HeldInvariant};
 
     ghost Value = { HeldView };
 
@@ -71,7 +71,7 @@ impl Model for Held {
     // Promise: A history has at most 65,536 turns.
     // Also: limits.
     // Refuses: limit_off_by_one.
-    ghost invariant = { λ h. Kept (record { node = h.site.node; run = h.run; puts = h.site.puts.items; takes = h.takes.items; plans = h.plans; turns = h.turns; history = h.site.history.turns; waiting = h.waiting; room = h.site.history.room; sends = h.site.history.sends; events = h.site.history.events }) };
+    ghost invariant = { λ h. HeldInvariant (record { node = h.site.node; run = h.run; puts = h.site.puts.items; takes = h.takes.items; plans = h.plans; turns = h.turns; history = h.site.history.turns; waiting = h.waiting; room = h.site.history.room; sends = h.site.history.sends; events = h.site.history.events }) };
 }
 
 /// What is left of a node when its workers have ended.
@@ -235,7 +235,7 @@ impl Held {
 
     /// What is true of a node whenever its lock is free.
     pub fn is_kept(&self)
-        ensures { Kept self.now }
+        ensures { HeldInvariant self.now }
     {
         let _ = &self.plans;
     }
@@ -249,7 +249,7 @@ impl Held {
 
     /// What is left of the node.
     pub fn into_parts(self) -> HeldParts
-        ensures kept { Kept self }
+        ensures kept { HeldInvariant self }
         ensures parts { (result.run ≡ self.run) × (result.plans ≡ self.plans) × (result.history.turns ≡ self.history) × (result.puts.items ≡ self.puts) × (result.takes.items ≡ self.takes) × (result.waiting ≡ self.waiting) }
     {
         let Held {

@@ -1,6 +1,6 @@
 // The lock round a node.
 ghost use Rattle.std.specs.Prelude.{◌≡◌, ◌↔◌, ◌≤◌, ℕ, Bool, IsTrue, true, false, length, Ok, Err};
-ghost use Rattle.node_lock.specs.HeldView.{Kept, Takes, Turned, TurnedSome, Unserved};
+ghost use Rattle.node_lock.specs.HeldView.{HeldInvariant, Takes, Turned, TurnedSome, Unserved};
 ghost use Rattle.node_lock.specs.History.{Turn};
 ghost use Rattle.node_lock.specs.Planned.{plan_len, turns_of};
 ghost use Rattle.node_lock.specs.declared.held.TheConstants.{MOST_ENTRIES};
@@ -22,8 +22,8 @@ fn turn_kept<G: Gate>(
 ) -> Result<bool, TurnFault>
     ensures shut { result ≡ Err GateShut → IsTrue (G.may_shut node worker) }
     ensures turned { Turned worker result held.old held.new }
-    ensures was { Kept held.old }
-    ensures is { Kept held.new }
+    ensures was { HeldInvariant held.old }
+    ensures is { HeldInvariant held.new }
 {
     held.is_kept();
     let answer = turn_held(held, node, worker, gate);

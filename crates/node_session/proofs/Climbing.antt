@@ -19,7 +19,7 @@ use Rattle.line_words.specs.Lines.{lines_of}
 use Rattle.line_words.specs.Words.{words_of}
 use Rattle.wire_msg.specs.Envelope.{Envelope}
 use Rattle.node_session.specs.Turns.{Turn, Goes, Unmounted, Begins}
-use Rattle.node_session.specs.Chains.{Outcome, AllGoing, AreGoing, after_turns}
+use Rattle.node_session.specs.Chains.{LineOutcome, AllGoing, AreGoing, after_turns}
 use Rattle.node_session.specs.Lines.{At, AreOf, Comes, after_by, after_line, after_lines, plain_answer}
 use Rattle.node_session.specs.Seals.{Brought, NoBytes, Strange, Garbled, Opened, Seals, asked_under, brought_by, brought_word, is_fresh, life_by, life_of, message_in, no_stamp, number_by, numbered, sealed_behind, taken_brought, taken_fresh, taken_under, taken_words}
 use Rattle.node_session.specs.Stamping.{Climbs, Life, AreLives, NoStampTwice, life_begun, life_left, stamps_asked, stamps_by, stamps_given, stamps_in, stamps_of, stamps_over}
@@ -184,7 +184,7 @@ taken_number (Some q) line = by_word (brought_word (words_of line))
 
 -- ---- lines, and lives
 
-line_climbs : (self nodes slots : ℕ) (b : Bool) (a : At) (line : List ℕ) (came : Outcome) (low : Stamp) (later : List Stamp) → Comes self nodes slots b a.state (asked_under a.seal line) came → AreGoing came.turns
+line_climbs : (self nodes slots : ℕ) (b : Bool) (a : At) (line : List ℕ) (came : LineOutcome) (low : Stamp) (later : List Stamp) → Comes self nodes slots b a.state (asked_under a.seal line) came → AreGoing came.turns
     → Fallen self a.state → Low a.state (number_of a.seal) low
     → ((l : Stamp) → Fallen self (after_by self nodes b a line came).state → Low (after_by self nodes b a line came).state (number_of (after_by self nodes b a line came).seal) l → Climbs l later)
     → Climbs low (stamps_asked self nodes b a (asked_under a.seal line) (taken_under a.seal line) came ++ later)
@@ -196,7 +196,7 @@ line_climbs self nodes slots false a line came low later comes going fallen belo
     (subst (λ (n : ℕ). Low t n low) (sym (taken_number a.seal line)) (low_moves a.state t (number_of a.seal) low moves.0 below))
     (λ l low'. goes l moves.1 low')
 
-lines_climb : (self nodes slots : ℕ) (a : At) (lines : List (List ℕ)) (all : List Outcome) (low : Stamp) (later : List Stamp) → AreOf self nodes slots a lines all → AllGoing all
+lines_climb : (self nodes slots : ℕ) (a : At) (lines : List (List ℕ)) (all : List LineOutcome) (low : Stamp) (later : List Stamp) → AreOf self nodes slots a lines all → AllGoing all
     → Fallen self a.state → Low a.state (number_of a.seal) low
     → ((l : Stamp) → Low (after_lines self nodes a lines all).state (number_of (after_lines self nodes a lines all).seal) l → Climbs l later)
     → Climbs low (stamps_given self nodes a lines all ++ later)

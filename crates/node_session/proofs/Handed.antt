@@ -39,7 +39,7 @@ use Rattle.node_session.specs.declared.call_outcome.CallOutcome.TheVariants as e
 use Rattle.node_session.specs.Changes.{changes, drop_line, drops_by, gone_at, gone_by, gone_line, gone_news, group_by, group_news, held_text, is_finish, take_line}
 use Rattle.node_words.specs.Words.{core_name, event_word, group_part, group_text, id_text, ids_text, more_ids_text, phase_text, truth_text}
 use Rattle.node_session.specs.Turns.{Turn, after_turn, cause, end_of, sent_in}
-use Rattle.node_session.specs.Chains.{Outcome, IsNone, MayCome, after_turns, line_end, next}
+use Rattle.node_session.specs.Chains.{LineOutcome, IsNone, MayCome, after_turns, line_end, next}
 use Rattle.node_session.specs.Lines.{At, Comes, after_by, answer_by, plain_answer}
 use Rattle.node_session.specs.Seals.{Seals, Brought, NoBytes, Strange, Garbled, Opened, asked_under, brought_by, brought_word, is_fresh, life_of, numbered, sealed_behind, sealed_lines, taken_brought, taken_fresh, taken_sealed, taken_under, taken_words, written}
 use Rattle.node_session.specs.Sending.{SendsSealed, again, counted_under, handed_by, is_send, plain_sends, sealed_sends, sealed_so_far, send_of, sends_in, sends_under, sent_turns}
@@ -348,7 +348,7 @@ no_turns self nodes s (turn ∷ turns) none = absurd none
 quiet_answer : (self nodes : ℕ) (s : NodeState) (turns : List Turn) (text : List ℕ) → IsNone turns → IsMade text [] → IsMade text (sent_turns self nodes s turns)
 quiet_answer self nodes s turns text none made = subst (λ (ms : List Envelope). IsMade text ms) (no_turns self nodes s turns none) made
 
-answer_made : (self nodes slots n : ℕ) (a : At) (asked : Asked) (came : Outcome) → MayCome self nodes slots a.state asked came.turns
+answer_made : (self nodes slots n : ℕ) (a : At) (asked : Asked) (came : LineOutcome) → MayCome self nodes slots a.state asked came.turns
     → IsMade (answer self nodes n a.state a.waits asked came) (again asked a.waits ++ sent_turns self nodes a.state came.turns)
 answer_made self nodes slots n a ask.Nothing came may = quiet_answer self nodes a.state came.turns [] may nothing
 answer_made self nodes slots n a (ask.Event event) came may =
@@ -441,11 +441,11 @@ none_under None life = (refl, refl)
 none_under (Some q) None = (refl, refl)
 none_under (Some q) (Some life) = (refl, omega arith)
 
-record AreSentBy (self nodes : ℕ) (b : Bool) (a : At) (line : List ℕ) (came : Outcome) : Type 0 where
+record AreSentBy (self nodes : ℕ) (b : Bool) (a : At) (line : List ℕ) (came : LineOutcome) : Type 0 where
   pub lines : sends_in (answer_by self nodes b a line came) ≡ sends_under a.seal (life_of (after_by self nodes b a line came).state) (handed_by self nodes b a (asked_under a.seal line) came)
   pub number : sealed_so_far (after_by self nodes b a line came).seal ≡ counted_under a.seal (life_of (after_by self nodes b a line came).state) (handed_by self nodes b a (asked_under a.seal line) came)
 
-sent_by : (self nodes slots : ℕ) (b : Bool) (a : At) (line : List ℕ) (came : Outcome) → Comes self nodes slots b a.state (asked_under a.seal line) came
+sent_by : (self nodes slots : ℕ) (b : Bool) (a : At) (line : List ℕ) (came : LineOutcome) → Comes self nodes slots b a.state (asked_under a.seal line) came
     → All IsMessage (handed_by self nodes b a (asked_under a.seal line) came) → AreSentBy self nodes b a line came
 sent_by self nodes slots true a line came comes all = (let none = none_under a.seal (life_of a.state) in record { lines = none.0; number = none.1 })
 sent_by self nodes slots false a line came comes all =

@@ -12,7 +12,7 @@ use Rattle.node_session.specs.declared.asked.Asked.{Asked}
 use Rattle.node_session.specs.declared.asked.Asked.TheVariants as ask
 use Rattle.node_session.specs.Seals.{asked_under}
 use Rattle.node_session.specs.Turns.{Turn, Goes, Unmounted, Begins, begun, after_begun, MayComeOf, MayCompact}
-use Rattle.node_session.specs.Chains.{Outcome, AreGoing, AllGoing, AreTimely, IsNone, IsOne, MayCome, after_turns, entries_of, entries_in, one_turn}
+use Rattle.node_session.specs.Chains.{LineOutcome, AreGoing, AllGoing, AreTimely, IsNone, IsOne, MayCome, after_turns, entries_of, entries_in, one_turn}
 use Rattle.node_session.specs.Lines.{At, AreOf, Comes, after_by, after_line, after_lines}
 
 -- each turn by which a history went on was possible there
@@ -67,7 +67,7 @@ in_front self nodes slots s (Unmounted fault ∷ turns) later t possible follows
 in_front self nodes slots s (Begins mounted what ∷ turns) later t possible follows = absurd possible
 
 -- a line that isn't answered leaves all as it is
-line_possible : (self nodes slots : ℕ) (b : Bool) (a : At) (l : List ℕ) (came : Outcome) → Comes self nodes slots b a.state (asked_under a.seal l) came → AreGoing came.turns
+line_possible : (self nodes slots : ℕ) (b : Bool) (a : At) (l : List ℕ) (came : LineOutcome) → Comes self nodes slots b a.state (asked_under a.seal l) came → AreGoing came.turns
     → ArePossible self nodes slots a.state came.turns × (after_turns self nodes a.state came.turns ≡ (after_by self nodes b a l came).state)
 line_possible self nodes slots true a l came comes going = none_came came.turns comes where
   none_came : (turns : List Turn) → IsNone turns → ArePossible self nodes slots a.state turns × (after_turns self nodes a.state turns ≡ a.state)
@@ -75,7 +75,7 @@ line_possible self nodes slots true a l came comes going = none_came came.turns 
   none_came (t ∷ turns) none = absurd none
 line_possible self nodes slots false a l came comes going = (asked_possible self nodes slots a.state (asked_under a.seal l) came.turns comes.0 going, refl)
 
-pub one : (self nodes slots : ℕ) (a : At) (ls : List (List ℕ)) (all : List Outcome) → AreOf self nodes slots a ls all → AllGoing all
+pub one : (self nodes slots : ℕ) (a : At) (ls : List (List ℕ)) (all : List LineOutcome) → AreOf self nodes slots a ls all → AllGoing all
     → IsHistory self nodes slots a.state (entries_in self nodes a.state all) (after_lines self nodes a ls all).state
 one self nodes slots a [] [] of going = (tt, tt, refl)
 one self nodes slots a [] (c ∷ all) of going = absurd of
@@ -103,7 +103,7 @@ line_begun : (self nodes slots : ℕ) (b : Bool) (a : At) (l : List ℕ) (mounte
 line_begun self nodes slots true a l mounted what due comes = absurd comes
 line_begun self nodes slots false a l mounted what due comes = (begun_possible self nodes slots a.state (asked_under a.seal l) mounted what comes.0, refl)
 
-pub begun_one : (self nodes slots : ℕ) (a : At) (l : List ℕ) (ls : List (List ℕ)) (mounted : Durable) (what : HistoryEvent) (due : Option ℕ) (all : List Outcome) → AreOf self nodes slots a (l ∷ ls) (one_turn (Begins mounted what) due ∷ all)
+pub begun_one : (self nodes slots : ℕ) (a : At) (l : List ℕ) (ls : List (List ℕ)) (mounted : Durable) (what : HistoryEvent) (due : Option ℕ) (all : List LineOutcome) → AreOf self nodes slots a (l ∷ ls) (one_turn (Begins mounted what) due ∷ all)
     → AllGoing all → after_begun self nodes a.state mounted what ≡ after self nodes (begun self mounted) what
     → Follows self nodes (begun self mounted) (entries_in self nodes (begun self mounted) (one_turn (Goes what) due ∷ all))
     × (replay self nodes (begun self mounted) (entries_in self nodes (begun self mounted) (one_turn (Goes what) due ∷ all)) ≡ (after_lines self nodes a (l ∷ ls) (one_turn (Begins mounted what) due ∷ all)).state)

@@ -1,27 +1,27 @@
 -- What came of several lines, one behind another.
 use Rattle.std.proofs.Common.{◌≡◌, ℕ, List, [], ◌∷◌, ◌++◌, refl, sym, ap, ◌∙◌, append_assoc}
-use Rattle.node_session.specs.Chains.{Outcome, AllGoing}
+use Rattle.node_session.specs.Chains.{LineOutcome, AllGoing}
 use Rattle.node_session.specs.Lines.{At, AreOf, after_line, after_lines, answer_at, answers}
 
-pub of_both : (self nodes slots : ℕ) (a : At) (ls ms : List (List ℕ)) (cs ds : List Outcome) → AreOf self nodes slots a ls cs → AreOf self nodes slots (after_lines self nodes a ls cs) ms ds
+pub of_both : (self nodes slots : ℕ) (a : At) (ls ms : List (List ℕ)) (cs ds : List LineOutcome) → AreOf self nodes slots a ls cs → AreOf self nodes slots (after_lines self nodes a ls cs) ms ds
     → AreOf self nodes slots a (ls ++ ms) (cs ++ ds)
 of_both self nodes slots a [] ms [] ds first second = second
 of_both self nodes slots a [] ms (c ∷ cs) ds first second = absurd first
 of_both self nodes slots a (l ∷ ls) ms [] ds first second = absurd first
 of_both self nodes slots a (l ∷ ls) ms (c ∷ cs) ds first second = (first.0, of_both self nodes slots (after_line self nodes a l c) ls ms cs ds first.1 second)
 
-pub after_both : (self nodes slots : ℕ) (a : At) (ls ms : List (List ℕ)) (cs ds : List Outcome) → AreOf self nodes slots a ls cs
+pub after_both : (self nodes slots : ℕ) (a : At) (ls ms : List (List ℕ)) (cs ds : List LineOutcome) → AreOf self nodes slots a ls cs
     → after_lines self nodes a (ls ++ ms) (cs ++ ds) ≡ after_lines self nodes (after_lines self nodes a ls cs) ms ds
 after_both self nodes slots a [] ms [] ds first = refl
 after_both self nodes slots a [] ms (c ∷ cs) ds first = absurd first
 after_both self nodes slots a (l ∷ ls) ms [] ds first = absurd first
 after_both self nodes slots a (l ∷ ls) ms (c ∷ cs) ds first = after_both self nodes slots (after_line self nodes a l c) ls ms cs ds first.1
 
-pub going_both : (cs ds : List Outcome) → AllGoing cs → AllGoing ds → AllGoing (cs ++ ds)
+pub going_both : (cs ds : List LineOutcome) → AllGoing cs → AllGoing ds → AllGoing (cs ++ ds)
 going_both [] ds first second = second
 going_both (c ∷ cs) ds first second = (first.0, going_both cs ds first.1 second)
 
-pub answers_both : (self nodes slots : ℕ) (a : At) (ls ms : List (List ℕ)) (cs ds : List Outcome) → AreOf self nodes slots a ls cs
+pub answers_both : (self nodes slots : ℕ) (a : At) (ls ms : List (List ℕ)) (cs ds : List LineOutcome) → AreOf self nodes slots a ls cs
     → answers self nodes a (ls ++ ms) (cs ++ ds) ≡ answers self nodes a ls cs ++ answers self nodes (after_lines self nodes a ls cs) ms ds
 answers_both self nodes slots a [] ms [] ds first = refl
 answers_both self nodes slots a [] ms (c ∷ cs) ds first = absurd first

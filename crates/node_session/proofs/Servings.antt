@@ -15,7 +15,7 @@ use Rattle.node_core.specs.declared.event.Event.{Event}
 use Rattle.node_core.specs.State.{State, is_down}
 use Rattle.node_session.specs.Turns.{Turn, MayComeOf, MayCompact}
 use Rattle.pace.specs.Retransmission.{Waits, sent_again, waits_on}
-use Rattle.node_session.specs.Chains.{Outcome, AreTimely, IsAtOnce, MayCome, IsTold, IsToldBy, after_turns, is_failed, line_end, next, waits_begun, waits_turns}
+use Rattle.node_session.specs.Chains.{LineOutcome, AreTimely, IsAtOnce, MayCome, IsTold, IsToldBy, after_turns, is_failed, line_end, next, waits_begun, waits_turns}
 use Rattle.node_session.specs.Lines.{At, AreOf, Comes, after_by, after_asked, after_lines, answer_by, answers, plain_answer, written_answer}
 use Rattle.node_session.specs.Text.{answer, answer_at_once, closing, event_closing, fired_news, keeps_news, next_line, send_lines, turns_text, no_news}
 use Rattle.node_session.specs.Serving.{Progress, Called, Calls, IsNodeOf, Replies, Served, Serves, Turns, at_of}
@@ -63,7 +63,7 @@ serves_none disks p = record {
 pub stopped_line : {Disk : Type 0} (disks : Disk → DiskState) (p : Progress Disk) (line : List ℕ) → p.stopped ≡ true → Serves disks p p (line ∷ [])
 stopped_line disks p line stopped = record {
   node = node_refl disks p.node;
-  served = λ was s is stands. (let none : Outcome = record { turns = []; due = None } in
+  served = λ was s is stands. (let none : LineOutcome = record { turns = []; due = None } in
       record {
         all = none ∷ [];
         came = (subst (λ (b : Bool). Comes p.node.id p.node.nodes (slots_for (disks was).sectors) b s (asked_under p.seal line) none) (sym stopped) tt, tt);
@@ -114,7 +114,7 @@ sealed_so {Disk} disks old mid new line start runs starts replies sealing = reco
       let a = at_of old s in
       let asked = asked_under old.seal line in
       let taken = taken_under old.seal line in
-      let came : Outcome = record { turns = x.turns; due = x.due } in
+      let came : LineOutcome = record { turns = x.turns; due = x.due } in
       let t = after_turns id nodes s x.turns in
       let plain = plain_answer id nodes a asked came in
       let tail = tail_written old.text plain mid.text start taken mid.seal (life_of t) starts x.text replies.seal in
@@ -273,7 +273,7 @@ record MakesNone (a : Asked) : Type 0 where
   pub may : (self nodes slots : ℕ) (s : NodeState) → MayCome self nodes slots s a [] × IsTold a s None
   pub counts : (n : ℕ) → next n a ≡ n + 1
   pub waits : (w : Waits) → waits_begun a w ≡ w
-  pub answer : (self nodes n : ℕ) (s : NodeState) (w : Waits) (came : Outcome) → answer self nodes n s w a came ≡ answer_at_once n s a
+  pub answer : (self nodes n : ℕ) (s : NodeState) (w : Waits) (came : LineOutcome) → answer self nodes n s w a came ≡ answer_at_once n s a
 
 makes_none : (a : Asked) → IsAtOnce a → MakesNone a
 makes_none ask.State once = record { may = λ self nodes slots s. (tt, refl); counts = λ n. refl; waits = λ w. refl; answer = λ self nodes n s w came. refl }

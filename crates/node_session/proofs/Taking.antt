@@ -25,7 +25,7 @@ use Rattle.histories.specs.HistoryEvent.{event_of}
 use Rattle.histories.specs.declared.history_event.HistoryEvent.TheVariants.{NoOp, Crashed}
 use Rattle.node_session.specs.Turns.{Turn, Goes, Unmounted, Begins, IsFired, MayCompact, after_turn}
 use Rattle.node_words.specs.Words.{event_word}
-use Rattle.node_session.specs.Chains.{Outcome, AreTimely, IsNone, IsOne, MayCome, after_turns}
+use Rattle.node_session.specs.Chains.{LineOutcome, AreTimely, IsNone, IsOne, MayCome, after_turns}
 use Rattle.node_session.specs.Lines.{At, Comes, after_by, after_line, plain_answer}
 use Rattle.node_session.specs.Seals.{Brought, NoBytes, Strange, Garbled, Opened, Seals, asked_brought, asked_fresh, asked_sealed, asked_under, asked_words_under, brought_bytes, brought_by, brought_message, brought_opened, brought_word, is_fresh, life_of, no_stamp, opened_under, sealed_behind, taken_brought, taken_fresh, taken_under, taken_words}
 use Rattle.node_session.specs.Stamping.{Climbs, Delivers, IsOpened, IsWide, OpenedAlone, TakenRises, last_by, stamp_brought, stamp_fresh, stamp_taken, stamp_worded, stamps_taken}
@@ -150,7 +150,7 @@ asked_delivers self nodes slots s (ask.Tick now) m turns may delivers = absurd (
 asked_delivers self nodes slots s (ask.Lost id) m turns may delivers = absurd (timely_delivers self nodes slots m turns s may delivers)
 asked_delivers self nodes slots s asked m turns may delivers = absurd (none_delivers m turns may delivers)
 
-comes_opened : (self nodes slots : ℕ) (b : Bool) (s : NodeState) (line : List ℕ) (seal : Option Seals) (came : Outcome) (q : Seals) (m : Envelope) → seal ≡ Some q
+comes_opened : (self nodes slots : ℕ) (b : Bool) (s : NodeState) (line : List ℕ) (seal : Option Seals) (came : LineOutcome) (q : Seals) (m : Envelope) → seal ≡ Some q
     → Comes self nodes slots b s (asked_under seal line) came → Delivers m came.turns → IsOpened q line m
 comes_opened self nodes slots true s line seal came q m is comes delivers = absurd (none_delivers m came.turns comes delivers)
 comes_opened self nodes slots false s line seal came q m is comes delivers =
@@ -220,7 +220,7 @@ seal_rises : (sender : ℕ) (line : List ℕ) (life : Option ℕ) (plain : List 
 seal_rises sender line life plain None later wide goes = goes tt
 seal_rises sender line life plain (Some q) later wide goes = (let adds = adds_word sender q (brought_word (words_of line)) wide in adds.climbs later (goes adds.wide))
 
-line_rises : (sender self nodes : ℕ) (b : Bool) (a : At) (line : List ℕ) (came : Outcome) (later : List Stamp) → IsWide a.seal
+line_rises : (sender self nodes : ℕ) (b : Bool) (a : At) (line : List ℕ) (came : LineOutcome) (later : List Stamp) → IsWide a.seal
     → (IsWide (after_by self nodes b a line came).seal → Climbs (last_by sender (after_by self nodes b a line came).seal) later) → Climbs (last_by sender a.seal) (stamp_taken sender b a.seal line ++ later)
 line_rises sender self nodes true a line came later wide goes = goes wide
 line_rises sender self nodes false a line came later wide goes =

@@ -14,11 +14,11 @@ use Rattle.node_session.specs.declared.call_outcome.CallOutcome.TheVariants as e
 use Rattle.node_session.specs.Turns.{Turn, Goes, Unmounted, Begins, after_turn, cause, end_of, sent_in, MayComeOf, MayCompact, IsTimely, IsGoing}
 
 -- what came of a line: the calls of the node, and what a tick tells, when something is due next
-pub record Outcome : Type 0 where
+pub record LineOutcome : Type 0 where
   pub turns : List Turn
   pub due : Option ℕ
 
-abbrev pub one_turn : Turn → Option ℕ → Outcome
+abbrev pub one_turn : Turn → Option ℕ → LineOutcome
 one_turn turn due = record { turns = turn ∷ []; due = due }
 
 -- ---- the turns of one line
@@ -111,7 +111,7 @@ abbrev pub AreGoing : List Turn → Type 0
 AreGoing [] = Unit {0}
 AreGoing (turn ∷ turns) = IsGoing turn × AreGoing turns
 
-abbrev pub AllGoing : List Outcome → Type 0
+abbrev pub AllGoing : List LineOutcome → Type 0
 AllGoing [] = Unit {0}
 AllGoing (came ∷ all) = AreGoing came.turns × AllGoing all
 
@@ -126,6 +126,6 @@ entries_of self nodes s [] later = later
 entries_of self nodes s (turn ∷ turns) later = entry_in_front self nodes s turn (entries_of self nodes (after_turn self nodes s turn) turns later)
 
 -- and in several
-abbrev pub entries_in : ℕ → ℕ → NodeState → List Outcome → List Entry
+abbrev pub entries_in : ℕ → ℕ → NodeState → List LineOutcome → List Entry
 entries_in self nodes s [] = []
 entries_in self nodes s (came ∷ all) = entries_of self nodes s came.turns (entries_in self nodes (after_turns self nodes s came.turns) all)

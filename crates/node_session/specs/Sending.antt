@@ -12,7 +12,7 @@ use Rattle.sealed_msg.specs.Sealing.{sealed}
 use Rattle.node_session.specs.declared.asked.Asked.{Asked}
 use Rattle.node_session.specs.declared.asked.Asked.TheVariants as ask
 use Rattle.node_session.specs.Turns.{Turn, after_turn, sent_in}
-use Rattle.node_session.specs.Chains.{Outcome}
+use Rattle.node_session.specs.Chains.{LineOutcome}
 use Rattle.node_session.specs.Lines.{At, ComesOf, after_line, answer_at}
 use Rattle.node_session.specs.Seals.{Seals, asked_under, life_of}
 
@@ -28,12 +28,12 @@ abbrev pub again : Asked → Waits → List Envelope
 again (ask.Tick now) w = sent_again now w
 again asked w = []
 
-abbrev pub handed_by : ℕ → ℕ → Bool → At → Asked → Outcome → List Envelope
+abbrev pub handed_by : ℕ → ℕ → Bool → At → Asked → LineOutcome → List Envelope
 handed_by self nodes true a asked came = []
 handed_by self nodes false a asked came = again asked a.waits ++ sent_turns self nodes a.state came.turns
 
 -- by a line, of which this came; nothing once the device failed
-abbrev pub handed_out : ℕ → ℕ → At → List ℕ → Outcome → List Envelope
+abbrev pub handed_out : ℕ → ℕ → At → List ℕ → LineOutcome → List Envelope
 handed_out self nodes a line came = handed_by self nodes a.stopped a (asked_under a.seal line) came
 
 -- ---- the lines that carry it
@@ -82,10 +82,10 @@ counted_under (Some q) (Some life) ms = q.number + length ms
 
 -- The `send` lines of an answer are those of the messages that the step hands out, one for each and in their order: each message sealed
 -- under the key, with the life that the node has behind the line and the next number of the session; without a key, as it is spelled.
-pub record AreSent (self nodes : ℕ) (a : At) (line : List ℕ) (came : Outcome) : Type 0 where
+pub record AreSent (self nodes : ℕ) (a : At) (line : List ℕ) (came : LineOutcome) : Type 0 where
   pub lines : sends_in (answer_at self nodes a line came) ≡ sends_under a.seal (life_of (after_line self nodes a line came).state) (handed_out self nodes a line came)
   pub number : sealed_so_far (after_line self nodes a line came).seal ≡ counted_under a.seal (life_of (after_line self nodes a line came).state) (handed_out self nodes a line came)
 
 abbrev pub SendsSealed : Type 0
 SendsSealed =
-    (self nodes slots : ℕ) (a : At) (line : List ℕ) (came : Outcome) → ComesOf self nodes slots a line came → All IsMessage (handed_out self nodes a line came) → AreSent self nodes a line came
+    (self nodes slots : ℕ) (a : At) (line : List ℕ) (came : LineOutcome) → ComesOf self nodes slots a line came → All IsMessage (handed_out self nodes a line came) → AreSent self nodes a line came

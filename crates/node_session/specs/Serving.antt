@@ -12,7 +12,7 @@ use Rattle.histories.specs.After.{after}
 use Rattle.histories.specs.History.{Follows, FollowsSlots, replay}
 use Rattle.line_words.specs.Lines.{lines_of}
 use Rattle.node_session.specs.Turns.{Turn, Goes, Begins, begun, after_begun, after_turn, end_of, IsGoing}
-use Rattle.node_session.specs.Chains.{Outcome, AllGoing, AreGoing, IsTold, MayCome, after_turns, entries_in, is_failed, last_end, line_end, next, one_turn, waits_begun, waits_turn, waits_turns}
+use Rattle.node_session.specs.Chains.{LineOutcome, AllGoing, AreGoing, IsTold, MayCome, after_turns, entries_in, is_failed, last_end, line_end, next, one_turn, waits_begun, waits_turn, waits_turns}
 use Rattle.node_session.specs.Lines.{At, AreOf, after_lines, answers}
 use Rattle.node_session.specs.Seals.{Seals}
 use Rattle.node_session.specs.Text.{answer, turn_text, turns_text}
@@ -40,7 +40,7 @@ at_of p s = record { stopped = p.stopped; count = p.count; state = s; waits = p.
 -- These lines were answered, at a node that stood for this state over this disk.
 pub record Served {Disk : Type 0} (disks : Disk → DiskState) (old new : Progress Disk) (self nodes : ℕ) (lines : List (List ℕ)) (was : Disk) (s : NodeState) : Type 0 where
   -- of each line came something that may come of it
-  pub all : List Outcome
+  pub all : List LineOutcome
   pub came : AreOf self nodes (slots_for (disks was).sectors) (at_of old s) lines all
   -- over an honest disk it is one history
   pub honest : IsTrue (disks was).honest → AllGoing all
@@ -148,7 +148,7 @@ AnyClearing {Disk} disks =
 -- where no history begins, the entries follow each other, and the state is the one that they replay to
 abbrev pub OneHistory : Type 0
 OneHistory =
-    (self nodes slots : ℕ) (a : At) (lines : List (List ℕ)) (all : List Outcome) → AreOf self nodes slots a lines all → AllGoing all →
+    (self nodes slots : ℕ) (a : At) (lines : List (List ℕ)) (all : List LineOutcome) → AreOf self nodes slots a lines all → AllGoing all →
     Follows self nodes a.state (entries_in self nodes a.state all) × FollowsSlots slots self nodes a.state (entries_in self nodes a.state all) ×
     (replay self nodes a.state (entries_in self nodes a.state all) ≡ (after_lines self nodes a lines all).state)
 
@@ -156,7 +156,7 @@ OneHistory =
 -- mounting, and then the others. The one mounting that begins none is that of a counter that can't be raised
 abbrev pub BegunHistory : Type 0
 BegunHistory =
-    (self nodes slots : ℕ) (a : At) (line : List ℕ) (lines : List (List ℕ)) (mounted : Durable) (what : HistoryEvent) (due : Option ℕ) (all : List Outcome) →
+    (self nodes slots : ℕ) (a : At) (line : List ℕ) (lines : List (List ℕ)) (mounted : Durable) (what : HistoryEvent) (due : Option ℕ) (all : List LineOutcome) →
     AreOf self nodes slots a (line ∷ lines) (one_turn (Begins mounted what) due ∷ all) → AllGoing all → after_begun self nodes a.state mounted what ≡ after self nodes (begun self mounted) what →
     Follows self nodes (begun self mounted) (entries_in self nodes (begun self mounted) (one_turn (Goes what) due ∷ all)) ×
     (replay self nodes (begun self mounted) (entries_in self nodes (begun self mounted) (one_turn (Goes what) due ∷ all)) ≡ (after_lines self nodes a (line ∷ lines) (one_turn (Begins mounted what) due ∷ all)).state)

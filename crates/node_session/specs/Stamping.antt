@@ -13,7 +13,7 @@ use Rattle.sealed_msg.specs.declared.stamp.Stamp.{Stamp}
 use Rattle.sealed_msg.specs.Stamps.{is_above}
 use Rattle.node_session.specs.declared.asked.Asked.{Asked}
 use Rattle.node_session.specs.Turns.{Turn, cause}
-use Rattle.node_session.specs.Chains.{Outcome, AllGoing, after_turns}
+use Rattle.node_session.specs.Chains.{LineOutcome, AllGoing, after_turns}
 use Rattle.node_session.specs.Lines.{At, AreOf, ComesOf, after_line, after_lines, plain_answer}
 use Rattle.node_session.specs.Seals.{Brought, Opened, Seals, asked_under, brought_by, brought_word, is_fresh, life_of, message_in, new_seals, no_stamp, number_by, opened_under, taken_under}
 
@@ -40,14 +40,14 @@ stamps_of None life text = []
 stamps_of (Some q) life text = stamps_in life q.number (lines_of text)
 
 -- those of the answer to a line, of which this came
-abbrev pub stamps_asked : ℕ → ℕ → Bool → At → Asked → Option Seals → Outcome → List Stamp
+abbrev pub stamps_asked : ℕ → ℕ → Bool → At → Asked → Option Seals → LineOutcome → List Stamp
 stamps_asked self nodes true a asked seal came = []
 stamps_asked self nodes false a asked seal came = stamps_of seal (life_of (after_turns self nodes a.state came.turns)) (plain_answer self nodes a asked came)
 
-abbrev pub stamps_at : ℕ → ℕ → At → List ℕ → Outcome → List Stamp
+abbrev pub stamps_at : ℕ → ℕ → At → List ℕ → LineOutcome → List Stamp
 stamps_at self nodes a line came = stamps_asked self nodes a.stopped a (asked_under a.seal line) (taken_under a.seal line) came
 
-abbrev pub stamps_given : ℕ → ℕ → At → List (List ℕ) → List Outcome → List Stamp
+abbrev pub stamps_given : ℕ → ℕ → At → List (List ℕ) → List LineOutcome → List Stamp
 stamps_given self nodes a [] all = []
 stamps_given self nodes a (line ∷ lines) [] = []
 stamps_given self nodes a (line ∷ lines) (came ∷ all) = stamps_at self nodes a line came ++ stamps_given self nodes (after_line self nodes a line came) lines all
@@ -58,7 +58,7 @@ pub record Life : Type 0 where
   pub other : Option (List ℕ)
   pub unit : ℕ
   pub lines : List (List ℕ)
-  pub all : List Outcome
+  pub all : List LineOutcome
 
 -- it begins where the last one was ended, whenever that was
 abbrev pub life_begun : ℕ → ℕ → NodeState → Life → At
@@ -108,7 +108,7 @@ Delivers m (turn ∷ turns) = (cause turn ≡ Some (on.Deliver m)) ⊎ Delivers 
 -- under a key, what a node is delivered was opened
 abbrev pub OpenedAlone : Type 0
 OpenedAlone =
-    (self nodes slots : ℕ) (a : At) (line : List ℕ) (came : Outcome) (q : Seals) (m : Envelope) → a.seal ≡ Some q → ComesOf self nodes slots a line came → Delivers m came.turns → IsOpened q line m
+    (self nodes slots : ℕ) (a : At) (line : List ℕ) (came : LineOutcome) (q : Seals) (m : Envelope) → a.seal ≡ Some q → ComesOf self nodes slots a line came → Delivers m came.turns → IsOpened q line m
 
 -- ---- what comes of one sender
 
@@ -134,7 +134,7 @@ stamp_taken sender true seal line = []
 stamp_taken sender false seal line = stamp_sealed sender seal line
 
 -- the stamps of what is taken of one node
-abbrev pub stamps_taken : ℕ → ℕ → ℕ → At → List (List ℕ) → List Outcome → List Stamp
+abbrev pub stamps_taken : ℕ → ℕ → ℕ → At → List (List ℕ) → List LineOutcome → List Stamp
 stamps_taken sender self nodes a [] all = []
 stamps_taken sender self nodes a (line ∷ lines) [] = []
 stamps_taken sender self nodes a (line ∷ lines) (came ∷ all) =
@@ -152,4 +152,4 @@ IsWide (Some q) = length q.last ≡ 128
 -- they rise
 abbrev pub TakenRises : Type 0
 TakenRises =
-    (sender self nodes : ℕ) (a : At) (lines : List (List ℕ)) (all : List Outcome) → IsWide a.seal → Climbs (last_by sender a.seal) (stamps_taken sender self nodes a lines all)
+    (sender self nodes : ℕ) (a : At) (lines : List (List ℕ)) (all : List LineOutcome) → IsWide a.seal → Climbs (last_by sender a.seal) (stamps_taken sender self nodes a lines all)

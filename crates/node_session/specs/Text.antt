@@ -24,7 +24,7 @@ use Rattle.node_session.specs.declared.call_outcome.CallOutcome.{CallOutcome}
 use Rattle.node_session.specs.declared.call_outcome.CallOutcome.TheVariants as end
 use Rattle.node_words.specs.Words.{core_name, event_word, group_part, id_text, ids_text, phase_text, truth_text}
 use Rattle.node_session.specs.Turns.{Turn, after_turn, cause, end_of, sent_in}
-use Rattle.node_session.specs.Chains.{Outcome, after_turns, line_end}
+use Rattle.node_session.specs.Chains.{LineOutcome, after_turns, line_end}
 use Rattle.node_session.specs.Changes.{changes, gone_news, held_text, is_finish}
 
 -- ---- words
@@ -179,7 +179,7 @@ event_end self nodes n s event turns =
     keeps_news event (line_end self nodes s turns) (after_turns self nodes s turns) ++ event_closing n event (line_end self nodes s turns)
 
 -- how the answer to a tick ends
-abbrev pub tick_end : ℕ → ℕ → ℕ → NodeState → Outcome → List ℕ
+abbrev pub tick_end : ℕ → ℕ → ℕ → NodeState → LineOutcome → List ℕ
 tick_end self nodes n s came = next_line came.due ++ closing n (line_end self nodes s came.turns)
 
 -- the answer to the n-th request, where it makes no call
@@ -190,7 +190,7 @@ answer_at_once n s (ask.Refused why) = refused_line n why
 answer_at_once n s asked = bad_line n
 
 -- the answer to the n-th request, which asks this of a node in this state that waits for these messages; this came of it
-abbrev pub answer : ℕ → ℕ → ℕ → NodeState → Waits → Asked → Outcome → List ℕ
+abbrev pub answer : ℕ → ℕ → ℕ → NodeState → Waits → Asked → LineOutcome → List ℕ
 answer self nodes n s w ask.Nothing came = []
 answer self nodes n s w (ask.Event event) came = turns_text no_news self nodes s came.turns ++ event_end self nodes n s event came.turns
 answer self nodes n s w ask.Compact came = turns_text no_news self nodes s came.turns ++ closing n (line_end self nodes s came.turns)

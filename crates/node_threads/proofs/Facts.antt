@@ -16,7 +16,7 @@ use Rattle.node_lock.specs.Path.{Path}
 use Rattle.node_lock.specs.Asking.{IsAsked, Asked}
 use Rattle.node_lock.specs.Planned.{Planned, plan_len, turns_of, with_turn, no_turns}
 use Rattle.node_lock.specs.History.{Turn, FollowsPlans, PlanStep, entries_of, polled}
-use Rattle.node_lock.specs.HeldView.{HeldView, Kept, IsPutLink, IsTakeLink, IsPolled}
+use Rattle.node_lock.specs.HeldView.{HeldView, HeldInvariant, IsPutLink, IsTakeLink, IsPolled}
 use Rattle.node_lock.proofs.PublicLaws.{from_nothing}
 use Rattle.node_lock.specs.declared.held.TheConstants.{MOST_ENTRIES}
 use Rattle.node_lock.specs.Kept.{Log}
@@ -121,7 +121,7 @@ ended_fits run plan history ends e =
     (omega (arith, as_many h.plans h.history h.turns e.kept.turns, e.kept.few, e.used_up Intake, e.used_up Clock, e.used_up Operator))
 
 -- the history is full, and a worker has turns left
-pub is_more : (h : HeldView) (w : Worker) → Kept h → MOST_ENTRIES ≤ length h.history → turns_of h.turns w < plan_len h.plans w → (MOST_ENTRIES < planned h.plans) × (0 < plan_len h.plans w)
+pub is_more : (h : HeldView) (w : Worker) → HeldInvariant h → MOST_ENTRIES ≤ length h.history → turns_of h.turns w < plan_len h.plans w → (MOST_ENTRIES < planned h.plans) × (0 < plan_len h.plans w)
 is_more h w k full left = (by_worker w left, omega (arith, left))
   where
     within : AreWithin h.plans h.turns

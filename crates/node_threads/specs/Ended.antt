@@ -2,7 +2,7 @@
 use Rattle.std.specs.Prelude.{◌≡◌, ℕ, ◌≤◌, List, length, slice_get, Some}
 use Rattle.node_lock.specs.declared.run.Run.{Run}
 use Rattle.node_lock.specs.declared.worker.Worker.{Worker}
-use Rattle.node_lock.specs.HeldView.{HeldView, Kept}
+use Rattle.node_lock.specs.HeldView.{HeldView, HeldInvariant}
 use Rattle.node_lock.specs.History.{Turn}
 use Rattle.node_lock.specs.Kept.{Log}
 use Rattle.node_lock.specs.Planned.{Planned, plan_len, turns_of}
@@ -12,7 +12,7 @@ use Rattle.node_threads.specs.Nodes.{NodeEnds, run_at}
 -- all that was true under the lock of this node, and no plan has a turn left
 pub record HasEnded (run : Run) (plan : Planned) (history : List Turn) (ends : NodeEnds) : Type 0 where
   pub view : HeldView
-  pub kept : Kept view
+  pub kept : HeldInvariant view
   pub is_run : view.run ≡ run
   pub is_plan : view.plans ≡ plan
   pub is_history : view.history ≡ history

@@ -12,7 +12,7 @@ use Rattle.job_model.specs.declared.node_command.NodeCommand.TheVariants.{Raise,
 use Rattle.job_model.specs.Durable.{Durable, formatted}
 use Rattle.job_model.specs.Fold.{after_command, without_job}
 use Rattle.histories.specs.Lists.{IsAmong}
-use Rattle.histories.specs.Kept.{Mounting, Kept, stands_after}
+use Rattle.histories.specs.Kept.{Mounting, CommandsKept, stands_after}
 use Rattle.histories.specs.declared.attempt.Attempt.{Attempt}
 use Rattle.histories.proofs.PublicLaws.{among_left, among_right}
 use Rattle.runs.specs.Reporting.{own_mountings}
@@ -99,7 +99,7 @@ job_kept id work d (false ∷ cs) (t ∷ ts) (suc k) (suc n) a counts at lt is f
     job_kept id work d cs ts k n a counts at (omega (arith, lt)) is (λ j u more less at'. free (suc j) u (omega (arith, more)) (omega (arith, less)) at')
 
 -- a command that was acknowledged counts
-pub acknowledged_counts : (commands : List Attempt) (mountings : List Mounting) (kept : Kept commands mountings) (k a : ℕ) (t : Attempt) → slice_get commands k ≡ Some t → t.acked ≡ Some a
+pub acknowledged_counts : (commands : List Attempt) (mountings : List Mounting) (kept : CommandsKept commands mountings) (k a : ℕ) (t : Attempt) → slice_get commands k ≡ Some t → t.acked ≡ Some a
     → slice_get kept.counts k ≡ Some true
 acknowledged_counts commands mountings kept k a t at acked =
     let flag : (b : Bool) × (slice_get kept.counts k ≡ Some b) = at_place kept.counts k (rw kept.as_many (slice_get_within commands k t at)) in
@@ -118,7 +118,7 @@ among_of [] k x h = absurd cc
 among_of (y ∷ xs) zero x h = inl (let e : y ≡ x = cc h in sym e)
 among_of (y ∷ xs) (suc k) x h = inr (among_of xs k x h)
 
-mounted_state : (commands : List Attempt) (mountings : List Mounting) (kept : Kept commands mountings) (w : Mounting) → IsAmong w mountings → w.state ≡ stands_after kept.counts commands w.before
+mounted_state : (commands : List Attempt) (mountings : List Mounting) (kept : CommandsKept commands mountings) (w : Mounting) → IsAmong w mountings → w.state ≡ stands_after kept.counts commands w.before
 mounted_state commands mountings kept w i = (let it = among_at w mountings i in (kept.mounted it.0 w it.1).1)
 
 -- the mountings of a node

@@ -21,7 +21,7 @@ use Rattle.histories.specs.NodeState.{NodeState, opening}
 use Rattle.histories.specs.Named.{StateHolds}
 use Rattle.histories.specs.Book.{IsTaskOf, AgreesAt, IsInGroup, members_in}
 use Rattle.histories.specs.Rising.{Rises}
-use Rattle.histories.specs.Kept.{Kept}
+use Rattle.histories.specs.Kept.{CommandsKept}
 use Rattle.histories.specs.Marks.{commands_of, mountings_of, marks_of}
 use Rattle.histories.proofs.PublicLaws.{counts_rise, each_at, one_worker, each_kept}
 use Rattle.histories.specs.Moments.{IsMoment}
@@ -51,13 +51,13 @@ use Rattle.runs.proofs.Moments.{run_front, acts_front, as_many, front_report, mo
 -- ---- 2
 
 kept_by_history : (nodes : ℕ) (steps : List Step) → RunFrom nodes (start nodes) steps → IsShort steps → (n : ℕ) → n < nodes
-    → let h = history_in n nodes (start nodes) steps in Kept (commands_of (marks_of n nodes h)) (mountings_of (marks_of n nodes h))
+    → let h = history_in n nodes (start nodes) steps in CommandsKept (commands_of (marks_of n nodes h)) (mountings_of (marks_of n nodes h))
 kept_by_history nodes steps run few n lt =
     each_kept n nodes (history_in n nodes (start nodes) steps) (history_follows n nodes steps (start nodes) (opening n) (starts_opened nodes n lt) run)
     (omega (arith, few, history_few n nodes steps (start nodes)))
 
 kept_by_report : (nodes slots : ℕ) (acts : List Act) (steps : List Step) → IsRunOf nodes slots (start nodes) acts steps → IsShort steps → (n : ℕ) → n < nodes
-    → Kept (own_commands n (report_of nodes acts steps).commands) (own_mountings n (report_of nodes acts steps).mounted)
+    → CommandsKept (own_commands n (report_of nodes acts steps).commands) (own_mountings n (report_of nodes acts steps).mounted)
 kept_by_report nodes slots acts steps is_run few n lt =
     rw (commands_reported nodes slots n acts steps is_run lt, mounted_reported nodes slots n acts steps is_run lt) (kept_by_history nodes steps (all_acts_run nodes slots (start nodes) acts steps is_run) few n lt)
 

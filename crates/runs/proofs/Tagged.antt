@@ -6,7 +6,7 @@ use Rattle.std.proofs.lemmas.List.{map-id}
 use Rattle.histories.specs.NodeState.{NodeState, opening}
 use Rattle.histories.specs.HistoryEvent.{Entry}
 use Rattle.histories.specs.After.{after, sent_at}
-use Rattle.histories.specs.Kept.{Kept}
+use Rattle.histories.specs.Kept.{CommandsKept}
 use Rattle.histories.specs.Marks.{Mark, commands_of, mountings_of, marks_at, marks_from, marks_of, opening_marks}
 use Rattle.histories.proofs.PublicLaws.{eq_nat, each_kept}
 use Rattle.runs.specs.World.{World, start, node_in}
@@ -71,5 +71,5 @@ runs_are_kept nodes steps run few n s at =
     let first : s ≡ opening n = opened nodes 0 n s n (omega arith) at in
     let here : slice_get (start nodes).states n ≡ Some (opening n) = at ∙ ap (λ (x : NodeState). Some x) first in
     let h : List Entry = history_in n nodes (start nodes) steps in
-    let kept : Kept (commands_of (marks_of n nodes h)) (mountings_of (marks_of n nodes h)) = each_kept n nodes h (history_follows n nodes steps (start nodes) (opening n) here run) (omega (arith, few, history_few n nodes steps (start nodes))) in
-    subst (λ (ms : List Mark). Kept (commands_of (opening_marks ++ ms)) (mountings_of (opening_marks ++ ms))) (sym (run_own n nodes steps (start nodes) (λ (k : ℕ). 1) (opening n) 1 here refl)) kept
+    let kept : CommandsKept (commands_of (marks_of n nodes h)) (mountings_of (marks_of n nodes h)) = each_kept n nodes h (history_follows n nodes steps (start nodes) (opening n) here run) (omega (arith, few, history_few n nodes steps (start nodes))) in
+    subst (λ (ms : List Mark). CommandsKept (commands_of (opening_marks ++ ms)) (mountings_of (opening_marks ++ ms))) (sym (run_own n nodes steps (start nodes) (λ (k : ℕ). 1) (opening n) 1 here refl)) kept

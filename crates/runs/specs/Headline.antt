@@ -13,7 +13,7 @@ use Rattle.node_core.specs.State.{State}
 use Rattle.node_core.specs.Words.{owner, task_of}
 use Rattle.histories.specs.Book.{IsInGroup}
 use Rattle.histories.specs.Counts.{IsShort}
-use Rattle.histories.specs.Kept.{Kept}
+use Rattle.histories.specs.Kept.{CommandsKept}
 use Rattle.histories.specs.declared.attempt.Attempt.{Attempt}
 use Rattle.schedule.specs.declared.act.Act.{Act}
 use Rattle.schedule.specs.declared.act.Act.TheVariants as act
@@ -72,7 +72,7 @@ pub record Headline (nodes slots : ℕ) (acts : List Act) (r : Report) : Type 0 
   pub is_run : IsExactRun nodes slots (start nodes) acts steps
   pub reported : r ≡ report_of nodes acts steps
   -- 2: each mounting gives the fold of the node's commands, every acknowledged one included
-  pub kept : (n : ℕ) → n < nodes → Kept (own_commands n r.commands) (own_mountings n r.mounted)
+  pub kept : (n : ℕ) → n < nodes → CommandsKept (own_commands n r.commands) (own_mountings n r.mounted)
   -- 3: the counts of each node's groups are 1 and more, and rise; no group is given twice, and none is named before it is given
   pub counted : All (λ (g : Group). 1 ≤ g.count) r.groups
   pub rising : AllPairs (λ (g h : Group). g.creator ≡ h.creator → g.count < h.count) r.groups

@@ -3,7 +3,7 @@ use Rattle.std.specs.Prelude.{ℕ, ◌+◌, ◌≡◌, ◌==◌, List, [], ◌�
 use Rattle.std.specs.List.{filter}
 use Rattle.histories.specs.NodeState.{NodeState}
 use Rattle.histories.specs.Counts.{IsShort}
-use Rattle.histories.specs.Kept.{Kept}
+use Rattle.histories.specs.Kept.{CommandsKept}
 use Rattle.histories.specs.Marks.{Mark, commands_of, mountings_of, marks_at, opening_marks}
 use Rattle.runs.specs.World.{World, node_in, start}
 use Rattle.runs.specs.Step.{Step, Takes, world_after}
@@ -33,4 +33,4 @@ run_marks nodes w counts (step ∷ steps) = step_marks nodes w counts step ++ ru
 -- each node's commands and mountings in a run are kept; the opening's raise came first
 abbrev pub RunsAreKept : Type 0
 RunsAreKept = (nodes : ℕ) (steps : List Step) → RunFrom nodes (start nodes) steps → IsShort steps → (n : ℕ) (s : NodeState) → slice_get (start nodes).states n ≡ Some s →
-    Kept (commands_of (opening_marks ++ own n (run_marks nodes (start nodes) (λ k. 1) steps))) (mountings_of (opening_marks ++ own n (run_marks nodes (start nodes) (λ k. 1) steps)))
+    CommandsKept (commands_of (opening_marks ++ own n (run_marks nodes (start nodes) (λ k. 1) steps))) (mountings_of (opening_marks ++ own n (run_marks nodes (start nodes) (λ k. 1) steps)))

@@ -10,12 +10,12 @@ use Rattle.schedule.specs.declared.size.TheConstants.{MOST_ACTS}
 use Rattle.schedule.specs.Fields.{number_between}
 use Rattle.schedule.specs.Acts.{act_of, of_two}
 
-pub record Plan : Type 0 where
+pub record Script : Type 0 where
   pub size : Size
   pub acts : List Act
 
-abbrev pub plan : Size → List Act → Plan
-plan size acts = record { size = size; acts = acts }
+abbrev pub script : Size → List Act → Script
+script size acts = record { size = size; acts = acts }
 
 abbrev pub size : ℕ → ℕ → Size
 size nodes slots = record { nodes = nodes; slots = slots }
@@ -48,24 +48,24 @@ acts_from n before [] = Ok []
 acts_from n before ([] ∷ lines) = acts_from (n + 1) before lines
 acts_from n before ((c ∷ line) ∷ lines) = in_front (n + 1) (next_act before (c ∷ line)) (acts_from (n + 1) (before + 1) lines)
 
-abbrev pub with_acts : Size → Result (List Act) ℕ → Result Plan ℕ
-with_acts size (Ok acts) = Ok (plan size acts)
+abbrev pub with_acts : Size → Result (List Act) ℕ → Result Script ℕ
+with_acts size (Ok acts) = Ok (script size acts)
 with_acts size (Err n) = Err n
 
-abbrev pub behind_size : ℕ → Option Size → List (List ℕ) → Result Plan ℕ
+abbrev pub behind_size : ℕ → Option Size → List (List ℕ) → Result Script ℕ
 behind_size n None lines = Err n
 behind_size n (Some size) lines = with_acts size (acts_from n 0 lines)
 
 -- the schedule of these lines, where n lines came before: the first line that isn't empty names the cluster. Where there is
 -- none, the line behind the last is named, which is the last part of the text, an empty one
-abbrev pub plan_from : ℕ → List (List ℕ) → Result Plan ℕ
-plan_from n [] = Err n
-plan_from n ([] ∷ lines) = plan_from (n + 1) lines
-plan_from n ((c ∷ line) ∷ lines) = behind_size (n + 1) (size_of (words_of (c ∷ line))) lines
+abbrev pub script_from : ℕ → List (List ℕ) → Result Script ℕ
+script_from n [] = Err n
+script_from n ([] ∷ lines) = script_from (n + 1) lines
+script_from n ((c ∷ line) ∷ lines) = behind_size (n + 1) (size_of (words_of (c ∷ line))) lines
 
 -- the schedule that an input is, or the number of the first line that can't be read
-abbrev pub plan_of : List ℕ → Result Plan ℕ
-plan_of input = plan_from 0 (lines_of input)
+abbrev pub script_of : List ℕ → Result Script ℕ
+script_of input = script_from 0 (lines_of input)
 
 -- ---- for the code
 

@@ -1,7 +1,7 @@
 ghost use Rattle.std.specs.Prelude.{◌≡◌, ◌+◌, ◌<◌, ◌^◌, ◌≤◌, IfOk, IfErr, IfSome, OnOk, Ok, Err, Some, None, length, [], ◌∷◌, ◌++◌};
 ghost use Rattle.line_words.specs.Words.{words_of};
 ghost use Rattle.line_words.specs.Lines.{lines_of, IsFaultAt, IsLineFault};
-ghost use Rattle.schedule.specs.Text.{acts_from, named_size, onto, plan, plan_of, size_of};
+ghost use Rattle.schedule.specs.Text.{acts_from, named_size, onto, script, script_of, size_of};
 ghost use Rattle.schedule.specs.declared.size.TheConstants.{MOST_ACTS};
 ghost use Rattle.schedule.specs.Limits.{IsWithinLimits, SizeFits};
 
@@ -20,13 +20,13 @@ pub fn read_schedule(alloc: Global, input: &[u8]) -> Result<Schedule, LineFault>
     // Promise: A text is read as the cluster that its first line that isn't empty names and the acts of the later ones, in their
     // order, empty lines passed over, the last line with or without its line feed.
     // Refuses: nothing_read, last_line_dropped, cut_for_mend, fill_dropped.
-    ensures ok { IfOk result (λ schedule. plan_of input.now ≡ Ok (plan schedule.size schedule.acts.items)) }
+    ensures ok { IfOk result (λ schedule. script_of input.now ≡ Ok (script schedule.size schedule.acts.items)) }
     // Promise: A schedule that was read has 1 to 128 nodes, 4 to 4,096 slots and at most 65,536 acts.
     ensures fits { IfOk result (λ schedule. IsWithinLimits schedule.size schedule.acts.items) }
     // Promise: A fault that names a line names the first one that can't be read, counted over all lines; where no line names a
     // cluster, the line behind the last. The only other fault is want of memory.
     // Refuses: line_before_named, empty_line_is_bad, acts_limit_one_less.
-    ensures err { IfErr result (IsLineFault (plan_of input.now)) }
+    ensures err { IfErr result (IsLineFault (script_of input.now)) }
 {
     let mut before = 0u64;
     let mut left = input;

@@ -19,7 +19,7 @@ use Rattle.job_journal.specs.Readings.{Replay, Reads, Damage}
 use Rattle.job_journal.specs.declared.fault.JournalFault.{JournalFault}
 use Rattle.job_journal.proofs.PublicLaws.{whole_slots}
 use Rattle.node_store.specs.Store.{slots_for}
-use Rattle.console_text.specs.Ends.{outcome_of}
+use Rattle.console_text.specs.Ends.{printout_of}
 use Rattle.console_text.specs.declared.ends.Output.{Output}
 use Rattle.store_console.specs.declared.found.Counter.{Counter}
 use Rattle.store_console.specs.declared.found.Counter.TheVariants.{Missing, Value, Damaged}
@@ -115,7 +115,7 @@ found_is owner image slots used counter journal s u k j =
 
 -- of a disk that is large enough
 pub shown_held : (shown : Shown) (bytes : List ℕ) (image : Image) (result : Result Output AllocError) → IsHeldBy bytes image → 24 ≤ length image
-    → IfOk result (λ p. outcome_of p ≡ held_text shown (owner_of bytes) image) → IfOk result (λ p. IsShown shown bytes (outcome_of p))
+    → IfOk result (λ p. printout_of p ≡ held_text shown (owner_of bytes) image) → IfOk result (λ p. IsShown shown bytes (printout_of p))
 shown_held shown bytes image (Err e) held large is = tt
 shown_held shown bytes image (Ok p) held large is =
     let enough : nat_lt (length image) 24 ≡ false = grind (arith, nat_tests, large) in

@@ -4,7 +4,7 @@ use Rattle.std.specs.List.{range_with_len}
 use Rattle.job_model.specs.declared.job.Job.{Job}
 use Rattle.job_model.specs.declared.queue.TheConstants.{QUEUES}
 use Rattle.sector_disk.specs.Disk.{Image}
-use Rattle.console_text.specs.Ends.{Outcome, line, refused}
+use Rattle.console_text.specs.Ends.{Printout, line, refused}
 use Rattle.job_journal.specs.Jobs.{Jobs}
 use Rattle.node_store.specs.Store.{slots_for}
 use Rattle.store_console.specs.Replies.{job_text}
@@ -65,33 +65,33 @@ abbrev pub has_jobs : Result Jobs ℕ → Bool
 has_jobs (Ok jobs) = true
 has_jobs (Err sector) = false
 
-abbrev pub found_text : Owner → ℕ → ℕ → Counter → Result Jobs ℕ → Outcome
+abbrev pub found_text : Owner → ℕ → ℕ → Counter → Result Jobs ℕ → Printout
 found_text owner slots used counter journal = record {
   text = owner_text owner ++ named (codes "slots") slots ++ named (codes "used") used ++ counter_text counter ++ journal_text journal;
   good = has_value counter && has_jobs journal;
 }
 
 -- fewer sectors than a store has
-abbrev pub too_small : ℕ → Outcome
+abbrev pub too_small : ℕ → Printout
 too_small sectors = refused (codes "too_small " ++ decimal sectors)
 
 -- ---- the jobs
 
-abbrev pub export_text : Result Jobs ℕ → Outcome
+abbrev pub export_text : Result Jobs ℕ → Printout
 export_text (Ok jobs) = record { text = flat_map (λ job. line (job_text job)) jobs.pending; good = true }
 export_text (Err sector) = refused (codes "damaged_journal " ++ decimal sector)
 
 -- what is printed of a disk with as many sectors as a store has
-abbrev pub held_text : Shown → Owner → Image → Outcome
+abbrev pub held_text : Shown → Owner → Image → Printout
 held_text All owner image = found_text owner (slots_for (length image)) (used_in (slots_for (length image)) image) (counter_of image) (journal_of (slots_for (length image)) image)
 held_text Listed owner image = export_text (journal_of (slots_for (length image)) image)
 
-abbrev pub shown_text : Shown → Owner → Image → Outcome
+abbrev pub shown_text : Shown → Owner → Image → Printout
 shown_text shown owner image = if nat_lt (length image) 24 then too_small (length image) else held_text shown owner image
 
 -- What is printed of a file with these bytes: whose it is, and what it keeps, or the sector of the first thing that isn't allowed; or its
 -- jobs, or why there are none.
-pub record IsShown (shown : Shown) (bytes : List ℕ) (outcome : Outcome) : Type 0 where
+pub record IsShown (shown : Shown) (bytes : List ℕ) (printout : Printout) : Type 0 where
   pub image : Image
   pub held : IsHeldBy bytes image
-  pub printed : outcome ≡ shown_text shown (owner_of bytes) image
+  pub printed : printout ≡ shown_text shown (owner_of bytes) image

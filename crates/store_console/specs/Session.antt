@@ -1,6 +1,6 @@
 -- The text of the command `store`.
 use Rattle.std.specs.Prelude.{◌≡◌, ℕ, List, [], ◌∷◌, ◌++◌, None, codes, decimal, Bool, true, false, Result, Ok, Err}
-use Rattle.console_text.specs.Ends.{Outcome, refused}
+use Rattle.console_text.specs.Ends.{Printout, refused}
 use Rattle.store_console.specs.declared.request.Request.{Request}
 use Rattle.store_console.specs.declared.reply.Reply.{Reply}
 use Rattle.store_console.specs.Requests.{requests_of}
@@ -13,14 +13,14 @@ Answers failed mounted (request ∷ requests) text =
     (reply : Reply) × (new : Mounted) × (rest : List ℕ) × RepliesOver failed mounted request reply new
     × Answers (fails_after failed request reply) new requests rest × (text ≡ reply_text new reply ++ rest)
 
-abbrev pub AnswersRequests : Result (List Request) ℕ → Outcome → Type 0
-AnswersRequests (Err n) outcome = outcome ≡ refused (codes "bad line " ++ decimal n)
-AnswersRequests (Ok requests) outcome = (outcome.good ≡ true) × Answers false None requests outcome.text
+abbrev pub AnswersRequests : Result (List Request) ℕ → Printout → Type 0
+AnswersRequests (Err n) printout = printout ≡ refused (codes "bad line " ++ decimal n)
+AnswersRequests (Ok requests) printout = (printout.good ≡ true) × Answers false None requests printout.text
 
 -- What `store` prints for an input: where a line can't be read, nothing is done. Else each request is answered in turn, and nothing is
 -- mounted at first.
-abbrev pub IsSession : List ℕ → Outcome → Type 0
-IsSession input outcome = AnswersRequests (requests_of input) outcome
+abbrev pub IsSession : List ℕ → Printout → Type 0
+IsSession input printout = AnswersRequests (requests_of input) printout
 
 -- ---- for the code
 

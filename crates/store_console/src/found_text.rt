@@ -1,7 +1,7 @@
 //! What was found, as text: a line for each name and its value.
 
 ghost use Rattle.std.specs.Prelude.{◌≡◌, ◌++◌, OnOk, IfOk};
-ghost use Rattle.console_text.specs.Ends.{outcome_of};
+ghost use Rattle.console_text.specs.Ends.{printout_of};
 ghost use Rattle.job_journal.specs.Jobs.{jobs_of};
 ghost use Rattle.store_console.specs.Held.{found_in};
 ghost use Rattle.store_console.specs.Printed.{all_queues_text, counter_text, export_text, found_text, has_jobs, has_value, jobs_in_queue, jobs_text, journal_text, named, owner_text, queue_text, too_small};
@@ -15,7 +15,7 @@ use std::alloc::{AllocError, Global};
 
 /// What is printed of a file with too few sectors.
 pub fn too_small(alloc: Global, sectors: u64) -> Result<Output, AllocError>
-    ensures { IfOk result (λ printout. outcome_of printout ≡ too_small sectors) }
+    ensures { IfOk result (λ printout. printout_of printout ≡ too_small sectors) }
 {
     let mut text = Vec::new(alloc);
     push_named(&mut text, "too_small", sectors)?;
@@ -31,7 +31,7 @@ pub fn described(
     counter: Counter,
     journal: &Result<JobJournal, u64>,
 ) -> Result<Output, AllocError>
-    ensures { IfOk result (λ printout. outcome_of printout ≡ found_text owner slots used counter (found_in journal.now)) }
+    ensures { IfOk result (λ printout. printout_of printout ≡ found_text owner slots used counter (found_in journal.now)) }
 {
     let mut text = Vec::new(alloc);
     push_owner(&mut text, owner)?;
@@ -45,7 +45,7 @@ pub fn described(
 
 /// What is printed of the jobs alone.
 pub fn jobs_alone(alloc: Global, journal: &Result<JobJournal, u64>) -> Result<Output, AllocError>
-    ensures { IfOk result (λ printout. outcome_of printout ≡ export_text (found_in journal.now)) }
+    ensures { IfOk result (λ printout. printout_of printout ≡ export_text (found_in journal.now)) }
 {
     let mut text = Vec::new(alloc);
     match journal {

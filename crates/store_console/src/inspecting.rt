@@ -1,7 +1,7 @@
 //! The commands `inspect` and `export`.
 
 ghost use Rattle.std.specs.Prelude.{◌≡◌, ◌≤◌, ◌+◌, IfOk, length};
-ghost use Rattle.console_text.specs.Ends.{Prints, outcome_of};
+ghost use Rattle.console_text.specs.Ends.{Prints, printout_of};
 ghost use Rattle.node_store.specs.Store.{slots_for};
 ghost use Rattle.store_console.specs.Held.{journal_of};
 ghost use Rattle.store_console.specs.declared.inspecting.Shown.TheVariants.{All};
@@ -53,7 +53,7 @@ pub fn inspect<R: Read, W: Write>(
 
 /// What is printed of a file with these bytes.
 fn shown_of(alloc: Global, shown: Shown, bytes: &[u8]) -> Result<Output, AllocError>
-    ensures { IfOk result (λ printout. IsShown shown bytes.now (outcome_of printout)) }
+    ensures { IfOk result (λ printout. IsShown shown bytes.now (printout_of printout)) }
 {
     let mut disk = disk_of(alloc, bytes)?;
     let sectors = disk.sectors();
@@ -69,7 +69,7 @@ fn shown_of(alloc: Global, shown: Shown, bytes: &[u8]) -> Result<Output, AllocEr
 /// Whose a disk is, and what it holds.
 fn inspection(alloc: Global, owner: Owner, disk: &mut MemDisk) -> Result<Output, AllocError>
     requires { 24 ≤ length disk.old.contents }
-    ensures { IfOk result (λ printout. outcome_of printout ≡ held_text All owner disk.old.contents) }
+    ensures { IfOk result (λ printout. printout_of printout ≡ held_text All owner disk.old.contents) }
 {
     let slots = slots_of(disk.sectors());
     let used = used(disk, slots)?;
@@ -81,7 +81,7 @@ fn inspection(alloc: Global, owner: Owner, disk: &mut MemDisk) -> Result<Output,
 /// The jobs of a disk.
 fn exported(alloc: Global, disk: &mut MemDisk) -> Result<Output, AllocError>
     requires { 24 ≤ length disk.old.contents }
-    ensures { IfOk result (λ printout. outcome_of printout ≡ export_text (journal_of (slots_for (length disk.old.contents)) disk.old.contents)) }
+    ensures { IfOk result (λ printout. printout_of printout ≡ export_text (journal_of (slots_for (length disk.old.contents)) disk.old.contents)) }
 {
     let slots = slots_of(disk.sectors());
     let journal = journal(alloc, disk, slots)?;

@@ -1,7 +1,7 @@
 //! The command.
 
 ghost use Rattle.std.specs.Prelude.{◌≡◌, ◌≤◌, ◌+◌, ◌∷◌, List, IfOk, OnOk, None, false};
-ghost use Rattle.console_text.specs.Ends.{outcome_of, IsWhy, Prints};
+ghost use Rattle.console_text.specs.Ends.{printout_of, IsWhy, Prints};
 ghost use Rattle.store_console.specs.Reasons.{session_flaw};
 ghost use Rattle.store_console.specs.declared.request.Request.{Request as Asked};
 ghost use Rattle.store_console.specs.Replies.{fails_after};
@@ -63,7 +63,7 @@ fn store_to<P: AsPath>(
     path: &P,
     input: &[u8],
 ) -> Result<CommandError, AllocError>
-    ensures prints { IfOk result (λ explained. IsSession input.now (outcome_of explained.printout)) }
+    ensures prints { IfOk result (λ explained. IsSession input.now (printout_of explained.printout)) }
     ensures why { IfOk result (λ explained. explained.why.items ≡ session_flaw input.now) }
 {
     match read_requests(alloc, input) {

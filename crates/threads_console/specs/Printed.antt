@@ -1,7 +1,7 @@
 -- The text of the command `threads`.
 use Rattle.std.specs.Prelude.{◌≡◌, ◌⊎◌, ℕ, List, ◌++◌, codes, decimal, Bool, false, true, Result, Ok, Err}
 use Rattle.serde_json.specs.Written.{compact_text}
-use Rattle.console_text.specs.Ends.{Outcome, line, refused}
+use Rattle.console_text.specs.Ends.{Printout, line, refused}
 use Rattle.link_ring.specs.declared.gathering.LinkEnd.{LinkEnd}
 use Rattle.node_lock.specs.declared.worker.Worker.{Worker}
 use Rattle.node_lock.specs.declared.worker.Worker.TheVariants.{Intake, Clock, Operator}
@@ -43,35 +43,35 @@ abbrev pub IsRunText : List (List Claim) → List ℕ → Type 0
 IsRunText hs text = IsOrderedText hs text ⊎ (text ≡ compact_text (trace_data hs))
 
 -- a line, with the text of the trace of these histories
-pub record IsRunPrinted (histories : List Log) (outcome : Outcome) : Type 0 where
+pub record IsRunPrinted (histories : List Log) (printout : Printout) : Type 0 where
   pub text : List ℕ
   pub is_text : IsRunText (run_claims histories) text
-  pub printed : outcome ≡ record { text = line text; good = true }
+  pub printed : printout ≡ record { text = line text; good = true }
 
 -- some whole run of these plans is printed
-pub record PrintsWhole (size : RunSize) (plans : List Planned) (outcome : Outcome) : Type 0 where
+pub record PrintsWhole (size : RunSize) (plans : List Planned) (printout : Printout) : Type 0 where
   pub histories : List Log
   pub links : List LinkEnd
   pub whole : IsWhole size plans histories links
-  pub printed : IsRunPrinted histories outcome
+  pub printed : IsRunPrinted histories printout
 
 -- the gate that lets all pass
 abbrev pub never_shut : ℕ → Worker → Bool
 never_shut node worker = false
 
 -- or why no run of them was gathered, which has its reason in the plans
-pub record PrintsFault (plans : List Planned) (outcome : Outcome) : Type 0 where
+pub record PrintsFault (plans : List Planned) (printout : Printout) : Type 0 where
   pub fault : ThreadsFault
   pub reason : IsReason never_shut plans fault
-  pub printed : outcome ≡ refused (fault_text fault)
+  pub printed : printout ≡ refused (fault_text fault)
 
-abbrev pub PrintsRun : RunSize → List Planned → Outcome → Type 0
-PrintsRun size plans outcome = PrintsWhole size plans outcome ⊎ PrintsFault plans outcome
+abbrev pub PrintsRun : RunSize → List Planned → Printout → Type 0
+PrintsRun size plans printout = PrintsWhole size plans printout ⊎ PrintsFault plans printout
 
-abbrev pub PrintsScript : Result Script ℕ → Outcome → Type 0
-PrintsScript (Err n) outcome = outcome ≡ refused (codes "bad line " ++ decimal n)
-PrintsScript (Ok input) outcome = (plans : List Planned) × ArePlanned input.size.nodes input.turns plans × PrintsRun input.size plans outcome
+abbrev pub PrintsScript : Result Script ℕ → Printout → Type 0
+PrintsScript (Err n) printout = printout ≡ refused (codes "bad line " ++ decimal n)
+PrintsScript (Ok input) printout = (plans : List Planned) × ArePlanned input.size.nodes input.turns plans × PrintsRun input.size plans printout
 
 -- what `threads` prints for an input
-abbrev pub IsThreading : List ℕ → Outcome → Type 0
-IsThreading input outcome = PrintsScript (script_of input) outcome
+abbrev pub IsThreading : List ℕ → Printout → Type 0
+IsThreading input printout = PrintsScript (script_of input) printout

@@ -4,7 +4,7 @@ ghost use Rattle.std.specs.Prelude.{◌≡◌, ◌≤◌, ◌++◌, IfOk, MatchO
 ghost use Rattle.group_task.specs.declared.node.TheConstants.{NODES};
 ghost use Rattle.line_words.specs.Lines.{lines_of};
 ghost use Rattle.line_words.specs.Words.{first_word, words_of};
-ghost use Rattle.console_text.specs.Ends.{outcome_of, refused};
+ghost use Rattle.console_text.specs.Ends.{printout_of, refused};
 ghost use Rattle.console_text.specs.Reasons.{line_head};
 ghost use Rattle.threads_console.specs.Reasons.{flaw_at, no_such, order_flaw, order_form, script_flaw, timer_flaw, turn_flaw, worker_flaw};
 
@@ -19,7 +19,7 @@ use std::alloc::{AllocError, Global};
 
 /// What is printed for plans of which the line of this number can't be read, where it is known that it is the first such line.
 pub fn bad_plans(alloc: Global, input: &[u8], number: u64) -> Result<CommandError, AllocError>
-    ensures printed { IfOk result (λ explained. outcome_of explained.printout ≡ refused (codes "bad line " ++ decimal number)) }
+    ensures printed { IfOk result (λ explained. printout_of explained.printout ≡ refused (codes "bad line " ++ decimal number)) }
     ensures why { IfOk result (λ explained. explained.why.items ≡ line_head number ++ flaw_at number (lines_of input.now)) }
 {
     let mut why = line_reason(alloc, number)?;

@@ -2,7 +2,7 @@
 
 ghost use Rattle.std.specs.Prelude.{◌≡◌, ◌≤◌, ◌+◌, ◌++◌, IfOk, OnOk, codes, decimal, false, vec_len};
 ghost use Rattle.group_task.specs.declared.node.TheConstants.{NODES};
-ghost use Rattle.console_text.specs.Ends.{outcome_of, refused, IsWhy, Prints};
+ghost use Rattle.console_text.specs.Ends.{printout_of, refused, IsWhy, Prints};
 ghost use Rattle.threads_console.specs.Printed.{IsThreading, IsRunPrinted, PrintsRun, fault_text, worker_name};
 ghost use Rattle.threads_console.specs.Reasons.{plans_flaw};
 ghost use Rattle.threads_console.specs.Scripts.{CanRun};
@@ -68,7 +68,7 @@ fn run_text<T: Threads + Wait + Sync>(
     alloc: Global,
     input: &[u8],
 ) -> Result<CommandError, AllocError>
-    ensures printed { IfOk result (λ explained. IsThreading input.now (outcome_of explained.printout)) }
+    ensures printed { IfOk result (λ explained. IsThreading input.now (printout_of explained.printout)) }
     ensures why { IfOk result (λ explained. explained.why.items ≡ plans_flaw input.now) }
 {
     match read_plans(alloc, input) {
@@ -84,7 +84,7 @@ fn run_text<T: Threads + Wait + Sync>(
 /// What is printed for plans that were read.
 fn run<T: Threads + Wait + Sync>(rt: &T, alloc: Global, setup: &Setup) -> Result<Output, AllocError>
     requires { CanRun setup.now.size setup.now.plans.items }
-    ensures { IfOk result (λ printout. PrintsRun setup.now.size setup.now.plans.items (outcome_of printout)) }
+    ensures { IfOk result (λ printout. PrintsRun setup.now.size setup.now.plans.items (printout_of printout)) }
 {
     match run_threads(rt, alloc, setup.size, &setup.plans, &Open) {
         Ok(run) => print_run(alloc, run),
@@ -96,7 +96,7 @@ fn run<T: Threads + Wait + Sync>(rt: &T, alloc: Global, setup: &Setup) -> Result
 /// The line of the trace of a run.
 fn print_run(alloc: Global, run: Gathered) -> Result<Output, AllocError>
     requires { vec_len run.histories ≤ NODES }
-    ensures { IfOk result (λ printout. IsRunPrinted run.histories.items (outcome_of printout)) }
+    ensures { IfOk result (λ printout. IsRunPrinted run.histories.items (printout_of printout)) }
 {
     let mut text = write_run(alloc, run)?;
     push_text(&mut text, "\n")?;
@@ -105,7 +105,7 @@ fn print_run(alloc: Global, run: Gathered) -> Result<Output, AllocError>
 
 /// The line that says why there is no trace.
 fn refuse(alloc: Global, fault: ThreadsFault) -> Result<Output, AllocError>
-    ensures { IfOk result (λ printout. outcome_of printout ≡ refused (fault_text fault)) }
+    ensures { IfOk result (λ printout. printout_of printout ≡ refused (fault_text fault)) }
 {
     let mut text = Vec::new(alloc);
     match fault {

@@ -1,6 +1,6 @@
 -- What the command `draw` prints.
 use Rattle.std.specs.Prelude.{ℕ, ◌≡◌, ◌⊎◌, List, [], reverse, Bool, true, false, Option, Some, None, Result, Ok, Err}
-use Rattle.console_text.specs.Ends.{Outcome, refused}
+use Rattle.console_text.specs.Ends.{Printout, refused}
 use Rattle.trace_check.specs.declared.leftover.Leftover.{Leftover}
 use Rattle.trace_check.specs.declared.order.Order.{Order}
 use Rattle.trace_check.specs.declared.trace.Verdict.{Verdict}
@@ -36,18 +36,18 @@ abbrev pub IsRunIn : List (List Claim) → List ℕ → Type 0
 IsRunIn hs order = IsLegal hs (reverse order) × IsComplete hs (reverse order)
 
 -- the run that was recorded is drawn, in the order and with the messages' numbers that the record gives
-pub record DrawsRecorded (format : OutputFormat) (hs : List (List Claim)) (given : Ordered) (outcome : Outcome) : Type 0 where
+pub record DrawsRecorded (format : OutputFormat) (hs : List (List Claim)) (given : Ordered) (printout : Printout) : Type 0 where
   pub order : Order
   pub is_order : ordered_by order ≡ given
-  pub good : outcome.good ≡ true
-  pub shows : Shows format hs order true [] outcome.text
+  pub good : printout.good ≡ true
+  pub shows : Shows format hs order true [] printout.text
 
 abbrev pub is_run : Verdict → Bool
 is_run (Run order) = true
 is_run (NotARun node index) = false
 
 -- what can be taken is drawn, in the order that the checker takes it, and what is left
-pub record DrawsTaken (format : OutputFormat) (hs : List (List Claim)) (outcome : Outcome) : Type 0 where
+pub record DrawsTaken (format : OutputFormat) (hs : List (List Claim)) (printout : Printout) : Type 0 where
   pub verdict : Verdict
   pub order : Order
   pub left : List Leftover
@@ -56,17 +56,17 @@ pub record DrawsTaken (format : OutputFormat) (hs : List (List Claim)) (outcome 
   pub taken : AreTaken hs verdict order.nodes.items
   pub unnumbered : order.messages.items ≡ []
   pub are_left : AreLeftovers hs left
-  pub good : outcome.good ≡ is_run verdict
-  pub shows : Shows format hs order false left outcome.text
+  pub good : printout.good ≡ is_run verdict
+  pub shows : Shows format hs order false left printout.text
 
 -- the order that the text gives is drawn where all entries can be taken in it, and only there
-abbrev pub IsDrawing : OutputFormat → List (List Claim) → Option Ordered → Outcome → Type 0
-IsDrawing format hs None outcome = DrawsTaken format hs outcome
-IsDrawing format hs (Some given) outcome = (IsRunIn hs given.0 × DrawsRecorded format hs given outcome) ⊎ ((IsRunIn hs given.0 → ⊥) × DrawsTaken format hs outcome)
+abbrev pub IsDrawing : OutputFormat → List (List Claim) → Option Ordered → Printout → Type 0
+IsDrawing format hs None printout = DrawsTaken format hs printout
+IsDrawing format hs (Some given) printout = (IsRunIn hs given.0 × DrawsRecorded format hs given printout) ⊎ ((IsRunIn hs given.0 → ⊥) × DrawsTaken format hs printout)
 
-abbrev pub IsDrawnBy : OutputFormat → Option Ordered → Result (List (List Claim)) (Option Location) → Outcome → Type 0
-IsDrawnBy format given (Ok hs) outcome = IsDrawing format hs given outcome
-IsDrawnBy format given (Err location) outcome = outcome ≡ refused (bad_trace location)
+abbrev pub IsDrawnBy : OutputFormat → Option Ordered → Result (List (List Claim)) (Option Location) → Printout → Type 0
+IsDrawnBy format given (Ok hs) printout = IsDrawing format hs given printout
+IsDrawnBy format given (Err location) printout = printout ≡ refused (bad_trace location)
 
-abbrev pub IsDrawn : OutputFormat → List ℕ → Outcome → Type 0
-IsDrawn format text outcome = IsDrawnBy format (order_of text) (trace_of text) outcome
+abbrev pub IsDrawn : OutputFormat → List ℕ → Printout → Type 0
+IsDrawn format text printout = IsDrawnBy format (order_of text) (trace_of text) printout

@@ -1,6 +1,6 @@
 -- A run whose records stand in several files: each is a trace, of one node or of more, and its nodes come behind those of the files before it.
 use Rattle.std.specs.Prelude.{ℕ, ◌+◌, ◌≡◌, Bool, true, false, List, [], ◌∷◌, ◌++◌, length, if◌then◌else◌, nat_le, codes, decimal, option_map, Option, Some, None, Result, Ok, Err}
-use Rattle.console_text.specs.Ends.{Outcome, Prints}
+use Rattle.console_text.specs.Ends.{Printout, Prints}
 use Rattle.console_text.specs.declared.ends.ExitKind.{ExitKind}
 use Rattle.console_text.specs.declared.ends.ExitKind.TheVariants.{Done, Refused, NoMemory, Unread, Unwritten}
 use Rattle.group_task.specs.declared.node.TheConstants.{NODES}
@@ -42,12 +42,12 @@ run_of (Ok hs) = if nat_le (length hs) NODES then Ok hs else Err None
 run_of (Err bad) = Err (spot_behind bad.before bad.location)
 
 -- what is printed of it
-abbrev pub IsFilesOutcome : Stage → List TraceFile → Outcome → Type 0
-IsFilesOutcome stage files outcome = IsFoundAt stage (run_of (histories_of files)) outcome
+abbrev pub IsFilesPrintout : Stage → List TraceFile → Printout → Type 0
+IsFilesPrintout stage files printout = IsFoundAt stage (run_of (histories_of files)) printout
 
 -- beside the files nothing is read
 abbrev pub PrintsFiles : Stage → List TraceFile → Option (List ℕ) → Option (List ℕ) → ExitKind → Type 0
-PrintsFiles stage files = Prints (λ input outcome. IsFilesOutcome stage files outcome) (Some [])
+PrintsFiles stage files = Prints (λ input printout. IsFilesPrintout stage files printout) (Some [])
 
 -- ---- standard error
 

@@ -1,6 +1,6 @@
 -- What the command `trace` prints.
 use Rattle.std.specs.Prelude.{ℕ, ◌≡◌, List, [], ◌∷◌, ◌++◌, true, codes, decimal, Option, Some, None, Result, Ok, Err}
-use Rattle.console_text.specs.Ends.{Outcome, line, refused}
+use Rattle.console_text.specs.Ends.{Printout, line, refused}
 use Rattle.trace_check.specs.declared.trace.Verdict.{Verdict}
 use Rattle.trace_check.specs.declared.trace.Verdict.TheVariants.{Run, NotARun}
 use Rattle.trace_check.specs.Claims.{Claim}
@@ -13,7 +13,7 @@ abbrev pub words : List ℕ → List ℕ
 words [] = []
 words (n ∷ ns) = 32 ∷ (decimal n ++ words ns)
 
-abbrev pub verdict_printed : Verdict → Outcome
+abbrev pub verdict_printed : Verdict → Printout
 verdict_printed (Run order) = record { text = line (codes "Run" ++ words order.items); good = true }
 verdict_printed (NotARun node index) = refused (codes "NotARun" ++ words (node ∷ index ∷ []))
 
@@ -22,16 +22,16 @@ bad_trace None = codes "bad trace"
 bad_trace (Some location) = codes "bad trace" ++ words (location.node ∷ location.index ∷ [])
 
 -- a verdict on these histories, which decides whether some order of them is a run
-pub record IsJudgement (histories : List (List Claim)) (outcome : Outcome) : Type 0 where
+pub record IsJudgement (histories : List (List Claim)) (printout : Printout) : Type 0 where
   pub verdict : Verdict
   pub is_verdict : IsVerdict histories verdict
   pub decides : DecidesRun histories verdict
-  pub printed : outcome ≡ verdict_printed verdict
+  pub printed : printout ≡ verdict_printed verdict
 
-abbrev pub IsJudgedBy : Result (List (List Claim)) (Option Location) → Outcome → Type 0
-IsJudgedBy (Ok histories) outcome = IsJudgement histories outcome
-IsJudgedBy (Err location) outcome = outcome ≡ refused (bad_trace location)
+abbrev pub IsJudgedBy : Result (List (List Claim)) (Option Location) → Printout → Type 0
+IsJudgedBy (Ok histories) printout = IsJudgement histories printout
+IsJudgedBy (Err location) printout = printout ≡ refused (bad_trace location)
 
 -- the verdict on the trace that the text is, or where the text is none
-abbrev pub IsJudged : List ℕ → Outcome → Type 0
-IsJudged text outcome = IsJudgedBy (trace_of text) outcome
+abbrev pub IsJudged : List ℕ → Printout → Type 0
+IsJudged text printout = IsJudgedBy (trace_of text) printout

@@ -1,5 +1,5 @@
 ghost use Rattle.std.specs.Prelude.{◌≡◌, ◌≤◌, ◌+◌, [], reverse, option_map, IfOk};
-ghost use Rattle.console_text.specs.Ends.{Prints, outcome_of};
+ghost use Rattle.console_text.specs.Ends.{Prints, printout_of};
 ghost use Rattle.trace_check.specs.Orders.{IsLegal, IsComplete};
 ghost use Rattle.trace_draw.specs.Reported.{IsReport, IsReported, IsTold};
 ghost use Rattle.trace_text.specs.Ordered.{ordered_by};
@@ -62,7 +62,7 @@ pub fn draw<R: Read, W: Write>(
 
 /// What `draw` prints for an input, and what it says of it.
 fn draw_text(alloc: Global, format: OutputFormat, text: &[u8]) -> Result<CommandError, AllocError>
-    ensures printed { IfOk result (λ explained. IsDrawn format text.now (outcome_of explained.printout)) }
+    ensures printed { IfOk result (λ explained. IsDrawn format text.now (printout_of explained.printout)) }
     ensures why { IfOk result (λ explained. IsReported text.now explained.why.items) }
 {
     match read(alloc, text) {
@@ -85,7 +85,7 @@ fn draw_trace(
     trace: &Trace,
     order: &Option<Order>,
 ) -> Result<CommandError, AllocError>
-    ensures printed { IfOk result (λ explained. IsDrawing format trace.now (option_map ordered_by order.now) (outcome_of explained.printout)) }
+    ensures printed { IfOk result (λ explained. IsDrawing format trace.now (option_map ordered_by order.now) (printout_of explained.printout)) }
     ensures why { IfOk result (λ explained. IsReport trace.now explained.why.items) }
 {
     let Some(order) = order else {
@@ -106,7 +106,7 @@ fn draw_recorded(
     order: &Order,
 ) -> Result<CommandError, AllocError>
     requires { IsRunIn trace.now order.now.nodes.items }
-    ensures printed { IfOk result (λ explained. DrawsRecorded format trace.now (ordered_by order.now) (outcome_of explained.printout)) }
+    ensures printed { IfOk result (λ explained. DrawsRecorded format trace.now (ordered_by order.now) (printout_of explained.printout)) }
     ensures why { IfOk result (λ explained. IsReport trace.now explained.why.items) }
 {
     let plot = plot(alloc, trace, order, true)?;
@@ -126,7 +126,7 @@ fn draw_taken(
     format: OutputFormat,
     trace: &Trace,
 ) -> Result<CommandError, AllocError>
-    ensures printed { IfOk result (λ explained. DrawsTaken format trace.now (outcome_of explained.printout)) }
+    ensures printed { IfOk result (λ explained. DrawsTaken format trace.now (printout_of explained.printout)) }
     ensures why { IfOk result (λ explained. IsReport trace.now explained.why.items) }
 {
     let Examined {

@@ -1,8 +1,8 @@
 //! A run whose records stand in several files.
 ghost use Rattle.std.specs.Prelude.{◌≡◌, ◌<◌, ◌≤◌, ◌+◌, ◌++◌, IfOk, OnOk, None, Ok};
-ghost use Rattle.console_text.specs.Ends.{outcome_of, refused};
+ghost use Rattle.console_text.specs.Ends.{printout_of, refused};
 ghost use Rattle.group_task.specs.declared.node.TheConstants.{NODES};
-ghost use Rattle.trace_draw.specs.Files.{IsFilesOutcome, IsFilesReport, IsFilesTold, IsReportBehind, PrintsFiles, bad_text, run_of, spot_behind, spot_text, too_many_text};
+ghost use Rattle.trace_draw.specs.Files.{IsFilesPrintout, IsFilesReport, IsFilesTold, IsReportBehind, PrintsFiles, bad_text, run_of, spot_behind, spot_text, too_many_text};
 ghost use Rattle.trace_draw.specs.Judged.{bad_trace};
 ghost use Rattle.trace_draw.specs.Ongoing.{IsFoundAt};
 
@@ -46,7 +46,7 @@ fn judge_files(
     stage: Stage,
     files: &[TraceFile<'_>],
 ) -> Result<CommandError, AllocError>
-    ensures printed { IfOk result (λ explained. IsFilesOutcome stage files.now (outcome_of explained.printout)) }
+    ensures printed { IfOk result (λ explained. IsFilesPrintout stage files.now (printout_of explained.printout)) }
     ensures why { IfOk result (λ explained. IsFilesReport files.now explained.why.items) }
 {
     let mut histories = Vec::new(alloc);
@@ -68,7 +68,7 @@ fn judge_all(
     stage: Stage,
     histories: Vec<History>,
 ) -> Result<CommandError, AllocError>
-    ensures printed { IfOk result (λ explained. IsFoundAt stage (run_of (Ok histories.items)) (outcome_of explained.printout)) }
+    ensures printed { IfOk result (λ explained. IsFoundAt stage (run_of (Ok histories.items)) (printout_of explained.printout)) }
     ensures why { IfOk result (λ explained. IsReportBehind (Ok histories.items) explained.why.items) }
 {
     if usize::from(NODES) < histories.len() {
@@ -79,7 +79,7 @@ fn judge_all(
 
 /// What is printed where the files have too many nodes.
 fn too_many(alloc: Global) -> Result<CommandError, AllocError>
-    ensures printed { IfOk result (λ explained. outcome_of explained.printout ≡ refused (bad_trace None)) }
+    ensures printed { IfOk result (λ explained. printout_of explained.printout ≡ refused (bad_trace None)) }
     ensures why { IfOk result (λ explained. explained.why.items ≡ too_many_text) }
 {
     let mut why = Vec::new(alloc);
@@ -99,7 +99,7 @@ fn bad_file(
     before: usize,
     location: Option<Location>,
 ) -> Result<CommandError, AllocError>
-    ensures printed { IfOk result (λ explained. outcome_of explained.printout ≡ refused (bad_trace (spot_behind before location))) }
+    ensures printed { IfOk result (λ explained. printout_of explained.printout ≡ refused (bad_trace (spot_behind before location))) }
     ensures why { IfOk result (λ explained. explained.why.items ≡ bad_text name.now location) }
 {
     let mut why = Vec::new(alloc);

@@ -1,5 +1,5 @@
 ghost use Rattle.std.specs.Prelude.{◌≡◌, ◌≤◌, ◌+◌, ◌++◌, ◌∷◌, [], ℕ, List, codes, IfOk, OnOk};
-ghost use Rattle.console_text.specs.Ends.{Prints, outcome_of, refused};
+ghost use Rattle.console_text.specs.Ends.{Prints, printout_of, refused};
 ghost use Rattle.trace_draw.specs.Judged.{bad_trace, verdict_printed, words};
 ghost use Rattle.trace_draw.specs.Ongoing.{IsJudgedAt, IsJudgementAt, printed_at};
 ghost use Rattle.trace_draw.specs.Reported.{IsReport, IsReported, IsTold};
@@ -53,7 +53,7 @@ pub fn trace<R: Read, W: Write>(
 
 /// What `trace` prints for an input, and what it says of it.
 fn judge_text(alloc: Global, stage: Stage, text: &[u8]) -> Result<CommandError, AllocError>
-    ensures printed { IfOk result (λ explained. IsJudgedAt stage text.now (outcome_of explained.printout)) }
+    ensures printed { IfOk result (λ explained. IsJudgedAt stage text.now (printout_of explained.printout)) }
     ensures why { IfOk result (λ explained. IsReported text.now explained.why.items) }
 {
     match read(alloc, text) {
@@ -68,7 +68,7 @@ fn judge_text(alloc: Global, stage: Stage, text: &[u8]) -> Result<CommandError, 
 
 /// The verdict on a trace, and what is said of it.
 pub(crate) fn judge(alloc: Global, stage: Stage, trace: &Trace) -> Result<CommandError, AllocError>
-    ensures printed { IfOk result (λ explained. IsJudgementAt stage trace.now (outcome_of explained.printout)) }
+    ensures printed { IfOk result (λ explained. IsJudgementAt stage trace.now (printout_of explained.printout)) }
     ensures why { IfOk result (λ explained. IsReport trace.now explained.why.items) }
 {
     let examined = examine(alloc, trace)?;
@@ -79,7 +79,7 @@ pub(crate) fn judge(alloc: Global, stage: Stage, trace: &Trace) -> Result<Comman
 
 /// What is printed of what was found.
 fn printout_at(alloc: Global, stage: Stage, examined: &Examined) -> Result<Output, AllocError>
-    ensures { IfOk result (λ printout. outcome_of printout ≡ printed_at stage examined.now) }
+    ensures { IfOk result (λ printout. printout_of printout ≡ printed_at stage examined.now) }
 {
     match stage {
         Stage::Over => verdict_printout(alloc, &examined.verdict),
@@ -89,7 +89,7 @@ fn printout_at(alloc: Global, stage: Stage, examined: &Examined) -> Result<Outpu
 
 /// What is printed for a verdict.
 pub(crate) fn verdict_printout(alloc: Global, verdict: &Verdict) -> Result<Output, AllocError>
-    ensures { IfOk result (λ printout. outcome_of printout ≡ verdict_printed verdict.now) }
+    ensures { IfOk result (λ printout. printout_of printout ≡ verdict_printed verdict.now) }
 {
     let mut text = Vec::new(alloc);
     match verdict {
@@ -110,7 +110,7 @@ pub(crate) fn verdict_printout(alloc: Global, verdict: &Verdict) -> Result<Outpu
 
 /// What is printed for a text that is no trace.
 pub(crate) fn bad_printout(alloc: Global, location: Option<Location>) -> Result<Output, AllocError>
-    ensures { IfOk result (λ printout. outcome_of printout ≡ refused (bad_trace location)) }
+    ensures { IfOk result (λ printout. printout_of printout ≡ refused (bad_trace location)) }
 {
     let mut text = Vec::new(alloc);
     push_text(&mut text, "bad trace")?;

@@ -1,6 +1,6 @@
 //! What is printed of a run that may go on.
 ghost use Rattle.std.specs.Prelude.{◌≡◌, IfOk, None, option_map};
-ghost use Rattle.console_text.specs.Ends.{outcome_of};
+ghost use Rattle.console_text.specs.Ends.{printout_of};
 ghost use Rattle.trace_draw.specs.Ongoing.{first_stopped, left_printed, ongoing_printed};
 
 use crate::judging::{push_nodes, verdict_printout};
@@ -12,7 +12,7 @@ use trace_check::{Examined, Leftover, Verdict};
 
 /// What is printed of a run that may go on.
 pub(crate) fn ongoing_printout(alloc: Global, examined: &Examined) -> Result<Output, AllocError>
-    ensures { IfOk result (λ printout. outcome_of printout ≡ ongoing_printed examined.now.verdict examined.now.taken.items examined.now.left.items) }
+    ensures { IfOk result (λ printout. printout_of printout ≡ ongoing_printed examined.now.verdict examined.now.taken.items examined.now.left.items) }
 {
     match &examined.verdict {
         Verdict::Run(_) => verdict_printout(alloc, &examined.verdict),
@@ -22,7 +22,7 @@ pub(crate) fn ongoing_printout(alloc: Global, examined: &Examined) -> Result<Out
 
 /// What is printed where entries are left: those that were taken, where all others wait, or the first that can't be.
 fn left_printout(alloc: Global, taken: &[NodeId], left: &[Leftover]) -> Result<Output, AllocError>
-    ensures { IfOk result (λ printout. outcome_of printout ≡ left_printed taken.now (first_stopped left.now)) }
+    ensures { IfOk result (λ printout. printout_of printout ≡ left_printed taken.now (first_stopped left.now)) }
 {
     match first_stopped(left) {
         Some(stopped) => verdict_printout(alloc, &Verdict::NotARun(stopped.node, stopped.index)),
@@ -43,7 +43,7 @@ fn first_stopped(left: &[Leftover]) -> Option<&Leftover>
 }
 
 fn taken_printout(alloc: Global, taken: &[NodeId]) -> Result<Output, AllocError>
-    ensures { IfOk result (λ printout. outcome_of printout ≡ left_printed taken.now None) }
+    ensures { IfOk result (λ printout. printout_of printout ≡ left_printed taken.now None) }
 {
     let mut text = Vec::new(alloc);
     push_text(&mut text, "Ongoing")?;

@@ -2,7 +2,7 @@ use Rattle.std.proofs.Common.{◌≡◌, ◌+◌, ◌<◌, ◌++◌, ◌∷◌, 
 use Rattle.std.proofs.lemmas.List.{append_assoc, take_more}
 use Rattle.std.proofs.lemmas.Option.{get_or_from_slice_get, slice_get_within}
 use Rattle.wire_msg.specs.Envelope.{Envelope}
-use Rattle.message_list.specs.PackedMessages.{Kept}
+use Rattle.message_list.specs.PackedMessages.{MessagesKept}
 use Rattle.trace_check.proofs.history.keep_sent.Goals as goal
 
 pub loop-place-preserved : goal.loop-place-preserved
@@ -16,6 +16,6 @@ loop-place-preserved c =
     take_more sent l.place m within ∙ ap (λ (y : Envelope). take l.place sent ++ y ∷ []) (get_or_from_slice_get sent l.place m m at) in
     let old = c.args.messages.now.messages in
     let room = l.invariant.1 in (
-      ap (λ (k : Kept). k.messages) c.push_lent.ensures ∙ ap (λ (ms : List Envelope). ms ++ m ∷ []) l.invariant.0 ∙ append_assoc old (take l.place sent) (m ∷ []) ∙ ap (λ (ms : List Envelope). old ++ ms) (sym one),
-      omega (arith, ap (λ (k : Kept). k.room) c.push_lent.ensures, room, within),
+      ap (λ (k : MessagesKept). k.messages) c.push_lent.ensures ∙ ap (λ (ms : List Envelope). ms ++ m ∷ []) l.invariant.0 ∙ append_assoc old (take l.place sent) (m ∷ []) ∙ ap (λ (ms : List Envelope). old ++ ms) (sym one),
+      omega (arith, ap (λ (k : MessagesKept). k.room) c.push_lent.ensures, room, within),
     )

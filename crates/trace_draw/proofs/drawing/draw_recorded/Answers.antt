@@ -1,5 +1,5 @@
 use Rattle.std.proofs.Common.{[], reverse, refl, sym, subst}
-use Rattle.console_text.specs.Ends.{Outcome}
+use Rattle.console_text.specs.Ends.{Printout}
 use Rattle.trace_text.specs.Ordered.{ordered_by}
 use Rattle.trace_draw.specs.Drawn.{DrawsRecorded}
 use Rattle.trace_draw.proofs.Wholes.{nothing_left}
@@ -9,7 +9,7 @@ pub returns-clause-printed : goal.returns-clause-printed
 returns-clause-printed c =
     let hs = c.args.trace.now in
     let order = c.args.order.now in
-    subst (λ (outcome : Outcome). DrawsRecorded c.args.format hs (ordered_by order) outcome) (sym c.without_why.ensures.outcome) (record {
+    subst (λ (printout : Printout). DrawsRecorded c.args.format hs (ordered_by order) printout) (sym c.without_why.ensures.printout) (record {
       order = order;
       is_order = refl;
       good = refl;
