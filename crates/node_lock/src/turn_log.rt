@@ -68,7 +68,8 @@ impl TurnLog {
 
     /// How many turns there are.
     pub fn len(&self) -> usize
-        ensures { result ≡ length self.now.turns }
+        ensures turns { result ≡ length self.now.turns }
+        ensures numbers { result ≡ length self.now.numbers }
     {
         self.lines.len()
     }
@@ -154,7 +155,8 @@ impl TurnLog {
 
     /// The number of the turn at this place among the turns of all nodes ([`TurnNumbers`](crate::TurnNumbers)).
     pub fn number(&self, place: usize) -> Option<u64>
-        // Promise: The number that a turn drew is kept with it.
+        // Promise: The number that a turn drew is kept with it, and each turn has one.
+        // Also: TurnLog::len.
         // Refuses: index_told_as_number.
         ensures { result ≡ slice_get self.now.numbers place }
     {

@@ -1,6 +1,7 @@
 mod Counts
 mod Cuts
 mod Filling
+mod Numbers
 mod Orderings
 mod Polls
 mod Texts

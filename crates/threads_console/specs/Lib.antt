@@ -4,5 +4,6 @@ pub mod Planning
 pub mod Scripts
 pub mod Reasons
 pub mod Texts
+pub mod Numbers
 pub mod Ordering
 pub mod Printed

@@ -13,10 +13,10 @@ use Rattle.node_threads.specs.declared.size.RunSize.{RunSize}
 use Rattle.node_threads.specs.Reasons.{IsReason}
 use Rattle.node_threads.specs.Whole.{IsWhole}
 use Rattle.trace_check.specs.declared.order.Order.{Order}
-use Rattle.trace_check.specs.Claims.{Claim}
 use Rattle.trace_text.specs.Ordered.{ordered_by, ordered_data}
 use Rattle.trace_text.specs.Written.{trace_data}
-use Rattle.threads_console.specs.Ordering.{IsOrdering}
+use Rattle.threads_console.specs.Numbers.{HasNoOrder}
+use Rattle.threads_console.specs.Ordering.{IsOrderOf}
 use Rattle.threads_console.specs.Planning.{ArePlanned}
 use Rattle.threads_console.specs.Scripts.{Script, script_of}
 use Rattle.threads_console.specs.Texts.{run_claims}
@@ -32,20 +32,20 @@ fault_text (Unfinished node worker) = codes "unfinished " ++ decimal node ++ cod
 fault_text NoMemory = codes "no memory"
 fault_text Unpaired = codes "unpaired"
 
--- the trace with an order in which its turns can have been taken, and the numbers of the messages that they were brought
-pub record IsOrderedText (hs : List (List Claim)) (text : List ℕ) : Type 0 where
+-- the trace with the order of the numbers that its turns drew, and the numbers of messages that they were brought
+pub record IsOrderedText (logs : List Log) (text : List ℕ) : Type 0 where
   pub order : Order
-  pub is_order : IsOrdering hs order
-  pub is_text : text ≡ compact_text (ordered_data hs (ordered_by order))
+  pub is_order : IsOrderOf logs order
+  pub is_text : text ≡ compact_text (ordered_data (run_claims logs) (ordered_by order))
 
--- the text of a trace; it stands alone where its turns have no order, of which no run is known
-abbrev pub IsRunText : List (List Claim) → List ℕ → Type 0
-IsRunText hs text = IsOrderedText hs text ⊎ (text ≡ compact_text (trace_data hs))
+-- the text of a trace; it stands alone only where the numbers give no order, which is so of no run that is known
+abbrev pub IsRunText : List Log → List ℕ → Type 0
+IsRunText logs text = IsOrderedText logs text ⊎ (HasNoOrder logs × (text ≡ compact_text (trace_data (run_claims logs))))
 
 -- a line, with the text of the trace of these histories
 pub record IsRunPrinted (histories : List Log) (printout : Printout) : Type 0 where
   pub text : List ℕ
-  pub is_text : IsRunText (run_claims histories) text
+  pub is_text : IsRunText histories text
   pub printed : printout ≡ record { text = line text; good = true }
 
 -- some whole run of these plans is printed

@@ -8,7 +8,7 @@ ghost use Rattle.cluster_sim.specs.Traced.{deed_of, done};
 ghost use Rattle.trace_text.specs.Tokens.{Adds, head_tokens, message_tokens};
 ghost use Rattle.trace_text.specs.Written.{entry_data, history_data};
 ghost use Rattle.threads_console.specs.Printed.{IsRunText};
-ghost use Rattle.threads_console.specs.Texts.{AreKnown, IsTextAt, entries_text, histories_text, log_claims, quiet_claim, run_claims};
+ghost use Rattle.threads_console.specs.Texts.{AreKnown, IsTextAt, entries_text, histories_text, log_claims, quiet_claim};
 
 use crate::ordering::order_of;
 use histories::HistoryEvent;
@@ -33,7 +33,7 @@ struct Known {
 /// The text of the trace of a run, with its order. What was written is let go at once, so that no two copies of it all stand in memory.
 pub(crate) fn write_run(alloc: Global, run: Gathered) -> Result<Vec<u8>, AllocError>
     requires { vec_len run.histories ≤ NODES }
-    ensures { IfOk result (λ text. IsRunText (run_claims run.histories.items) text.items) }
+    ensures { IfOk result (λ text. IsRunText run.histories.items text.items) }
 {
     let order = order_of(alloc, &run)?;
     let Gathered { histories, links } = run;

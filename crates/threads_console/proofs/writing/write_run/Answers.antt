@@ -1,11 +1,11 @@
-use Rattle.std.proofs.Common.{◌≡◌, ℕ, List, ◌++◌, false, length, inl, inr, ap, ◌∙◌, subst, sym}
+use Rattle.std.proofs.Common.{◌≡◌, ℕ, List, ◌++◌, false, length, inl, inr, ap, ◌∙◌, rules, subst, sym}
 use Rattle.std.proofs.lemmas.List.{length-map}
 use Rattle.std.proofs.lemmas.Result.{IfOk-weaker}
-use Rattle.std.specs.Prelude.{IfSome, Option}
+use Rattle.std.specs.Prelude.{IfSome, IsNone, Option}
 use Rattle.trace_check.specs.declared.order.Order.{Order}
 use Rattle.trace_text.proofs.PublicLaws.{ordered_whole, whole_text}
 use Rattle.trace_text.specs.Ordered.{ordered_by}
-use Rattle.threads_console.specs.Ordering.{IsOrdering}
+use Rattle.threads_console.specs.Ordering.{IsOrderOf}
 use Rattle.threads_console.specs.Texts.{histories_text, log_claims, run_claims}
 use Rattle.threads_console.proofs.writing.write_run.Goals as goal
 
@@ -16,7 +16,7 @@ returns-in-Some c =
     let many : c.len-nodes.result ≡ length hs = c.len-nodes.ensures ∙ c.args.run.histories.ok.0 ∙ sym (length-map logs log_claims) in
     let listed = c.in_ok-write_histories.ensures ∙ ap (λ (t : List ℕ). t ++ histories_text false logs) c.in_ok-text.ensures in
     let order = c.in-Some.order in
-    let is : IsOrdering hs order = subst (λ (o : Option Order). IfSome o (IsOrdering hs)) c.in-Some.is c.in_ok-order.ensures in
+    let is : IsOrderOf logs order = subst (λ (o : Option Order). IfSome o (IsOrderOf logs)) c.in-Some.is c.in_ok-order.ensures.some in
     IfOk-weaker c.end_ordered.result _ _ (λ text ended. inl (record { order = order; is_order = is; is_text = ended ∙ ordered_whole hs (ordered_by order) c.len-nodes.result c.write_histories.new.text.items many listed })) c.end_ordered.ensures
 
 pub returns : goal.returns
@@ -25,4 +25,5 @@ returns c =
     let hs = run_claims logs in
     let many : c.len-nodes.result ≡ length hs = c.len-nodes.ensures ∙ c.args.run.histories.ok.0 ∙ sym (length-map logs log_claims) in
     let listed = c.in_ok-write_histories.ensures ∙ ap (λ (t : List ℕ). t ++ histories_text false logs) c.in_ok-text.ensures in
-    IfOk-weaker c.end_trace.result _ _ (λ text ended. inr (ended ∙ whole_text hs c.len-nodes.result c.write_histories.new.text.items many listed)) c.end_trace.ensures
+    let none : IsNone c.in_ok-order.order = search rules in
+    IfOk-weaker c.end_trace.result _ _ (λ text ended. inr (c.in_ok-order.ensures.none none, ended ∙ whole_text hs c.len-nodes.result c.write_histories.new.text.items many listed)) c.end_trace.ensures
