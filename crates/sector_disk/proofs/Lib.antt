@@ -1,4 +1,5 @@
 mod Runs
+mod Shorts
 mod Bytes
 mod Undoing
 mod Paddings

@@ -5,6 +5,7 @@ pub mod Crash
 pub mod Undo
 pub mod Moments
 pub mod Inside
+pub mod Shorts
 pub mod Kept
 pub mod Halves
 pub mod Noted

@@ -4,7 +4,7 @@ ghost use Rattle.sector_disk.specs.Disk.{sector_at};
 ghost use Rattle.sector_disk.specs.Crash.{filled};
 ghost use Rattle.sector_disk.specs.Undo.{last_of, whole};
 
-use crate::sector::{Sector, fill_from, is_zero, parts, restore};
+use crate::sector::{Sector, fill_from, is_short, is_zero, parts, put, restore};
 use std::alloc::{AllocError, Global};
 use std::marker::Model;
 
@@ -16,6 +16,8 @@ use std::marker::Model;
 pub struct Front {
     count: usize,
     kept: Vec<Sector>,
+    // Of each sector whether its bytes behind the first 32 are known to be zeros: these needn't be looked at again.
+    short: Vec<bool>,
 }
 
 impl Model for Front {
@@ -35,7 +37,8 @@ impl Front {
         ensures { IfOk result (λ sectors. sectors ≡ replicate count (replicate 512 0)) }
     {
         let kept = Vec::with_capacity(alloc, count)?;
-        Ok(Front { count, kept })
+        let short = vec![in alloc; false; count]?;
+        Ok(Front { count, kept, short })
     }
 
     /// The same sectors once more.
@@ -44,9 +47,11 @@ impl Front {
     {
         let mut kept = Vec::with_capacity(alloc, self.count)?;
         kept.extend_from_slice(&self.kept)?;
+        let short = self.short.to_vec(alloc)?;
         Ok(Front {
             count: self.count,
             kept,
+            short,
         })
     }
 
@@ -72,7 +77,7 @@ impl Front {
         ensures { whole (last_of result.0.now result.1.now) ≡ sector_at self.now at }
     {
         match self.kept.get(at) {
-            Some(sector) => parts(sector),
+            Some(sector) => parts(sector, self.short[at]),
             None => (&[0; 32], &[]),
         }
     }
@@ -85,7 +90,9 @@ impl Front {
             return;
         }
         keep(&mut self.kept, at);
-        self.kept[at] = *from;
+        let short = is_short(from);
+        put(&mut self.kept[at], self.short[at], from, short);
+        self.short[at] = short;
     }
 
     /// Gives a sector the bytes that it had, of which the zeros at the end were left out.
@@ -95,6 +102,7 @@ impl Front {
     {
         keep(&mut self.kept, at);
         restore(&mut self.kept[at], trimmed);
+        self.short[at] = false;
     }
 
     /// Writes the next bytes of a fill over the start of a sector, and answers those after them.
@@ -104,7 +112,9 @@ impl Front {
         ensures rest { result.now ≡ drop 512 fill.now }
     {
         keep(&mut self.kept, at);
-        fill_from(&mut self.kept[at], fill)
+        let rest = fill_from(&mut self.kept[at], fill);
+        self.short[at] = false;
+        rest
     }
 }
 

@@ -1,6 +1,7 @@
 // A sector, and its bytes without the zeros at its end.
 ghost use Rattle.std.specs.Prelude.{◌≡◌, ◌≤◌, ◌↔◌, IsTrue, length, drop, replicate};
 ghost use Rattle.sector_disk.specs.Crash.{filled};
+ghost use Rattle.sector_disk.specs.Shorts.{IsShort};
 ghost use Rattle.sector_disk.specs.Undo.{last_of, whole};
 
 pub use disk_sector::Sector;
@@ -14,15 +15,37 @@ pub fn is_zero(sector: &Sector) -> bool
     is_zero_block(sector)
 }
 
-// The first bytes of a sector, and none if all behind them are zeros, else all without the zeros at the end.
-pub fn parts(sector: &Sector) -> (&[u8; 32], &[u8])
+// Whether all bytes of a sector behind its first 32 are zeros.
+pub fn is_short(sector: &Sector) -> bool
+    ensures { IsTrue result → IsShort sector.now }
+{
+    is_zero_block(&sector[32..])
+}
+
+// Puts the bytes of a sector in place of those of another. Where both are known to be zeros behind their first 32, these alone are copied.
+pub fn put(sector: &mut Sector, was_short: bool, from: &Sector, is_short: bool)
+    requires old { IsTrue was_short → IsShort sector.old }
+    requires new { IsTrue is_short → IsShort from.now }
+    ensures { sector.new ≡ from.now }
+{
+    if was_short && is_short {
+        sector[..32].copy_from_slice(&from[..32]);
+    } else {
+        *sector = *from;
+    }
+}
+
+// The first bytes of a sector, and none if all behind them are zeros, else all without the zeros at the end. Where they are known to be
+// zeros they aren't looked at.
+pub fn parts(sector: &Sector, short: bool) -> (&[u8; 32], &[u8])
+    requires { IsTrue short → IsShort sector.now }
     ensures { whole (last_of result.0.now result.1.now) ≡ sector.now }
 {
-    let short = sector.first_chunk().unwrap();
-    if is_zero_block(&sector[32..]) {
-        return (short, &[]);
+    let first = sector.first_chunk().unwrap();
+    if short || is_short(sector) {
+        return (first, &[]);
     }
-    (short, trimmed(sector))
+    (first, trimmed(sector))
 }
 
 // The bytes of a sector without zeros at its end: its last half is looked at first, then half of what is left, down to 32 bytes.

@@ -1,20 +1,21 @@
-use Rattle.std.proofs.Common.{◌≡◌, ◌∙◌, ◌<◌, ap, drop, length, length-drop, replicate, subst, sym, arith}
-use Rattle.std.proofs.lemmas.List.{take_all}
+use Rattle.std.proofs.Common.{ℕ, ◌∙◌, ◌<◌, ◌-◌, ap, length, replicate, subst}
 use Rattle.std.specs.Option.{MatchOption}
 use Rattle.std.specs.Array.{IsFirstChunk}
+use Rattle.sector_disk.specs.Shorts.{IsShort}
 use Rattle.sector_disk.specs.Undo.{whole}
 use Rattle.sector_disk.proofs.Bytes.{short_alone, last_of_long}
 use Rattle.sector_disk.proofs.sector.parts.Goals as goal
+use Rattle.sector_disk.proofs.sector.parts.Goals.{then-short-via-then-short, then-short-via-else-short+then-is_short}
 
-pub returns-then-is_zero_block : goal.returns-then-is_zero_block
-returns-then-is_zero_block c =
+pub returns-then-short : goal.returns-then-short
+returns-then-short c =
     let sector = c.args.sector.now in
-    let rest = drop 32 sector in
-    let size : length rest ≡ 480 = length-drop 32 sector ∙ omega (arith, c.told-sector) in
-    let all = take_all 480 rest (omega (arith, size)) in
-    let zeros = sym all ∙ c.is_zero_block.ensures.zeros c.if-is_zero_block.true ∙ ap (λ n. replicate n 0) (ap length all ∙ size) in
-    let first = subst (λ o. MatchOption o (length sector < 32) (λ y. IsFirstChunk sector y.now 32)) c.unwrap-short.ensures c.first_chunk.ensures.cases in
-    short_alone sector c.unwrap-short.result.now c.told-sector first.same zeros
+    let is : IsShort sector = elim c.then-short.branch [
+      | then-short-via-then-short w ↦ c.requires w.if-short.true
+      | then-short-via-else-short+then-is_short w ↦ w.is_short.ensures w.if-is_short.true
+    ] in
+    let first = subst (λ o. MatchOption o (length sector < 32) (λ y. IsFirstChunk sector y.now 32)) c.unwrap-first.ensures c.first_chunk.ensures.cases in
+    short_alone sector c.unwrap-first.result.now c.told-sector first.same (is ∙ ap (λ (n : ℕ). replicate (n - 32) 0) c.told-sector)
 
 pub returns : goal.returns
-returns c = ap whole (last_of_long c.unwrap-short.result.now c.trimmed.result.now c.trimmed.ensures.least) ∙ c.trimmed.ensures.whole
+returns c = ap whole (last_of_long c.unwrap-first.result.now c.trimmed.result.now c.trimmed.ensures.least) ∙ c.trimmed.ensures.whole
