@@ -87,7 +87,8 @@ impl Nodes {
         self.nodes.len() as u8
     }
 
-    /// An event at a node, and what is sent of it.
+    /// An event at a node, and what is sent of it. It is part of its callers' code: its report isn't copied from one to the next.
+    #[inline(always)]
     pub(crate) fn take(&mut self, id: NodeId, event: &Event) -> Result<ActReport, AllocError>
         ensures slots { self.new.slots ≡ self.old.slots }
         ensures acted { (w : World) (number : ℕ) (a : AnyAct) → StandsFor self.old w → IsBrought w number (brought (Some event.now)) → AreAddressed id (brought (Some event.now))

@@ -74,6 +74,9 @@ impl World {
     /// One act, with what its node told of it. It is refused where it names a node outside the cluster, and else as the node or the
     /// network refuses it: then nothing changed. An error says that there was no memory for it, and nothing changed either, but that
     /// the act's node may not show any more what it mounted last.
+    ///
+    /// It is part of its callers' code, which mostly need the outcome alone.
+    #[inline(always)]
     pub fn step(&mut self, act: &Act) -> Result<ActReport, AllocError>
         ensures slots { self.new.slots ≡ self.old.slots }
         // Promise: Each act is one of the steps that the definitions allow for it, its outcome is that step's, and the cluster then
