@@ -19,7 +19,7 @@ def odd_clients(bed):
     check = bed.tally.check
     rubbish(agents, check)
     half_closed(agents, check)
-    many(agents, check)
+    many(agents, check, bed.tally.timed)
     hanging(agents, check)
     crowd(bed, agents)
     deaf(agents, check)
@@ -190,7 +190,7 @@ def is_told(link, word):
         return False
 
 
-def many(agents, check):
+def many(agents, check, timed):
     links = [agents.connect(0) for _ in range(200)]
     for link in links:
         link.sendall(b'{"do":"watch"}\n')
@@ -211,7 +211,7 @@ def many(agents, check):
     for words in (["status"], ["jobs"], ["submit", "3", "by an operator"]):
         done = agents.ctl(0, *words)
         check("those that stay keep no `dumgerokctl %s` out" % words[0], done.returncode == 0, done)
-    more += all_at_work(agents, check)
+    more += all_at_work(agents, timed)
     for link in links + more:
         link.close()
     agents.until(lambda: (agents.status(0) or {}).get("ok"))
@@ -224,19 +224,20 @@ def many(agents, check):
     check("a job is finished", agents.ask(0, do="finish", origin=job["origin"], id=job["id"])["ok"], job)
 
 
-def all_at_work(agents, check):
+def all_at_work(agents, timed):
     """Beside those that stay as many as are served, each with a request that has no answer yet: one more is told so."""
     links, node = [agents.connect(0) for _ in range(16)], agents.node(0)
     os.kill(node, signal.SIGSTOP)
     try:
         for link in links:
             link.sendall(b'{"do":"finish","origin":0,"id":99999}\n')
-        agents.until(lambda: (agents.status(0) or {}).get("error") == "TooManyClients")
+        # until the agent has read these: a client without a request would give its place to one more
+        time.sleep(1)
         done = agents.ctl(0, "status")
-        check("where all places are taken `dumgerokctl status` says so", done.returncode == 1 and "TooManyClients" in done.stderr, done)
+        timed("where all places are taken `dumgerokctl status` says so", done.returncode == 1 and "TooManyClients" in done.stderr, done)
     finally:
         os.kill(node, signal.SIGCONT)
-    check("and they are served on", all(json.loads(link.makefile().readline()).get("error") == "UnknownJob" for link in links))
+    timed("and they are served on", all(json.loads(link.makefile().readline()).get("error") == "UnknownJob" for link in links))
     return links
 
 
