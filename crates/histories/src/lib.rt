@@ -4,6 +4,14 @@
 //! the node's state machine, and speak of no disk: which command was kept is part of an entry. The laws are contracts of
 //! functions that do nothing. [`HistoryEvent`] is what came of an event, as code has it; [`EventOutcome`] and [`CommandKind`] say it to who has
 //! the event, in a few bytes.
+//!
+//! ```
+//! let came = node.step(&event)?;                                  // a `StepReport` of `durable_node`
+//! let entry = came.event_outcome.what(&event);                    // the entry of the node's history
+//! if let Some(kind) = came.tried {
+//!     let command = kind.command(submitted(&event));              // the whole command that was tried on the disk
+//! }
+//! ```
 #![tactic(auto)]
 
 mod attempt;

@@ -2,6 +2,15 @@
 //!
 //! The definitions stand in `specs/`, over the histories of nodes, and speak of no disk and of no code. The laws are contracts of
 //! functions that do nothing. [`Outcome`] is what comes of an act, and [`AttemptAt`] a command in a report, as code has them.
+//!
+//! ```
+//! left_by_a_run();                                                // from here on a proof has the laws of the run behind a cluster
+//! match cluster.step(act)? {
+//!     Outcome::Done { first, many, .. } => {}                     // the messages of the numbers from first on were sent, so many
+//!     Outcome::Refused(why) => eprintln!(rt; "refused: {why}")?,  // nothing changed
+//!     Outcome::Faulted => {}                                      // the device failed in it: the node is down
+//! }
+//! ```
 #![tactic(auto)]
 
 mod attempt_at;
