@@ -6,7 +6,7 @@ ghost use Rattle.invite_console.specs.Acts.{sent_text};
 ghost use Rattle.invite_console.specs.Kept.{between, run_text, AreKept};
 
 use crate::acts::push_message;
-use crate::running::Run;
+use crate::running::Simulation;
 use console_text::{Unprinted, print_full, print_part, push_text};
 use message_list::MessageList;
 use std::io::Write;
@@ -17,7 +17,7 @@ pub(crate) fn print_run<W: Write>(
     page: &mut Vec<u8>,
     bytes: &mut Vec<u8>,
     names: bool,
-    run: &Run,
+    run: &Simulation,
 ) -> Result<(), Unprinted>
     requires { AreKept run.now.kept.items (length run.now.world.net.sent) (length run.now.text.items) }
     ensures { OnOk result (Hands (W.contents output.old) page.old.items (W.contents output.new) page.new.items (run_text names run.now.kept.items run.now.text.items run.now.world.net.sent)) }

@@ -32,7 +32,7 @@ pub(crate) struct ActEnd {
 
 /// A schedule that was run.
 #[derive(Drop)]
-pub(crate) struct Run {
+pub(crate) struct Simulation {
     pub world: World,
     pub kept: Vec<ActEnd>,
     /// Of each act the nodes as they were before it, where they are asked for, and its line, which lacks its end where it sent messages:
@@ -46,7 +46,7 @@ pub(crate) fn run_schedule(
     details: Details,
     schedule: &Schedule,
     input: Vec<u8>,
-) -> Result<Run, AllocError>
+) -> Result<Simulation, AllocError>
     requires { IsWithinLimits schedule.now.size schedule.now.acts.items }
     ensures { IfOk result (λ run. IsRun details schedule.now.size.nodes schedule.now.size.slots schedule.now.acts.items run.kept.items run.text.items run.world.net.sent) }
 {
@@ -63,7 +63,7 @@ pub(crate) fn run_schedule(
         &schedule.acts,
     )?;
     push_table(alloc, &mut text, &world)?;
-    Ok(Run { world, kept, text })
+    Ok(Simulation { world, kept, text })
 }
 
 /// An empty text with room for so many bytes, in the memory of an input, unless that is far more.

@@ -11,7 +11,7 @@ ghost use Rattle.invite_console.specs.Sim.{IsSimPrintout, PrintsScript};
 use crate::details::Details;
 use crate::printing::print_run;
 use crate::reasons::bad_schedule;
-use crate::running::{Run, run_schedule};
+use crate::running::{Simulation, run_schedule};
 use console_text::{
     Ended, ExitKind, IoTrouble, Source, new_page, print, print_explained, print_page, read_source,
 };
@@ -87,7 +87,7 @@ fn simulate<W: Write>(
 }
 
 /// Prints a run. All memory for it is taken first, so that nothing is printed where there is none.
-fn print_pages<W: Write>(alloc: Global, output: &mut W, names: bool, run: &Run) -> ExitKind
+fn print_pages<W: Write>(alloc: Global, output: &mut W, names: bool, run: &Simulation) -> ExitKind
     requires { AreKept run.now.kept.items (length run.now.world.net.sent) (length run.now.text.items) }
     ensures { Prints (λ _ outcome. outcome ≡ record { text = run_text names run.now.kept.items run.now.text.items run.now.world.net.sent; good = true }) None
         (W.contents output.old) (W.contents output.new) result }
