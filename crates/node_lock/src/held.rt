@@ -107,11 +107,12 @@ impl Held {
         ensures { IfOk result (λ h. (h.run ≡ run) × (h.plans ≡ plans) × (h.turns ≡ no_turns) × (h.history ≡ []) × (h.waiting ≡ None)) }
     {
         let node = DurableNode::open(alloc, run.node, run.nodes, run.slots)?;
+        let history = TurnLog::with_capacity(alloc, plans.turns().min(MOST_ENTRIES))?;
         Ok(Held {
             site: Site {
                 node,
                 puts,
-                history: TurnLog::new(alloc),
+                history,
                 numbers,
             },
             run,

@@ -84,6 +84,14 @@ impl Plans {
         &self.operator
     }
 
+    /// How many turns the workers are to take together.
+    pub(crate) fn turns(&self) -> usize {
+        self.intake
+            .len()
+            .saturating_add(self.clock.len())
+            .saturating_add(self.operator.len())
+    }
+
     /// The same plans once more.
     pub fn try_clone(&self, alloc: Global) -> Result<Plans, AllocError>
         // Promise: Plans that are cloned are the same, and two plans are compared by what they say.

@@ -1,6 +1,6 @@
 //! The history of a node: what came of the turns of its workers.
 
-ghost use Rattle.std.specs.Prelude.{◌≡◌, ◌≤◌, ◌<◌, ◌-◌, List, [], ◌∷◌, ◌++◌, length, slice_get, None, Some, IfSome, IsNone, OnOk};
+ghost use Rattle.std.specs.Prelude.{◌≡◌, ◌≤◌, ◌<◌, ◌-◌, List, [], ◌∷◌, ◌++◌, length, slice_get, None, Some, IfOk, IfSome, IsNone, OnOk};
 ghost use Rattle.histories.specs.EventOutcomes.{what_of};
 ghost use Rattle.node_core.specs.declared.event.Event.{Event};
 ghost use Rattle.wire_msg.specs.Envelope.{Envelope};
@@ -54,16 +54,16 @@ impl Model for TurnLog {
 }
 
 impl TurnLog {
-    /// A history of no turns. It takes no memory.
-    pub(crate) fn new(alloc: Global) -> TurnLog
-        ensures { result.turns ≡ [] }
+    /// A history of no turns, with memory for so many that hand no event to their node.
+    pub(crate) fn with_capacity(alloc: Global, turns: usize) -> Result<TurnLog, AllocError>
+        ensures { IfOk result (λ log. log.turns ≡ []) }
     {
-        TurnLog {
-            lines: Vec::new(alloc),
+        Ok(TurnLog {
+            lines: Vec::with_capacity(alloc, turns)?,
             sent: MessageList::new(alloc),
             events: EventList::new(alloc),
             losses: Vec::new(alloc),
-        }
+        })
     }
 
     /// How many turns there are.

@@ -10,7 +10,7 @@ ghost use Rattle.trace_text.specs.Written.{entry_data, history_data};
 ghost use Rattle.threads_console.specs.Printed.{IsRunText};
 ghost use Rattle.threads_console.specs.Texts.{AreKnown, IsTextAt, entries_text, histories_text, log_claims, quiet_claim};
 
-use crate::ordering::order_of;
+use crate::ordering::{count_of, order_of};
 use histories::HistoryEvent;
 use json::Writer;
 use node_core::Event;
@@ -30,7 +30,8 @@ struct Known {
     crashed: Vec<u8>,
 }
 
-/// The text of the trace of a run, with its order. What was written is let go at once, so that no two copies of it all stand in memory.
+/// The text of the trace of a run, with its order. Room is taken at once for as much as it has where all turns are quiet, as most are. What was
+/// written is let go at once, so that no two copies of it all stand in memory.
 pub(crate) fn write_run(alloc: Global, run: Gathered) -> Result<Vec<u8>, AllocError>
     requires { vec_len run.histories ≤ NODES }
     ensures { IfOk result (λ text. IsRunText run.histories.items text.items) }
@@ -41,6 +42,7 @@ pub(crate) fn write_run(alloc: Global, run: Gathered) -> Result<Vec<u8>, AllocEr
     let nodes = histories.len() as u8;
     let known = make_known(alloc)?;
     let mut text = begin_trace(alloc)?;
+    text.reserve(known.rested.len().saturating_mul(count_of(&histories)?))?;
     write_histories(alloc, &known, &mut text, histories)?;
     match order {
         Some(order) => end_ordered(alloc, text, nodes, &order),

@@ -14,7 +14,7 @@ returns-in-Some c =
     let logs = c.args.run.histories.items in
     let hs = run_claims logs in
     let many : c.len-nodes.result ≡ length hs = c.len-nodes.ensures ∙ c.args.run.histories.ok.0 ∙ sym (length-map logs log_claims) in
-    let listed = c.in_ok-write_histories.ensures ∙ ap (λ (t : List ℕ). t ++ histories_text false logs) c.in_ok-text.ensures in
+    let listed = c.in_ok-write_histories.ensures ∙ ap (λ (t : List ℕ). t ++ histories_text false logs) (c.reserve.ensures.items ∙ c.in_ok-text.ensures) in
     let order = c.in-Some.order in
     let is : IsOrderOf logs order = subst (λ (o : Option Order). IfSome o (IsOrderOf logs)) c.in-Some.is c.in_ok-order.ensures.some in
     IfOk-weaker c.end_ordered.result _ _ (λ text ended. inl (record { order = order; is_order = is; is_text = ended ∙ ordered_whole hs (ordered_by order) c.len-nodes.result c.write_histories.new.text.items many listed })) c.end_ordered.ensures
@@ -24,6 +24,6 @@ returns c =
     let logs = c.args.run.histories.items in
     let hs = run_claims logs in
     let many : c.len-nodes.result ≡ length hs = c.len-nodes.ensures ∙ c.args.run.histories.ok.0 ∙ sym (length-map logs log_claims) in
-    let listed = c.in_ok-write_histories.ensures ∙ ap (λ (t : List ℕ). t ++ histories_text false logs) c.in_ok-text.ensures in
+    let listed = c.in_ok-write_histories.ensures ∙ ap (λ (t : List ℕ). t ++ histories_text false logs) (c.reserve.ensures.items ∙ c.in_ok-text.ensures) in
     let none : IsNone c.in_ok-order.order = search rules in
     IfOk-weaker c.end_trace.result _ _ (λ text ended. inr (c.in_ok-order.ensures.none none, ended ∙ whole_text hs c.len-nodes.result c.write_histories.new.text.items many listed)) c.end_trace.ensures
