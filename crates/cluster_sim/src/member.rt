@@ -60,13 +60,16 @@ pub(crate) fn handle(
     };
     forget_written(node, &came);
     send_all(net, &came.sent);
-    Ok(ActReport {
+    let report = ActReport {
         outcome: outcome_of(&came, first),
         event_outcome: Some(came.event_outcome),
         tried: came.tried,
         acked: came.answer,
         mounted: is_mounting(came.event_outcome),
-    })
+    };
+    let StepReport { sent, .. } = came;
+    node.reuse(sent);
+    Ok(report)
 }
 
 /// The id of the next job is a number of 64 bits.

@@ -152,7 +152,8 @@ impl World {
         self.nodes.count()
     }
 
-    /// Delivers the message of this number at its receiver.
+    /// Delivers the message of this number at its receiver. It is part of its caller's code, as [`World::step`] is.
+    #[inline(always)]
     fn deliver(&mut self, number: u64) -> Result<ActReport, AllocError>
         ensures slots { self.new.slots ≡ self.old.slots }
         ensures acted { (w : RunWorld) → StandsFor self.old w → IfOk result (λ deed. Performed w (acts.Deliver number) deed self.new) }

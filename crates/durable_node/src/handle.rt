@@ -1,4 +1,4 @@
-ghost use Rattle.std.specs.Prelude.{◌≡◌, ◌≤◌, ◌↔◌, ℕ, IsTrue, IsOk, IfOk, IfErr, IsErrOf, Some, length, option_map, true};
+ghost use Rattle.std.specs.Prelude.{◌≡◌, ◌≤◌, ◌↔◌, ℕ, IsTrue, IsOk, IfOk, IfErr, IsErrOf, Some, [], length, option_map, true};
 ghost use Rattle.node_core.specs.declared.fault.CoreFault.TheVariants.{NoMemory};
 ghost use Rattle.node_core.specs.Core.{IsPlanned};
 ghost use Rattle.node_core.specs.Memory.{takes_memory};
@@ -25,11 +25,11 @@ use job_model::JobTable;
 use node_core::{CoreFault, Event, NodeCore, Plan, Wanted, WantedRef};
 use node_store::NodeStore;
 use sector_disk::SectorDisk;
-use std::alloc::Global;
 use wire_msg::Message;
 
 /// Handles an event at a node that is up: growths first, then the device, and the change last. After `Device` the core is
-/// down.
+/// down. It is part of its caller's code, as [`planned`] is: so neither plan nor report is copied from one to the next.
+#[inline(always)]
 #[tactic(auto, using(histories::proofs::PublicLaws::wanted_pending))]
 pub(crate) fn handle<D: SectorDisk>(
     setting: NodeSetting,
@@ -37,7 +37,9 @@ pub(crate) fn handle<D: SectorDisk>(
     store: &mut NodeStore<D>,
     doubt: &mut Option<(Wanted, u64)>,
     event: &Event,
+    room: Vec<Message>,
 ) -> Result<StepReport, NodeFault>
+    requires room { room.items ≡ [] }
     requires over { IsOver D.state setting.id setting.nodes core.old store.old }
     ensures core { IsCoreOf setting.id setting.nodes core.new }
     // What came of the event, and which command it wanted, if it was tried.
@@ -52,7 +54,7 @@ pub(crate) fn handle<D: SectorDisk>(
     ensures store { KeepsSound D.state store.old store.new (IsErrOf (answered result) NodeFault.Device) }
     ensures disk { Writes D.state store.old store.new (wants_of setting.id (durable_of store.old).pending event.now core.old.state) (IsOk (answered result)) }
 {
-    let plan = match planned(setting.alloc, core, event, store.table()) {
+    let plan = match planned(room, core, event, store.table()) {
         Ok(plan) => plan,
         Err(CoreFault::NoMemory) => return Err(NodeFault::Core(CoreFault::NoMemory)),
         Err(fault) => {
@@ -83,33 +85,36 @@ pub(crate) fn handle<D: SectorDisk>(
     })
 }
 
-/// What an event will make of the core.
+/// What an event will make of the core. Its messages are written into `room`, an empty list.
+#[inline(always)]
 fn planned<'a>(
-    alloc: Global,
+    room: Vec<Message>,
     core: &mut NodeCore,
     event: &'a Event,
     table: &JobTable,
 ) -> Result<Plan<'a>, CoreFault>
+    requires { room.items ≡ [] }
     ensures { IsPlanned core.old core.new table.now.pending event.now result }
 {
     match event {
-        Event::Deliver(message) => planned_delivery(alloc, core, message, table),
+        Event::Deliver(message) => planned_delivery(room, core, message, table),
         Event::Recover => core.plan_recovery(),
-        _ => core.plan_step(event, table),
+        _ => core.plan_in(event, table, room),
     }
 }
 
 /// What a delivery will make of the core. It stands apart, since each call of a function pays for the size of its locals.
 #[inline(never)]
 fn planned_delivery(
-    alloc: Global,
+    room: Vec<Message>,
     core: &mut NodeCore,
     message: &Message,
     table: &JobTable,
 ) -> Result<Plan<'static>, CoreFault>
+    requires { room.items ≡ [] }
     ensures { IsPlanned core.old core.new table.now.pending (Event.Deliver message.now) result }
 {
-    core.plan_delivery(message, table, Vec::new(alloc))
+    core.plan_delivery(message, table, room)
 }
 
 /// Why the disk can't take a command, by how it is answered.

@@ -11,6 +11,7 @@
 //! let came = node.step(&Event::Timer(Timer::Check))?;             // plans the event, writes and syncs its command, commits it
 //! send_all(&came.sent);                                           // only now are there messages
 //! let changes = node.changes_since(&seen)?;                       // what is told of its group anew, the jobs taken and those dropped
+//! node.reuse(came.sent);                                          // the next step's messages are written into the same memory
 //! ```
 #![tactic(auto)]
 

@@ -30,6 +30,8 @@ use node_core::{Event, NodeCore, Vector, Wanted};
 use sector_disk::SectorDisk;
 use std::alloc::{AllocError, Global};
 use std::marker::Model;
+use std::mem;
+use wire_msg::Message;
 
 /// The state machine of one node over a disk that failures of the node don't erase.
 ///
@@ -49,6 +51,8 @@ pub struct DurableNode<D: SectorDisk> {
     pub(crate) doubt: Option<(Wanted, u64)>,
     // The counter that the last call mounted.
     pub(crate) mounted: Option<u64>,
+    // A list whose room the messages of the next event take.
+    room: Vec<Message>,
 }
 
 impl<D: SectorDisk> Model for DurableNode<D> {
@@ -79,6 +83,7 @@ impl<D: SectorDisk> DurableNode<D> {
             disk: NodeDisk::Bare(disk),
             doubt: None,
             mounted: None,
+            room: Vec::new(alloc),
         }
     }
 
@@ -291,6 +296,8 @@ impl<D: SectorDisk + Drop> DurableNode<D> {
         // Refuses: message_sent_twice, most_leaves_out_the_jobs.
         ensures few { IfOk result (λ came. length came.sent.items ≤ most_by self.old.nodes self.old.kept) }
     {
+        let mut room = mem::replace(&mut self.room, Vec::new(self.setting.alloc));
+        room.clear();
         advance(
             self.setting,
             &mut self.core,
@@ -298,7 +305,18 @@ impl<D: SectorDisk + Drop> DurableNode<D> {
             &mut self.doubt,
             &mut self.mounted,
             event,
+            room,
         )
+    }
+
+    /// Takes back the list of messages that a report handed out: those of the next event are written into its room. A caller that
+    /// gives each list back takes memory for one list alone.
+    pub fn reuse(&mut self, sent: Vec<Message>)
+        // Promise: A list that is given back changes nothing of the node: the messages of the next event alone stand in it then.
+        // Refuses: messages_of_the_step_before.
+        ensures { self.new ≡ self.old }
+    {
+        self.room = sent;
     }
 
     /// The event Recover: a node that is Down mounts its disk, and each node is then alone in a new group.

@@ -55,6 +55,7 @@ impl Site {
         send_all(&mut self.puts, &sent, &mut self.history);
         self.history
             .push(worker, index, number, event, event_outcome, &sent);
+        self.node.reuse(sent);
         Ok(())
     }
 

@@ -9,8 +9,8 @@ use Rattle.durable_node.proofs.Nodes.{counts_of, counts_still, node_over, over, 
 use Rattle.durable_node.proofs.Serves.{serves}
 use Rattle.durable_node.proofs.advance.advance.Goals as goal
 
-pub handle-requires : goal.handle-requires
-handle-requires g c = record { over = over g.D.SectorDisk.state c.args.setting.id c.args.setting.nodes c.args.core.now c.in-Mounted.store (rw c.in-Mounted.is at c.requires.node) (sym c.is_down.ensures ∙ c.if-not-is_down.true) }
+pub handle-requires-clause-over : goal.handle-requires-clause-over
+handle-requires-clause-over g c = over g.D.SectorDisk.state c.args.setting.id c.args.setting.nodes c.args.core.now c.in-Mounted.store (rw c.in-Mounted.is at c.requires.node) (sym c.is_down.ensures ∙ c.if-not-is_down.true)
 
 pub returns-in-Recover-clause-call : goal.returns-in-Recover-clause-call
 returns-in-Recover-clause-call g c =
@@ -22,8 +22,8 @@ ignore-requires-clause-fallen g c =
     let down : is_down c.args.core.now.state.phase ≡ true = search rules in
     rw c.requires.node.core_id (c.requires.node.fallen down)
 
-pub returns-in_default-event : goal.returns-in_default-event
-returns-in_default-event g c =
+pub returns : goal.returns
+returns g c =
     let e = c.ignore.ensures in
     let node = c.requires.node in
     let same : c.in_default.disk ≡ c.args.disk.now = search rules in

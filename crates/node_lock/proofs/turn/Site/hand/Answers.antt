@@ -15,9 +15,9 @@ returns-clause-taken c =
     let e : Entry = record { what = what; sent = c.in_ok-event_outcome.sent.items } in (
       e,
       record {
-        did = c.in_ok-event_outcome.ensures.did;
-        id = c.in_ok-event_outcome.ensures.id;
-        nodes = c.in_ok-event_outcome.ensures.nodes;
+        did = rw c.reuse.ensures c.in_ok-event_outcome.ensures.did;
+        id = rw c.reuse.ensures c.in_ok-event_outcome.ensures.id;
+        nodes = rw c.reuse.ensures c.in_ok-event_outcome.ensures.nodes;
         sent = sent_since c.in_ok-event_outcome.sent.items c.args.self.now.puts.items c.make_room.new.puts.items c.send_all.new.puts.items c.make_room.ensures.same (subst (λ (l : List Envelope). SentOn l c.make_room.new.puts.items c.send_all.new.puts.items) c.deref.ensures.value c.send_all.ensures.sent);
         turns = c.push.ensures.turns ∙ (λ i. (ap (λ (l : Log). l.turns) c.send_all.ensures.history ∙ c.make_room.ensures.turns) i ++ turn_of c.args.worker c.args.index (record { what = what; sent = c.deref-2.ensures.value i }) ∷ []);
       },
