@@ -6,3 +6,4 @@ pub mod Answer
 pub mod Table
 pub mod JobLists
 pub mod Records
+pub mod NewJobs

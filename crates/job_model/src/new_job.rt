@@ -1,5 +1,5 @@
 // Jobs as the operator submits them.
-ghost use Rattle.std.specs.Prelude.{◌≡◌, ◌<◌, ◌↔◌, IfOk, IfSome, IsNone, IsTrue, length};
+ghost use Rattle.std.specs.Prelude.{◌≡◌, ◌<◌, ◌↔◌, IfOk, IfSome, IsNone, length};
 ghost use Rattle.job_model.specs.declared.payload.TheConstants.{PAYLOAD_CAPACITY};
 
 use crate::payload::{PAYLOAD_CAPACITY, Payload};
@@ -34,7 +34,7 @@ impl NewJob {
     pub fn new(queue: Queue, priority: u8, payload: Vec<u8>) -> Option<NewJob>
         // Promise: A new job has the queue, the priority and the bytes that it was made of, and is none exactly where there are
         // more than 400; it is cloned as it is, and compared by what it asks for.
-        // Also: NewJob::work, NewJob::try_clone, NewJob::is_same.
+        // Also: NewJob::work, NewJob::try_clone, NewJob::eq.
         // Refuses: payload_not_kept, payload_of_any_length, priority_not_compared.
         ensures value { IfSome result (λ job. job ≡ record { queue = queue; priority = priority; payload = payload.items }) }
         ensures none { IsNone result ↔ (PAYLOAD_CAPACITY < length payload.items) }
@@ -71,13 +71,27 @@ impl NewJob {
             payload,
         })
     }
+}
 
-    /// Whether both ask for the same.
-    pub fn is_same(&self, other: &NewJob) -> bool
-        ensures { IsTrue result ↔ (self.now ≡ other.now) }
-    {
+impl PartialEq for NewJob {
+    ghost use Rattle.std.proofs.Common.{rules};
+    ghost use Rattle.std.specs.Cmp.Rules.{comparing};
+    ghost use Rattle.job_model.specs.NewJobs.{same_work};
+
+    ghost eq = { same_work };
+
+    ghost laws = { Prim.search (comparing, rules) };
+
+    fn eq(&self, other: &NewJob) -> bool {
         self.queue == other.queue
             && self.priority == other.priority
-            && self.payload.as_slice() == other.payload.as_slice()
+            && self.payload == other.payload
     }
+}
+
+impl Eq for NewJob {
+    ghost use Rattle.std.proofs.Common.{rules};
+    ghost use Rattle.std.specs.Cmp.Rules.{comparing};
+
+    ghost laws = { Prim.search (comparing, rules) };
 }

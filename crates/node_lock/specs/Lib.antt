@@ -10,3 +10,4 @@ pub mod Kept
 pub mod Taking
 pub mod Seen
 pub mod HeldView
+pub mod Compared

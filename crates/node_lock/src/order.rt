@@ -1,6 +1,6 @@
 //! What the clock and the operator are to do.
 
-ghost use Rattle.std.specs.Prelude.{◌≡◌, ◌↔◌, IfOk, IsTrue};
+ghost use Rattle.std.specs.Prelude.{◌≡◌, IfOk};
 
 use group_task::NodeId;
 use job_model::NewJob;
@@ -43,8 +43,29 @@ impl CrashFill {
     }
 }
 
+impl PartialEq for CrashFill {
+    ghost use Rattle.std.specs.Prelude.{nat_eq};
+    ghost use Rattle.std.specs.Cmp.Lexicographic.{pointwise};
+    ghost use Rattle.std.specs.Cmp.{partial_equiv_from_equiv};
+    ghost use Rattle.std.proofs.lemmas.Cmp.{nat_list_eq_equiv};
+
+    ghost eq = { pointwise nat_eq };
+
+    ghost laws = { partial_equiv_from_equiv nat_list_eq_equiv };
+
+    fn eq(&self, other: &CrashFill) -> bool {
+        self.bytes == other.bytes
+    }
+}
+
+impl Eq for CrashFill {
+    ghost use Rattle.std.proofs.lemmas.Cmp.{nat_list_eq_equiv};
+
+    ghost laws = { nat_list_eq_equiv };
+}
+
 /// What the operator does.
-#[derive(Debug, Drop)]
+#[derive(Debug, Drop, PartialEq, Eq)]
 pub enum OperatorOrder {
     Submit(NewJob),
     /// The origin of a job in hand, and its id there.
@@ -67,23 +88,6 @@ impl OperatorOrder {
             OperatorOrder::Arm(calls) => Ok(OperatorOrder::Arm(*calls)),
             OperatorOrder::Crash(fill) => Ok(OperatorOrder::Crash(fill.try_clone(alloc)?)),
             OperatorOrder::Recover => Ok(OperatorOrder::Recover),
-        }
-    }
-
-    /// Whether both orders ask the same.
-    pub fn is_same(&self, other: &OperatorOrder) -> bool
-        ensures { IsTrue result ↔ (self.now ≡ other.now) }
-    {
-        match (self, other) {
-            (OperatorOrder::Submit(job), OperatorOrder::Submit(theirs)) => job.is_same(theirs),
-            (OperatorOrder::Finish(origin, id), OperatorOrder::Finish(their_origin, their_id)) => {
-                origin == their_origin && id == their_id
-            }
-            (OperatorOrder::Arm(calls), OperatorOrder::Arm(theirs)) => calls == theirs,
-            (OperatorOrder::Crash(fill), OperatorOrder::Crash(theirs)) => fill.as_slice()
-                == theirs.as_slice(),
-            (OperatorOrder::Recover, OperatorOrder::Recover) => true,
-            _ => false,
         }
     }
 }

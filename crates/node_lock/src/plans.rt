@@ -95,8 +95,8 @@ impl Plans {
     /// The same plans once more.
     pub fn try_clone(&self, alloc: Global) -> Result<Plans, AllocError>
         // Promise: Plans that are cloned are the same, and two plans are compared by what they say.
-        // Also: Plans::is_same, OperatorOrder::try_clone, OperatorOrder::is_same, CrashFill::try_clone.
-        // Refuses: intake_plan_not_copied, copy_arms_at_once, fill_copied_empty, timers_not_compared, origin_not_compared.
+        // Also: Plans::eq, OperatorOrder::try_clone, CrashFill::try_clone.
+        // Refuses: intake_plan_not_copied, copy_arms_at_once, fill_copied_empty, timers_not_compared, fill_not_compared.
         ensures { IfOk result (λ plans. plans ≡ self.now) }
     {
         let intake = Vec::from_slice(alloc, &self.intake)?;
@@ -111,42 +111,25 @@ impl Plans {
             operator,
         })
     }
+}
 
-    /// Whether both have the same turns for each worker.
-    pub fn is_same(&self, other: &Plans) -> bool
-        ensures { IsTrue result ↔ (self.now ≡ other.now) }
-    {
-        same_nodes(self.intake(), other.intake())
-            && same_timers(self.clock(), other.clock())
-            && same_orders(self.operator(), other.operator())
+impl PartialEq for Plans {
+    ghost use Rattle.std.specs.Cmp.{partial_equiv_from_equiv};
+    ghost use Rattle.std.proofs.Common.{rules};
+    ghost use Rattle.node_lock.specs.Compared.{same_plans, plans_decided, equiv_of};
+
+    ghost eq = { same_plans ⟦<Timer as PartialEq>⟧.eq ⟦<OperatorOrder as PartialEq>⟧.eq };
+
+    ghost laws = { partial_equiv_from_equiv (equiv_of (plans_decided (λ a b. Prim.search rules) (λ a b. Prim.search rules))) };
+
+    fn eq(&self, other: &Plans) -> bool {
+        self.intake == other.intake && self.clock == other.clock && self.operator == other.operator
     }
 }
 
-/// Whether both lists have the same nodes.
-fn same_nodes(some: &[NodeId], others: &[NodeId]) -> bool
-    ensures { IsTrue result ↔ (some.now ≡ others.now) }
-{
-    some == others
-}
+impl Eq for Plans {
+    ghost use Rattle.std.proofs.Common.{rules};
+    ghost use Rattle.node_lock.specs.Compared.{plans_decided, equiv_of};
 
-/// Whether both lists have the same timers.
-fn same_timers(some: &[Timer], others: &[Timer]) -> bool
-    ensures { IsTrue result ↔ (some.now ≡ others.now) }
-{
-    some == others
-}
-
-/// Whether both lists have the same orders.
-fn same_orders(some: &[OperatorOrder], others: &[OperatorOrder]) -> bool
-    ensures { IsTrue result ↔ (some.now ≡ others.now) }
-{
-    if some.len() != others.len() {
-        return false;
-    }
-    for place in 0..some.len() {
-        if !some[place].is_same(&others[place]) {
-            return false;
-        }
-    }
-    true
+    ghost laws = { equiv_of (plans_decided (λ a b. Prim.search rules) (λ a b. Prim.search rules)) };
 }

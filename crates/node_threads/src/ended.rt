@@ -1,6 +1,6 @@
 //! After the run: what the locks give back.
 
-ghost use Rattle.std.specs.Prelude.{◌≡◌, ◌≤◌, ◌<◌, IfOk, IsTrue, true, length};
+ghost use Rattle.std.specs.Prelude.{◌≡◌, ◌≤◌, ◌<◌, ◌↔◌, IfOk, IsTrue, true, length};
 ghost use Rattle.group_task.specs.declared.node.TheConstants.{NODES};
 ghost use Rattle.node_lock.specs.declared.held.TheConstants.{MOST_ENTRIES};
 ghost use Rattle.node_lock.specs.declared.worker.Worker.{Worker};
@@ -53,10 +53,17 @@ fn take_out(lock: NodeLock, run: Run, plan: &Plans) -> Result<(TurnLog, Left), T
         return Err(ThreadsFault::Unpaired);
     }
     let parts = held.into_parts();
-    if !parts.plans.is_same(plan) {
+    if !same_plans(&parts.plans, plan) {
         return Err(ThreadsFault::Unpaired);
     }
     Ok((parts.history, Left::new(parts.puts, parts.takes)))
+}
+
+/// Whether both have the same turns for each worker.
+fn same_plans(some: &Plans, others: &Plans) -> bool
+    ensures { IsTrue result ↔ (some.now ≡ others.now) }
+{
+    some == others
 }
 
 /// Whether each worker has taken all its turns.
@@ -134,5 +141,5 @@ fn is_full(lock: NodeLock, run: Run, plan: &Plans, worker: Worker) -> bool
     if parts.history.len() < MOST_ENTRIES {
         return false;
     }
-    parts.plans.is_same(plan)
+    same_plans(&parts.plans, plan)
 }
