@@ -1,5 +1,5 @@
 """Clients that don't read, that send rubbish, that are many."""
-import json, os, random, signal, socket, stat, threading, time
+import json, os, random, signal, socket, stat, subprocess, threading, time
 
 from bed import PATIENCE
 from cluster import judged, metric, page
@@ -29,18 +29,38 @@ def odd_clients(bed):
     check("the agent stays small", memory < 64_000, memory)
     pages(agents, check)
     long_words(agents, check)
+    silent(agents, check)
     earlier_life(agents, check)
     judged(bed, agents, "odd clients")
 
 
 def long_words(agents, check):
-    """A request that is too long, and an agent that says nothing."""
+    """A request that is too long."""
     done = agents.ctl(0, "submit", "0", "x" * 120_000)
     check("dumgerokctl says what the agent says of a request that is too long", done.returncode == 1 and "TooLong" in done.stderr, done)
+
+
+def silent(agents, check):
+    """An agent that was stopped: whoever asks it is told so in time, and so is one for whom the system has no room any more."""
+    ask = lambda *words: (words, subprocess.Popen([agents.ctl_path, "-s", agents.path(0, "sock"), *words], stderr=subprocess.PIPE, text=True))
     agents.processes[0].send_signal(signal.SIGSTOP)
-    done = agents.ctl(0, "status")
+    asked = [ask("status"), ask("watch"), ask("jobs"), ask("submit", "0", "x")]
+    time.sleep(1)
+    for _ in range(5000):
+        with socket.socket(socket.AF_UNIX, socket.SOCK_STREAM | socket.SOCK_NONBLOCK) as link:
+            if link.connect_ex(agents.path(0, "sock")):
+                break
+    asked.append(ask("status", "--json"))
+    for words, process in asked:
+        try:
+            said = process.communicate(timeout=PATIENCE)[1]
+        except subprocess.TimeoutExpired:
+            process.kill()
+            said = process.communicate()[1] + "it waits"
+        is_told = process.returncode == 9 and "no answer in time" in said and (words[0] == "submit" or "may be done" not in said)
+        check("an agent that was stopped isn't waited for without an end, by %s: 9" % " ".join(words), is_told, (process.returncode, said))
     agents.processes[0].send_signal(signal.SIGCONT)
-    check("an agent that was stopped isn't waited for without an end: 3", done.returncode == 3 and "says nothing" in done.stderr, done)
+    check("and answers on", agents.status(0)["alive"])
 
 
 def earlier_life(agents, check):

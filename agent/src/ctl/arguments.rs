@@ -8,7 +8,7 @@ use std::path::PathBuf;
 /// Asks the Dumgerok agent of this machine.
 ///
 /// The exit status is 0 for ok, 1 for refused or where the output can't be written, 2 for a command line that can't be read, 3 where no
-/// agent answers.
+/// agent answers, 9 where one is there and its answer doesn't come in time.
 #[derive(Parser)]
 #[command(name = "dumgerokctl", version)]
 pub struct Arguments {

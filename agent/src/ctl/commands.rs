@@ -1,6 +1,6 @@
 //! What each command does.
 
-use super::agent::{socket, Agent};
+use super::agent::{socket, Agent, PATIENCE};
 use super::arguments::{Arguments, Command, OnOff};
 use super::worker::{self, Worker};
 use super::{file, program, show, Failure};
@@ -8,10 +8,10 @@ use clap::CommandFactory;
 use serde_json::{json, Value};
 use std::io::{self, ErrorKind, Write};
 use std::path::Path;
-use std::time::Duration;
+use std::time::{Duration, Instant};
 
-/// What an agent answers by itself comes at once; one that was stopped says nothing.
-const PATIENCE: Duration = Duration::from_secs(10);
+/// For what the node has to answer it is waited so long: for longer than systemd's watchdog lets a node be without an answer.
+const NODE_PATIENCE: Duration = Duration::from_secs(60);
 
 /// Writes text; a reader that went away ends the command without a word.
 fn print(text: &str) -> Result<(), Failure> {
@@ -87,11 +87,9 @@ fn silent(_: &Value) -> String {
 }
 
 fn ask(socket: &Path, is_json: bool, request: &Value, shown: fn(&Value) -> String) -> Result<(), Failure> {
-    let mut agent = Agent::connect(socket)?;
-    if ["status", "members"].iter().any(|by_itself| request["do"] == *by_itself) {
-        agent.be_patient_for(PATIENCE)?;
-    }
-    let reply = agent.ask(request)?;
+    let agent = Agent::connect(socket)?;
+    let said = answer(agent, socket, request, (PATIENCE, NODE_PATIENCE));
+    let reply = said.map_err(|failure| unsure(failure, request))?;
     if is_json {
         print(&format!("{reply}\n"))?;
     } else if reply["ok"] == true {
@@ -103,6 +101,46 @@ fn ask(socket: &Path, is_json: bool, request: &Value, shown: fn(&Value) -> Strin
     }
 }
 
+fn is_one_of(request: &Value, names: &[&str]) -> bool {
+    names.iter().any(|name| request["do"] == *name)
+}
+
+/// The answer to a request: at once where the agent answers by itself. Where the node or another machine has to answer it is waited for while the agent
+/// answers at all; for a submission the agent sets the end of that.
+fn answer(
+    mut agent: Agent,
+    socket: &Path,
+    request: &Value,
+    (patience, node_patience): (Duration, Duration),
+) -> Result<Value, Failure> {
+    let begin = Instant::now();
+    agent.be_patient_for(Some(patience))?;
+    let mut said = agent.ask(request);
+    while matches!(&said, Err(why) if why.kind() == ErrorKind::TimedOut) {
+        if is_one_of(request, &["status", "members", "record"]) {
+            break;
+        }
+        let mut other = Agent::connect(socket)?;
+        other.be_patient_for(Some(patience))?;
+        other.ask(&json!({"do": "status"}))?;
+        if begin.elapsed() >= node_patience && !is_one_of(request, &["submit"]) {
+            return Err(Failure::Late("the agent answers, and its node doesn't".to_string()));
+        }
+        said = agent.hear();
+    }
+    Ok(said?)
+}
+
+/// What was asked for without an answer may be done.
+fn unsure(failure: Failure, request: &Value) -> Failure {
+    match failure {
+        Failure::Late(why) if is_one_of(request, &["submit", "finish", "compact", "record"]) => {
+            Failure::Late(format!("{why}; what was asked may be done all the same"))
+        }
+        other => other,
+    }
+}
+
 fn refused(reply: &Value) -> Failure {
     let why = reply["why"].as_str().map_or(String::new(), |why| format!(" ({why})"));
     let maybe = if reply["may_be_kept"] == true { ", it may be kept all the same" } else { "" };
@@ -111,10 +149,12 @@ fn refused(reply: &Value) -> Failure {
 
 fn watch(socket: &Path, is_json: bool, since: Option<u64>) -> Result<(), Failure> {
     let mut agent = Agent::connect(socket)?;
+    agent.be_patient_for(Some(PATIENCE))?;
     let mut line = agent.ask(&json!({"do": "watch", "since": since}))?;
     if line["ok"] == false {
         return Err(refused(&line));
     }
+    agent.be_patient_for(None)?;
     loop {
         if is_json {
             print(&format!("{line}\n"))?;
@@ -122,5 +162,63 @@ fn watch(socket: &Path, is_json: bool, since: Option<u64>) -> Result<(), Failure
             print(&show::event(&line))?;
         }
         line = agent.hear()?;
+    }
+}
+
+#[cfg(test)]
+mod tests {
+    use super::*;
+    use std::io::{BufRead, BufReader};
+    use std::os::unix::net::{UnixListener, UnixStream};
+    use std::thread;
+
+    /// An agent that answers `status`, and other requests once it was asked for its status so often.
+    fn slow_agent(name: &str, probes: usize) -> std::path::PathBuf {
+        let path = std::env::temp_dir().join(format!("dumgerok-{name}-{}", std::process::id()));
+        let _none = std::fs::remove_file(&path);
+        let listener = UnixListener::bind(&path).unwrap();
+        thread::spawn(move || {
+            let (mut asked, mut waiting) = (0, Vec::<UnixStream>::new());
+            for stream in listener.incoming().map(Result::unwrap) {
+                let mut line = String::new();
+                BufReader::new(&stream).read_line(&mut line).unwrap();
+                if line.contains("status") {
+                    asked += 1;
+                    writeln!(&stream, "{}", json!({"ok": true})).unwrap();
+                } else {
+                    waiting.push(stream);
+                }
+                if asked == probes {
+                    waiting.drain(..).for_each(|stream| writeln!(&stream, "{}", json!({"ok": true, "n": 7})).unwrap());
+                }
+            }
+        });
+        path
+    }
+
+    const SECOND: Duration = Duration::from_secs(1);
+
+    fn asked(socket: &Path, request: &Value, node_patience: Duration) -> Result<Value, Failure> {
+        let said = answer(Agent::connect(socket).unwrap(), socket, request, (SECOND, node_patience));
+        std::fs::remove_file(socket).unwrap();
+        said
+    }
+
+    #[test]
+    fn an_agent_that_answers_is_waited_for() {
+        for (name, node_patience) in [("jobs", SECOND * 60), ("submit", Duration::ZERO)] {
+            let said = asked(&slow_agent(name, 2), &json!({ "do": name }), node_patience);
+            assert_eq!(said.unwrap()["n"], 7, "{name}");
+        }
+    }
+
+    #[test]
+    fn a_node_that_hangs_is_not_waited_for_without_an_end() {
+        let request = json!({"do": "finish"});
+        let said = asked(&slow_agent("hangs", usize::MAX), &request, SECOND);
+        match said.map_err(|failure| unsure(failure, &request)) {
+            Err(Failure::Late(why)) => assert!(why.contains("its node doesn't; what was asked may be done"), "{why}"),
+            other => panic!("{other:?}"),
+        }
     }
 }

@@ -16,6 +16,7 @@ pub use arguments::{Arguments, Command};
 pub use commands::run;
 pub use guarded::become_guard;
 
+use std::io::{self, ErrorKind};
 use std::process::ExitCode;
 use thiserror::Error;
 
@@ -28,13 +29,29 @@ pub enum Failure {
     #[error("{0}")]
     Usage(String),
     #[error("no agent answers: {0}")]
-    NoAgent(#[from] std::io::Error),
+    NoAgent(io::Error),
+    /// An agent is there, and nothing came of it in time.
+    #[error("no answer in time: {0}")]
+    Late(String),
     #[error("the output can't be written: {0}")]
-    Output(std::io::Error),
+    Output(io::Error),
     /// A program that was called ended with this status.
     #[error("the program ended with status {0}")]
     Program(u8),
 }
+
+/// What goes wrong with a connection.
+impl From<io::Error> for Failure {
+    fn from(why: io::Error) -> Failure {
+        match why.kind() {
+            ErrorKind::TimedOut => Failure::Late(why.to_string()),
+            _ => Failure::NoAgent(why),
+        }
+    }
+}
+
+/// The status of `Late`, which no other failure has, whatever program was called.
+const LATE: u8 = 9;
 
 impl Failure {
     pub fn status(&self) -> ExitCode {
@@ -42,6 +59,7 @@ impl Failure {
             Failure::Refused(_) | Failure::Output(_) => 1,
             Failure::Usage(_) => 2,
             Failure::NoAgent(_) => 3,
+            Failure::Late(_) => LATE,
             Failure::Program(status) => *status,
         })
     }
