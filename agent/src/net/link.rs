@@ -2,11 +2,16 @@
 
 use mio::net::UdpSocket;
 use mio::{Interest, Registry, Token};
+use socket2::SockRef;
 use std::io::{self, ErrorKind};
 use std::net::{SocketAddr, ToSocketAddrs};
 
 /// A sealed message of the node, and one of an agent, are far shorter; what is longer is cut, and refused by its form.
 pub const MAX_DATAGRAM: usize = 2048;
+
+/// The system is asked for room for so many bytes of datagrams that weren't taken yet, each with its own upkeep: for more long jobs at once than a node
+/// keeps. It gives what it permits (net.core.rmem_max), twice.
+const ROOM: usize = 4 * 1024 * 1024;
 
 /// So many errors at a time are passed over.
 const MAX_ERRORS: usize = 16;
@@ -22,7 +27,7 @@ impl Link {
     pub fn bind(at: &str, registry: &Registry, token: Token) -> io::Result<Link> {
         let mut last = io::Error::new(ErrorKind::AddrNotAvailable, "the name has no address");
         for address in at.to_socket_addrs()? {
-            match UdpSocket::bind(address) {
+            match with_room(address) {
                 Ok(mut socket) => {
                     registry.register(&mut socket, token, Interest::READABLE)?;
                     return Ok(Link { socket, is_readable: true });
@@ -70,4 +75,21 @@ impl Link {
     pub fn send(&self, bytes: &[u8], to: SocketAddr) -> io::Result<()> {
         self.socket.send_to(bytes, to).map(drop)
     }
+}
+
+/// A socket with more room than the system gives by itself. Where it would have less, as where the default was raised and the limit wasn't, it is made anew.
+fn with_room(address: SocketAddr) -> io::Result<UdpSocket> {
+    let socket = UdpSocket::bind(address)?;
+    if !has_shrunk(SockRef::from(&socket)).unwrap_or(true) {
+        return Ok(socket);
+    }
+    drop(socket);
+    UdpSocket::bind(address)
+}
+
+/// Asks for room, and answers whether there is less now.
+fn has_shrunk(socket: SockRef<'_>) -> io::Result<bool> {
+    let before = socket.recv_buffer_size()?;
+    socket.set_recv_buffer_size(ROOM)?;
+    Ok(socket.recv_buffer_size()? < before)
 }
