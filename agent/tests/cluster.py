@@ -227,10 +227,14 @@ def addresses(bed):
     agents.processes[0].send_signal(signal.SIGHUP)
     agents.until(lambda: "nothing was taken of it" in open(agents.path(0, "log")).read())
     check("one that can't be read changes nothing", agents.one_group() > 0)
+    # the relay is at an address of its own, as another node of this id is
+    said = open(agents.path(0, "log")).read().count("node 1: it is heard from 127.0.0.1:%d" % agents.relay.out.getsockname()[1])
+    check("a node that is heard from an address which isn't its own is told, once", said == 1, said)
     judged(bed, agents, "changed addresses")
     moved(bed)
     no_address(bed)
     ipv6(bed)
+    second_address(bed)
 
 
 def moved(bed):
@@ -271,6 +275,30 @@ def no_address(bed):
     agents.until(lambda: all("node %d: nothing can be sent from localhost" % node in said() for node in (1, 2)))
     bed.tally.check("and why nothing can be sent to them, once", said().count("nothing can be sent") == 2 and "of this machine alone" in said(), said())
     agents.stop()
+
+
+def second_address(bed):
+    """A name whose first address nobody listens at: the relay is at 127.0.0.1 alone. The agents see a file of names of their own."""
+    agents = bed.agents("second", count=2)
+    hosts = os.path.join(agents.folder, "hosts")
+    with open(hosts, "w") as file:
+        file.write("::1 twofold\n127.0.0.1 twofold\n")
+    within = ["unshare", "-rm", "sh", "-c", 'mount --bind "$0" /etc/hosts && exec "$@"', hosts]
+    try:
+        seen = subprocess.run(within + ["getent", "ahosts", "twofold"], capture_output=True, text=True).stdout.split()
+    except OSError:
+        seen = []
+    if seen[:1] != ["::1"] or "127.0.0.1" not in seen:
+        return bed.tally.left_out("a name with two addresses", "no file of names of one's own with IPv6 can be had (unshare -rm)")
+    for i in range(2):
+        nodes = [name.replace("127.0.0.1", "twofold") for name in agents.relay.peers(i)]
+        agents.write(i, nodes=nodes, listen="[::]:%d" % agents.relay.real[i][1])
+        with open(agents.path(i, "log"), "ab") as log:
+            agents.processes[i] = subprocess.Popen(within + [agents.daemon, agents.path(i, "toml")], stderr=log)
+    bed.tally.check("nodes whose names have a first address that is dead find each other", agents.one_group() > 0)
+    address = agents.ask(0, do="members")["members"][1]["address"]
+    bed.tally.check("at the second one", "127.0.0.1" in address, address)
+    judged(bed, agents, "second addresses")
 
 
 def ipv6(bed):

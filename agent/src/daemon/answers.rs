@@ -135,7 +135,10 @@ impl Daemon {
     fn delivered(&mut self, (sender, from): (u8, SocketAddr), kind: &str, closing: &Closing, now: Instant) {
         match closing {
             Closing::Ok(_) => {
-                self.peers.hear(sender, from, now);
+                if self.peers.hear(sender, from, now) {
+                    let name = self.peers.all().get(usize::from(sender)).map_or("?", |peer| peer.name.as_str());
+                    warn!("node {sender}: it is heard from {from}, which isn't {name}: another node of this id, or another way back?");
+                }
                 self.metrics.messages_in.with_label_values(&[kind]).inc();
             }
             Closing::Bad => self.metrics.refused.with_label_values(&["NoMessage"]).inc(),

@@ -28,7 +28,7 @@ use crate::service::{is_left, Changes, Clients, Hand};
 use crate::view::View;
 use anyhow::Context;
 use guard::Guard;
-use log::{error, info, warn};
+use log::{debug, error, info, warn};
 use looks::Looks;
 use mio::event::Event;
 use mio::{Events, Poll, Registry, Token, Waker};
@@ -104,6 +104,7 @@ impl Daemon {
     /// Starts the node of a configuration that was read at this path.
     pub fn start(config: Config, path: PathBuf) -> anyhow::Result<Daemon> {
         let (now, begin, poll, nodes) = (Instant::now(), SystemTime::now(), Poll::new()?, config.nodes.len());
+        let round_trip = Duration::from_millis(config.round_trip_ms);
         let (registry, life) = (poll.registry(), forward::new_life()?);
         let signals = Signals::register(registry, SIGNALS)?;
         let waker = Arc::new(Waker::new(registry, WAKER)?);
@@ -120,7 +121,7 @@ impl Daemon {
             socket_guard: Guard::start(&config.socket, Arc::clone(&waker))?,
             node: node_of(&config, registry, begin)?,
             clock: Clock::new(config.round_trip_ms, now),
-            peers: Peers::new(config.id, &config.nodes, link.is_ipv6()),
+            peers: Peers::new(config.id, &config.nodes, link.is_ipv6(), round_trip),
             link,
             resolver: Resolver::start(Arc::clone(&waker))?,
             waker,
@@ -129,7 +130,7 @@ impl Daemon {
             changes: Changes::new(life),
             seal,
             inbox: Inbox::new(life, nodes),
-            outbox: Outbox::new(life, nodes, Duration::from_millis(config.round_trip_ms)),
+            outbox: Outbox::new(life, nodes, round_trip),
             view: View::new(&config.cluster, config.id, nodes, now),
             fill: Fill::of(node_file::slots(&config.file)),
             metrics: Metrics::new()?,
@@ -286,11 +287,12 @@ impl Daemon {
 
     fn look_up(&mut self, now: Instant) {
         while let Some(found) = self.resolver.found() {
-            match self.peers.found(found.at, &found.name, &found.addresses) {
+            match self.peers.found(found.at, &found.name, &found.addresses, now) {
                 News::NoAddress => {
                     warn!("node {}: {} has no address that {} reaches", found.at, found.name, self.config.listens_at())
                 }
                 News::At(address) => info!("node {}: {} is {address}", found.at, found.name),
+                News::Tried(address) => debug!("node {}: {} is tried at {address}", found.at, found.name),
                 News::Nothing => {}
             }
         }

@@ -9,6 +9,9 @@ const PAUSE: Duration = Duration::from_secs(60);
 /// The name of a peer that was silent for so long is looked up anew, and again after as long.
 const SILENCE: Duration = Duration::from_secs(5);
 
+/// An address from which nothing came for so many round trips, though something was sent there, gives way to the next one of its name.
+const UNANSWERED: u32 = 10;
+
 pub struct Peer {
     /// HOST:PORT, as the configuration has it.
     pub name: String,
@@ -18,6 +21,12 @@ pub struct Peer {
     looked_up: Option<Instant>,
     /// Where that came from.
     heard_from: Option<SocketAddr>,
+    /// All addresses of its name, by the last look-up that found some.
+    known: Vec<SocketAddr>,
+    /// An address that is none of them from where it was heard, as an operator was told last, and when.
+    elsewhere: Option<(SocketAddr, Instant)>,
+    /// When it was first sent something at its address, since it has that one and since it was heard.
+    tried: Option<Instant>,
     /// Whether the last look-up found an address; None before the first.
     was_found: Option<bool>,
     /// Whether it was said that what is sent to it doesn't leave, and when.
@@ -31,6 +40,8 @@ pub enum News {
     Nothing,
     /// The node is at another address now.
     At(SocketAddr),
+    /// It is tried at another one of its addresses.
+    Tried(SocketAddr),
     /// Its name has no address that this machine's socket reaches.
     NoAddress,
 }
@@ -38,22 +49,27 @@ pub enum News {
 pub struct Peers {
     own: usize,
     is_ipv6: bool,
+    unanswered: Duration,
     peers: Vec<Peer>,
 }
 
 impl Peers {
-    pub fn new(own: u8, names: &[String], is_ipv6: bool) -> Peers {
+    pub fn new(own: u8, names: &[String], is_ipv6: bool, round_trip: Duration) -> Peers {
         let peer = |name: &String| Peer {
             name: name.clone(),
             address: None,
             heard: None,
             looked_up: None,
             heard_from: None,
+            known: Vec::new(),
+            elsewhere: None,
+            tried: None,
             was_found: None,
             is_unsent: false,
             said: None,
         };
-        let mut peers = Peers { own: usize::from(own), is_ipv6, peers: names.iter().map(peer).collect() };
+        let unanswered = (round_trip * UNANSWERED).max(SILENCE);
+        let mut peers = Peers { own: usize::from(own), is_ipv6, unanswered, peers: names.iter().map(peer).collect() };
         (0..peers.peers.len()).for_each(|at| peers.take_literal(at));
         peers
     }
@@ -66,11 +82,20 @@ impl Peers {
         self.peers.get(usize::from(node)).and_then(|peer| peer.address)
     }
 
-    /// The node took a message that names this one as its sender, and that came from this address.
-    pub fn hear(&mut self, node: u8, from: SocketAddr, now: Instant) {
-        if let Some(peer) = self.peers.get_mut(usize::from(node)) {
-            (peer.heard, peer.heard_from) = (Some(now), Some(from));
+    /// The node took a message that names this one as its sender, and that came from this address. Whether an operator is to be told that it is none of the
+    /// node's: of each such address once, and no more often than once in a while. Two nodes of one id, say, are heard from two.
+    pub fn hear(&mut self, node: u8, from: SocketAddr, now: Instant) -> bool {
+        let peer = match self.peers.get_mut(usize::from(node)) {
+            Some(peer) => peer,
+            None => return false,
+        };
+        (peer.heard, peer.heard_from, peer.tried) = (Some(now), Some(from), None);
+        let was_told = |(at, told): (SocketAddr, Instant)| at == from || now.saturating_duration_since(told) < PAUSE;
+        if peer.known.is_empty() || peer.known.contains(&from) || peer.elsewhere.map_or(false, was_told) {
+            return false;
         }
+        peer.elsewhere = Some((from, now));
+        true
     }
 
     /// Whether one of the others is at this address, or was heard from there last.
@@ -84,6 +109,7 @@ impl Peers {
             if self.peers[at].name != *name {
                 self.peers[at].name = name.clone();
                 (self.peers[at].looked_up, self.peers[at].was_found) = (None, None);
+                (self.peers[at].known, self.peers[at].elsewhere) = (Vec::new(), None);
                 self.take_literal(at);
             }
         }
@@ -92,7 +118,8 @@ impl Peers {
     /// An address that is spelled out needs no look-up.
     fn take_literal(&mut self, at: usize) {
         if let Ok(address) = self.peers[at].name.parse::<SocketAddr>() {
-            self.peers[at].address = self.usable(address);
+            (self.peers[at].address, self.peers[at].tried) = (self.usable(address), None);
+            self.peers[at].known = self.usable(address).into_iter().collect();
         }
     }
 
@@ -123,20 +150,32 @@ impl Peers {
         Some((at, peer.name.clone()))
     }
 
-    /// What a name was found to mean: of its addresses the one that the peer is heard from, else the first. Where it means nothing now, the last address
-    /// stays.
-    pub fn found(&mut self, at: usize, name: &str, addresses: &[SocketAddr]) -> News {
+    /// What a name was found to mean: of its addresses the one that the peer is heard from, else the one that it has, until that one gives way to the next.
+    /// Where it means nothing now, the last address stays.
+    pub fn found(&mut self, at: usize, name: &str, addresses: &[SocketAddr], now: Instant) -> News {
         let all: Vec<SocketAddr> = addresses.iter().filter_map(|address| self.usable(*address)).collect();
+        let unanswered = self.unanswered;
         let peer = match self.peers.get_mut(at).filter(|peer| peer.name == name) {
             Some(peer) => peer,
             None => return News::Nothing,
         };
-        let usable = peer.heard_from.filter(|from| all.contains(from)).or_else(|| all.first().copied());
+        let is_unanswered = peer.tried.map_or(false, |tried| now.saturating_duration_since(tried) >= unanswered);
+        let own = peer.address.filter(|own| all.contains(own));
+        let turned = own.filter(|_| is_unanswered).and_then(|own| behind(own, &all));
+        let heard_from = peer.heard_from.filter(|from| all.contains(from));
+        let usable = heard_from.or(turned).or(own).or_else(|| all.first().copied());
         let was_found = peer.was_found.replace(usable.is_some());
+        if usable.is_some() {
+            peer.known = all;
+        }
         match usable {
             Some(address) if peer.address != usable => {
-                peer.address = usable;
-                News::At(address)
+                (peer.address, peer.tried) = (usable, None);
+                if heard_from.is_none() && turned.is_some() {
+                    News::Tried(address)
+                } else {
+                    News::At(address)
+                }
             }
             None if was_found != Some(false) => News::NoAddress,
             _ => News::Nothing,
@@ -147,9 +186,13 @@ impl Peers {
     /// was told.
     pub fn sent(&mut self, node: u8, has_left: bool, now: Instant) -> bool {
         let peer = match self.peers.get_mut(usize::from(node)) {
-            Some(peer) if peer.is_unsent == has_left => peer,
-            _ => return false,
+            Some(peer) => peer,
+            None => return false,
         };
+        peer.tried = peer.tried.or(Some(now));
+        if peer.is_unsent != has_left {
+            return false;
+        }
         let is_new = has_left || peer.said.map_or(true, |said| now.saturating_duration_since(said) >= PAUSE);
         if is_new {
             peer.is_unsent = !has_left;
@@ -165,6 +208,12 @@ impl Peers {
     }
 }
 
+/// The next address in their order, whatever order a name server gives them in; after the last one the first.
+fn behind(own: SocketAddr, all: &[SocketAddr]) -> Option<SocketAddr> {
+    let next = all.iter().filter(|address| **address > own).min();
+    next.or_else(|| all.iter().min()).copied()
+}
+
 #[cfg(test)]
 mod tests {
     use super::*;
@@ -173,29 +222,33 @@ mod tests {
         ["127.0.0.1:1", "b:2", "[::1]:3"].map(str::to_string).to_vec()
     }
 
+    fn peers_of(names: &[String]) -> Peers {
+        Peers::new(0, names, false, Duration::from_millis(20))
+    }
+
     #[test]
     fn silent_names_are_looked_up_anew() {
         let now = Instant::now();
-        let mut peers = Peers::new(0, &names(), false);
+        let mut peers = peers_of(&names());
         assert_eq!(peers.next_look_up(now), Some((1, "b:2".to_string())));
         assert_eq!(peers.next_look_up(now), None);
         let found: SocketAddr = "10.0.0.2:2".parse().unwrap();
-        assert_eq!(peers.found(1, "b:2", &["[::1]:2".parse().unwrap(), found]), News::At(found));
-        assert_eq!(peers.found(1, "b:2", &[found]), News::Nothing);
+        assert_eq!(peers.found(1, "b:2", &["[::1]:2".parse().unwrap(), found], now), News::At(found));
+        assert_eq!(peers.found(1, "b:2", &[found], now), News::Nothing);
         assert_eq!(peers.address(1), Some("10.0.0.2:2".parse().unwrap()));
         peers.hear(1, found, now + SILENCE);
         assert_eq!(peers.next_look_up(now + SILENCE), None);
         assert!(peers.next_look_up(now + SILENCE * 2).is_some());
-        assert_eq!(peers.found(1, "b:2", &[]), News::NoAddress);
-        assert_eq!(peers.found(1, "b:2", &[]), News::Nothing, "which is no news any more");
-        assert_eq!(peers.found(1, "c:2", &[]), News::Nothing);
+        assert_eq!(peers.found(1, "b:2", &[], now), News::NoAddress);
+        assert_eq!(peers.found(1, "b:2", &[], now), News::Nothing, "which is no news any more");
+        assert_eq!(peers.found(1, "c:2", &[], now), News::Nothing);
         assert_eq!(peers.address(1), Some("10.0.0.2:2".parse().unwrap()));
     }
 
     #[test]
     fn each_name_has_its_turn_however_long_a_look_up_takes() {
         let now = Instant::now();
-        let mut peers = Peers::new(0, &["127.0.0.1:1", "b:2", "c:3", "d:4"].map(str::to_string), false);
+        let mut peers = peers_of(&["127.0.0.1:1", "b:2", "c:3", "d:4"].map(str::to_string));
         let turns: Vec<usize> =
             (0..6).filter_map(|turn| peers.next_look_up(now + SILENCE * 2 * turn)).map(|(at, _)| at).collect();
         assert_eq!(turns, [1, 2, 3, 1, 2, 3]);
@@ -204,26 +257,81 @@ mod tests {
     #[test]
     fn one_that_is_heard_from_elsewhere_is_looked_up_anew() {
         let now = Instant::now();
-        let mut peers = Peers::new(0, &names(), false);
+        let mut peers = peers_of(&names());
         let [old, new, third] = ["10.0.0.2:2", "10.0.0.3:2", "10.0.0.4:2"].map(|at| at.parse::<SocketAddr>().unwrap());
         peers.next_look_up(now);
-        peers.found(1, "b:2", &[old]);
+        peers.found(1, "b:2", &[old], now);
         assert_eq!([peers.knows(old), peers.knows(new)], [true, false]);
         let later = now + SILENCE;
         peers.hear(1, new, later);
         assert_eq!([peers.knows(old), peers.knows(new), peers.knows(third)], [true, true, false]);
         assert!(peers.next_look_up(later).is_some(), "it may have moved");
-        assert_eq!(peers.found(1, "b:2", &[third, new]), News::At(new), "to where it is heard from");
+        assert_eq!(peers.found(1, "b:2", &[third, new], now), News::At(new), "to where it is heard from");
         peers.hear(1, new, later + SILENCE);
         assert_eq!(peers.next_look_up(later + SILENCE), None);
         assert!(peers.next_look_up(later + SILENCE * 2).is_some(), "which is silent now");
-        assert_eq!(peers.found(1, "b:2", &[third, new]), News::At(third));
+        assert_eq!(peers.found(1, "b:2", &[third, new], now), News::Nothing, "and wasn't sent anything since");
+        assert_eq!(peers.found(1, "b:2", &[third], now), News::At(third));
+    }
+
+    #[test]
+    fn each_address_of_a_silent_name_is_tried() {
+        let now = Instant::now();
+        let mut peers = peers_of(&names());
+        let all = ["10.0.0.3:2", "10.0.0.2:2", "[::1]:2", "10.0.0.4:2"].map(|at| at.parse::<SocketAddr>().unwrap());
+        let (mut later, mut turns) = (now, Vec::new());
+        assert_eq!(peers.found(1, "b:2", &all, now), News::At(all[0]), "as the system prefers it");
+        for turn in 0..8 {
+            later += SILENCE;
+            if turn % 2 == 0 {
+                peers.sent(1, turn > 3, later - SILENCE);
+            }
+            match peers.found(1, "b:2", &all, later) {
+                News::Tried(address) => turns.push(address),
+                other => assert_eq!((turn % 2, other), (1, News::Nothing), "nothing was sent there"),
+            }
+        }
+        assert_eq!(turns, [all[3], all[1], all[0], all[3]]);
+        peers.sent(1, true, later);
+        peers.hear(1, all[3], later);
+        assert_eq!(peers.found(1, "b:2", &all, later + SILENCE), News::Nothing, "it answered");
+        peers.sent(1, true, later);
+        peers.hear(1, "10.0.0.9:2".parse().unwrap(), later);
+        assert_eq!(peers.found(1, "b:2", &all, later + SILENCE), News::Nothing, "from an address of no name");
+        let mut slow = Peers::new(0, &names(), false, Duration::from_secs(1));
+        slow.found(1, "b:2", &all, now);
+        slow.sent(1, true, now);
+        assert_eq!(slow.found(1, "b:2", &all, now + SILENCE), News::Nothing, "an answer may be on its way");
+        assert_eq!(slow.found(1, "b:2", &all, now + SILENCE * 2), News::Tried(all[3]));
+    }
+
+    #[test]
+    fn one_that_is_heard_from_two_places_is_told() {
+        let now = Instant::now();
+        let mut peers = peers_of(&["127.0.0.1:1", "10.0.0.2:2", "c:3"].map(str::to_string));
+        let [own, other, third] =
+            ["10.0.0.2:2", "10.0.0.9:2", "10.0.0.8:2"].map(|at| at.parse::<SocketAddr>().unwrap());
+        let mut told =
+            |node: u8, from: SocketAddr, seconds: u64| peers.hear(node, from, now + Duration::from_secs(seconds));
+        assert_eq!(
+            [told(1, own, 0), told(1, other, 1), told(1, other, 2), told(1, own, 3)],
+            [false, true, false, false]
+        );
+        assert_eq!([told(1, third, 4), told(1, third, 61), told(1, third, 200)], [false, true, false]);
+        assert!(!told(2, other, 0), "its name wasn't looked up yet");
+        peers.found(2, "c:3", &[own, third], now);
+        assert_eq!([peers.hear(2, third, now), peers.hear(2, other, now)], [false, true]);
+        peers.rename(&["127.0.0.1:1", "10.0.0.9:2", "d:3"].map(str::to_string));
+        assert_eq!(
+            [peers.hear(1, other, now), peers.hear(2, third, now), peers.hear(1, own, now)],
+            [false, false, true]
+        );
     }
 
     #[test]
     fn another_name_is_looked_up_whatever_is_heard() {
         let now = Instant::now();
-        let mut peers = Peers::new(0, &names(), false);
+        let mut peers = peers_of(&names());
         let old = "127.0.0.1:1".parse().unwrap();
         peers.rename(&["x:1", "127.0.0.1:1", "[::1]:3"].map(str::to_string));
         peers.hear(1, old, now);
@@ -235,7 +343,7 @@ mod tests {
     #[test]
     fn what_can_not_be_sent_is_told_once_in_a_while() {
         let now = Instant::now();
-        let mut peers = Peers::new(0, &names(), false);
+        let mut peers = peers_of(&names());
         let mut sent = |has_left: bool, seconds: u64| peers.sent(1, has_left, now + Duration::from_secs(seconds));
         assert_eq!([sent(true, 0), sent(false, 1), sent(false, 2), sent(true, 3)], [false, true, false, true]);
         assert_eq!(
@@ -248,11 +356,11 @@ mod tests {
 
     #[test]
     fn a_socket_of_ipv6_reaches_both() {
-        let mut peers = Peers::new(0, &names(), true);
+        let mut peers = Peers::new(0, &names(), true, Duration::ZERO);
         assert_eq!(peers.address(2), Some("[::1]:3".parse().unwrap()));
         assert_eq!(peers.address(0), Some("[::ffff:127.0.0.1]:1".parse().unwrap()));
-        assert_eq!(Peers::new(0, &names(), false).address(2), None);
-        assert_eq!(Peers::new(0, &names(), false).out_of_reach().collect::<Vec<_>>(), [(2, "[::1]:3")]);
+        assert_eq!(peers_of(&names()).address(2), None);
+        assert_eq!(peers_of(&names()).out_of_reach().collect::<Vec<_>>(), [(2, "[::1]:3")]);
         assert_eq!(peers.out_of_reach().count(), 0);
         peers.rename(&["127.0.0.1:1".to_string(), "10.0.0.9:2".to_string(), "[::1]:3".to_string()]);
         assert_eq!(peers.address(1), Some("[::ffff:10.0.0.9]:2".parse().unwrap()));
