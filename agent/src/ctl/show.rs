@@ -58,16 +58,29 @@ fn kept(status: &Value) -> String {
 }
 
 pub fn members(reply: &Value) -> String {
-    let rows = reply["members"].as_array().map(Vec::as_slice).unwrap_or_default().iter().map(|member| {
+    let all = reply["members"].as_array().map(Vec::as_slice).unwrap_or_default();
+    let coordinator = all.iter().find(|member| member["coordinates"] == true);
+    let rows = all.iter().map(|member| {
         let role = match (&member["coordinates"], &member["in_group"]) {
             (Value::Bool(true), _) => "coordinator",
             (_, Value::Bool(true)) => "member",
             _ => "-",
         };
-        let heard = if member["is_self"] == true { "this node".to_string() } else { ago(&member["heard_ms"]) };
+        let heard = heard(member, coordinator);
         vec![word(&member["node"]), word(&member["name"]), role.to_string(), word(&member["queues"]), heard]
     });
     table(&["NODE", "ADDRESS", "IN THE GROUP", "QUEUES", "HEARD"], &rows.collect::<Vec<_>>())
+}
+
+/// When a node was heard. Members of a group hear their coordinator, and nothing of each other: how long ago that was says nothing of them.
+fn heard(member: &Value, coordinator: Option<&Value>) -> String {
+    let is_true = |node: &Value, name: &str| node[name] == true;
+    match coordinator.filter(|node| !is_true(node, "is_self")) {
+        _ if is_true(member, "is_self") => "this node".to_string(),
+        Some(other) if is_true(member, "in_group") && other != member => format!("by node {}", other["node"]),
+        _ if member["heard_ms"].is_null() => "not yet".to_string(),
+        _ => ago(&member["heard_ms"]),
+    }
 }
 
 /// A payload as text where it can be read as such.
@@ -118,6 +131,29 @@ pub fn event(event: &Value) -> String {
 mod tests {
     use super::*;
     use serde_json::json;
+
+    #[test]
+    fn members_are_heard_by_their_coordinator() {
+        let row = |node: u8, (in_group, coordinates): (bool, bool), heard: Value| {
+            let mut row = json!({"node": node, "name": "n", "is_self": node == 0, "queues": [], "heard_ms": heard});
+            (row["in_group"], row["coordinates"]) = (json!(in_group), json!(coordinates));
+            row
+        };
+        let (out, member, leads) = ((false, false), (true, false), (true, true));
+        let rows = |roles: [(bool, bool); 4]| -> Vec<Value> {
+            let heard = [json!(null), json!(700_000), json!(900), json!(null)];
+            (0..).zip(roles.into_iter().zip(heard)).map(|(node, (role, heard))| row(node, role, heard)).collect()
+        };
+        for (roles, said) in [
+            ([member, member, leads, out], ["this node", "by node 2", "0.9 s", "not yet"]),
+            ([leads, member, member, out], ["this node", "11 min", "0.9 s", "not yet"]),
+            ([out, out, out, out], ["this node", "11 min", "0.9 s", "not yet"]),
+        ] {
+            let text = members(&json!({ "members": rows(roles) }));
+            let column = text.find("HEARD").unwrap();
+            assert_eq!(text.lines().skip(1).map(|line| &line[column..]).collect::<Vec<_>>(), said);
+        }
+    }
 
     #[test]
     fn for_a_person() {
