@@ -1,5 +1,5 @@
 """Clients that don't read, that send rubbish, that are many."""
-import json, os, random, signal, socket, stat, subprocess, threading, time
+import fcntl, json, os, random, signal, socket, stat, subprocess, termios, threading, time
 
 from bed import PATIENCE
 from cluster import judged, metric, page
@@ -244,6 +244,11 @@ def many(agents, check, timed):
     check("a job is finished", agents.ask(0, do="finish", origin=job["origin"], id=job["id"])["ok"], job)
 
 
+def unread(link):
+    """How many bytes of what was sent here the other end hasn't read; of a socket of this machine the system counts them with its own upkeep."""
+    return int.from_bytes(fcntl.ioctl(link, termios.TIOCOUTQ, b"\0" * 4), "little")
+
+
 def all_at_work(agents, timed):
     """Beside those that stay as many as are served, each with a request that has no answer yet: one more is told so."""
     links, node = [agents.connect(0) for _ in range(16)], agents.node(0)
@@ -252,7 +257,7 @@ def all_at_work(agents, timed):
         for link in links:
             link.sendall(b'{"do":"finish","origin":0,"id":99999}\n')
         # until the agent has read these: a client without a request would give its place to one more
-        time.sleep(1)
+        agents.until(lambda: not any(unread(link) for link in links))
         done = agents.ctl(0, "status")
         timed("where all places are taken `dumgerokctl status` says so", done.returncode == 1 and "TooManyClients" in done.stderr, done)
     finally:
