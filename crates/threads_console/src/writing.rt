@@ -23,6 +23,9 @@ use trace_text::{
     end_trace, push_item, write_spelled,
 };
 
+/// An entry takes about so many bytes where most turns are polls that took nothing.
+const ROOM: usize = 44;
+
 /// The texts of the entries of quiet turns. Most turns are such, so that their texts are made once.
 #[derive(Drop)]
 struct Known {
@@ -30,8 +33,8 @@ struct Known {
     crashed: Vec<u8>,
 }
 
-/// The text of the trace of a run, with its order. Room is taken at once for as much as it has where all turns are quiet, as most are. What was
-/// written is let go at once, so that no two copies of it all stand in memory.
+/// The text of the trace of a run, with its order. Room for most of it is taken at once. What was written is let
+/// go at once, so that no two copies of it all stand in memory.
 pub(crate) fn write_run(alloc: Global, run: Gathered) -> Result<Vec<u8>, AllocError>
     requires { vec_len run.histories ≤ NODES }
     ensures { IfOk result (λ text. IsRunText run.histories.items text.items) }
@@ -42,7 +45,7 @@ pub(crate) fn write_run(alloc: Global, run: Gathered) -> Result<Vec<u8>, AllocEr
     let nodes = histories.len() as u8;
     let known = make_known(alloc)?;
     let mut text = begin_trace(alloc)?;
-    text.reserve(known.rested.len().saturating_mul(count_of(&histories)?))?;
+    text.reserve(ROOM.saturating_mul(count_of(&histories)?))?;
     write_histories(alloc, &known, &mut text, histories)?;
     match order {
         Some(order) => end_ordered(alloc, text, nodes, &order),
