@@ -30,12 +30,14 @@ use std::alloc::AllocError;
 use wire_msg::Message;
 
 /// An event at a node. Room for its messages is taken first, so that none is kept back once the event is handled.
-/// Where the event wrote on the disk, it forgets the moments before.
+/// Where the event wrote on the disk, it forgets the moments before. The messages are written into `room`, which keeps their list for the
+/// next event: that is one list for all nodes, so that it stays near.
 ///
 /// Refused where there is no memory: the node and the network stay as they were.
 pub(crate) fn handle(
     node: &mut DurableNode<MemDisk>,
     net: &mut Net,
+    room: &mut Option<Vec<Message>>,
     event: &Event,
 ) -> Result<ActReport, AllocError>
     ensures same { IsSame node.old node.new }
@@ -47,6 +49,7 @@ pub(crate) fn handle(
     ensures answers { (s : NodeState) → Stands state_of node.old s → IfOk result (λ deed. IsAnswered node.old event.now deed.outcome) }
     ensures areas { (s : NodeState) → Stands state_of node.old s → IfOk result (λ deed. AreaRises node.old.disk node.new.disk deed.outcome) }
 {
+    lend_room(node, room);
     node.is_fallen();
     node.shows_its_disk();
     ids_fit(node);
@@ -68,8 +71,17 @@ pub(crate) fn handle(
         mounted: is_mounting(came.event_outcome),
     };
     let StepReport { sent, .. } = came;
-    node.reuse(sent);
+    *room = Some(sent);
     Ok(report)
+}
+
+/// Lends a node the memory of a list, if there is one.
+fn lend_room(node: &mut DurableNode<MemDisk>, room: &mut Option<Vec<Message>>)
+    ensures { node.new ≡ node.old }
+{
+    if let Some(list) = room.take() {
+        node.reuse(list);
+    }
 }
 
 /// The id of the next job is a number of 64 bits.

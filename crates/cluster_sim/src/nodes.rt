@@ -27,6 +27,7 @@ use sector_disk::MemDisk;
 use sim_net::Net;
 use std::alloc::{AllocError, Global};
 use std::marker::Model;
+use wire_msg::Message;
 
 /// The nodes of a cluster by their ids, each over its own disk in memory, and the network between them.
 #[derive(Debug, Drop)]
@@ -34,6 +35,8 @@ pub(crate) struct Nodes {
     pub(crate) slots: u64,
     pub(crate) nodes: Vec<DurableNode<MemDisk>>,
     pub(crate) net: Net,
+    // the list of the messages of the last event, which is kept for its memory
+    pub(crate) room: Option<Vec<Message>>,
 }
 
 impl Model for Nodes {
@@ -109,7 +112,7 @@ impl Nodes {
                 mounted: false,
             });
         }
-        handle(&mut self.nodes[place], &mut self.net, event)
+        handle(&mut self.nodes[place], &mut self.net, &mut self.room, event)
     }
 
     /// Loses the message of this number.

@@ -65,6 +65,7 @@ impl World {
                 slots,
                 nodes: members,
                 net: Net::new(alloc),
+                room: None,
             },
             delivery: some_delivery(),
             event: Event::Recover,
