@@ -1,8 +1,9 @@
 """Datagrams that nobody of the cluster sent now: spoiled, of another cluster, recorded and sent again."""
-import os, random, signal, socket, time
+import json, os, random, shutil, signal, socket, time
 
-from bed import PATIENCE
+from bed import HERE, PATIENCE, free_port
 from cluster import judged, metric, page
+from machine import compiled
 
 # Recorded datagrams come for so many seconds, and so many at least.
 WINDOW, MANY = 4, 1000
@@ -29,7 +30,9 @@ def changes(agents):
 def rubbish(bed):
     """Bytes that are no message, and messages that are spoiled: nothing of it ends anybody."""
     agents, check, chance = bed.agents("rubbish", count=2), bed.tally.check, random.Random(3)
-    agents.start_all()
+    library = shutil.which("cc") and compiled(bed, "small_room", os.path.join(HERE, "small_room.c"))
+    agents.start(0, **(dict(LD_PRELOAD=library) if library else {}))
+    agents.start(1)
     agents.one_group()
     counted = lambda: metric(agents, 0, "refused_total") + metric(agents, 0, "dropped_total")
     before, sent = counted(), [b""]
@@ -40,6 +43,10 @@ def rubbish(bed):
     check("bytes that are no message are refused and counted", agents.status(0)["alive"])
     check("the group stays", agents.one_group() >= 0)
     burst(bed, agents)
+    if library:
+        busy(bed, agents)
+    else:
+        bed.tally.left_out("a small socket", "there is no C compiler")
     agents.stop()
 
 
@@ -49,17 +56,46 @@ def burst(bed, agents):
         many = 300 if int(file.read()) >= 212_992 else 100
     if many == 100:
         bed.tally.left_out("300 long datagrams at once", "net.core.rmem_max is less than 212992")
-    before = metric(agents, 0, 'refused_total{reason="NoMessage"}')
+    came = counted_since(agents)
     agents.processes[0].send_signal(signal.SIGSTOP)
+    send_long(agents, many)
+    agents.processes[0].send_signal(signal.SIGCONT)
+    bed.tally.check("nothing of a burst is lost where the node answers", came(many) == (many, 0), came(many))
+
+
+def busy(bed, agents):
+    """While the node is busy more comes of another node than the socket holds: it waits in the agent, and what is more than that is dropped, and counted."""
+    for name, many, is_all in (("more than a socket holds waits for a node that is busy", 1000, True), ("of more than there is room for the rest is dropped", 6000, False)):
+        came, node = counted_since(agents), agents.node(0)
+        os.kill(node, signal.SIGSTOP)
+        for _ in range(0, many, 50):
+            send_long(agents, 50)
+            time.sleep(0.005)
+        os.kill(node, signal.SIGCONT)
+        taken, dropped = came(many)
+        # an agent that a busy machine gives no time loses some, too
+        bed.tally.timed(name, taken + dropped == many and (dropped == 0) == is_all and taken >= 1000, (taken, dropped))
+
+
+def send_long(agents, many):
+    """Datagrams as long as a long job, from where agent 0 knows the other node to be."""
     for _ in range(many):
         agents.relay.links[0, 1].sendto(b"\1" * 500, agents.relay.real[0])
-    agents.processes[0].send_signal(signal.SIGCONT)
-    came = lambda: metric(agents, 0, 'refused_total{reason="NoMessage"}') - before
-    dropped = lambda: metric(agents, 0, 'dropped_total{reason="NoRoom"}')
-    end = time.monotonic() + PATIENCE / 4
-    while came() + dropped() < many and time.monotonic() < end:
-        time.sleep(0.05)
-    bed.tally.check("nothing of a burst is lost where the node answers", (came(), dropped()) == (many, 0), (came(), dropped()))
+
+
+def counted_since(agents):
+    """Waits until so many more datagrams were refused by the node or dropped by the agent, or for long, and says how many of each there are."""
+    now = lambda: (metric(agents, 0, 'refused_total{reason="NoMessage"}'), metric(agents, 0, 'dropped_total{reason="NoRoom"}'))
+    before = now()
+
+    def came(many):
+        end, count = time.monotonic() + PATIENCE / 4, (0, 0)
+        while sum(count) < many and time.monotonic() < end:
+            time.sleep(0.05)
+            count = tuple(one - other for one, other in zip(now(), before))
+        return count
+
+    return came
 
 
 def forwarded(bed):

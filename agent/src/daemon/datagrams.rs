@@ -2,7 +2,7 @@
 
 use super::{Asker, Daemon};
 use crate::config::Config;
-use crate::forward::is_of_agents;
+use crate::forward::{is_of_agents, Datagram};
 use crate::metrics::kind_of;
 use crate::net::MAX_DATAGRAM;
 use crate::node::Lane;
@@ -14,37 +14,59 @@ use std::time::Instant;
 /// So many datagrams are taken at a time.
 const MAX_AT_A_TIME: usize = 256;
 
+/// What waits until the node has room for it.
+pub(super) enum Waiting {
+    Message(Vec<u8>, SocketAddr),
+    OfAgent(Datagram),
+}
+
 impl Daemon {
+    /// Gives the node what waits for it, and takes what came since off the socket, which may hold little.
     pub(super) fn receive(&mut self, now: Instant) {
+        if !self.view.is_alive(now) {
+            // by the time when a node that hangs answers again, that is old
+            let dropped = self.backlog.clear();
+            self.metrics.dropped.with_label_values(&["NoRoom"]).inc_by(dropped);
+        }
+        while self.node.has_room(Lane::Network) {
+            match self.backlog.take() {
+                Some(Waiting::Message(message, from)) => self.deliver(&message, from),
+                Some(Waiting::OfAgent(datagram)) => self.obey_agent(datagram, now),
+                None => break,
+            }
+        }
         let mut bytes = [0; MAX_DATAGRAM];
         for _ in 0..MAX_AT_A_TIME {
-            if !self.takes_datagrams(now) {
-                return;
-            }
-            let (datagram, from) = match self.link.receive(&mut bytes) {
-                Some((datagram, from)) => (datagram.to_vec(), from),
+            match self.link.receive(&mut bytes) {
+                Some((datagram, _)) if is_of_agents(datagram) => {
+                    let datagram = datagram.to_vec();
+                    self.take_of_agent(&datagram, now);
+                }
+                Some((message, from)) => {
+                    let message = message.to_vec();
+                    self.take_message(message, from);
+                }
                 None => return,
-            };
-            if is_of_agents(&datagram) {
-                self.take_of_agent(&datagram, now);
-            } else if self.has_room_for(from) {
-                self.deliver(&datagram, from);
-            } else {
-                self.metrics.dropped.with_label_values(&["NoRoom"]).inc();
             }
         }
     }
 
-    /// Whether what comes is taken now: while the node answers, it waits with the system until there is room for it. Where the node hangs it is taken, for what
-    /// agents send each other comes by the same socket.
-    pub(super) fn takes_datagrams(&self, now: Instant) -> bool {
-        self.node.has_room(Lane::Network) || !self.view.is_alive(now)
+    /// Half of the node's room is for those who are where the other nodes are, and they alone may wait: a flood from elsewhere keeps none of them from the
+    /// node.
+    fn take_message(&mut self, message: Vec<u8>, from: SocketAddr) {
+        let peer = self.peers.at(from);
+        if self.node.has_half_its_room(Lane::Network) || (peer.is_some() && self.node.has_room(Lane::Network)) {
+            return self.deliver(&message, from);
+        }
+        let length = message.len();
+        self.put_off(peer, Waiting::Message(message, from), length);
     }
 
-    /// Half of the room is for those who are where the other nodes are: a flood from elsewhere keeps none of them from the node.
-    fn has_room_for(&self, from: SocketAddr) -> bool {
-        let lane = Lane::Network;
-        self.node.has_half_its_room(lane) || (self.node.has_room(lane) && self.peers.knows(from))
+    /// Has something of a node wait, where there is room for so many bytes more of it.
+    pub(super) fn put_off(&mut self, peer: Option<usize>, one: Waiting, bytes: usize) {
+        if !peer.map_or(false, |peer| self.backlog.put(peer, one, bytes)) {
+            self.metrics.dropped.with_label_values(&["NoRoom"]).inc();
+        }
     }
 
     fn deliver(&mut self, message: &[u8], from: SocketAddr) {

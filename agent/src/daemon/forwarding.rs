@@ -1,5 +1,6 @@
 //! Submissions on their way between agents.
 
+use super::datagrams::Waiting;
 use super::{Asker, Daemon};
 use crate::forward::{Client, Datagram, Due, Given, Outcome, Submission, Token, Verdict, What};
 use crate::node::Lane;
@@ -69,6 +70,14 @@ impl Daemon {
             Some(datagram) => datagram,
             None => return self.metrics.dropped.with_label_values(&["Forged"]).inc(),
         };
+        let is_submission = matches!(datagram.what, What::Submit { .. });
+        if is_submission && !self.node.has_room(Lane::Network) {
+            return self.put_off(Some(usize::from(datagram.from)), Waiting::OfAgent(datagram), bytes.len());
+        }
+        self.obey_agent(datagram, now);
+    }
+
+    pub(super) fn obey_agent(&mut self, datagram: Datagram, now: Instant) {
         let (from, token) = (datagram.from, datagram.token);
         match datagram.what {
             What::Submit { life, number, job } => self.take_forwarded((from, token), (life, number), &job, now),
@@ -89,7 +98,7 @@ impl Daemon {
         now: Instant,
     ) {
         match self.inbox.judge(from, token, life, number) {
-            Some(Verdict::Ask) if self.node.has_room(Lane::Network) => {
+            Some(Verdict::Ask) => {
                 self.inbox.asked(token);
                 self.metrics.forwarded.with_label_values(&["taken"]).inc();
                 self.ask(Asker::Forwarded { from, token }, line_of(job));
@@ -98,7 +107,7 @@ impl Daemon {
                 self.metrics.forwarded.with_label_values(&["again"]).inc();
                 self.send_to_agent(from, token, What::Reply(outcome), now);
             }
-            Some(Verdict::Ask | Verdict::Wait) | None => {}
+            Some(Verdict::Wait) | None => {}
         }
     }
 

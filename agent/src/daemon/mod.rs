@@ -18,7 +18,7 @@ use crate::fill::Fill;
 use crate::forward::{self, Inbox, Outbox, Seal};
 use crate::http::Server;
 use crate::metrics::Metrics;
-use crate::net::{Link, News, Peers};
+use crate::net::{Backlog, Link, News, Peers};
 use crate::node::{Answer, Lane, NodeProcess};
 use crate::node_file;
 use crate::notify::Notify;
@@ -27,6 +27,7 @@ use crate::resolver::Resolver;
 use crate::service::{is_left, Changes, Clients, Hand};
 use crate::view::View;
 use anyhow::Context;
+use datagrams::Waiting;
 use guard::Guard;
 use log::{debug, error, info, warn};
 use looks::Looks;
@@ -81,6 +82,7 @@ pub struct Daemon {
     looks: Looks,
     clock: Clock,
     link: Link,
+    backlog: Backlog<Waiting>,
     peers: Peers,
     resolver: Resolver,
     clients: Clients,
@@ -123,6 +125,7 @@ impl Daemon {
             clock: Clock::new(config.round_trip_ms, now),
             peers: Peers::new(config.id, &config.nodes, link.is_ipv6(), round_trip),
             link,
+            backlog: Backlog::new(nodes),
             resolver: Resolver::start(Arc::clone(&waker))?,
             waker,
             clients,
@@ -250,8 +253,7 @@ impl Daemon {
 
     /// How long to wait for something to come. Where the node has no room its answer is waited for.
     fn sleep(&self, now: Instant) -> Duration {
-        let has_datagrams = self.link.is_readable() && self.takes_datagrams(now);
-        let is_behind = self.node.is_readable() || has_datagrams || self.clients.has_more_to_take();
+        let is_behind = self.node.is_readable() || self.link.is_readable() || self.clients.has_more_to_take();
         if is_behind || self.clients.have_input(self.takes_requests(now)) {
             return Duration::ZERO;
         }

@@ -98,9 +98,9 @@ impl Peers {
         true
     }
 
-    /// Whether one of the others is at this address, or was heard from there last.
-    pub fn knows(&self, from: SocketAddr) -> bool {
-        self.peers.iter().any(|peer| peer.address == Some(from) || peer.heard_from == Some(from))
+    /// Which one of the others is at this address, or was heard from there last.
+    pub fn at(&self, from: SocketAddr) -> Option<usize> {
+        self.peers.iter().position(|peer| peer.address == Some(from) || peer.heard_from == Some(from))
     }
 
     /// Other names for the same nodes.
@@ -261,10 +261,10 @@ mod tests {
         let [old, new, third] = ["10.0.0.2:2", "10.0.0.3:2", "10.0.0.4:2"].map(|at| at.parse::<SocketAddr>().unwrap());
         peers.next_look_up(now);
         peers.found(1, "b:2", &[old], now);
-        assert_eq!([peers.knows(old), peers.knows(new)], [true, false]);
+        assert_eq!([peers.at(old), peers.at(new)], [Some(1), None]);
         let later = now + SILENCE;
         peers.hear(1, new, later);
-        assert_eq!([peers.knows(old), peers.knows(new), peers.knows(third)], [true, true, false]);
+        assert_eq!([peers.at(old), peers.at(new), peers.at(third)], [Some(1), Some(1), None]);
         assert!(peers.next_look_up(later).is_some(), "it may have moved");
         assert_eq!(peers.found(1, "b:2", &[third, new], now), News::At(new), "to where it is heard from");
         peers.hear(1, new, later + SILENCE);
