@@ -98,6 +98,34 @@ def counted_since(agents):
     return came
 
 
+def many_long_jobs(bed):
+    """More long jobs of one node for another than its socket holds, where Linux has its defaults: all of them come with one dispatch."""
+    if not shutil.which("cc"):
+        return bed.tally.left_out("a small socket", "there is no C compiler")
+    many, ports = 1000, [free_port() for _ in range(2)]
+    agents, names = bed.agents("long_jobs", count=2, slots=2048, record=None), ["127.0.0.1:%d" % port for port in ports]
+    library = compiled(bed, "small_room", os.path.join(HERE, "small_room.c"))
+    # no relay: its sockets are small, too
+    for i in range(2):
+        agents.write(i, nodes=names, listen=names[i], record=None)
+    agents.start(0)
+    agents.one_group([0])
+    line = json.dumps(dict(do="submit", queue=1, text="x" * 400)).encode() + b"\n"
+    with agents.connect(0) as link:
+        reader = link.makefile()
+        for _ in range(0, many, 50):
+            link.sendall(line * 50)
+            if not all([json.loads(reader.readline())["ok"] for _ in range(50)]):
+                raise ValueError("a job isn't kept")
+    agents.start(1, LD_PRELOAD=library)
+    agents.one_group()
+    # of those that are lost each later dispatch brings some, and these are far between
+    agents.until(lambda: metric(agents, 1, "jobs_in_hand") == many)
+    sent = metric(agents, 0, 'messages_out_total{kind="Work"}')
+    bed.tally.timed("as many long jobs as a socket doesn't hold come with one dispatch", sent == many, sent)
+    agents.stop()
+
+
 def forwarded(bed):
     """With a key: what agents send each other, spoiled in each bit and sent again. The node is given no key, so that it may have none."""
     agents = bed.agents("forwarded", key=bed.key("ab"))

@@ -64,7 +64,7 @@ impl Daemon {
 
     /// Has something of a node wait, where there is room for so many bytes more of it.
     pub(super) fn put_off(&mut self, peer: Option<usize>, one: Waiting, bytes: usize) {
-        if !peer.map_or(false, |peer| self.backlog.put(peer, one, bytes)) {
+        if !peer.map_or(false, |peer| self.backlog.put(peer, one, bytes).is_none()) {
             self.metrics.dropped.with_label_values(&["NoRoom"]).inc();
         }
     }
@@ -78,11 +78,23 @@ impl Daemon {
         self.ask(asker, format!("deliver {}", hex::encode(message)));
     }
 
-    /// Carries a message of the node.
+    /// Carries a message of the node. Work, of which the node may send as much at once as its journal holds, leaves a part at a time, and all else before it.
     pub(super) fn carry(&mut self, to: u8, digits: &str, now: Instant) {
         let message = hex::decode(digits).unwrap_or_default();
-        self.metrics.messages_out.with_label_values(&[kind_of(&message)]).inc();
-        self.send(to, &message, now);
+        let kind = kind_of(&message);
+        self.metrics.messages_out.with_label_values(&[kind]).inc();
+        let at_once = if kind == "Work" { self.pace.put(to, message) } else { Some((to, message)) };
+        if let Some((to, message)) = at_once {
+            self.send(to, &message, now);
+        }
+        self.send_on(now);
+    }
+
+    /// Sends what waits for its turn.
+    pub(super) fn send_on(&mut self, now: Instant) {
+        while let Some((to, message)) = self.pace.next(now) {
+            self.send(to, &message, now);
+        }
     }
 
     /// Sends a datagram to another machine. One that can't be sent is the same as one that is lost.

@@ -18,7 +18,7 @@ use crate::fill::Fill;
 use crate::forward::{self, Inbox, Outbox, Seal};
 use crate::http::Server;
 use crate::metrics::Metrics;
-use crate::net::{Backlog, Link, News, Peers};
+use crate::net::{Backlog, Link, News, Pace, Peers};
 use crate::node::{Answer, Lane, NodeProcess};
 use crate::node_file;
 use crate::notify::Notify;
@@ -83,6 +83,7 @@ pub struct Daemon {
     clock: Clock,
     link: Link,
     backlog: Backlog<Waiting>,
+    pace: Pace,
     peers: Peers,
     resolver: Resolver,
     clients: Clients,
@@ -126,6 +127,7 @@ impl Daemon {
             peers: Peers::new(config.id, &config.nodes, link.is_ipv6(), round_trip),
             link,
             backlog: Backlog::new(nodes),
+            pace: Pace::new(nodes, now),
             resolver: Resolver::start(Arc::clone(&waker))?,
             waker,
             clients,
@@ -237,6 +239,7 @@ impl Daemon {
         }
         self.keep_socket();
         self.receive(now);
+        self.send_on(now);
         self.clients.accept(self.poll.registry(), now, || self.hand.holders());
         self.obey(now);
         self.give_up_gone();
@@ -261,7 +264,7 @@ impl Daemon {
             .outbox
             .next(self.node.has_room(Lane::Local))
             .map_or(Duration::MAX, |next| next.saturating_duration_since(now));
-        self.clock.sleep(now).min(until)
+        self.clock.sleep(now).min(until).min(self.pace.sleep(now))
     }
 
     /// Asks the node something else than the time.

@@ -1,4 +1,4 @@
-//! What came of each peer and waits until the node has room for it: the system keeps little.
+//! What waits of each peer, or for each: what came until the node has room for it, and what leaves until its turn, for the system keeps little.
 
 use std::collections::VecDeque;
 
@@ -6,7 +6,7 @@ use std::collections::VecDeque;
 const ROOM: usize = 5 * 1024 * 1024;
 const UPKEEP: usize = 128;
 
-/// The oldest of a peer come first, and the peers in turn. Each may fill half of what the others leave free, so that none keeps another one from the node.
+/// The oldest of a peer come first, and the peers in turn. Each may fill half of what the others leave free, so that none keeps another one out.
 pub struct Backlog<T> {
     /// Each with its size.
     of: Vec<VecDeque<(T, usize)>>,
@@ -19,17 +19,21 @@ impl<T> Backlog<T> {
         Backlog { of: (0..nodes).map(|_| VecDeque::new()).collect(), sizes: vec![0; nodes], turn: 0 }
     }
 
-    /// Keeps what a peer sent in so many bytes, and answers whether there was room.
-    pub fn put(&mut self, peer: usize, one: T, bytes: usize) -> bool {
+    /// Keeps what takes so many bytes; what there is no room for is given back.
+    pub fn put(&mut self, peer: usize, one: T, bytes: usize) -> Option<T> {
         let (size, free) = (bytes + UPKEEP, ROOM - self.sizes.iter().sum::<usize>());
         match self.of.get_mut(peer) {
             Some(waiting) if self.sizes[peer] + size <= free => {
                 waiting.push_back((one, size));
                 self.sizes[peer] += size;
-                true
+                None
             }
-            _ => false,
+            _ => Some(one),
         }
+    }
+
+    pub fn is_empty(&self) -> bool {
+        self.sizes.iter().all(|size| *size == 0)
     }
 
     /// The oldest one of the peer whose turn it is.
@@ -60,11 +64,11 @@ mod tests {
     #[test]
     fn a_peer_that_sends_without_an_end_leaves_room_for_others() {
         let mut backlog = Backlog::new(3);
-        let fill = |backlog: &mut Backlog<usize>, peer| (0..100_000).take_while(|at| backlog.put(peer, *at, LONG)).count();
+        let fill = |backlog: &mut Backlog<usize>, peer| (0..100_000).take_while(|at| backlog.put(peer, *at, LONG).is_none()).count();
         let counts = [fill(&mut backlog, 0), fill(&mut backlog, 1), fill(&mut backlog, 2)];
         assert!(counts[0] >= MOST, "{counts:?}");
         assert!(counts[0] <= 2 * counts[1] + 1 && counts[1] <= 2 * counts[2] + 1, "{counts:?}");
-        assert!(!backlog.put(3, 0, LONG), "no node has this number");
+        assert_eq!(backlog.put(3, 7, LONG), Some(7), "no node has this number");
         assert_eq!(backlog.clear() as usize, counts.iter().sum::<usize>());
         assert_eq!((backlog.take(), fill(&mut backlog, 2)), (None, counts[0]), "all its room is free again");
     }
@@ -73,11 +77,11 @@ mod tests {
     fn peers_have_their_turns_and_the_oldest_comes_first() {
         let mut backlog = Backlog::new(4);
         for (peer, one) in [(0, "a"), (0, "b"), (0, "c"), (3, "d"), (1, "e"), (3, "f")] {
-            assert!(backlog.put(peer, one, 1));
+            assert_eq!(backlog.put(peer, one, 1), None);
         }
         let taken: Vec<&str> = std::iter::from_fn(|| backlog.take()).collect();
         assert_eq!(taken, ["a", "e", "d", "b", "f", "c"]);
-        assert!(backlog.put(0, "g", 1));
+        assert!(backlog.is_empty() && backlog.put(0, "g", 1).is_none() && !backlog.is_empty());
         assert_eq!((backlog.take(), backlog.take()), (Some("g"), None));
     }
 }

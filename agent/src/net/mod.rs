@@ -2,8 +2,10 @@
 
 mod backlog;
 mod link;
+mod pace;
 mod peers;
 
 pub use backlog::Backlog;
 pub use link::{Link, MAX_DATAGRAM};
+pub use pace::Pace;
 pub use peers::{News, Peer, Peers};
