@@ -1,5 +1,5 @@
 """Three agents: groups, jobs, kills, cuts."""
-import http.client, json, os, re, signal, socket, subprocess, time, urllib.request
+import http.client, json, os, re, shutil, signal, socket, subprocess, time, urllib.request
 
 from bed import PATIENCE, free_port
 
@@ -235,6 +235,7 @@ def addresses(bed):
     no_address(bed)
     ipv6(bed)
     second_address(bed)
+    stranded(bed)
 
 
 def moved(bed):
@@ -299,6 +300,30 @@ def second_address(bed):
     address = agents.ask(0, do="members")["members"][1]["address"]
     bed.tally.check("at the second one", "127.0.0.1" in address, address)
     judged(bed, agents, "second addresses")
+
+
+def stranded(bed):
+    """A machine that has no longer the address at which its agent began. The agents are in a network of their own."""
+    made = "ip link set lo up && ip addr add 10.9.0.1/32 dev lo && ip addr add 10.9.0.2/32 dev lo && echo made && exec sleep 1000"
+    network = subprocess.Popen(["sh", "-c", 'exec unshare -rn sh -c "$0"', made], stdout=subprocess.PIPE, stderr=subprocess.DEVNULL, text=True)
+    try:
+        within = ["nsenter", "-t", str(network.pid), "-U", "-n", "--preserve-credentials"]
+        if network.stdout.readline() != "made\n" or not shutil.which("nsenter"):
+            return bed.tally.left_out("an address that a machine loses", "no network of one's own can be had (unshare -rn, ip, nsenter)")
+        agents, names = bed.agents("stranded", count=2, record=None, http=None), ["10.9.0.1:7000", "10.9.0.2:7000"]
+        for i in range(2):
+            agents.write(i, nodes=names, listen=None)
+            with open(agents.path(i, "log"), "ab") as log:
+                agents.processes[i] = subprocess.Popen(within + [agents.daemon, agents.path(i, "toml")], stderr=log)
+        agents.one_group()
+        subprocess.run(within + ["ip", "addr", "del", "10.9.0.1/32", "dev", "lo"], check=True)
+        said = lambda: [line for line in open(agents.path(0, "log")) if "nothing can be sent from 10.9.0.1:7000 to 10.9.0.2:7000" in line]
+        agents.until(said)
+        bed.tally.check("a machine that lost its agent's address is told so, and what helps", "a restart takes another one" in said()[0], said())
+        agents.stop()
+    finally:
+        network.kill()
+        network.wait()
 
 
 def ipv6(bed):

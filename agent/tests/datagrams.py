@@ -192,6 +192,24 @@ def spoiled_bits(agents, timed):
     timed("a message with any bit spoiled is refused and counted", changes(agents) == begin, (bits, refused(agents, 0) - before))
 
 
+def another_key(bed):
+    """A node under another key, without one, and of another cluster's name: the log of both sides says so, once."""
+    agents, check = bed.agents("another_key", count=2, record=None, key=bed.key("ab")), bed.tally.check
+    said = lambda i: [line for line in open(agents.path(i, "log")) if "what comes in its name from 127.0.0.1:" in line]
+    agents.start(0)
+    for name, settings, hint in (("another key", dict(key=bed.key("cd")), "another key or none there"), ("no key", dict(key=None), "a key there and none here"),
+                                 ("another name", dict(cluster="other"), "another key or none there")):
+        agents.write(1, **settings)
+        agents.start(1)
+        agents.until(lambda: said(1) and said(0))
+        check("a node with %s is told, and tells" % name, "node 0:" in said(1)[0] and hint in said(1)[0] and "node 1:" in said(0)[0], (said(0), said(1)))
+        check("%s: they don't meet" % name, agents.is_one_group([0]) and agents.status(1)["members"] in ([], [1]), agents.groups())
+        agents.kill(1)
+        os.remove(agents.path(1, "log"))
+    check("no more often than once in a while", len(said(0)) == 1, said(0))
+    agents.stop()
+
+
 def flood(bed):
     """Recorded datagrams from elsewhere, as fast as this machine sends them: the node hears the others all the same."""
     # longer round trips would hide it

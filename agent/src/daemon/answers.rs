@@ -2,6 +2,7 @@
 
 use super::{Asker, Daemon, FILE_DAMAGED, NO_MEMORY};
 use crate::forward::{Given, Outcome};
+use crate::metrics::kind_of;
 use crate::node::{Answer, Closing, Group, Job, JobKey, Line, Refusal};
 use crate::protocol::Reply;
 use crate::service::Given as GivenJob;
@@ -141,8 +142,22 @@ impl Daemon {
                 }
                 self.metrics.messages_in.with_label_values(&[kind]).inc();
             }
-            Closing::Bad => self.metrics.refused.with_label_values(&["NoMessage"]).inc(),
+            Closing::Bad => {
+                self.metrics.refused.with_label_values(&["NoMessage"]).inc();
+                if kind != kind_of(&[]) {
+                    self.doubt(sender, from, now);
+                }
+            }
+            Closing::Refused(refusal) if name_of(refusal) == "Forged" => self.doubt(sender, from, now),
             Closing::Refused(_) | Closing::Fault => {}
+        }
+    }
+
+    /// The node can't read what came in the name of this one.
+    fn doubt(&mut self, sender: u8, from: SocketAddr, now: Instant) {
+        if sender != self.config.id && self.peers.refuse(sender, now) {
+            let own = if self.config.key.is_some() { "another key or none there" } else { "a key there and none here" };
+            warn!("node {sender}: what comes in its name from {from} is refused: {own}, or another cluster?");
         }
     }
 

@@ -107,14 +107,24 @@ impl Daemon {
             // a buffer that is full is no fault of the address
             Some((_, Err(why))) if why.kind() == ErrorKind::WouldBlock => {}
             Some((address, Err(why))) if self.peers.sent(to, false, now) => {
-                let hint =
-                    if self.link.is_loopback() { ": `listen` is at an address of this machine alone" } else { "" };
+                let hint = self.why_not();
                 warn!("node {to}: nothing can be sent from {} to {address}: {why}{hint}", self.config.listens_at());
             }
             Some((address, Ok(()))) if self.peers.sent(to, true, now) => {
                 info!("node {to}: what is sent to {address} leaves again")
             }
             _ => {}
+        }
+    }
+
+    /// Why nothing leaves, where it lies with the agent's own address.
+    fn why_not(&self) -> &'static str {
+        if self.link.is_loopback() {
+            ": `listen` is at an address of this machine alone"
+        } else if self.link.is_stranded() {
+            ": this machine hasn't the address any more at which the agent began: a restart takes another one"
+        } else {
+            ""
         }
     }
 

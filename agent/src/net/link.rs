@@ -43,6 +43,13 @@ impl Link {
         self.socket.local_addr().map_or(false, |address| address.ip().is_loopback())
     }
 
+    /// Whether its address isn't this machine's any more.
+    pub fn is_stranded(&self) -> bool {
+        let own = self.socket.local_addr().map(|own| SocketAddr::new(own.ip(), 0));
+        let why = own.and_then(UdpSocket::bind).err();
+        why.map_or(false, |why| why.kind() == ErrorKind::AddrNotAvailable)
+    }
+
     /// Whether it reaches IPv6 addresses, and IPv4 ones by their mapped form.
     pub fn is_ipv6(&self) -> bool {
         self.socket.local_addr().map_or(false, |address| address.is_ipv6())

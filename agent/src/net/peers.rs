@@ -25,6 +25,8 @@ pub struct Peer {
     known: Vec<SocketAddr>,
     /// An address that is none of them from where it was heard, as an operator was told last, and when.
     elsewhere: Option<(SocketAddr, Instant)>,
+    /// When an operator was last told that what comes in its name is refused.
+    refused: Option<Instant>,
     /// When it was first sent something at its address, since it has that one and since it was heard.
     tried: Option<Instant>,
     /// Whether the last look-up found an address; None before the first.
@@ -63,6 +65,7 @@ impl Peers {
             heard_from: None,
             known: Vec::new(),
             elsewhere: None,
+            refused: None,
             tried: None,
             was_found: None,
             is_unsent: false,
@@ -96,6 +99,19 @@ impl Peers {
         }
         peer.elsewhere = Some((from, now));
         true
+    }
+
+    /// What came in the name of this node was refused, as of nobody who has the key. Whether an operator is to be told, once in a while: not where the node
+    /// is heard, too, for then it was sent by another one, or is late.
+    pub fn refuse(&mut self, node: u8, now: Instant) -> bool {
+        let is_within = |at: Option<Instant>, time| at.map_or(false, |at| now.saturating_duration_since(at) < time);
+        match self.peers.get_mut(usize::from(node)) {
+            Some(peer) if !is_within(peer.heard, SILENCE) && !is_within(peer.refused, PAUSE) => {
+                peer.refused = Some(now);
+                true
+            }
+            _ => false,
+        }
     }
 
     /// Which one of the others is at this address, or was heard from there last.
@@ -243,6 +259,17 @@ mod tests {
         assert_eq!(peers.found(1, "b:2", &[], now), News::Nothing, "which is no news any more");
         assert_eq!(peers.found(1, "c:2", &[], now), News::Nothing);
         assert_eq!(peers.address(1), Some("10.0.0.2:2".parse().unwrap()));
+    }
+
+    #[test]
+    fn what_is_refused_in_the_name_of_a_silent_node_is_told_once_in_a_while() {
+        let now = Instant::now();
+        let mut peers = peers_of(&names());
+        let told = [now, now + PAUSE / 2, now + PAUSE].map(|at| peers.refuse(1, at));
+        assert_eq!(told, [true, false, true]);
+        peers.hear(2, "10.0.0.2:2".parse().unwrap(), now);
+        assert_eq!([now, now + SILENCE].map(|at| peers.refuse(2, at)), [false, true], "while it is heard, too, it may be late");
+        assert!(!peers.refuse(3, now), "no node has this number");
     }
 
     #[test]
