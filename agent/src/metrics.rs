@@ -70,6 +70,7 @@ pub struct Metrics {
     pub pending_max: IntGauge,
     pub clients: IntGauge,
     pub waiting: IntGauge,
+    pub recorded: IntGauge,
     group_age: Gauge,
 }
 
@@ -126,6 +127,7 @@ impl Metrics {
             pending_max: maker.gauge("jobs_pending_max", "So many of them fit into its journal.")?,
             clients: maker.gauge("clients", "Local clients.")?,
             waiting: maker.gauge("clients_waiting", "Requests of clients that wait for a job.")?,
+            recorded: maker.gauge("recorded", "Whether the node is recorded.")?,
             groups,
             group_age,
             registry: maker.0,

@@ -1,5 +1,5 @@
 """A node that stops or dies, and a file that can't be used."""
-import fcntl, json, os, shutil, signal, socket, stat, subprocess, sys, tempfile, time
+import fcntl, json, os, re, shutil, signal, socket, stat, subprocess, sys, tempfile, time
 
 from bed import PATIENCE
 from cluster import judged, metric, page
@@ -455,6 +455,36 @@ def jumping_clock(bed):
     found = {(job["origin"], job["id"]) for i in range(3) for job in agents.ask(i, do="jobs")["jobs"] if job["kept"]}
     check("what is kept while clocks jump stays", len(kept) > 0 and kept <= found, (kept, found))
     judged(bed, agents, "clocks that jump")
+
+
+def full_record(bed):
+    """A record whose device is full: the node goes on, an operator is told, and the record isn't judged."""
+    agents, check = bed.agents("full", count=1), bed.tally.check
+    folder = os.path.join(agents.folder, "small")
+    os.mkdir(folder)
+    agents.write(0, record=os.path.join(folder, "record"))
+    within = ["unshare", "-rm", "sh", "-c", 'mount -t tmpfs -o size=64k tmpfs "$0" && exec "$@"', folder]
+    try:
+        if subprocess.run(within + ["true"], stderr=subprocess.DEVNULL).returncode != 0:
+            raise OSError("unshare -rm")
+    except OSError as why:
+        return bed.tally.left_out("a record whose device is full", "no file system of one's own can be had (%s)" % why)
+    with open(agents.path(0, "log"), "ab") as log:
+        agents.processes[0] = subprocess.Popen(within + [agents.daemon, agents.path(0, "toml")], stderr=log)
+    agents.one_group()
+    check("the metrics say that a node is recorded", metric(agents, 0, "recorded") == 1)
+    kept = []
+    while agents.status(0)["recorded"] and len(kept) < 200:
+        kept.append(agents.ask(0, do="submit", queue=0, text="x" * 400)["ok"])
+    kept.append(agents.ask(0, do="submit", queue=0, text="x")["ok"])
+    check("a record whose device is full: each job is kept", 10 < len(kept) < 200 and all(kept), len(kept))
+    said = open(agents.path(0, "log")).read()
+    check("the log, the metrics and dumgerokctl say that the record ended", "the record ends: No space left" in said and metric(agents, 0, "recorded") == 0 and
+          re.search("^recorded +no$", agents.ctl(0, "status").stdout, re.M), said)
+    # the folder as the agent sees it
+    done = agents.ctl(0, "judge", "--program", bed.program, "/proc/%d/root%s/record.1" % (agents.processes[0].pid, folder))
+    check("and it isn't judged", done.returncode == 2 and "the node ran on" in done.stderr, done)
+    agents.stop()
 
 
 def slow_sync(bed):

@@ -42,6 +42,7 @@ pub fn status(status: &Value) -> String {
         ("own queues", of("queues")),
         ("jobs kept", kept(status)),
         ("jobs in hand", of("in_hand")),
+        ("recorded", of("recorded")),
         ("up", ago(&status["up_ms"])),
     ];
     rows.iter().map(|(name, value)| format!("{name:<13} {value}\n")).collect()

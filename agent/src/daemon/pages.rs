@@ -45,6 +45,7 @@ impl Daemon {
                 self.metrics.held.set(self.hand.count_held() as i64);
                 self.metrics.clients.set(self.clients.count() as i64);
                 self.metrics.waiting.set(self.clients.waiting_count() as i64);
+                self.metrics.recorded.set(i64::from(self.node.is_recorded()));
                 self.metrics.cut_off.set(self.clients.cut_off as i64);
                 let content_type = "text/plain; version=0.0.4";
                 Response { status: 200, content_type, body: self.metrics.text(&self.view, now) }
