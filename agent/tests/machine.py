@@ -478,9 +478,9 @@ def full_record(bed):
         kept.append(agents.ask(0, do="submit", queue=0, text="x" * 400)["ok"])
     kept.append(agents.ask(0, do="submit", queue=0, text="x")["ok"])
     check("a record whose device is full: each job is kept", 10 < len(kept) < 200 and all(kept), len(kept))
-    said = open(agents.path(0, "log")).read()
-    check("the log, the metrics and dumgerokctl say that the record ended", "the record ends: No space left" in said and metric(agents, 0, "recorded") == 0 and
-          re.search("^recorded +no$", agents.ctl(0, "status").stdout, re.M), said)
+    is_told = lambda: ("the record ends: No space left" in open(agents.path(0, "log")).read() and metric(agents, 0, "recorded") == 0 and
+                       re.search("^recorded +no$", agents.ctl(0, "status").stdout, re.M))
+    check("the log, the metrics and dumgerokctl say that the record ended", agents.until(is_told) >= 0)
     # the folder as the agent sees it
     done = agents.ctl(0, "judge", "--program", bed.program, "/proc/%d/root%s/record.1" % (agents.processes[0].pid, folder))
     check("and it isn't judged", done.returncode == 2 and "the node ran on" in done.stderr, done)
