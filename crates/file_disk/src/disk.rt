@@ -285,6 +285,22 @@ impl SectorDisk for FileDisk {
         let done = self.file.sync_data();
         self.answer(done)
     }
+
+    /// Leaves it to the next sync: no call of the system.
+    fn sync_later(&mut self) -> Result<(), DiskFault>
+        ensures counts { Counts (state_of self.old) (state_of self.new) (IsErrOf result Device) (IsOk result) }
+        ensures refused { IsErrOf result OutOfRange ↔ ⊥ }
+        ensures touches { IsTrue false → Touches nothing (state_of self.old) (state_of self.new) }
+
+        // Promise: A sync that is left to the next one is `Device` exactly where the disk is spent, and an `Ok` changes nothing.
+        // Also: ok, failed.
+        // Refuses: spent_disk_leaves_a_sync, left_sync_spends_the_disk.
+        ensures spent { IsTrue self.old.spent ↔ IsErrOf result Device }
+        ensures ok { IsOk result → self.new ≡ self.old }
+        ensures failed { IsErrOf result Device → self.new ≡ record self.old { failures = risen self.old.failures } }
+    {
+        if self.spent { self.fail() } else { Ok(()) }
+    }
 }
 
 // How many bytes so many sectors take, so far apart.

@@ -137,11 +137,10 @@ has_appended was now new command (Ok id) keeps is h =
 pub record Writing (first slots : ℕ) (Said : ℕ → Image → Type 0) (old now : DiskState) (done : ℕ) : Type 0 where
   pub calls : Erased first slots old now 0
   pub said : IsTrue old.honest → Said 0 old.contents → Said done now.contents
-  pub synced : IsTrue old.honest → 0 < done → AllSynced now
 
 pub writing_start : (first slots : ℕ) (Said : ℕ → Image → Type 0) (disk : DiskState) → (IsTrue disk.honest → Laws disk) → Writing first slots Said disk disk 0
 writing_start first slots Said disk laws =
-    record { calls = erased_start first slots disk laws; said = λ honest was. was; synced = λ honest less. absurd (omega (arith, less)) }
+    record { calls = erased_start first slots disk laws; said = λ honest was. was }
 
 -- they and one more touch nothing but the area
 pub writing_run : {first slots : ℕ} {Said : ℕ → Image → Type 0} {here : ℕ → Type 0} {old mid new : DiskState} {done : ℕ} → ((k : ℕ) → here k → InSlots first slots k)
@@ -150,8 +149,8 @@ writing_run {first = first} {slots = slots} into so_far = run_on (InSlots first 
 
 pub writing_more : (first slots : ℕ) {Said : ℕ → Image → Type 0} {here : ℕ → Type 0} {old mid new : DiskState} {done : ℕ} {failed ok : Type 0} → ok → ((k : ℕ) → here k → InSlots first slots k)
     → Writing first slots Said old mid done → Counts mid new failed ok → (IsTrue mid.honest → Run here mid new)
-    → (IsTrue mid.honest → Said done mid.contents → Said (done + 1) new.contents) → (IsTrue mid.honest → AllSynced new) → Writing first slots Said old new (done + 1)
-writing_more first slots {old = old} {mid = mid} was_ok into so_far counts run said synced = record {
+    → (IsTrue mid.honest → Said done mid.contents → Said (done + 1) new.contents) → Writing first slots Said old new (done + 1)
+writing_more first slots {old = old} {mid = mid} was_ok into so_far counts run said = record {
   calls = record {
     sectors = counts.sectors ∙ so_far.calls.sectors;
     honest = counts.honest ∙ so_far.calls.honest;
@@ -160,7 +159,6 @@ writing_more first slots {old = old} {mid = mid} was_ok into so_far counts run s
     unsealed = λ honest k less. absurd (omega (arith, less));
   };
   said = λ honest was. said (so_far.calls.honest ∙ honest) (so_far.said honest was);
-  synced = λ honest less. synced (so_far.calls.honest ∙ honest);
 }
 
 -- one body more

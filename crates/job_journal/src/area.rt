@@ -10,10 +10,10 @@ ghost use Rattle.job_model.specs.Order.{IsInOrder};
 use crate::extent::Extent;
 use job_model::{JobTable, Record};
 use sector_disk::{DiskFault, SectorDisk};
-use slot_gate::{fill, seal, unseal};
+use slot_gate::{fill_later, seal, seal_later, unseal_later};
 
 // Writes the jobs of a table into an area that is present in no image, in `2 * slots` device calls and four for each
-// record. Only the last of them leaves an area that reads as the jobs.
+// record. Only the last of them leaves an area that reads as the jobs, and it alone is a sync that isn't left to a later one.
 pub(crate) fn write_area<D: SectorDisk>(
     disk: &mut D,
     area: Extent,
@@ -31,7 +31,7 @@ pub(crate) fn write_area<D: SectorDisk>(
     write_records(disk, area, table)
 }
 
-// Unseals so many slots from this sector on, each by itself.
+// Unseals so many slots from this sector on, each by itself, with the syncs left to a later one.
 fn erase<D: SectorDisk>(disk: &mut D, area: Extent) -> Result<(), DiskFault>
     requires on_disk { area.first + 2 * area.slots ≤ (D.state disk.old).sectors }
     ensures writes { CallWrites (InSlots area.first area.slots) D.state disk.old disk.new DiskFault.Device result }
@@ -39,7 +39,7 @@ fn erase<D: SectorDisk>(disk: &mut D, area: Extent) -> Result<(), DiskFault>
         → (k : ℕ) → k < area.slots → slot_at (D.state disk.new).contents (area.first + 2 * k) ≡ None }
 {
     for erased in 0..area.slots {
-        unseal(disk, area.first + 2 * erased)?;
+        unseal_later(disk, area.first + 2 * erased)?;
     }
     Ok(())
 }
@@ -63,7 +63,7 @@ pub(crate) fn write_records<D: SectorDisk>(
     seal_area(disk, area, table)
 }
 
-// Fills the records of the jobs into slots that are unsealed.
+// Fills the records of the jobs into slots that are unsealed, with the syncs left to a later one.
 #[tactic(auto, using(crate::proofs::Changes::writing_start))]
 fn fill_area<D: SectorDisk>(disk: &mut D, area: Extent, table: &JobTable) -> Result<(), DiskFault>
     requires on_disk { area.first + 2 * area.slots ≤ (D.state disk.old).sectors }
@@ -71,35 +71,52 @@ fn fill_area<D: SectorDisk>(disk: &mut D, area: Extent, table: &JobTable) -> Res
     ensures writes { CallWrites (InSlots area.first area.slots) D.state disk.old disk.new DiskFault.Device result }
     ensures filled { IsTrue (D.state disk.old).honest → IsOk result → IsWrittenFor area table.now 0 0 (D.state disk.old).contents
         → IsWrittenFor area table.now (length table.now.pending + 1) 0 (D.state disk.new).contents }
-    // Promise: The bodies of the other area are synced before a gate is sealed over them.
-    // Also: seal_area.
-    // Refuses: sync_skipped_before_the_seal.
-    ensures synced { IsTrue (D.state disk.old).honest → IsOk result
-        → AllSynced (D.state disk.new) }
 {
     for filled in 0..record_count(table) {
         let body = record_at(table, filled).to_sector();
-        fill(disk, area.first + 2 * filled, &body)?;
+        fill_later(disk, area.first + 2 * filled, &body)?;
     }
     Ok(())
 }
 
-// Seals the slots that were filled, over bodies that are synced.
-#[tactic(auto, using(crate::proofs::Changes::writing_start))]
+// Seals the slots that were filled, with the syncs left to the last one, behind the last of them.
 fn seal_area<D: SectorDisk>(disk: &mut D, area: Extent, table: &JobTable) -> Result<(), DiskFault>
     requires on_disk { area.first + 2 * area.slots ≤ (D.state disk.old).sectors }
     requires room { length table.now.pending + 2 ≤ area.slots }
-    requires synced { IsTrue (D.state disk.old).honest → AllSynced (D.state disk.old) }
     ensures writes { CallWrites (InSlots area.first area.slots) D.state disk.old disk.new DiskFault.Device result }
     ensures sealed { IsTrue (D.state disk.old).honest → IsOk result
         → IsWrittenFor area table.now (length table.now.pending + 1) 0 (D.state disk.old).contents
         → IsWrittenFor area table.now (length table.now.pending + 1) (length table.now.pending + 1) (D.state disk.new).contents }
+    // Promise: The last sync before the area cell is raised isn't left to a later one.
+    // Also: write_records, write_area.
+    // Refuses: left_sync_taken_for_a_sync, area_raised_before_the_last_sync.
     ensures synced { IsTrue (D.state disk.old).honest → IsOk result
         → AllSynced (D.state disk.new) }
     ensures in_order { IsInOrder table.now.pending table.now.next }
 {
-    for sealed in 0..record_count(table) {
-        seal(disk, area.first + 2 * sealed)?;
+    let last = record_count(table) - 1;
+    seal_first(disk, area, table, last)?;
+    seal(disk, area.first + 2 * last)
+}
+
+// Seals so many of the slots that were filled, with the syncs left to a later one.
+#[tactic(auto, using(crate::proofs::Changes::writing_start))]
+fn seal_first<D: SectorDisk>(
+    disk: &mut D,
+    area: Extent,
+    table: &JobTable,
+    count: u64,
+) -> Result<(), DiskFault>
+    requires on_disk { area.first + 2 * area.slots ≤ (D.state disk.old).sectors }
+    requires room { length table.now.pending + 2 ≤ area.slots }
+    requires within { count ≤ length table.now.pending }
+    ensures writes { CallWrites (InSlots area.first area.slots) D.state disk.old disk.new DiskFault.Device result }
+    ensures sealed { IsTrue (D.state disk.old).honest → IsOk result
+        → IsWrittenFor area table.now (length table.now.pending + 1) 0 (D.state disk.old).contents
+        → IsWrittenFor area table.now (length table.now.pending + 1) count (D.state disk.new).contents }
+{
+    for sealed in 0..count {
+        seal_later(disk, area.first + 2 * sealed)?;
     }
     Ok(())
 }

@@ -42,7 +42,7 @@ impl JobJournal {
         // Promise: After its Ok every image has the other area, with a Base and one Keep for each job and no sealed slot behind
         // them; nothing is unsynced.
         // Also: after.
-        // Refuses: last_keep_not_sealed, compaction_does_nothing.
+        // Refuses: last_keep_not_sealed, first_slots_not_sealed, compaction_does_nothing.
         ensures ok { IsOk result → self.new ≡ compacted self.old }
         ensures kept { KeepsJobs self.old self.new }
 

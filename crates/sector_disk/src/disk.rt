@@ -57,6 +57,17 @@ pub trait SectorDisk {
         ensures touches { IsTrue (state self.old).honest → Touches nothing (state self.old) (state self.new) }
         ensures syncs_all { IsTrue (state self.old).honest → IsOk result → AllSynced (state self.new) };
 
+    /// A sync that may be left to the next one: of what was written, a crash may leave any part as before, and any as after a sync. It counts
+    /// as the sync that it stands for, and fails as one; only a later `sync` makes sure.
+    fn sync_later(&mut self) -> Result<(), DiskFault>
+        ensures counts { Counts (state self.old) (state self.new) (IsErrOf result Device) (IsOk result) }
+        ensures refused { IsErrOf result OutOfRange ↔ ⊥ }
+        // Promise: Over an honest disk: a sync that is left to the next one changes nothing that reads give, and does to the images that a
+        // crash may leave anything between nothing and a sync: a sector that was synced stays so, and no more is known.
+        // Also: MemDisk::sync_later.
+        // Refuses: job_journal::left_sync_taken_for_a_sync.
+        ensures touches { IsTrue (state self.old).honest → Touches nothing (state self.old) (state self.new) };
+
     /// An honest disk keeps these.
     ghost laws: { (disk : Self) → IsTrue (state disk).honest → Laws (state disk) };
 }

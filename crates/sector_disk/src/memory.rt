@@ -288,6 +288,31 @@ impl SectorDisk for MemDisk {
         }
         Ok(())
     }
+
+    /// Syncs at once.
+    fn sync_later(&mut self) -> Result<(), DiskFault>
+        ensures counts { Counts (state_of self.old) (state_of self.new) (IsErrOf result Device) (IsOk result) }
+        ensures refused { IsErrOf result OutOfRange ↔ ⊥ }
+        ensures touches { IsTrue true → Touches nothing (state_of self.old) (state_of self.new) }
+
+        // It is a sync, counted as one.
+        // Promise: A disk in memory makes a sync that may be left at once, and it is one call.
+        // Also: armed, idle, ok, failed.
+        // Refuses: left_sync_uncounted, left_sync_not_made.
+        ensures syncs_all { IsTrue true → IsOk result → AllSynced (state_of self.new) }
+        ensures armed { IsOk result → IsTrue (passes self.old.left) }
+        ensures idle { ((at : ℕ) → IsFalse (is_unsynced self.old at)) → IsTrue (passes self.old.left) → IsOk result }
+        ensures ok { IsOk result → self.new ≡ record self.old {
+          synced = self.old.contents;
+          unsynced = replicate (length self.old.unsynced) false;
+          spans = self.new.spans;
+          left = spent self.old.left;
+        } }
+        ensures failed { IsErrOf result Device
+            → self.new ≡ record self.old { failures = risen self.old.failures; left = spent self.old.left } }
+    {
+        self.sync()
+    }
 }
 
 // One call more: whether it passes.

@@ -11,9 +11,11 @@
 #![tactic(auto)]
 
 mod change;
+mod left;
 mod row;
 mod slot;
 
 pub use change::store;
+pub use left::{fill_later, seal_later, unseal_later};
 pub use row::unseal_all;
 pub use slot::{fill, look, seal, unseal};

@@ -126,7 +126,7 @@ fn write_synced<D: SectorDisk>(disk: &mut D, at: u64, sector: &Sector) -> Result
 }
 
 #[tactic(auto, unfolding(crate::specs::Slot::sealed_gate))]
-fn sealed_gate_bytes() -> &'static Sector
+pub(crate) fn sealed_gate_bytes() -> &'static Sector
     ensures { result.now ≡ sealed_gate }
 {
     &SEALED_GATE

@@ -1,12 +1,17 @@
-use Rattle.job_journal.proofs.Common.{refl, arith}
-use Rattle.job_journal.proofs.Changes.{writing_more, writing_run, written_seal}
+use Rattle.job_journal.proofs.Common.{◌≡◌, ◌+◌, ◌-◌, length, ◌∙◌, subst, refl, arith, writes_on, IsWritten, records_for, jobs_of}
+use Rattle.job_journal.proofs.Changes.{written_seal}
 use Rattle.job_journal.proofs.area.seal_area.Goals as goal
 
-pub returns-in_err-seal-clause-writes : goal.returns-in_err-seal-clause-writes
-returns-in_err-seal-clause-writes g c = record { answers = grind arith; counts = grind arith; run = writing_run (λ k is. (omega (arith, is), omega (arith, is))) c.loop-sealed.invariant c.seal.ensures.writes.run }
+pub returns-clause-writes : goal.returns-clause-writes
+returns-clause-writes g c = writes_on _ (λ k is. is) (λ k is. (omega (arith, is), omega (arith, is))) refl c.in_ok-seal_first.ensures.writes c.seal.ensures.writes
 
-pub loop-sealed-preserved : goal.loop-sealed-preserved
-loop-sealed-preserved g c =
-    writing_more _ _ refl (λ k is. (omega (arith, is), omega (arith, is))) c.loop-sealed.invariant c.in_ok-seal.ensures.writes.counts c.seal.ensures.writes.run
-    (λ honest so_far. written_seal _ _ _ _ c.loop-sealed.sealed _ _ (c.seal.ensures.writes.run honest).contents (c.in_ok-seal.ensures.sealed honest refl) so_far)
-    (λ honest. c.in_ok-seal.ensures.synced honest refl)
+pub returns-clause-sealed : goal.returns-clause-sealed
+returns-clause-sealed g c = λ honest ok was.
+    let still = c.in_ok-seal_first.ensures.writes.counts.honest ∙ honest in
+    let all = length c.args.table.now.pending + 1 in
+    let is : c.record_count-last.result - 1 + 1 ≡ all = omega (arith, c.record_count-last.ensures.count) in
+    subst (λ n. IsWritten c.args.area.first c.args.area.slots (records_for (jobs_of c.args.table.now)) all n (g.D.SectorDisk.state c.seal.new.disk).contents) is
+    (written_seal _ _ _ _ _ _ _ (c.seal.ensures.writes.run still).contents (c.seal.ensures.sealed still ok) (c.in_ok-seal_first.ensures.sealed honest refl was))
+
+pub returns-clause-synced : goal.returns-clause-synced
+returns-clause-synced g c = λ honest ok. c.seal.ensures.synced (c.in_ok-seal_first.ensures.writes.counts.honest ∙ honest) ok

@@ -1,6 +1,6 @@
 use Rattle.job_journal.proofs.Common.{◌+◌, length, jobs_of, IsWritten, records_for}
 use Rattle.job_journal.proofs.Changes.{Writing}
-use Rattle.job_journal.proofs.area.seal_area.Given as goal
+use Rattle.job_journal.proofs.area.seal_first.Given as goal
 
 abbrev pub invariant-loop-sealed : goal.invariant-loop-sealed
 invariant-loop-sealed g l =
