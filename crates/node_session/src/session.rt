@@ -37,7 +37,7 @@ use pace::{NodeSnapshot, Retransmission, TimerPolicy, TimerSettings};
 use sector_disk::SectorDisk;
 use std::alloc::{AllocError, Global};
 use std::marker::Model;
-use wire_msg::{Body, Message};
+use wire_msg::Message;
 
 /// At most so many timers fire in one tick; what is due beyond that fires in the next.
 const MOST_FIRED: u32 = 16;
@@ -477,10 +477,7 @@ impl<D: SectorDisk + Drop> Session<D> {
         ensures { self.new ≡ self.old }
     {
         if let Event::Deliver(message) = event {
-            self.pace.heard(message.sender());
-            if matches!(message.body(), Body::AreYouCoordinator) {
-                self.pace.asked(message.sender());
-            }
+            self.pace.delivered(message);
         }
     }
 }

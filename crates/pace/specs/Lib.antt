@@ -3,3 +3,4 @@ pub mod Snapshots
 pub mod Policy
 pub mod Laws
 pub mod Retransmission
+pub mod Hearing

@@ -13,6 +13,7 @@
 #![tactic(auto)]
 
 mod deadline;
+mod hearing;
 mod laws;
 mod retransmission;
 mod snapshot;
