@@ -1,8 +1,8 @@
 -- How long work rests, and that what is set now isn't over.
-use Rattle.std.proofs.Common.{◌≡◌, ◌≤◌, ◌+◌, ◌-◌, ◌^◌, ℕ, Bool, true, false, subst, sym, arith, min}
+use Rattle.std.proofs.Common.{◌≡◌, ◌≤◌, ◌+◌, ◌-◌, ◌^◌, ℕ, Bool, true, false, Option, Some, None, subst, sym, arith, min}
 use Rattle.std.specs.Prelude.{if◌then◌else◌}
 use Rattle.pace.specs.declared.timer_settings.TimerSettings.{TimerSettings}
-use Rattle.pace.specs.Timers.{first_pause, longer_pause, times}
+use Rattle.pace.specs.Timers.{first_pause, longer_pause, times, least_at}
 
 first_some : (s : TimerSettings) (pending : ℕ) → 1 ≤ first_pause s pending
 first_some s pending = omega arith
@@ -27,3 +27,9 @@ rests_first b c s pending was pause rested none now is = left_by b pause rested 
 pub not_over : (twice : Bool) (length more waited : ℕ) → 1 ≤ length → waited ≡ 0 → min (times twice (length + more)) (2 ^ 64 - 1) ≤ waited → ⊥
 not_over true length more waited some none over = omega (arith, some, none, over)
 not_over false length more waited some none over = omega (arith, some, none, over)
+
+-- a check that comes soon is no more over than another wait
+pub some_at : (soon : Option Bool) (s : TimerSettings) (least : ℕ) → 1 ≤ least → 1 ≤ least_at soon s least
+some_at None s least some = some
+some_at (Some true) s least some = omega arith
+some_at (Some false) s least some = omega arith

@@ -1,5 +1,5 @@
 -- What follows of a policy.
-use Rattle.std.specs.Prelude.{ℕ, ◌≡◌, ◌≤◌, ◌*◌, min, Bool, Some}
+use Rattle.std.specs.Prelude.{ℕ, ◌≡◌, ◌≤◌, ◌*◌, min, Bool, Option, Some}
 use Rattle.group_task.specs.Group.{Group}
 use Rattle.node_core.specs.declared.event.Event.TheVariants as on
 use Rattle.node_core.specs.declared.timer.Timer.TheVariants as timer
@@ -11,8 +11,8 @@ use Rattle.pace.specs.Policy.{Policy, HasCome, IsWorkDue, Dispatches, IsWithin, 
 
 -- a deadline that is set now has not come, whatever is seen
 abbrev pub TimerFiresOnce : Type 0
-TimerFiresOnce = (p : Policy) (s : NodeSnapshot) (settled : Bool) (raise : ℕ) (wait : Wait) (group : Group) (d : Deadline) →
-    IsSet p.setting settled raise wait group d → HasCome p s d → ⊥
+TimerFiresOnce = (p : Policy) (s : NodeSnapshot) (soon : Option Bool) (settled : Bool) (raise : ℕ) (wait : Wait) (group : Group) (d : Deadline) →
+    IsSet soon p.setting settled raise wait group d → HasCome p s d → ⊥
 
 -- work that was dispatched now is not due, whatever is seen
 abbrev pub WorkFiresOnce : Type 0

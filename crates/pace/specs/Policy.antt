@@ -29,6 +29,8 @@ pub record Policy : Type 0 where
   pub rested : ℕ
   pub pause : ℕ
   pub raise : ℕ
+  -- how many checks are to come soon
+  pub soon : ℕ
 
 abbrev pub fresh : TimerSettings → ℕ → Policy
 fresh setting id = record {
@@ -44,6 +46,7 @@ fresh setting id = record {
   rested = 0;
   pause = 0;
   raise = 0;
+  soon = 0;
 }
 
 -- how long ago a time was told, where it is so late now: a clock that fell back begins anew

@@ -99,14 +99,34 @@ patience Ready raise = raise
 patience Answer raise = raise
 patience wait raise = 0
 
+-- a check that comes soon: the first of two at once, the second two round trips later
+abbrev pub soon_by : ℕ → Option Bool
+soon_by soon = if soon == 0 then None else Some (soon == 1)
+
+abbrev pub comes_soon : ℕ → Wait → Option Bool
+comes_soon soon Check = soon_by soon
+comes_soon soon wait = None
+
+-- how many checks are to come soon once the deadline of this wait is set
+abbrev pub soon_left : ℕ → Wait → ℕ
+soon_left soon Check = soon - 1
+soon_left soon wait = soon
+
+abbrev pub soon_length : TimerSettings → Bool → ℕ
+soon_length s second = if second then max (2 * s.unit) 1 else 1
+
+abbrev pub least_at : Option Bool → TimerSettings → ℕ → ℕ
+least_at None s least = least
+least_at (Some second) s least = soon_length s second
+
 -- the deadline of this wait in a group, none of which is over
-pub record IsSet (s : TimerSettings) (settled : Bool) (raise : ℕ) (wait : Wait) (group : Group) (d : Deadline) : Type 0 where
+pub record IsSet (soon : Option Bool) (s : TimerSettings) (settled : Bool) (raise : ℕ) (wait : Wait) (group : Group) (d : Deadline) : Type 0 where
   pub its_wait : d.wait ≡ wait
   pub its_group : d.group ≡ group
   pub from_now : d.waited ≡ 0
   pub in_time : d.put_off ≡ false
-  pub least : least_of s settled wait + patience wait raise ≤ d.length
-  pub most : d.length ≤ least_of s settled wait + jitter_of s settled wait + patience wait raise
+  pub least : least_at soon s (least_of s settled wait + patience wait raise) ≤ d.length
+  pub most : d.length ≤ least_at soon s (least_of s settled wait + jitter_of s settled wait + patience wait raise)
 
 -- a raise is reckoned with up to so many round trips
 abbrev pub raise_of : TimerSettings → ℕ → ℕ

@@ -4,7 +4,8 @@ ghost use Rattle.node_core.specs.declared.timer.Timer.TheVariants as timer;
 ghost use Rattle.node_core.specs.declared.event.Event.{Event};
 ghost use Rattle.pace.specs.declared.deadline.Deadline.{Deadline};
 ghost use Rattle.pace.specs.declared.wait.Wait.{Wait};
-ghost use Rattle.pace.specs.Timers.{wait_of, lasts, raise_of, IsSet};
+ghost use Rattle.pace.specs.declared.wait.Wait.TheVariants as wait;
+ghost use Rattle.pace.specs.Timers.{wait_of, lasts, raise_of, comes_soon, soon_by, soon_left, IsSet};
 ghost use Rattle.pace.specs.Policy.{aged, all_answered, asked_by, fresh, heard_from, in_new_group, is_silent, has_silent, event_at, looked_at, may_dispatch, passed, rests, since, spent, work_left, Runs, HasCome, IsDue, IsWorkDue, MayFire, Counts, Dispatches};
 
 use crate::deadline::Deadline;
@@ -39,6 +40,8 @@ pub struct TimerPolicy {
     pause: u64,
     // how long the node's last raise took
     raise: u32,
+    // how many checks are to come soon: behind a recovery that gives up a silent member
+    soon: u8,
 }
 
 impl Model for TimerPolicy {
@@ -59,6 +62,7 @@ impl Model for TimerPolicy {
       rested = a.rested;
       pause = a.pause;
       raise = a.raise;
+      soon = a.soon;
     } };
 }
 
@@ -81,6 +85,7 @@ impl TimerPolicy {
             rested: 0,
             pause: 0,
             raise: 0,
+            soon: 0,
         }
     }
 
@@ -185,7 +190,14 @@ impl TimerPolicy {
         ensures runs_on { (d : Deadline) → Runs self.old snapshot.now d → d.waited < lasts self.old.setting self.old.raise snapshot.now.merge_wait d
             → self.new.deadline ≡ Some d }
         ensures set { ((d : Deadline) → Runs self.old snapshot.now d → ⊥) → (wait : Wait) → wait_of snapshot.now ≡ Some wait
-            → (d : Deadline) × (self.new.deadline ≡ Some d) × IsSet self.old.setting self.old.settled self.old.raise wait snapshot.now.group d }
+            → (d : Deadline) × (self.new.deadline ≡ Some d) × IsSet (comes_soon self.old.soon wait) self.old.setting self.old.settled self.old.raise wait snapshot.now.group d }
+        // Promise: Behind a recovery that gives up a silent member the next check comes at once, and the one behind it two round trips later; each
+        // check that was set soon is counted, and nothing else is.
+        // Also: recovers, counted, set.
+        // Refuses: no_check_comes_soon, every_check_comes_soon.
+        ensures recovers { result ≡ Some on.Recover → self.new.soon ≡ 2 }
+        ensures counted { ((d : Deadline) → Runs self.old snapshot.now d → ⊥) → (wait : Wait) → wait_of snapshot.now ≡ Some wait
+            → self.new.soon ≡ soon_left self.old.soon wait }
         // Promise: Each check is counted and settles the group; behind a dispatch work rests anew, the longer the longer it did; where the oldest job is
         // another one than was seen, it begins to; nothing else changes.
         // Also: dispatches, kept.
@@ -199,6 +211,7 @@ impl TimerPolicy {
           oldest = self.new.oldest;
           rested = self.new.rested;
           pause = self.new.pause;
+          soon = self.new.soon;
         } }
     {
         let wait = Wait::of(snapshot)?;
@@ -319,7 +332,9 @@ impl TimerPolicy {
     fn fire(&mut self, wait: Wait, snapshot: &NodeSnapshot) -> Event
         ensures value { result ≡ event_at self.old snapshot.now wait }
         ensures checks { Counts (Some result) self.old self.new }
-        ensures kept { self.new ≡ record self.old { checks = self.new.checks; settled = self.new.settled } }
+        ensures recovers { result ≡ on.Recover → self.new.soon ≡ 2 }
+        ensures goes_on { result ≢ on.Recover → self.new.soon ≡ self.old.soon }
+        ensures kept { self.new ≡ record self.old { checks = self.new.checks; settled = self.new.settled; soon = self.new.soon } }
     {
         match wait {
             Wait::Check => {
@@ -327,6 +342,7 @@ impl TimerPolicy {
                 self.settled = true;
             }
             Wait::Merge if snapshot.merge_wait.is_none() && self.has_silent(snapshot.members) => {
+                self.soon = 2;
                 return Event::Recover;
             }
             _ => {}
@@ -356,9 +372,15 @@ impl TimerPolicy {
 
     /// Sets the deadline of this wait, with its jitter.
     fn set(&mut self, wait: Wait, group: GroupNo)
-        ensures deadline { (d : Deadline) × (self.new.deadline ≡ Some d) × IsSet self.old.setting self.old.settled self.old.raise wait group d }
-        ensures kept { self.new ≡ record self.old { deadline = self.new.deadline } }
+        ensures deadline { (d : Deadline) × (self.new.deadline ≡ Some d) × IsSet (comes_soon self.old.soon wait) self.old.setting self.old.settled self.old.raise wait group d }
+        ensures kept { self.new ≡ record self.old { deadline = self.new.deadline; soon = soon_left self.old.soon wait } }
     {
+        if let Wait::Check = wait {
+            if self.soon > 0 {
+                self.set_soon(group);
+                return;
+            }
+        }
         let range = u64::from(wait.jitter(&self.setting, self.settled)) + 1;
         let jitter = u64::from(self.random.next_word()) % range;
         self.deadline = Some(Deadline {
@@ -367,6 +389,27 @@ impl TimerPolicy {
             length: u64::from(wait.least(&self.setting, self.settled))
                 + jitter
                 + u64::from(wait.patience(self.raise)),
+            waited: 0,
+            put_off: false,
+        });
+    }
+
+    /// Sets the deadline of a check that comes soon: the first at once, the second two round trips later.
+    fn set_soon(&mut self, group: GroupNo)
+        requires { 0 < self.old.soon }
+        ensures deadline { (d : Deadline) × (self.new.deadline ≡ Some d) × IsSet (soon_by self.old.soon) self.old.setting self.old.settled self.old.raise wait.Check group d }
+        ensures kept { self.new ≡ record self.old { deadline = self.new.deadline; soon = self.old.soon - 1 } }
+    {
+        let length = if self.soon == 1 {
+            (2 * u64::from(self.setting.unit)).max(1)
+        } else {
+            1
+        };
+        self.soon = self.soon - 1;
+        self.deadline = Some(Deadline {
+            wait: Wait::Check,
+            group,
+            length,
             waited: 0,
             put_off: false,
         });
