@@ -12,6 +12,7 @@ use Rattle.node_session.specs.Turns.{Turn, after_turn, end_of, IsFired, IsTimely
 use Rattle.pace.specs.Retransmission.{Waits}
 use Rattle.node_session.specs.Chains.{AreGoing, AreTimely, IsOne, after_turns, last_end, waits_turn, waits_turns}
 use Rattle.node_session.specs.Text.{fired_by, fired_line, fired_news, turn_text, turns_text, no_news}
+use Rattle.node_session.specs.Exact.{IsCallOf, AreCallsOf}
 use Rattle.node_session.specs.Serving.{Progress, IsNodeOf, Turned, Turns, Calls}
 
 -- ---- one more turn behind others
@@ -37,6 +38,11 @@ waits_more : (self nodes : ℕ) (s : NodeState) (ts : List Turn) (t : Turn) (w :
     → waits_turns self nodes s (ts ++ t ∷ []) w ≡ waits_turn self nodes (after_turns self nodes s ts) t (waits_turns self nodes s ts w)
 waits_more self nodes s [] t w = refl
 waits_more self nodes s (u ∷ ts) t w = waits_more self nodes (after_turn self nodes s u) ts t (waits_turn self nodes s u w)
+
+calls_more : {Disk : Type 0} (disks : Disk → DiskState) (self nodes : ℕ) (s : NodeState) (ts : List Turn) (t : Turn) (old mid new : Node Disk) → AreCallsOf disks self nodes s ts old mid
+    → IsCallOf disks self nodes (after_turns self nodes s ts) t mid new → AreCallsOf disks self nodes s (ts ++ t ∷ []) old new
+calls_more {Disk} disks self nodes s [] t old mid new all more = (new, subst (λ (n : Node Disk). IsCallOf disks self nodes s t n new) all more, refl)
+calls_more disks self nodes s (u ∷ ts) t old mid new all more = (all.0, all.1, calls_more disks self nodes (after_turn self nodes s u) ts t all.0 mid new all.2 more)
 
 three_and_more : (a b c d : List ℕ) → a ++ (b ++ (c ++ d)) ≡ (a ++ (b ++ c)) ++ d
 three_and_more a b c d = ap (λ (x : List ℕ). a ++ x) (sym (append_assoc b c d)) ∙ sym (append_assoc a (b ++ c) d)
@@ -81,6 +87,7 @@ one_call disks old new May before ended a = record {
       record {
         turns = x.turn ∷ [];
         may = x.may;
+        exact = (new.node, x.exact, refl);
         honest = λ honest. (x.honest honest, tt);
         stands = x.stands;
         ended_so = x.ended_so;
@@ -93,7 +100,7 @@ pub no_call : {Disk : Type 0} (disks : Disk → DiskState) (p : Progress Disk) (
 no_call disks p before = record {
   node = node_refl disks p.node;
   same = refl;
-  called = λ was s is stands. record { turns = []; may = tt; honest = λ honest. tt; stands = stands; ended_so = refl; text = sym (append-nil p.text); waits = refl };
+  called = λ was s is stands. record { turns = []; may = tt; exact = refl; honest = λ honest. tt; stands = stands; ended_so = refl; text = sym (append-nil p.text); waits = refl };
 }
 
 both_texts : (a b c x y : List ℕ) → b ≡ a ++ x → c ≡ b ++ y → c ≡ a ++ (x ++ y)
@@ -117,6 +124,7 @@ call_more {Disk} disks old mid new event said before between ended fired fires a
       record {
         turns = x.turns ++ y.turn ∷ [];
         may = timely_more old.node.id old.node.nodes (slots_for (disks was).sectors) s x.turns y.turn x.may (record { event = event; fired = fired; may = may });
+        exact = calls_more disks old.node.id old.node.nodes s x.turns y.turn old.node mid.node new.node x.exact y.exact;
         honest = λ honest. going_more x.turns y.turn (x.honest honest) (y.honest (d.honest ∙ honest));
         stands = subst (λ (u : NodeState). Stands disks new.node u) (sym (after_more old.node.id old.node.nodes s x.turns y.turn)) y.stands;
         ended_so = y.ended_so ∙ sym (end_more old.node.id old.node.nodes before s x.turns y.turn);

@@ -25,7 +25,7 @@ use Rattle.histories.specs.declared.event_outcome.EventOutcome.{EventOutcome}
 use Rattle.histories.specs.declared.event_outcome.EventOutcome.TheVariants as event_outcome
 use Rattle.histories.specs.After.{after, sent_at}
 use Rattle.histories.specs.Possible.{IsOfSlots}
-use Rattle.durable_node.specs.Compacting.{Compacts, CompactionAnswers, RestAnswers}
+use Rattle.durable_node.specs.Compacting.{CompactionAnswers, RestAnswers}
 use Rattle.durable_node.specs.Changes.{AreChanges, Sight, dropped_since, seen_of, taken_since, told_anew, view_of}
 use Rattle.durable_node.specs.declared.changes.Changes.{Changes}
 use Rattle.durable_node.specs.declared.group_view.GroupView.{GroupView}
@@ -40,6 +40,7 @@ use Rattle.node_session.specs.Turns.{Turn, Goes, Unmounted, Begins, MayComeOf, M
 use Rattle.pace.specs.Retransmission.{Waits, waits_behind}
 use Rattle.node_session.specs.Changes.{changes, gone_news, is_finish, news}
 use Rattle.node_session.specs.Text.{call_text, send_lines}
+use Rattle.node_session.specs.Exact.{CompactionSays, IsCallBy, StepSays}
 use Rattle.node_session.specs.Serving.{Progress, IsNodeOf, Turns}
 
 -- what came of an event over a disk, and how it is written
@@ -209,11 +210,11 @@ three_texts a b c d x y z first second third =
 pub event_turns : {Disk : Type 0} (disks : Disk → DiskState) (old : Progress Disk) (node' : Node Disk) (event : Event) (reply : Result StepReport NodeFault) (waits : Waits) (sent changed text : List ℕ)
     → node'.id ≡ old.node.id → node'.nodes ≡ old.node.nodes → IfOk reply (Steps disks old.node node' event) → IfErr reply (Stuck disks old.node node' event) → reply ≢ Err (node.Core NoMemory)
     → (is_down old.node.state.phase ≡ true → event ≡ on.Recover → Remounted old.node node' (answered reply) node'.mounted) → (is_down old.node.state.phase ≡ true → old.node.state ≡ down_state old.node.id)
-    → CountsOf disks old.node.disk node'.disk (answered reply)
+    → CountsOf disks old.node.disk node'.disk (answered reply) → StepSays disks old.node event reply node'
     → waits ≡ waits_behind (Some event) (sent_by (answered reply)) node'.state old.waits
     → sent ≡ old.text ++ send_lines (sent_by (answered reply)) → changed ≡ sent ++ changes (is_finish (Some event)) old.node.state node'.state → text ≡ changed ++ gone_news (Some event) (ended_by (answered reply))
     → Turns disks old (record old { node = node'; text = text; waits = waits }) (λ i n. MayComeOf i n event) (ended_by (answered reply))
-event_turns {Disk} disks old node' event reply waits sent changed text id nodes steps stuck memory mounting fallen counts waited first second third = record {
+event_turns {Disk} disks old node' event reply waits sent changed text id nodes steps stuck memory mounting fallen counts says waited first second third = record {
   node = same_node disks old.node node' (answered reply) id nodes counts;
   same = refl;
   turned = λ was s is stands. (let h = happens disks old.node node' event reply was s steps stuck memory mounting fallen is stands
@@ -225,6 +226,8 @@ event_turns {Disk} disks old node' event reply waits sent changed text id nodes 
       record {
         turn = h.turn;
         may = h.may;
+        exact = subst (λ (o : Option Event). IsCallBy disks o old.node (sent_in self count s h.turn) (end_of self count s h.turn) node') (caused self count (slots_for (disks was).sectors) s event h.turn h.may)
+            (record { reply = reply; ended_so = sym h.ended; sent_so = sym h.sent; says = says });
         honest = h.going;
         stands = h.stands;
         ended_so = h.ended;
@@ -251,15 +254,15 @@ changed_so finished seen old new came sent changed sees are said =
 pub turn_so : {Disk : Type 0} (disks : Disk → DiskState) (old here : Progress Disk) (node' : Node Disk) (event : Event) (reply : Result StepReport NodeFault) (ended : CallOutcome) (finished : Bool) (seen : Sight) (came : Changes) (behind : State)
     (given : List Envelope) (waits : Waits) (sent changed text : List ℕ) → here ≡ old → node'.id ≡ here.node.id → node'.nodes ≡ here.node.nodes → IfOk reply (Steps disks here.node node' event) → IfErr reply (Stuck disks here.node node' event) → reply ≢ Err (node.Core NoMemory)
     → (is_down here.node.state.phase ≡ true → event ≡ on.Recover → Remounted here.node node' (answered reply) node'.mounted) → (is_down here.node.state.phase ≡ true → here.node.state ≡ down_state here.node.id)
-    → CountsOf disks here.node.disk node'.disk (answered reply)
+    → CountsOf disks here.node.disk node'.disk (answered reply) → StepSays disks here.node event reply node'
     → seen ≡ seen_of here.node.state → AreChanges seen node'.state came → finished ≡ is_finish (Some event) → ended ≡ ended_by (answered reply)
     → given ≡ sent_by (answered reply) → behind ≡ node'.state → waits ≡ waits_behind (Some event) given behind here.waits
     → sent ≡ here.text ++ send_lines given → changed ≡ sent ++ news finished came.group came.taken.items came.dropped.items → text ≡ changed ++ gone_news (Some event) ended
     → Turns disks old (record here { node = node'; text = text; waits = waits }) (λ i n. MayComeOf i n event) ended
-turn_so {Disk} disks old here node' event reply ended finished seen came behind given waits sent changed text is id nodes steps stuck memory mounting fallen counts sees are finish ends_so given_so then waited first second third =
+turn_so {Disk} disks old here node' event reply ended finished seen came behind given waits sent changed text is id nodes steps stuck memory mounting fallen counts says sees are finish ends_so given_so then waited first second third =
     subst (λ (p : Progress Disk). Turns disks p (record here { node = node'; text = text; waits = waits }) (λ i n. MayComeOf i n event) ended) is
     (subst (λ (e : CallOutcome). Turns disks here (record here { node = node'; text = text; waits = waits }) (λ i n. MayComeOf i n event) e) (sym ends_so)
-    (event_turns disks here node' event reply waits sent changed text id nodes steps stuck memory mounting fallen counts
+    (event_turns disks here node' event reply waits sent changed text id nodes steps stuck memory mounting fallen counts says
     (waited ∙ (ap (λ (ms : List Envelope). waits_behind (Some event) ms behind here.waits) given_so ∙ ap (λ (v : State). waits_behind (Some event) (sent_by (answered reply)) v here.waits) then))
     (first ∙ ap (λ (ms : List Envelope). here.text ++ send_lines ms) given_so)
     (changed_so (is_finish (Some event)) seen here.node.state node'.state came sent changed sees are
@@ -292,14 +295,14 @@ silent_text x y (end.Done None) = sym (append-nil (changes false x y))
 silent_text x y (end.Done (Some id)) = sym (append-nil (changes false x y))
 silent_text x y (end.Denied fault) = sym (append-nil (changes false x y))
 
-pub compaction_turns : {Disk A : Type 0} (disks : Disk → DiskState) (old : Progress Disk) (node' : Node Disk) (result : Result A NodeFault) (waits : Waits) (text : List ℕ)
-    → node'.id ≡ old.node.id → node'.nodes ≡ old.node.nodes → Compacts disks old.node node' result → CountsOf disks old.node.disk node'.disk result
+pub compaction_turns : {Disk : Type 0} (disks : Disk → DiskState) (old : Progress Disk) (node' : Node Disk) (result : Result Unit NodeFault) (waits : Waits) (text : List ℕ)
+    → node'.id ≡ old.node.id → node'.nodes ≡ old.node.nodes → CompactionSays disks old.node result node'
     → waits ≡ waits_behind None [] node'.state old.waits → text ≡ old.text ++ changes false old.node.state node'.state
     → Turns disks old (record old { node = node'; text = text; waits = waits }) MayCompact (compaction_end result)
-compaction_turns {Disk} disks old node' result waits text id nodes compacts counts waited said = record {
-  node = same_node disks old.node node' result id nodes counts;
+compaction_turns {Disk} disks old node' result waits text id nodes says waited said = record {
+  node = same_node disks old.node node' result id nodes says.counts;
   same = refl;
-  turned = λ was s is stands. (let step = compacts was s is stands in
+  turned = λ was s is stands. (let step = says.step was s is stands in
       let what = step.0 in
       let self = old.node.id in
       let count = old.node.nodes in
@@ -308,6 +311,8 @@ compaction_turns {Disk} disks old node' result waits text id nodes compacts coun
       record {
         turn = Goes what;
         may = (of.of, step.2, of.of_slots);
+        exact = subst (λ (o : Option Event). IsCallBy disks o old.node (sent_at self count s what) (end_at self count s what) node') (sym of.causeless)
+            (record { result = result; ended_so = sym of.ended; says = says });
         honest = λ honest. tt;
         stands = step.3;
         ended_so = of.ended;
@@ -323,14 +328,14 @@ compaction_turns {Disk} disks old node' result waits text id nodes compacts coun
       });
 }
 
-pub compaction_so : {Disk A : Type 0} (disks : Disk → DiskState) (old here : Progress Disk) (node' : Node Disk) (result : Result A NodeFault) (ended : CallOutcome) (seen : Sight) (came : Changes) (behind : State) (waits : Waits) (text : List ℕ)
-    → here ≡ old → node'.id ≡ here.node.id → node'.nodes ≡ here.node.nodes → Compacts disks here.node node' result → CountsOf disks here.node.disk node'.disk result
+pub compaction_so : {Disk : Type 0} (disks : Disk → DiskState) (old here : Progress Disk) (node' : Node Disk) (result : Result Unit NodeFault) (ended : CallOutcome) (seen : Sight) (came : Changes) (behind : State) (waits : Waits) (text : List ℕ)
+    → here ≡ old → node'.id ≡ here.node.id → node'.nodes ≡ here.node.nodes → CompactionSays disks here.node result node'
     → seen ≡ seen_of here.node.state → AreChanges seen node'.state came → ended ≡ compaction_end result
     → behind ≡ node'.state → waits ≡ waits_behind None [] behind here.waits
     → text ≡ here.text ++ news false came.group came.taken.items came.dropped.items
     → Turns disks old (record here { node = node'; text = text; waits = waits }) MayCompact ended
-compaction_so {Disk} disks old here node' result ended seen came behind waits text is id nodes compacts counts sees are ends_so then waited said =
+compaction_so {Disk} disks old here node' result ended seen came behind waits text is id nodes says sees are ends_so then waited said =
     subst (λ (p : Progress Disk). Turns disks p (record here { node = node'; text = text; waits = waits }) MayCompact ended) is
     (subst (λ (e : CallOutcome). Turns disks here (record here { node = node'; text = text; waits = waits }) MayCompact e) (sym ends_so)
-    (compaction_turns disks here node' result waits text id nodes compacts counts (waited ∙ ap (λ (v : State). waits_behind None [] v here.waits) then)
+    (compaction_turns disks here node' result waits text id nodes says (waited ∙ ap (λ (v : State). waits_behind None [] v here.waits) then)
     (changed_so false seen here.node.state node'.state came here.text text sees are said)))

@@ -5,6 +5,8 @@ mod Calls
 mod Servings
 mod Sealings
 mod Happens
+mod Refusals
+mod Failures
 mod Histories
 mod Climbing
 mod Taking

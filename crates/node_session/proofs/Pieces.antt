@@ -29,7 +29,7 @@ behind_text disks mid new piece a = record {
   serves = record {
     node = a.serves.node;
     served = λ was s is stands. (let x = a.serves.served was s is stands in
-        record { all = x.all; came = x.came; honest = x.honest; state = x.state; stands = x.stands; left = x.left; text = ap (λ (t : List ℕ). mid.text ++ t) x.text });
+        record { all = x.all; came = x.came; exact = x.exact; honest = x.honest; state = x.state; stands = x.stands; left = x.left; text = ap (λ (t : List ℕ). mid.text ++ t) x.text });
   };
 }
 
@@ -44,7 +44,7 @@ serves_rest : {Disk : Type 0} (disks : Disk → DiskState) (old new : Progress D
 serves_rest disks old new lines was now a = record {
   node = a.node;
   served = λ was s is stands. (let x = a.served was s is stands in
-      record { all = x.all; came = x.came; honest = x.honest; state = x.state; stands = x.stands; left = x.left; text = x.text });
+      record { all = x.all; came = x.came; exact = x.exact; honest = x.honest; state = x.state; stands = x.stands; left = x.left; text = x.text });
 }
 
 -- a piece, as the code takes it

@@ -20,7 +20,8 @@ use Rattle.node_session.specs.Lines.{At, AreOf, Comes, after_by, after_asked, af
 use Rattle.node_session.specs.Text.{answer, answer_at_once, closing, event_closing, fired_news, keeps_news, next_line, send_lines, turns_text, no_news}
 use Rattle.node_session.specs.Serving.{Progress, Called, Calls, IsNodeOf, Replies, Served, Serves, Turns, at_of}
 use Rattle.node_session.proofs.Calls.{at_node, node_refl, node_then, one_call}
-use Rattle.node_session.proofs.Lines.{of_both, after_both, going_both, answers_both}
+use Rattle.node_session.specs.Exact.{AreCallsIn, AreCallsOf}
+use Rattle.node_session.proofs.Lines.{of_both, after_both, calls_both, going_both, answers_both}
 
 both_texts : (a b c x y : List ℕ) → b ≡ a ++ x → c ≡ b ++ y → c ≡ a ++ (x ++ y)
 both_texts a b c x y first second = second ∙ (ap (λ (t : List ℕ). t ++ y) first ∙ append_assoc a x y)
@@ -43,6 +44,7 @@ serves_then {Disk} disks old mid new ls ms a b = record {
       record {
         all = x.all ++ y.all;
         came = of_both id nodes (slots_for (disks was).sectors) start ls ms x.all y.all x.came came;
+        exact = calls_both disks id nodes (slots_for (disks was).sectors) start ls ms x.all y.all old.node mid.node new.node x.came x.exact (subst (λ (t : At). AreCallsIn disks id nodes t ms y.all mid.node new.node) x.left y.exact);
         honest = λ honest. going_both x.all y.all (x.honest honest) (y.honest (d.honest ∙ honest));
         state = y.state;
         stands = y.stands;
@@ -56,7 +58,7 @@ serves_then {Disk} disks old mid new ls ms a b = record {
 pub serves_none : {Disk : Type 0} (disks : Disk → DiskState) (p : Progress Disk) → Serves disks p p []
 serves_none disks p = record {
   node = node_refl disks p.node;
-  served = λ was s is stands. record { all = []; came = tt; honest = λ honest. tt; state = s; stands = stands; left = refl; text = sym (append-nil p.text) };
+  served = λ was s is stands. record { all = []; came = tt; exact = refl; honest = λ honest. tt; state = s; stands = stands; left = refl; text = sym (append-nil p.text) };
 }
 
 -- a line behind the last one that is answered
@@ -67,6 +69,7 @@ stopped_line disks p line stopped = record {
       record {
         all = none ∷ [];
         came = (subst (λ (b : Bool). Comes p.node.id p.node.nodes (slots_for (disks was).sectors) b s (asked_under p.seal line) none) (sym stopped) tt, tt);
+        exact = (p.node, refl, refl);
         honest = λ honest. (tt, tt);
         state = s;
         stands = stands;
@@ -126,6 +129,7 @@ sealed_so {Disk} disks old mid new line start runs starts replies sealing = reco
       record {
         all = came ∷ [];
         came = (subst (λ (b : Bool). Comes id nodes slots b s asked came) (sym runs) (x.may, x.told), tt);
+        exact = (new.node, subst (λ n. AreCallsOf disks id nodes s x.turns old.node n) (sym (ap (λ p. p.node) sealing.same)) x.exact, refl);
         honest = λ honest. (x.honest honest, tt);
         state = t;
         stands = subst (λ n. Stands disks n t) (sym (ap (λ p. p.node) sealing.same)) x.stands;
@@ -181,6 +185,7 @@ called_line {Disk} disks old here mid heading a number again ended due close beg
             due = due;
             told = told t x.stands;
             may = x.may;
+            exact = subst (λ n. AreCallsOf disks old.node.id old.node.nodes s x.turns n mid.node) same x.exact;
             honest = x.honest;
             stands = x.stands;
             stopped = ap is_failed x.ended_so;
@@ -253,6 +258,7 @@ quiet_line {Disk} disks old new a runs may same goes count waits seal text = rec
     due = None;
     told = (may old.node.id old.node.nodes (slots_for (disks was).sectors) s).1;
     may = (may old.node.id old.node.nodes (slots_for (disks was).sectors) s).0;
+    exact = same;
     honest = λ honest. tt;
     stands = subst (λ n. Stands disks n s) (sym same) stands;
     stopped = goes;

@@ -5,6 +5,7 @@ pub mod Changes
 pub mod Text
 pub mod Seals
 pub mod Lines
+pub mod Exact
 pub mod Stamping
 pub mod Sending
 pub mod Serving

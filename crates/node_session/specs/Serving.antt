@@ -1,5 +1,5 @@
 -- A session, and what feeding it does.
-use Rattle.std.specs.Prelude.{ℕ, ◌≡◌, ◌≤◌, ◌++◌, List, [], ◌∷◌, Bool, false, IsTrue, IsFalse, Option, Some, None}
+use Rattle.std.specs.Prelude.{ℕ, ◌≡◌, ◌≤◌, ◌<◌, ◌-◌, ◌^◌, ◌⊎◌, ◌++◌, List, [], ◌∷◌, Bool, true, false, IsTrue, IsFalse, Option, Some, None}
 use Rattle.sector_disk.specs.Disk.{DiskState}
 use Rattle.job_model.specs.Durable.{Durable}
 use Rattle.node_core.specs.Start.{down}
@@ -14,6 +14,7 @@ use Rattle.line_words.specs.Lines.{lines_of}
 use Rattle.node_session.specs.Turns.{Turn, Goes, Begins, begun, after_begun, after_turn, end_of, IsGoing}
 use Rattle.node_session.specs.Chains.{LineOutcome, AllGoing, AreGoing, IsTold, MayCome, after_turns, entries_in, is_failed, last_end, line_end, next, one_turn, waits_begun, waits_turn, waits_turns}
 use Rattle.node_session.specs.Lines.{At, AreOf, after_lines, answers}
+use Rattle.node_session.specs.Exact.{IsCallOf, AreCallsOf, AreCallsIn}
 use Rattle.node_session.specs.Seals.{Seals}
 use Rattle.node_session.specs.Text.{answer, turn_text, turns_text}
 use Rattle.node_session.specs.declared.asked.Asked.{Asked}
@@ -42,6 +43,8 @@ pub record Served {Disk : Type 0} (disks : Disk → DiskState) (old new : Progre
   -- of each line came something that may come of it
   pub all : List LineOutcome
   pub came : AreOf self nodes (slots_for (disks was).sectors) (at_of old s) lines all
+  -- by calls of the node, of which all holds that is said of them
+  pub exact : AreCallsIn disks self nodes (at_of old s) lines all old.node new.node
   -- over an honest disk it is one history
   pub honest : IsTrue (disks was).honest → AllGoing all
   -- the node stands for the state that this leaves
@@ -81,6 +84,7 @@ pub record Fed {Disk : Type 0} (disks : Disk → DiskState) (old : Progress Disk
 pub record Turned {Disk : Type 0} (disks : Disk → DiskState) (old new : Progress Disk) (self nodes : ℕ) (May : ℕ → ℕ → ℕ → NodeState → Turn → Type 0) (ended : CallOutcome) (was : Disk) (s : NodeState) : Type 0 where
   pub turn : Turn
   pub may : May self nodes (slots_for (disks was).sectors) s turn
+  pub exact : IsCallOf disks self nodes s turn old.node new.node
   pub honest : IsTrue (disks was).honest → IsGoing turn
   pub stands : Stands disks new.node (after_turn self nodes s turn)
   pub ended_so : ended ≡ end_of self nodes s turn
@@ -99,6 +103,7 @@ pub record Turns {Disk : Type 0} (disks : Disk → DiskState) (old new : Progres
 pub record Called {Disk : Type 0} (disks : Disk → DiskState) (old new : Progress Disk) (self nodes : ℕ) (heading : Turn → List ℕ) (May : ℕ → ℕ → ℕ → NodeState → List Turn → Type 0) (before ended : CallOutcome) (was : Disk) (s : NodeState) : Type 0 where
   pub turns : List Turn
   pub may : May self nodes (slots_for (disks was).sectors) s turns
+  pub exact : AreCallsOf disks self nodes s turns old.node new.node
   pub honest : IsTrue (disks was).honest → AreGoing turns
   pub stands : Stands disks new.node (after_turns self nodes s turns)
   pub ended_so : ended ≡ last_end self nodes before s turns
@@ -119,6 +124,7 @@ pub record Replied {Disk : Type 0} (disks : Disk → DiskState) (old new : Progr
   pub due : Option ℕ
   pub told : IsTold a (after_turns old.node.id old.node.nodes s turns) due
   pub may : MayCome old.node.id old.node.nodes (slots_for (disks was).sectors) s a turns
+  pub exact : AreCallsOf disks old.node.id old.node.nodes s turns old.node new.node
   pub honest : IsTrue (disks was).honest → AreGoing turns
   pub stands : Stands disks new.node (after_turns old.node.id old.node.nodes s turns)
   pub stopped : new.stopped ≡ is_failed (line_end old.node.id old.node.nodes s turns)
@@ -178,3 +184,9 @@ abbrev pub BeginsAnywhere : {Disk : Type 0} → (Disk → DiskState) → Type 0
 BeginsAnywhere {Disk} disks =
     (id nodes unit : ℕ) (disk : Disk) (d : Durable) → IsFalse (disks disk).honest → 24 ≤ (disks disk).sectors →
     Stands disks (opened id nodes unit disk).node (record { state = down id; durable = d; doubt = None })
+
+-- a session stops only where the disk's count of failures rose while it was fed, or is the greatest
+abbrev pub StopsWhereFailed : {Disk : Type 0} → (Disk → DiskState) → Type 0
+StopsWhereFailed {Disk} disks =
+    (old new : Progress Disk) (piece : List ℕ) (was now : Disk) (s : NodeState) → Fed disks old piece new → old.node.disk ≡ Some was → new.node.disk ≡ Some now → Stands disks old.node s →
+    old.stopped ≡ false → new.stopped ≡ true → ((disks was).failures < (disks now).failures) ⊎ (2 ^ 64 - 1 ≤ (disks now).failures)

@@ -1,7 +1,8 @@
 // Laws of sessions: the contracts of functions that do nothing.
+ghost use Rattle.node_session.specs.Exact.{DeviceWhereFailed, ExhaustedWhereNoneLeft};
 ghost use Rattle.node_session.specs.Stamping.{NoStampTwice, OpenedAlone, TakenRises};
 ghost use Rattle.node_session.specs.Sending.{SendsSealed};
-ghost use Rattle.node_session.specs.Serving.{AnyClearing, AnyCutting, BeginsAnywhere, BegunHistory, OneHistory};
+ghost use Rattle.node_session.specs.Serving.{AnyClearing, AnyCutting, BeginsAnywhere, BegunHistory, OneHistory, StopsWhereFailed};
 
 use sector_disk::SectorDisk;
 
@@ -13,6 +14,21 @@ pub fn any_cutting<D: SectorDisk>()
 /// What was answered may be written and cleared at any time: what is written in all is what is answered to all that was fed.
 pub fn any_clearing<D: SectorDisk>()
     ensures { AnyClearing D.state }
+{}
+
+/// A session stops only where the device failed.
+pub fn stops_where_failed<D: SectorDisk>()
+    ensures { StopsWhereFailed D.state }
+{}
+
+/// A call ends with `Device` only where the device failed.
+pub fn device_where_failed<D: SectorDisk>()
+    ensures { DeviceWhereFailed D.state }
+{}
+
+/// An event at a node that is up is refused as `Exhausted` only where no number is left.
+pub fn exhausted_where_none_left<D: SectorDisk>()
+    ensures { ExhaustedWhereNoneLeft D.state }
 {}
 
 /// Over an honest disk, what came of the lines is one history of the node.

@@ -26,8 +26,9 @@ mod unread;
 pub use asked::{Asked, Unsealed, read_line};
 pub use call_outcome::CallOutcome;
 pub use laws::{
-    any_clearing, any_cutting, begins_anywhere, begun_history, no_stamp_twice, one_history,
-    opened_alone, sends_sealed, taken_rises,
+    any_clearing, any_cutting, begins_anywhere, begun_history, device_where_failed,
+    exhausted_where_none_left, no_stamp_twice, one_history, opened_alone, sends_sealed,
+    stops_where_failed, taken_rises,
 };
 pub use seals::Seal;
 pub use session::Session;

@@ -171,6 +171,11 @@ impl<D: SectorDisk + Drop> Session<D> {
         // Refuses: answered_before_the_disk, line_answered_twice, bad_line_ends_serving, sent_to_the_sender, drops_unwritten,
         // takes_unwritten, durable_node::group_number_not_compared, durable_node::takes_what_was_held, gone_before_it_is_done,
         // jobs_answered_by_the_state, no_memory_goes_on.
+        // Promise: Over any disk each call that a line makes is one of which all holds that `durable_node` says of a step and of a
+        // compaction: each refusal comes exactly where its rule says, `Device` only where the disk's count of failures rose or is the
+        // greatest, and what is mounted is what the disk reads.
+        // Also: Session::turn, Session::compact, stops_where_failed, device_where_failed, exhausted_where_none_left.
+        // Refuses: device_at_will, submit_refused_as_worn, recovery_answered_damaged, done_refused_as_worn, compaction_refused_at_will.
         // Promise: A tick or a loss names each event that it makes; a recovery writes what is kept; a tick sends again what the
         // node sent and still waits for, once a round trip.
         // Refuses: node_words::fired_as_another, sent_again_without_end, pace::sent_again_at_once.
