@@ -8,6 +8,7 @@ mod Happens
 mod Refusals
 mod Failures
 mod Histories
+mod Lives
 mod Climbing
 mod Taking
 mod Cutting

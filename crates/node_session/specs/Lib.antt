@@ -7,5 +7,6 @@ pub mod Seals
 pub mod Lines
 pub mod Exact
 pub mod Stamping
+pub mod Lives
 pub mod Sending
 pub mod Serving

@@ -1,5 +1,6 @@
 // Laws of sessions: the contracts of functions that do nothing.
 ghost use Rattle.node_session.specs.Exact.{DeviceWhereFailed, ExhaustedWhereNoneLeft};
+ghost use Rattle.node_session.specs.Lives.{LivesFollow};
 ghost use Rattle.node_session.specs.Stamping.{NoStampTwice, OpenedAlone, TakenRises};
 ghost use Rattle.node_session.specs.Sending.{SendsSealed};
 ghost use Rattle.node_session.specs.Serving.{AnyClearing, AnyCutting, BeginsAnywhere, BegunHistory, OneHistory, StopsWhereFailed};
@@ -79,4 +80,9 @@ pub fn taken_rises()
     // Promise: The stamps of what is taken of one sender rise.
     // Refuses: stale_message_taken, old_stamp_kept.
     ensures { TakenRises }
+{}
+
+/// All processes of a node over an honest disk are one history, with a crash in front of each.
+pub fn lives_follow()
+    ensures { LivesFollow }
 {}
