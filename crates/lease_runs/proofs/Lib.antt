@@ -1,0 +1,7 @@
+mod Quorum
+mod Epochs
+mod Apart
+mod Happens
+mod Growing
+mod Holding
+mod Voting

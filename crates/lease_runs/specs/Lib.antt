@@ -1,0 +1,9 @@
+pub mod Lists
+pub mod Voter
+pub mod Run
+pub mod Laws
+pub mod Code
+pub mod Growing
+pub mod Candidate
+pub mod Holding
+pub mod CandidateCode
