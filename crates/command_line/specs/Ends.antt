@@ -35,6 +35,8 @@ code_of (status.Lost error) = 7
 abbrev pub stopped_at : ErrorKind → Error → Status
 stopped_at kind.NotFound = status.Lost
 stopped_at kind.UnexpectedEof = status.Lost
+stopped_at kind.StorageFull = λ error. status.File (fault.NoRoom error)
+stopped_at kind.QuotaExceeded = λ error. status.File (fault.NoRoom error)
 stopped_at _ = λ error. status.Device (Some error)
 
 -- how a node ends that can't go on over its file

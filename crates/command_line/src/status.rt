@@ -65,12 +65,18 @@ fn code_for(fault: OpenFault) -> u8
 
 /// How a node ends that can't go on over its file, by what was said of that.
 pub(crate) fn stopped(why: Option<io::Error>) -> Status
+    // Promise: A file that was removed or became shorter, and a file system without room for a write, are no failed device.
+    // Refuses: full_file_system_is_a_failed_device.
     ensures { result ≡ stopped why }
 {
     match why {
         None => Status::Device(None),
         Some(error) => match error.kind() {
             ErrorKind::NotFound | ErrorKind::UnexpectedEof => Status::Lost(error),
+            // no failed device: there may be room again
+            ErrorKind::StorageFull | ErrorKind::QuotaExceeded => {
+                Status::File(OpenFault::NoRoom(error))
+            }
             _ => Status::Device(Some(error)),
         },
     }
