@@ -139,6 +139,13 @@ impl TimerPolicy {
         self.pause = 0;
     }
 
+    /// The node recovers without a member that is silent, or that the transport gave up: its next two checks come soon.
+    pub fn gave_up(&mut self)
+        ensures { self.new ≡ record self.old { soon = 2 } }
+    {
+        self.soon = 2;
+    }
+
     /// It is so late now. What is waited for is nearer by the time that went by since it was told last, less what the node spent itself; where
     /// the clock fell back, by nothing.
     pub fn pass(&mut self, now: u64)
@@ -193,7 +200,7 @@ impl TimerPolicy {
             → (d : Deadline) × (self.new.deadline ≡ Some d) × IsSet (comes_soon self.old.soon wait) self.old.setting self.old.settled self.old.raise wait snapshot.now.group d }
         // Promise: Behind a recovery that gives up a silent member the next check comes at once, and the one behind it two round trips later; each
         // check that was set soon is counted, and nothing else is.
-        // Also: recovers, counted, set.
+        // Also: recovers, counted, set, TimerPolicy::gave_up.
         // Refuses: no_check_comes_soon, every_check_comes_soon.
         ensures recovers { result ≡ Some on.Recover → self.new.soon ≡ 2 }
         ensures counted { ((d : Deadline) → Runs self.old snapshot.now d → ⊥) → (wait : Wait) → wait_of snapshot.now ≡ Some wait
@@ -342,7 +349,7 @@ impl TimerPolicy {
                 self.settled = true;
             }
             Wait::Merge if snapshot.merge_wait.is_none() && self.has_silent(snapshot.members) => {
-                self.soon = 2;
+                self.gave_up();
                 return Event::Recover;
             }
             _ => {}
