@@ -3,9 +3,9 @@
 
     failed_device.py PROGRAM
 
-The file lies on a file system over /dev/fuse whose device fails one write. The kernel holds that page to be clean, so a node that is started at once
-would go on over what the device never had. docs/OPERATING.md says what has to be done before: the cache of the file is dropped. The last line counts the
-checks. Where there is no /dev/fuse nothing is tried, and a line says so."""
+The file lies on a file system over /dev/fuse whose device fails one write. The kernel holds that page to be clean, so who opens the file again at once goes
+on over what the device never had, and no sync puts that right. A node's first recovery writes anew all that it keeps; a store's mounting doesn't, and shows
+what is lost then. The last line counts the checks. Where there is no /dev/fuse nothing is tried, and a line says so."""
 import os
 import shutil
 import subprocess
@@ -16,26 +16,75 @@ sys.path.insert(0, os.path.join(os.path.dirname(os.path.abspath(__file__)), "shi
 from device import Device
 
 SLOTS = 16
-# A page of 4,096 bytes has the slots 0 to 3 of the journal, so what is appended behind the fourth record touches another page. The first one is a Base.
-BEFORE, AFTER = 2, 2
+# A page of 4,096 bytes has the slots 0 to 3 of the journal: so many records leave the last of them, whose page fails, and what comes then touches another
+# page. A node's journal begins with a Base.
+RECORDS, AFTER = 3, 2
 # An append has two syncs, and each writes one page: the second is that of the gate.
 WRITE_OF_THE_GATE = 2
 
 
-def session(program, file, lines):
-    """What a node of its own cluster answers to these lines, and the status that it ends with."""
-    ran = subprocess.run([program, "node", file, "0", "1"], input="".join(f"{line}\n" for line in lines), capture_output=True, text=True, timeout=600, check=False)
-    return ran.stdout.splitlines(), ran.returncode
+class Node:
+    """A node alone in its cluster."""
+
+    begin, before, failing, more, listing = ["recover"], RECORDS - 1, "submit 0 63", "submit 0 62", ["recover", "jobs"]
+    failed = (["fault 2 Device"], 3)
+
+    def __init__(self, program):
+        self.program = program
+
+    def session(self, file, lines):
+        """What is answered to these lines, and the status."""
+        ran = subprocess.run(self.words(file), input="".join(f"{line}\n" for line in lines), capture_output=True, text=True, timeout=600, check=False)
+        return ran.stdout.splitlines(), ran.returncode
+
+    def fail_once(self, file, device):
+        """The answers to one more job, at whose gate the device fails, and the status."""
+        node = subprocess.Popen(self.words(file), stdin=subprocess.PIPE, stdout=subprocess.PIPE, stderr=subprocess.DEVNULL, text=True, bufsize=1)
+        node.stdin.write("recover\n")
+        while not node.stdout.readline().startswith("ok "):
+            pass
+        device.fail_write(WRITE_OF_THE_GATE)
+        node.stdin.write(f"{self.failing}\n")
+        node.stdin.close()
+        answers = node.stdout.read().splitlines()
+        return answers[-1:], node.wait(600)
+
+    def make(self, file):
+        subprocess.run([self.program, "format", file, str(SLOTS), "0", "1"], check=True)
+
+    def words(self, file):
+        return [self.program, "node", file, "0", "1"]
+
+    def ids(self, answers):
+        """The ids of the jobs that were acknowledged."""
+        return [int(answer.split()[3]) for answer in answers if answer.startswith("ok ") and " id " in answer]
+
+    def kept(self, answers):
+        return [int(answer.split()[1]) for answer in answers if answer.startswith("pending ")]
 
 
-def ids(answers):
-    """The ids of the jobs that were acknowledged."""
-    return [int(answer.split()[3]) for answer in answers if answer.startswith("ok ") and " id " in answer]
+class Store(Node):
+    """A store, whose lines are answered once all are read."""
 
+    begin, before, failing, more, listing = ["mount"], RECORDS, "put 0 63", "put 0 62", ["mount", "list"]
+    failed = (["refused Device"], 0)
 
-def kept(answers):
-    """The ids of the jobs that `jobs` names as pending."""
-    return [int(answer.split()[1]) for answer in answers if answer.startswith("pending ")]
+    def fail_once(self, file, device):
+        device.fail_write(WRITE_OF_THE_GATE)
+        answers, status = self.session(file, self.begin + [self.failing])
+        return answers[-1:], status
+
+    def make(self, file):
+        self.session(file, [f"format {SLOTS}"])
+
+    def words(self, file):
+        return [self.program, "store", file]
+
+    def ids(self, answers):
+        return [int(answer.split()[1]) for answer in answers if answer.startswith("ok ")]
+
+    def kept(self, answers):
+        return [int(answer.split()[1]) for answer in answers if answer.startswith("job ")]
 
 
 def drop_cache(file):
@@ -44,38 +93,29 @@ def drop_cache(file):
 
 
 class Tried:
-    """A node acknowledges jobs, its device fails at the gate of one more, and it is started again; then the power is lost."""
+    """Jobs are acknowledged, the device fails at the gate of one more, and the file is opened again; then the power is lost."""
 
-    def __init__(self, program, room, has_dropped_cache):
+    def __init__(self, kind, room, has_dropped_cache):
         folder = os.path.join(room, "disk")
         os.mkdir(folder)
         with Device(folder) as device:
             file = os.path.join(folder, "node")
-            subprocess.run([program, "format", file, str(SLOTS), "0", "1"], check=True)
-            first, _ = session(program, file, ["recover"] + ["submit 0 61"] * BEFORE)
-            self.failing, self.status = self.fail_once(program, file, device)
+            kind.make(file)
+            first, _ = kind.session(file, kind.begin + [kind.more] * kind.before)
+            self.answered = kind.fail_once(file, device)
             if has_dropped_cache:
                 drop_cache(file)
-            again, _ = session(program, file, ["recover"] + ["submit 0 62"] * AFTER)
+            again, _ = kind.session(file, kind.begin + [kind.more] * AFTER)
             self.failed = device.failed
-            self.acknowledged = ids(first) + ids(again)
+            self.acknowledged = kind.ids(first) + kind.ids(again)
             left = os.path.join(room, "left")
             with open(left, "wb") as out:
                 out.write(device.held("node"))
-        self.left = kept(session(program, left, ["recover", "jobs"])[0])
+        self.left = kind.kept(kind.session(left, kind.listing)[0])
         os.rmdir(folder)
 
-    def fail_once(self, program, file, device):
-        """A node that submits one more job, at whose gate the device fails."""
-        node = subprocess.Popen([program, "node", file, "0", "1"], stdin=subprocess.PIPE, stdout=subprocess.PIPE, stderr=subprocess.DEVNULL, text=True, bufsize=1)
-        node.stdin.write("recover\n")
-        while not node.stdout.readline().startswith("ok "):
-            pass
-        device.fail_write(WRITE_OF_THE_GATE)
-        node.stdin.write("submit 0 63\n")
-        node.stdin.close()
-        answers = node.stdout.read().splitlines()
-        return answers, node.wait(600)
+    def is_kept(self):
+        return set(self.acknowledged) <= set(self.left) and len(set(self.acknowledged)) == len(self.acknowledged)
 
 
 def main():
@@ -90,23 +130,26 @@ def main():
             problems.append(name)
 
     room = tempfile.mkdtemp()
+    node, store = Node(program), Store(program)
     try:
-        careless = Tried(program, tempfile.mkdtemp(dir=room), False)
-        careful = Tried(program, tempfile.mkdtemp(dir=room), True)
+        tries = [
+            ("a node at once", node, Tried(node, tempfile.mkdtemp(dir=room), False)),
+            ("a node, cache dropped", node, Tried(node, tempfile.mkdtemp(dir=room), True)),
+            ("a store at once", store, Tried(store, tempfile.mkdtemp(dir=room), False)),
+            ("a store, cache dropped", store, Tried(store, tempfile.mkdtemp(dir=room), True)),
+        ]
     except OSError as error:
         print(f"failed_device.py: no file system over /dev/fuse ({error}), so no device was failed")
         print("0 passed, 0 failed")
         return 0
     finally:
         shutil.rmtree(room, ignore_errors=True)
-    for name, tried in (("cache kept", careless), ("cache dropped", careful)):
+    for name, kind, tried in tries:
         check(f"{name}: the device failed once: {tried.failed}", tried.failed == 1)
-        check(f"{name}: the node said so and ended: {tried.failing} {tried.status}", tried.failing[-1:] == ["fault 2 Device"] and tried.status == 3)
-        check(f"{name}: so many jobs were acknowledged: {tried.acknowledged}", len(tried.acknowledged) == BEFORE + AFTER)
-    check(f"cache dropped: an acknowledged job is lost: {careful.acknowledged}, left {careful.left}", set(careful.acknowledged) <= set(careful.left))
-    check(f"cache dropped: an id came twice: {careful.acknowledged}", len(set(careful.acknowledged)) == BEFORE + AFTER)
-    # that the file system shows the fault at all
-    check(f"cache kept: nothing was lost: {careless.acknowledged}, left {careless.left}", not set(careless.acknowledged) <= set(careless.left))
+        check(f"{name}: that was said: {tried.answered}", tried.answered == kind.failed)
+        check(f"{name}: so many jobs were acknowledged: {tried.acknowledged}", len(tried.acknowledged) == kind.before + AFTER)
+        # a store that is opened at once shows that the file system loses them
+        check(f"{name}: acknowledged {tried.acknowledged}, left {tried.left}", tried.is_kept() == (name != "a store at once"))
     for problem in problems:
         print(problem)
     print(f"{passed} passed, {len(problems)} failed")

@@ -1,5 +1,5 @@
 -- Calls of the node, one behind another.
-use Rattle.std.proofs.Common.{◌≡◌, ℕ, List, [], ◌∷◌, ◌++◌, refl, sym, ap, ◌∙◌, subst, append_assoc, append-nil, Result, Ok, Err}
+use Rattle.std.proofs.Common.{◌≡◌, ℕ, List, [], ◌∷◌, ◌++◌, Bool, true, false, None, refl, sym, ap, ◌∙◌, subst, append_assoc, append-nil, Result, Ok, Err}
 use Rattle.std.specs.Prelude.{IfOk}
 use Rattle.sector_disk.specs.Disk.{DiskState}
 use Rattle.node_core.specs.declared.event.Event.{Event}
@@ -8,9 +8,11 @@ use Rattle.durable_node.specs.Node.{Node, Stands}
 use Rattle.histories.specs.NodeState.{NodeState}
 use Rattle.node_session.proofs.Happens.{caused}
 use Rattle.node_session.specs.declared.call_outcome.CallOutcome.{CallOutcome}
-use Rattle.node_session.specs.Turns.{Turn, after_turn, end_of, IsFired, IsTimely, IsGoing, MayComeOf}
+use Rattle.node_session.specs.declared.call_outcome.CallOutcome.TheVariants as end
+use Rattle.node_core.specs.State.{State, is_down}
+use Rattle.node_session.specs.Turns.{Turn, after_turn, end_of, IsFired, IsTimely, IsGoing, MayComeOf, MayCompact}
 use Rattle.pace.specs.Retransmission.{Waits}
-use Rattle.node_session.specs.Chains.{AreGoing, AreTimely, IsOne, after_turns, last_end, waits_turn, waits_turns}
+use Rattle.node_session.specs.Chains.{AreGoing, AreTimely, ComesAndEnds, IsOne, IsWrittenAnew, brought_up, after_turns, last_end, waits_turn, waits_turns}
 use Rattle.node_session.specs.Text.{fired_by, fired_line, fired_news, turn_text, turns_text, no_news}
 use Rattle.node_session.specs.Exact.{IsCallOf, AreCallsOf}
 use Rattle.node_session.specs.Serving.{Progress, IsNodeOf, Turned, Turns, Calls}
@@ -96,15 +98,70 @@ one_call disks old new May before ended a = record {
       });
 }
 
+both_texts : (a b c x y : List ℕ) → b ≡ a ++ x → c ≡ b ++ y → c ≡ a ++ (x ++ y)
+both_texts a b c x y first second = second ∙ (ap (λ (t : List ℕ). t ++ y) first ∙ append_assoc a x y)
+
+-- a node is brought up as its states say
+up_so : {Disk : Type 0} (disks : Disk → DiskState) (old new : Node Disk) (s t : NodeState) (b : Bool) → Stands disks old s → Stands disks new t
+    → brought_up (is_down old.state.phase) (is_down new.state.phase) ≡ b → brought_up (is_down s.state.phase) (is_down t.state.phase) ≡ b
+up_so disks old new s t b before behind is =
+    ap (λ (x : State). brought_up (is_down x.phase) (is_down t.state.phase)) (sym before.state) ∙ (ap (λ (x : State). brought_up (is_down old.state.phase) (is_down x.phase)) (sym behind.state) ∙ is)
+
+-- the call of an event that brings no node up
+pub step_alone : {Disk : Type 0} (disks : Disk → DiskState) (old new : Progress Disk) (event : Event) (ended : CallOutcome) → Turns disks old new (λ i n. MayComeOf i n event) ended
+    → brought_up (is_down old.node.state.phase) (is_down new.node.state.phase) ≡ false → Calls disks old new no_news (ComesAndEnds event ended) (end.Done None) ended
+step_alone {Disk} disks old new event ended a stays = record {
+  node = a.node;
+  same = a.same;
+  called = λ was s is stands. (let x = a.turned was s is stands in
+      let t = after_turn old.node.id old.node.nodes s x.turn in
+      let none = up_so disks old.node new.node s t false stands x.stands stays in
+      record {
+        turns = x.turn ∷ [];
+        may = ((x.may, subst (λ (b : Bool). IsWrittenAnew b old.node.id old.node.nodes (slots_for (disks was).sectors) t []) (sym none) tt), x.ended_so);
+        exact = (new.node, x.exact, refl);
+        honest = λ honest. (x.honest honest, tt);
+        stands = x.stands;
+        ended_so = x.ended_so;
+        text = x.text ∙ ap (λ (t : List ℕ). old.text ++ t) (sym (append-nil (turn_text old.node.id old.node.nodes s x.turn)));
+        waits = x.waits;
+      });
+}
+
+-- one that does, and the compaction behind it
+pub step_anew : {Disk : Type 0} (disks : Disk → DiskState) (old mid new : Progress Disk) (event : Event) (step last : CallOutcome) → Turns disks old mid (λ i n. MayComeOf i n event) step
+    → brought_up (is_down old.node.state.phase) (is_down mid.node.state.phase) ≡ true → Turns disks mid new MayCompact last → Calls disks old new no_news (ComesAndEnds event step) (end.Done None) last
+step_anew {Disk} disks old mid new event step last a up b = record {
+  node = node_then disks old.node mid.node new.node a.node b.node;
+  same = b.same ∙ ap (λ (p : Progress Disk). record p { node = new.node; text = new.text; waits = new.waits }) a.same;
+  called = λ was s is stands. (let x = a.turned was s is stands in
+      let d = a.node.disk was is in
+      let id = old.node.id in
+      let nodes = old.node.nodes in
+      let t = after_turn id nodes s x.turn in
+      let y = at_node (λ i n. Turned disks mid new i n MayCompact last d.now t) old.node mid.node a.node.id a.node.nodes (b.turned d.now t d.is x.stands) in
+      let slots = slots_for (disks was).sectors in
+      let may : MayCompact id nodes slots t y.turn = subst (λ (n : ℕ). MayCompact id nodes (slots_for n) t y.turn) d.sectors y.may in
+      let brought = up_so disks old.node mid.node s t true stands x.stands up in
+      record {
+        turns = x.turn ∷ (y.turn ∷ []);
+        may = ((x.may, subst (λ (b : Bool). IsWrittenAnew b id nodes slots t (y.turn ∷ [])) (sym brought) may), x.ended_so);
+        exact = (mid.node, x.exact, (new.node, y.exact, refl));
+        honest = λ honest. (x.honest honest, (y.honest (d.honest ∙ honest), tt));
+        stands = y.stands;
+        ended_so = y.ended_so;
+        text = both_texts old.text mid.text new.text (turn_text id nodes s x.turn) (turn_text id nodes t y.turn) x.text y.text
+            ∙ ap (λ (u : List ℕ). old.text ++ (turn_text id nodes s x.turn ++ u)) (sym (append-nil (turn_text id nodes t y.turn)));
+        waits = y.waits ∙ ap (λ (w : Waits). waits_turn id nodes t y.turn w) x.waits;
+      });
+}
+
 pub no_call : {Disk : Type 0} (disks : Disk → DiskState) (p : Progress Disk) (before : CallOutcome) → Calls disks p p fired_news AreTimely before before
 no_call disks p before = record {
   node = node_refl disks p.node;
   same = refl;
   called = λ was s is stands. record { turns = []; may = tt; exact = refl; honest = λ honest. tt; stands = stands; ended_so = refl; text = sym (append-nil p.text); waits = refl };
 }
-
-both_texts : (a b c x y : List ℕ) → b ≡ a ++ x → c ≡ b ++ y → c ≡ a ++ (x ++ y)
-both_texts a b c x y first second = second ∙ (ap (λ (t : List ℕ). t ++ y) first ∙ append_assoc a x y)
 
 -- one more, behind the line that names its event
 pub call_more : {Disk : Type 0} (disks : Disk → DiskState) (old mid new : Progress Disk) (event : Event) (said : List ℕ) (before between ended : CallOutcome) → IsFired event → said ≡ mid.text ++ fired_line event

@@ -39,7 +39,7 @@ use Rattle.node_session.specs.declared.call_outcome.CallOutcome.TheVariants as e
 use Rattle.node_session.specs.Changes.{changes, drop_line, drops_by, gone_at, gone_by, gone_line, gone_news, group_by, group_news, held_text, is_finish, take_line}
 use Rattle.node_words.specs.Words.{core_name, event_word, group_part, group_text, id_text, ids_text, more_ids_text, phase_text, truth_text}
 use Rattle.node_session.specs.Turns.{Turn, after_turn, cause, end_of, sent_in}
-use Rattle.node_session.specs.Chains.{LineOutcome, IsNone, MayCome, after_turns, line_end, next}
+use Rattle.node_session.specs.Chains.{LineOutcome, IsNone, MayCome, after_turns, event_line_end, line_end, next}
 use Rattle.node_session.specs.Lines.{At, Comes, after_by, answer_by, plain_answer}
 use Rattle.node_session.specs.Seals.{Seals, Brought, NoBytes, Strange, Garbled, Opened, asked_under, brought_by, brought_word, is_fresh, life_of, numbered, sealed_behind, sealed_lines, taken_brought, taken_fresh, taken_sealed, taken_under, taken_words, written}
 use Rattle.node_session.specs.Sending.{SendsSealed, again, counted_under, handed_by, is_send, plain_sends, sealed_sends, sealed_so_far, send_of, sends_in, sends_under, sent_turns}
@@ -352,7 +352,7 @@ answer_made : (self nodes slots n : ℕ) (a : At) (asked : Asked) (came : LineOu
     → IsMade (answer self nodes n a.state a.waits asked came) (again asked a.waits ++ sent_turns self nodes a.state came.turns)
 answer_made self nodes slots n a ask.Nothing came may = quiet_answer self nodes a.state came.turns [] may nothing
 answer_made self nodes slots n a (ask.Event event) came may =
-    let ended = line_end self nodes a.state came.turns in
+    let ended = event_line_end self nodes a.state came.turns in
     let left = after_turns self nodes a.state came.turns in
     more (turns_text no_news self nodes a.state came.turns) (event_end self nodes n a.state event came.turns) (sent_turns self nodes a.state came.turns)
     (turns_made no_news (λ turn. nothing) self nodes a.state came.turns) (both (keeps_news event ended left) (event_closing n event ended) [] [] (keeps_so event ended left) (event_made n event ended))

@@ -13,9 +13,9 @@ use Rattle.node_session.specs.declared.call_outcome.CallOutcome.TheVariants as e
 use Rattle.node_session.specs.Seals.{Seals, asked_under, life_of, sealed_behind, taken_under, written}
 use Rattle.node_core.specs.declared.event.Event.{Event}
 use Rattle.node_core.specs.State.{State, is_down}
-use Rattle.node_session.specs.Turns.{Turn, MayComeOf, MayCompact}
+use Rattle.node_session.specs.Turns.{Turn, MayCompact}
 use Rattle.pace.specs.Retransmission.{Waits, sent_again, waits_on}
-use Rattle.node_session.specs.Chains.{LineOutcome, AreTimely, IsAtOnce, MayCome, IsTold, IsToldBy, after_turns, is_failed, line_end, next, waits_begun, waits_turns}
+use Rattle.node_session.specs.Chains.{LineOutcome, AreTimely, ComesAndEnds, IsAtOnce, behind_end, step_end, MayCome, IsTold, IsToldBy, after_turns, is_failed, line_end, next, waits_begun, waits_turns}
 use Rattle.node_session.specs.Lines.{At, AreOf, Comes, after_by, after_asked, after_lines, answer_by, answers, plain_answer, written_answer}
 use Rattle.node_session.specs.Text.{answer, answer_at_once, closing, event_closing, fired_news, keeps_news, next_line, send_lines, turns_text, no_news}
 use Rattle.node_session.specs.Serving.{Progress, Called, Calls, IsNodeOf, Replies, Served, Serves, Turns, at_of}
@@ -149,10 +149,14 @@ sealed_line {Disk} disks old read mid new line asked start runs asks reads start
 abbrev IsClosed : {Disk : Type 0} (disks : Disk → DiskState) (mid : Progress Disk) (close : NodeState → List ℕ) (text : List ℕ) → Type 0
 IsClosed {Disk} disks mid close text = (t : NodeState) → Stands disks mid.node t → text ≡ mid.text ++ close t
 
-abbrev Answers : (heading : Turn → List ℕ) (number : ℕ) (w : Waits) (a : Asked) (again : List ℕ) (ended : CallOutcome) (due : Option ℕ) (close : NodeState → List ℕ) → Type 0
-Answers heading number w a again ended due close =
-    (self nodes : ℕ) (s : NodeState) (turns : List Turn) → ended ≡ line_end self nodes s turns
+abbrev Answers : (heading : Turn → List ℕ) (May : ℕ → ℕ → ℕ → NodeState → List Turn → Type 0) (number : ℕ) (w : Waits) (a : Asked) (again : List ℕ) (ended : CallOutcome) (due : Option ℕ) (close : NodeState → List ℕ) → Type 0
+Answers heading May number w a again ended due close =
+    (self nodes slots : ℕ) (s : NodeState) (turns : List Turn) → May self nodes slots s turns → ended ≡ line_end self nodes s turns
     → answer self nodes number s w a (record { turns = turns; due = due }) ≡ again ++ (turns_text heading self nodes s turns ++ close (after_turns self nodes s turns))
+
+-- what came of the calls may come of what is asked
+abbrev Gives : (May : ℕ → ℕ → ℕ → NodeState → List Turn → Type 0) (a : Asked) → Type 0
+Gives May a = (self nodes slots : ℕ) (s : NodeState) (turns : List Turn) → May self nodes slots s turns → MayCome self nodes slots s a turns
 
 -- what is told of a node that stands for this
 abbrev Tells : {Disk : Type 0} (disks : Disk → DiskState) (mid : Progress Disk) (a : Asked) (due : Option ℕ) → Type 0
@@ -164,19 +168,19 @@ pub tells : {Disk : Type 0} (disks : Disk → DiskState) (mid seen : Progress Di
 tells disks mid seen now due is told = λ t stands. subst (λ (s : State). IsToldBy (is_down s.phase) due) (sym (ap (λ p. p.node.state) is) ∙ stands.state) told
 
 -- a line of which calls came, behind what was sent again
-called_line : {Disk : Type 0} (disks : Disk → DiskState) (old here mid : Progress Disk) (heading : Turn → List ℕ) (a : Asked) (number : ℕ) (again : List ℕ) (ended : CallOutcome) (due : Option ℕ) (close : NodeState → List ℕ) (begun text : List ℕ)
+called_line : {Disk : Type 0} (disks : Disk → DiskState) (old here mid : Progress Disk) (heading : Turn → List ℕ) (May : ℕ → ℕ → ℕ → NodeState → List Turn → Type 0) (a : Asked) (number : ℕ) (again : List ℕ) (ended : CallOutcome) (due : Option ℕ) (close : NodeState → List ℕ) (begun text : List ℕ)
     → next old.count a ≡ old.count + 1 → number ≡ old.count + 1
     → begun ≡ old.text ++ again → here ≡ record old { count = number; text = begun; waits = waits_begun a old.waits }
-    → Calls disks here mid heading (λ i n slots s turns. MayCome i n slots s a turns) (end.Done None) ended
-    → IsClosed disks mid close text → Tells disks mid a due → Answers heading number old.waits a again ended due close
+    → Gives May a → Calls disks here mid heading May (end.Done None) ended
+    → IsClosed disks mid close text → Tells disks mid a due → Answers heading May number old.waits a again ended due close
     → Replies disks old (record mid { stopped = is_failed ended; text = text }) a
-called_line {Disk} disks old here mid heading a number again ended due close begun text one counts begins is calls said told closes =
+called_line {Disk} disks old here mid heading May a number again ended due close begun text one counts begins is gives calls said told closes =
     let same : here.node ≡ old.node = ap (λ p. p.node) is in
     let counted : mid.count ≡ old.count + 1 = ap (λ (p : Progress Disk). p.count) calls.same ∙ (ap (λ p. p.count) is ∙ counts) in
     record {
       node = subst (λ n. IsNodeOf disks n mid.node) same calls.node;
       seal = ap (λ (p : Progress Disk). p.seal) calls.same ∙ ap (λ p. p.seal) is;
-      replied = λ was s at stands. (let x = subst (λ n. Called disks here mid n.id n.nodes heading (λ i n slots s turns. MayCome i n slots s a turns) (end.Done None) ended was s) same
+      replied = λ was s at stands. (let x = subst (λ n. Called disks here mid n.id n.nodes heading May (end.Done None) ended was s) same
           (calls.called was s (ap (λ n. n.disk) same ∙ at) (subst (λ n. Stands disks n s) (sym same) stands)) in
           let t = after_turns old.node.id old.node.nodes s x.turns in
           let turns_said = turns_text heading old.node.id old.node.nodes s x.turns in
@@ -184,47 +188,49 @@ called_line {Disk} disks old here mid heading a number again ended due close beg
             turns = x.turns;
             due = due;
             told = told t x.stands;
-            may = x.may;
+            may = gives old.node.id old.node.nodes (slots_for (disks was).sectors) s x.turns x.may;
             exact = subst (λ n. AreCallsOf disks old.node.id old.node.nodes s x.turns n mid.node) same x.exact;
             honest = x.honest;
             stands = x.stands;
             stopped = ap is_failed x.ended_so;
             count = counted ∙ sym one;
             text = both_texts old.text begun text again (turns_said ++ close t) begins (both_texts begun mid.text text turns_said (close t) (x.text ∙ ap (λ p. p.text ++ turns_said) is) (said t x.stands))
-                ∙ ap (λ (u : List ℕ). old.text ++ u) (sym (ap (λ (n : ℕ). answer old.node.id old.node.nodes n s old.waits a (record { turns = x.turns; due = due })) (one ∙ sym counts) ∙ closes old.node.id old.node.nodes s x.turns x.ended_so));
+                ∙ ap (λ (u : List ℕ). old.text ++ u) (sym (ap (λ (n : ℕ). answer old.node.id old.node.nodes n s old.waits a (record { turns = x.turns; due = due })) (one ∙ sym counts) ∙ closes old.node.id old.node.nodes (slots_for (disks was).sectors) s x.turns x.may x.ended_so));
             waits = x.waits ∙ ap (λ p. waits_turns old.node.id old.node.nodes s x.turns p.waits) is;
           });
     }
 
 -- as the code does it: the call, the mark of a device that failed, and the closing line
-called_so : {Disk : Type 0} (disks : Disk → DiskState) (old here mid stop : Progress Disk) (heading : Turn → List ℕ) (a : Asked) (number : ℕ) (again : List ℕ) (ended : CallOutcome) (due : Option ℕ) (close : NodeState → List ℕ) (begun text : List ℕ)
+called_so : {Disk : Type 0} (disks : Disk → DiskState) (old here mid stop : Progress Disk) (heading : Turn → List ℕ) (May : ℕ → ℕ → ℕ → NodeState → List Turn → Type 0) (a : Asked) (number : ℕ) (again : List ℕ) (ended : CallOutcome) (due : Option ℕ) (close : NodeState → List ℕ) (begun text : List ℕ)
     → next old.count a ≡ old.count + 1 → number ≡ old.count + 1
     → begun ≡ old.text ++ again → here ≡ record old { count = number; text = begun; waits = waits_begun a old.waits }
-    → Calls disks here mid heading (λ i n slots s turns. MayCome i n slots s a turns) (end.Done None) ended
-    → stop ≡ record mid { stopped = is_failed ended } → IsClosed disks stop close text → Tells disks stop a due → Answers heading number old.waits a again ended due close
+    → Gives May a → Calls disks here mid heading May (end.Done None) ended
+    → stop ≡ record mid { stopped = is_failed ended } → IsClosed disks stop close text → Tells disks stop a due → Answers heading May number old.waits a again ended due close
     → Replies disks old (record stop { text = text }) a
-called_so {Disk} disks old here mid stop heading a number again ended due close begun text one counts begins is calls marked said told closes =
+called_so {Disk} disks old here mid stop heading May a number again ended due close begun text one counts begins is gives calls marked said told closes =
     subst (λ (p : Progress Disk). Replies disks old (record p { text = text }) a) (sym marked)
-    (called_line disks old here mid heading a number again ended due close begun text one counts begins is calls
+    (called_line disks old here mid heading May a number again ended due close begun text one counts begins is gives calls
     (subst (λ (p : Progress Disk). IsClosed disks p close text) marked said) (subst (λ (p : Progress Disk). Tells disks p a due) marked told) closes)
 
-pub event_line : {Disk : Type 0} (disks : Disk → DiskState) (old here mid stop : Progress Disk) (event : Event) (number : ℕ) (ended : CallOutcome) (kept text : List ℕ)
-    → number ≡ old.count + 1 → here ≡ record old { count = number } → Turns disks here mid (λ i n. MayComeOf i n event) ended
-    → stop ≡ record mid { stopped = is_failed ended } → ((t : NodeState) → Stands disks stop.node t → kept ≡ stop.text ++ keeps_news event ended t)
+pub event_line : {Disk : Type 0} (disks : Disk → DiskState) (old here mid stop : Progress Disk) (event : Event) (number : ℕ) (step last ended : CallOutcome) (kept text : List ℕ)
+    → number ≡ old.count + 1 → here ≡ record old { count = number } → Calls disks here mid no_news (ComesAndEnds event step) (end.Done None) last
+    → stop ≡ record mid { stopped = is_failed last } → ended ≡ behind_end step last → ((t : NodeState) → Stands disks stop.node t → kept ≡ stop.text ++ keeps_news event ended t)
     → text ≡ kept ++ event_closing number event ended → Replies disks old (record stop { text = text }) (ask.Event event)
-event_line disks old here mid stop event number ended kept text counts is turns marked keeps said =
-    called_so disks old here mid stop no_news (ask.Event event) number [] ended None (λ t. keeps_news event ended t ++ event_closing number event ended) old.text text refl counts (sym (append-nil old.text)) is
-    (one_call disks here mid (λ i n. MayComeOf i n event) (end.Done None) ended turns) marked
+event_line disks old here mid stop event number step last ended kept text counts is calls marked ends keeps said =
+    called_so disks old here mid stop no_news (ComesAndEnds event step) (ask.Event event) number [] last None (λ t. keeps_news event ended t ++ event_closing number event ended) old.text text refl counts
+    (sym (append-nil old.text)) is (λ self nodes slots s turns made. made.0) calls marked
     (λ t stands. both_texts stop.text kept text (keeps_news event ended t) (event_closing number event ended) (keeps t stands) said) (λ t stands. refl)
-    (λ self nodes s turns so. ap (λ (e : CallOutcome). turns_text no_news self nodes s turns ++ (keeps_news event e (after_turns self nodes s turns) ++ event_closing number event e)) (sym so))
+    (λ self nodes slots s turns made so.
+    ap (λ (e : CallOutcome). turns_text no_news self nodes s turns ++ (keeps_news event e (after_turns self nodes s turns) ++ event_closing number event e))
+    (sym (ends ∙ (ap (λ (e : CallOutcome). behind_end e last) made.1 ∙ ap (λ (e : CallOutcome). behind_end (step_end self nodes s turns) e) so))))
 
 pub compact_line : {Disk : Type 0} (disks : Disk → DiskState) (old here mid stop : Progress Disk) (number : ℕ) (ended : CallOutcome) (text : List ℕ)
     → number ≡ old.count + 1 → here ≡ record old { count = number } → Turns disks here mid MayCompact ended
     → stop ≡ record mid { stopped = is_failed ended } → text ≡ stop.text ++ closing number ended → Replies disks old (record stop { text = text }) ask.Compact
 compact_line disks old here mid stop number ended text counts is turns marked said =
-    called_so disks old here mid stop no_news ask.Compact number [] ended None (λ t. closing number ended) old.text text refl counts (sym (append-nil old.text)) is
-    (one_call disks here mid MayCompact (end.Done None) ended turns) marked (λ t stands. said) (λ t stands. refl)
-    (λ self nodes s turns so. ap (λ (e : CallOutcome). turns_text no_news self nodes s turns ++ closing number e) (sym so))
+    called_so disks old here mid stop no_news (λ i n slots s turns. MayCome i n slots s ask.Compact turns) ask.Compact number [] ended None (λ t. closing number ended) old.text text refl counts (sym (append-nil old.text)) is
+    (λ self nodes slots s turns may. may) (one_call disks here mid MayCompact (end.Done None) ended turns) marked (λ t stands. said) (λ t stands. refl)
+    (λ self nodes slots s turns may so. ap (λ (e : CallOutcome). turns_text no_news self nodes s turns ++ closing number e) (sym so))
 
 pub tick_line : {Disk : Type 0} (disks : Disk → DiskState) (old first here mid stop : Progress Disk) (now number : ℕ) (ended : CallOutcome) (due : Option ℕ) (told text : List ℕ)
     → number ≡ old.count + 1 → first ≡ record old { count = number }
@@ -233,16 +239,17 @@ pub tick_line : {Disk : Type 0} (disks : Disk → DiskState) (old first here mid
     → stop ≡ record mid { stopped = is_failed ended } → Tells disks stop (ask.Tick now) due → told ≡ stop.text ++ next_line due → text ≡ told ++ closing number ended
     → Replies disks old (record stop { text = text }) (ask.Tick now)
 tick_line {Disk} disks old first here mid stop now number ended due told text counts is sends calls marked tells names said =
-    called_so disks old here mid stop fired_news (ask.Tick now) number (send_lines (sent_again now old.waits)) ended due (λ t. next_line due ++ closing number ended) (old.text ++ send_lines (sent_again now old.waits)) text refl counts refl
-    (sends ∙ ap (λ (p : Progress Disk). record p { text = p.text ++ send_lines (sent_again now p.waits); waits = waits_on now p.waits }) is) calls marked (λ t stands. both_texts stop.text told text (next_line due) (closing number ended) names said) tells
-    (λ self nodes s turns so. ap (λ (e : CallOutcome). send_lines (sent_again now old.waits) ++ (turns_text fired_news self nodes s turns ++ (next_line due ++ closing number e))) (sym so))
+    called_so disks old here mid stop fired_news (λ i n slots s turns. MayCome i n slots s (ask.Tick now) turns) (ask.Tick now) number (send_lines (sent_again now old.waits)) ended due (λ t. next_line due ++ closing number ended) (old.text ++ send_lines (sent_again now old.waits)) text refl counts refl
+    (sends ∙ ap (λ (p : Progress Disk). record p { text = p.text ++ send_lines (sent_again now p.waits); waits = waits_on now p.waits }) is) (λ self nodes slots s turns may. may) calls marked (λ t stands. both_texts stop.text told text (next_line due) (closing number ended) names said) tells
+    (λ self nodes slots s turns may so. ap (λ (e : CallOutcome). send_lines (sent_again now old.waits) ++ (turns_text fired_news self nodes s turns ++ (next_line due ++ closing number e))) (sym so))
 
 pub loss_line : {Disk : Type 0} (disks : Disk → DiskState) (old here mid stop : Progress Disk) (node number : ℕ) (ended : CallOutcome) (text : List ℕ)
     → number ≡ old.count + 1 → here ≡ record old { count = number } → Calls disks here mid fired_news AreTimely (end.Done None) ended
     → stop ≡ record mid { stopped = is_failed ended } → text ≡ stop.text ++ closing number ended → Replies disks old (record stop { text = text }) (ask.Lost node)
 loss_line disks old here mid stop node number ended text counts is calls marked said =
-    called_so disks old here mid stop fired_news (ask.Lost node) number [] ended None (λ t. closing number ended) old.text text refl counts (sym (append-nil old.text)) is calls marked (λ t stands. said) (λ t stands. refl)
-    (λ self nodes s turns so. ap (λ (e : CallOutcome). turns_text fired_news self nodes s turns ++ closing number e) (sym so))
+    called_so disks old here mid stop fired_news (λ i n slots s turns. MayCome i n slots s (ask.Lost node) turns) (ask.Lost node) number [] ended None (λ t. closing number ended) old.text text refl counts (sym (append-nil old.text)) is
+    (λ self nodes slots s turns may. may) calls marked (λ t stands. said) (λ t stands. refl)
+    (λ self nodes slots s turns may so. ap (λ (e : CallOutcome). turns_text fired_news self nodes s turns ++ closing number e) (sym so))
 
 -- a line that asks nothing of the node but what it knows
 pub quiet_line : {Disk : Type 0} (disks : Disk → DiskState) (old new : Progress Disk) (a : Asked) → old.stopped ≡ false

@@ -23,9 +23,10 @@ use Rattle.node_session.specs.declared.asked.Asked.TheVariants as ask
 use Rattle.node_session.specs.Asked.{asked_of, asked_with, asked_words, delivery, loss, ticking, timing}
 use Rattle.histories.specs.HistoryEvent.{event_of}
 use Rattle.histories.specs.declared.history_event.HistoryEvent.TheVariants.{NoOp, Crashed}
+use Rattle.node_core.specs.State.{is_down}
 use Rattle.node_session.specs.Turns.{Turn, Goes, Unmounted, Begins, IsFired, MayCompact, after_turn}
 use Rattle.node_words.specs.Words.{event_word}
-use Rattle.node_session.specs.Chains.{LineOutcome, AreTimely, IsNone, IsOne, MayCome, after_turns}
+use Rattle.node_session.specs.Chains.{LineOutcome, AreTimely, IsNone, IsOne, IsWrittenAnew, MayCome, after_turns, brought_up}
 use Rattle.node_session.specs.Lines.{At, Comes, after_by, after_line, plain_answer}
 use Rattle.node_session.specs.Seals.{Brought, NoBytes, Strange, Garbled, Opened, Seals, asked_brought, asked_fresh, asked_sealed, asked_under, asked_words_under, brought_bytes, brought_by, brought_message, brought_opened, brought_word, is_fresh, life_of, no_stamp, opened_under, sealed_behind, taken_brought, taken_fresh, taken_under, taken_words}
 use Rattle.node_session.specs.Stamping.{Climbs, Delivers, IsOpened, IsWide, OpenedAlone, TakenRises, last_by, stamp_brought, stamp_fresh, stamp_taken, stamp_worded, stamps_taken}
@@ -139,12 +140,16 @@ compacts_no self nodes slots s m (Begins mounted what ∷ []) may delivers = may
 compacts_no self nodes slots s m (turn ∷ []) may (inr none) = none
 compacts_no self nodes slots s m (turn ∷ next ∷ turns) may delivers = may
 
+anew_no : (self nodes slots : ℕ) (b : Bool) (s : NodeState) (m : Envelope) (turns : List Turn) → IsWrittenAnew b self nodes slots s turns → Delivers m turns → ⊥
+anew_no self nodes slots true s m turns may delivers = compacts_no self nodes slots s m turns may delivers
+anew_no self nodes slots false s m turns may delivers = none_delivers m turns may delivers
+
 asked_delivers : (self nodes slots : ℕ) (s : NodeState) (a : Asked) (m : Envelope) (turns : List Turn) → MayCome self nodes slots s a turns → Delivers m turns → a ≡ ask.Event (on.Deliver m)
 asked_delivers self nodes slots s (ask.Event event) m [] may delivers = absurd may
-asked_delivers self nodes slots s (ask.Event event) m (turn ∷ []) may (inl is) =
-    (let same : Some event ≡ Some (on.Deliver m) = caused self nodes slots s event turn may ∙ is in cc)
-asked_delivers self nodes slots s (ask.Event event) m (turn ∷ []) may (inr none) = absurd none
-asked_delivers self nodes slots s (ask.Event event) m (turn ∷ next ∷ turns) may delivers = absurd may
+asked_delivers self nodes slots s (ask.Event event) m (turn ∷ turns) may (inl is) =
+    (let same : Some event ≡ Some (on.Deliver m) = caused self nodes slots s event turn may.0 ∙ is in cc)
+asked_delivers self nodes slots s (ask.Event event) m (turn ∷ turns) may (inr later) =
+    absurd (anew_no self nodes slots (brought_up (is_down s.state.phase) (is_down (after_turn self nodes s turn).state.phase)) (after_turn self nodes s turn) m turns may.1 later)
 asked_delivers self nodes slots s ask.Compact m turns may delivers = absurd (compacts_no self nodes slots s m turns may delivers)
 asked_delivers self nodes slots s (ask.Tick now) m turns may delivers = absurd (timely_delivers self nodes slots m turns s may delivers)
 asked_delivers self nodes slots s (ask.Lost id) m turns may delivers = absurd (timely_delivers self nodes slots m turns s may delivers)

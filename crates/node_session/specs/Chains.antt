@@ -1,10 +1,11 @@
 -- What comes of each line, and the chains of histories that this makes.
-use Rattle.std.specs.Prelude.{ℕ, ◌≡◌, ◌+◌, List, [], ◌∷◌, Bool, true, false, Option, None, is_some}
+use Rattle.std.specs.Prelude.{ℕ, ◌≡◌, ◌+◌, List, [], ◌∷◌, Bool, true, false, if◌then◌else◌, Option, None, is_some}
 use Rattle.pace.specs.Retransmission.{Waits, waits_behind, waits_on}
 use Rattle.histories.specs.NodeState.{NodeState}
 use Rattle.histories.specs.HistoryEvent.{Entry}
 use Rattle.histories.specs.After.{sent_at}
 use Rattle.node_core.specs.State.{is_down}
+use Rattle.node_core.specs.declared.event.Event.{Event}
 use Rattle.durable_node.specs.declared.fault.NodeFault.{NodeFault}
 use Rattle.durable_node.specs.declared.fault.NodeFault.TheVariants as node
 use Rattle.node_session.specs.declared.asked.Asked.{Asked}
@@ -18,8 +19,9 @@ pub record LineOutcome : Type 0 where
   pub turns : List Turn
   pub due : Option ℕ
 
-abbrev pub one_turn : Turn → Option ℕ → LineOutcome
-one_turn turn due = record { turns = turn ∷ []; due = due }
+-- a call, and others behind it
+abbrev pub first_turn : Turn → List Turn → Option ℕ → LineOutcome
+first_turn turn turns due = record { turns = turn ∷ turns; due = due }
 
 -- ---- the turns of one line
 
@@ -50,6 +52,26 @@ abbrev pub waits_begun : Asked → Waits → Waits
 waits_begun (ask.Tick now) w = waits_on now w
 waits_begun asked w = w
 
+-- how the first of them ended
+abbrev pub step_end : ℕ → ℕ → NodeState → List Turn → CallOutcome
+step_end self nodes s [] = end.Done None
+step_end self nodes s (turn ∷ turns) = end_of self nodes s turn
+
+abbrev pub is_device : NodeFault → Bool
+is_device node.Device = true
+is_device fault = false
+
+abbrev pub is_failed : CallOutcome → Bool
+is_failed (end.Done answer) = false
+is_failed (end.Denied fault) = is_device fault
+
+-- how an event ends whose call ended so, where the last call of its line ended so: as its call did, unless the device failed behind that
+abbrev pub behind_end : CallOutcome → CallOutcome → CallOutcome
+behind_end step last = if is_failed last then last else step
+
+abbrev pub event_line_end : ℕ → ℕ → NodeState → List Turn → CallOutcome
+event_line_end self nodes s turns = behind_end (step_end self nodes s turns) (line_end self nodes s turns)
+
 abbrev pub IsNone : List Turn → Type 0
 IsNone [] = Unit {0}
 IsNone (turn ∷ turns) = ⊥
@@ -64,9 +86,30 @@ abbrev pub AreTimely : ℕ → ℕ → ℕ → NodeState → List Turn → Type 
 AreTimely self nodes slots s [] = Unit {0}
 AreTimely self nodes slots s (turn ∷ turns) = IsTimely self nodes slots s turn × AreTimely self nodes slots (after_turn self nodes s turn) turns
 
+-- a node that was down is up
+abbrev pub brought_up : Bool → Bool → Bool
+brought_up true false = true
+brought_up was now = false
+
+-- the calls behind that of an event: where it brought the node up, all that the journal keeps is written anew, by a compaction
+abbrev pub IsWrittenAnew : Bool → ℕ → ℕ → ℕ → NodeState → List Turn → Type 0
+IsWrittenAnew true self nodes slots s turns = IsOne (MayCompact self nodes slots s) turns
+IsWrittenAnew false self nodes slots s turns = IsNone turns
+
+-- the calls of an event
+abbrev pub ComesOfEvent : ℕ → ℕ → ℕ → NodeState → Event → List Turn → Type 0
+ComesOfEvent self nodes slots s event [] = ⊥
+ComesOfEvent self nodes slots s event (turn ∷ turns) =
+    MayComeOf self nodes event slots s turn
+    × IsWrittenAnew (brought_up (is_down s.state.phase) (is_down (after_turn self nodes s turn).state.phase)) self nodes slots (after_turn self nodes s turn) turns
+
+-- and the first of them ended so
+abbrev pub ComesAndEnds : Event → CallOutcome → ℕ → ℕ → ℕ → NodeState → List Turn → Type 0
+ComesAndEnds event step self nodes slots s turns = ComesOfEvent self nodes slots s event turns × (step ≡ step_end self nodes s turns)
+
 -- they may come of what a line asks
 abbrev pub MayCome : ℕ → ℕ → ℕ → NodeState → Asked → List Turn → Type 0
-MayCome self nodes slots s (ask.Event event) turns = IsOne (MayComeOf self nodes event slots s) turns
+MayCome self nodes slots s (ask.Event event) turns = ComesOfEvent self nodes slots s event turns
 MayCome self nodes slots s ask.Compact turns = IsOne (MayCompact self nodes slots s) turns
 MayCome self nodes slots s (ask.Tick now) turns = AreTimely self nodes slots s turns
 MayCome self nodes slots s (ask.Lost id) turns = AreTimely self nodes slots s turns
@@ -91,14 +134,6 @@ IsTold (ask.Tick now) s due = IsToldBy (is_down s.state.phase) due
 IsTold asked s due = due ≡ None
 
 -- ---- the numbers of requests
-
-abbrev pub is_device : NodeFault → Bool
-is_device node.Device = true
-is_device fault = false
-
-abbrev pub is_failed : CallOutcome → Bool
-is_failed (end.Done answer) = false
-is_failed (end.Denied fault) = is_device fault
 
 -- the number of the last request behind a line
 abbrev pub next : ℕ → Asked → ℕ

@@ -12,7 +12,7 @@ use Rattle.histories.specs.After.{after}
 use Rattle.histories.specs.History.{Follows, FollowsSlots, replay}
 use Rattle.line_words.specs.Lines.{lines_of}
 use Rattle.node_session.specs.Turns.{Turn, Goes, Begins, begun, after_begun, after_turn, end_of, IsGoing}
-use Rattle.node_session.specs.Chains.{LineOutcome, AllGoing, AreGoing, IsTold, MayCome, after_turns, entries_in, is_failed, last_end, line_end, next, one_turn, waits_begun, waits_turn, waits_turns}
+use Rattle.node_session.specs.Chains.{LineOutcome, AllGoing, AreGoing, IsTold, MayCome, after_turns, entries_in, is_failed, last_end, line_end, next, first_turn, waits_begun, waits_turn, waits_turns}
 use Rattle.node_session.specs.Lines.{At, AreOf, after_lines, answers}
 use Rattle.node_session.specs.Exact.{IsCallOf, AreCallsOf, AreCallsIn}
 use Rattle.node_session.specs.Seals.{Seals}
@@ -158,14 +158,14 @@ OneHistory =
     Follows self nodes a.state (entries_in self nodes a.state all) × FollowsSlots slots self nodes a.state (entries_in self nodes a.state all) ×
     (replay self nodes a.state (entries_in self nodes a.state all) ≡ (after_lines self nodes a lines all).state)
 
--- where a history begins in the only call of a line and no other after it, its entries follow each other from what was mounted on: the
+-- where a history begins in the first call of a line and no other after it, its entries follow each other from what was mounted on: the
 -- mounting, and then the others. The one mounting that begins none is that of a counter that can't be raised
 abbrev pub BegunHistory : Type 0
 BegunHistory =
-    (self nodes slots : ℕ) (a : At) (line : List ℕ) (lines : List (List ℕ)) (mounted : Durable) (what : HistoryEvent) (due : Option ℕ) (all : List LineOutcome) →
-    AreOf self nodes slots a (line ∷ lines) (one_turn (Begins mounted what) due ∷ all) → AllGoing all → after_begun self nodes a.state mounted what ≡ after self nodes (begun self mounted) what →
-    Follows self nodes (begun self mounted) (entries_in self nodes (begun self mounted) (one_turn (Goes what) due ∷ all)) ×
-    (replay self nodes (begun self mounted) (entries_in self nodes (begun self mounted) (one_turn (Goes what) due ∷ all)) ≡ (after_lines self nodes a (line ∷ lines) (one_turn (Begins mounted what) due ∷ all)).state)
+    (self nodes slots : ℕ) (a : At) (line : List ℕ) (lines : List (List ℕ)) (mounted : Durable) (what : HistoryEvent) (turns : List Turn) (due : Option ℕ) (all : List LineOutcome) →
+    AreOf self nodes slots a (line ∷ lines) (first_turn (Begins mounted what) turns due ∷ all) → AreGoing turns → AllGoing all → after_begun self nodes a.state mounted what ≡ after self nodes (begun self mounted) what →
+    Follows self nodes (begun self mounted) (entries_in self nodes (begun self mounted) (first_turn (Goes what) turns due ∷ all)) ×
+    (replay self nodes (begun self mounted) (entries_in self nodes (begun self mounted) (first_turn (Goes what) turns due ∷ all)) ≡ (after_lines self nodes a (line ∷ lines) (first_turn (Begins mounted what) turns due ∷ all)).state)
 
 -- messages are sent again each so many milliseconds
 abbrev pub opened : {Disk : Type 0} → ℕ → ℕ → ℕ → Disk → Progress Disk

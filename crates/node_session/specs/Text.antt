@@ -24,7 +24,7 @@ use Rattle.node_session.specs.declared.call_outcome.CallOutcome.{CallOutcome}
 use Rattle.node_session.specs.declared.call_outcome.CallOutcome.TheVariants as end
 use Rattle.node_words.specs.Words.{core_name, event_word, group_part, id_text, ids_text, phase_text, truth_text}
 use Rattle.node_session.specs.Turns.{Turn, after_turn, cause, end_of, sent_in}
-use Rattle.node_session.specs.Chains.{LineOutcome, after_turns, line_end}
+use Rattle.node_session.specs.Chains.{LineOutcome, after_turns, event_line_end, line_end}
 use Rattle.node_session.specs.Changes.{changes, gone_news, held_text, is_finish}
 
 -- ---- words
@@ -176,7 +176,7 @@ jobs_lines s = jobs_by (is_down s.state.phase) s
 -- how the answer to an event ends
 abbrev pub event_end : ℕ → ℕ → ℕ → NodeState → Event → List Turn → List ℕ
 event_end self nodes n s event turns =
-    keeps_news event (line_end self nodes s turns) (after_turns self nodes s turns) ++ event_closing n event (line_end self nodes s turns)
+    keeps_news event (event_line_end self nodes s turns) (after_turns self nodes s turns) ++ event_closing n event (event_line_end self nodes s turns)
 
 -- how the answer to a tick ends
 abbrev pub tick_end : ℕ → ℕ → ℕ → NodeState → LineOutcome → List ℕ

@@ -9,18 +9,18 @@ ghost use Rattle.line_words.specs.Lines.{lines_of};
 ghost use Rattle.node_session.specs.declared.asked.Asked.TheVariants as ask;
 ghost use Rattle.node_session.specs.declared.call_outcome.CallOutcome.TheVariants as end;
 ghost use Rattle.node_session.specs.Seals.{asked_under, life_of, sealed_behind, taken_under, written};
-ghost use Rattle.node_session.specs.Chains.{AreTimely, IsAtOnce, IsToldBy, is_failed};
+ghost use Rattle.node_session.specs.Chains.{AreTimely, ComesAndEnds, IsAtOnce, IsToldBy, is_failed};
 ghost use Rattle.node_session.specs.Serving.{opened, Calls, Fed, Replies, Serves, Turns};
 ghost use Rattle.durable_node.specs.Faults.{answered};
 ghost use Rattle.durable_node.specs.Node.{Stands};
 ghost use Rattle.histories.specs.NodeState.{NodeState};
 ghost use Rattle.node_core.specs.State.{is_down};
 ghost use Rattle.pace.specs.Retransmission.{sent_again, waits_on};
-ghost use Rattle.node_session.specs.Text.{fired_line, fired_news, send_lines};
+ghost use Rattle.node_session.specs.Text.{fired_line, fired_news, no_news, send_lines};
 ghost use Rattle.node_session.specs.Turns.{compaction_end, ended_by, sent_by, IsFired, MayComeOf, MayCompact};
 
 use crate::asked::{Asked, read_line};
-use crate::call_outcome::CallOutcome;
+use crate::call_outcome::{CallOutcome, EventEnds};
 use crate::changes::{is_finish, push_changes, push_gone};
 use crate::closing::{push_closing, push_event_closing};
 use crate::due::{next_due, push_next};
@@ -298,8 +298,9 @@ impl<D: SectorDisk + Drop> Session<D> {
     {
         let number = self.next_number()?;
         self.hear(event);
-        let ended = self.turn(event)?;
-        self.stop_where_failed(&ended);
+        let ends = self.make(event)?;
+        self.stop_where_failed(&ends.last);
+        let ended = ends.of_event();
         push_keeps_news(&mut self.text, event, &ended, &self.node)?;
         push_event_closing(&mut self.text, number, event, &ended)
     }
@@ -471,9 +472,19 @@ impl<D: SectorDisk + Drop> Session<D> {
         match loss_of(self.node.id(), self.node.vector(), node) {
             Some(event) => {
                 self.add_fired(&event)?;
+                self.tell_given_up(&event);
                 self.turn(&event)
             }
             None => Ok(CallOutcome::Done(None)),
+        }
+    }
+
+    /// The policy of timers learns that a coordinator leaves a member behind that the transport gave up.
+    fn tell_given_up(&mut self, event: &Event)
+        ensures { self.new ≡ self.old }
+    {
+        if let Event::Recover = event {
+            self.pace.gave_up();
         }
     }
 
@@ -508,6 +519,25 @@ impl<D: SectorDisk + Drop> Session<D> {
         push_changes(&mut self.text, is_finish(event), &changes)?;
         push_gone(&mut self.text, event, &ended)?;
         Ok(ended)
+    }
+
+    /// Makes an event. Where it brings up a node that was Down, the journal that was mounted is written anew: a cache below may show what the
+    /// device never kept, and only writing it again puts that right.
+    fn make(&mut self, event: &Event) -> Result<EventEnds, AllocError>
+        ensures rest { self.new.rest ≡ self.old.rest }
+        // Promise: A recovery that mounts the disk compacts the journal before it is answered, so that all that it keeps is written anew; where
+        // the device fails in that, so does the recovery. No other event does.
+        // Also: EventEnds::of_event.
+        // Refuses: acknowledged_before_written_anew, written_anew_at_each_event, failure_behind_a_recovery_forgotten.
+        ensures calls { IfOk result (λ ends. Calls D.state self.old self.new no_news (ComesAndEnds event.now ends.step) (end.Done None) ends.last) }
+    {
+        let was_down = self.node.is_down();
+        let step = self.turn(event)?;
+        if !was_down || self.node.is_down() {
+            return Ok(EventEnds { step, last: step });
+        }
+        let last = self.compact()?;
+        Ok(EventEnds { step, last })
     }
 
     /// Compacts the journal, and writes what came of it.
