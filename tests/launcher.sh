@@ -1,6 +1,7 @@
 #!/usr/bin/env bash
-# The script `invite`, over a command rt that proves nothing: what it asks of rt and when, what it says where a crate is refused, and what it leaves
-# where it is interrupted. Its last line counts the checks.
+# The script `invite`, over a command rt that proves nothing: what it asks of rt and when, what it says where a crate is refused, what it leaves
+# where it is interrupted, and what it keeps of a program that isn't proved. Its last line counts the checks. (What it prints while there is no program,
+# tests/help.sh tries.)
 set -u
 top=$(readlink -f "$(dirname "${BASH_SOURCE[0]}")/..")
 source "$top/tests/tally.sh"
@@ -18,13 +19,31 @@ has() {
 # A repository of crates of a file each, and an rt that writes down what it is asked for and what lies where it is, and says what rt says.
 mkdir -p "$room/bin" "$room/repo/crates" "$room/tmp"
 cp "$top/invite" "$top/crates.txt" "$top/HANDLES" "$room/repo"
+mkdir "$room/repo/docs" && cp -R "$top/docs/help" "$room/repo/docs"
 for crate in $(grep -oE '^[a-z_]+' "$top/crates.txt"); do
-    mkdir -p "$room/repo/crates/$crate/"{src,proofs,must-fail}
+    mkdir -p "$room/repo/crates/$crate/"{src,specs,proofs,must-fail}
     touch "$room/repo/crates/$crate/src/lib.rt" "$room/repo/crates/$crate/must-fail/x.edit"
 done
 touch "$room/repo/crates/invite/"{args,stdin,stdout}
 cat >"$room/bin/rt" <<'RT'
 #!/usr/bin/env bash
+[ "$1" != version ] || { echo a kit; exit; }
+if [ "$1" = try ]; then
+    # as rt try: a folder of its own in that for temporary files, in which the program is while it runs, and is run on these words; it says what came of it
+    echo "$1 in ${PWD##*/}" >>"$ROOM/log"
+    [ "${REFUSED-}" != try ] || { echo 'src/main.rt: not a word of the language'; exit 1; }
+    own=$(mktemp -d) && mkdir "$own/native"
+    sleep "${NAP-0.02}"
+    [ -z "${EDITED-}" ] || touch "$ROOM/repo/crates/$EDITED/src/lib.rt"
+    [ "${REFUSED-}" != program ] || echo 'exit 3' >"$own/native/program"
+    printf '%s\n' '#!/usr/bin/env bash' 'case $1 in' 'show) exit ;; trace) cat "$2" >"$ROOM/traced" ;; *) echo "unproved $*"; cat ;; esac' >>"$own/native/program"
+    [ "${REFUSED-}" != none ] && chmod 700 "$own/native/program"
+    bash "$own/native/program" "${@:3}" </dev/null
+    status=$?
+    rm -r "$own"
+    echo "checked: ended status=$status"
+    exit "$status"
+fi
 echo "$*" >>"$ROOM/log"
 find . -type f | sort >"$ROOM/files"
 cp crates.txt HANDLES "$ROOM"
@@ -175,13 +194,79 @@ for _ in {1..600}; do
 done
 has 'no proof goes on' <(pgrep -cf "$room/bin/rt") 0
 
-for word in show --unproved; do
+# Without a proof: the program that rt runs is kept, and is run from there, until a source that it is built from changes.
+anew
+call ./invite --current
+expect 'no program' 1
+call ./invite --unproved answer 0 3
+expect 'without a proof' 0
+has 'without a proof: what is printed' "$room/out" 'unproved answer 0 3' input
+has 'without a proof: what rt is asked for' "$room/log" 'try in invite'
+has 'without a proof: what rt ran it on' "$room/traced" '{"nodes":1,"histories":[[]]}'
+has 'without a proof: what is said' "$room/err" 'invite: building the program without proofs, which takes a minute or two' 'invite: the program is built' \
+    'invite: nothing is proved of this run: checks at run time stand in place of the proofs'
+call ./invite --current
+has 'it is the one that is there' "$room/out" "$room/repo/crates/invite/out/unproved"
+NAP=60 call timeout 20 ./invite --unproved answer 1 3
+has 'the second call builds nothing' "$room/log"
+has 'the second call prints' "$room/out" 'unproved answer 1 3' input
+has 'the second call says' "$room/err" 'invite: nothing is proved of this run: checks at run time stand in place of the proofs'
+for file in crates/wire_msg/src/lib.rt crates/wire_msg/specs/F.antt crates.txt HANDLES; do
+    touch "$room/repo/$file"
+    call ./invite --unproved answer
+    has "without a proof: $file changed" "$room/log" 'try in invite'
+done
+for file in crates/thread_tests/src/lib.rt crates/wire_msg/must-fail/x.edit crates/wire_msg/proofs/F.antt crates/wire_msg/README.md; do
+    touch "$room/repo/$file"
+    call ./invite --unproved answer
+    has "without a proof: $file, which is no part of it" "$room/log"
+done
+EDITED=node_core call ./invite --unproved answer
+touch "$room/repo/crates/node_core/src/lib.rt"
+EDITED=node_core call ./invite --unproved answer
+call ./invite --current
+expect 'without a proof: a source changed meanwhile' 1
+call ./invite --unproved answer
+has 'without a proof: it is built again' "$room/log" 'try in invite'
+call ./invite show
+has 'a proof is asked for all the same' "$room/log" ci end
+call ./invite --current
+has 'the proved one is the one that is there' "$room/out" "$room/repo/crates/invite/out/invite"
+
+# It can't be built: status 1, and no program is kept in place of the old one.
+for name in try program none; do
     anew
-    (cd "$room/repo" && PATH=/usr/bin:/bin ./invite "$word" <<<input >"$room/out" 2>"$room/err")
+    REFUSED=$name call timeout 60 ./invite --unproved answer
+    expect "without a proof, refused: $name" 1
+    has "without a proof, refused: $name: what is printed" "$room/out"
+    has "without a proof, refused: $name: what is said" <(tail -n 1 "$room/err") 'invite: the program was not built'
+    has "without a proof, refused: $name: what is kept" <(find "$room/repo/crates/invite" -name 'unproved*')
+done
+anew
+REFUSED=try call ./invite --unproved answer
+has 'what rt says of it' <(tail -n 2 "$room/err") 'src/main.rt: not a word of the language' 'invite: the program was not built'
+# shellcheck disable=SC2016 # the inner shell expands it
+NAP=600 call bash -c './invite --unproved answer & until [ -s "$ROOM/log" ]; do sleep 0.1; done; kill $!; wait $!'
+expect 'without a proof, interrupted' 130
+for _ in {1..600}; do
+    pgrep -f "$room/bin/rt" >/dev/null || break
+    sleep 0.1
+done
+has 'no build goes on' <(pgrep -cf "$room/bin/rt") 0
+
+# There is no kit: each call says where one is from, and that a package needs none. One that names no work prints what the program would.
+for words in show '--unproved show' '' --unproved; do
+    anew
+    # shellcheck disable=SC2086 # words
+    (cd "$room/repo" && PATH=/usr/bin:/bin ./invite $words <<<input >"$room/out" 2>"$room/err")
     status=$?
     if ! PATH=/usr/bin:/bin command -v rt >/dev/null; then
-        expect "no rt, $word" 1
-        has "no rt is named, $word" <(grep -c '^invite: there is no command rt: ' "$room/err") 1
+        case $words in
+            *show) expect "no rt, $words" 1 && has "no rt, $words: what is printed" "$room/out" ;;
+            *) expect "no rt, $words" 2 && has "no rt, $words: what is printed" "$room/out" "$(cat "$top/docs/help/_none.txt")" ;;
+        esac
+        has "no rt is named, $words" <(grep -cE '^invite: there is no command rt, .* Rattle kit, 13b or later, from ' "$room/err") 1
+        has "a package is named, $words" <(grep -c '^invite: a package of Dumgerok needs no kit: packaging/release makes it' "$room/err") 1
     fi
 done
 

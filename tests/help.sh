@@ -1,0 +1,81 @@
+#!/usr/bin/env bash
+# What the program says of itself stands in docs/help, from where the script `invite` prints it while the program isn't built: _none.txt (no word), _version.txt,
+# _help.txt, and COMMAND.txt of each command. Called with the program, as in: tests/help.sh crates/invite/out/invite. Each file has what the program prints, no
+# command is without one, and the script prints the same and ends so, within a second, where there is neither a kit nor a program. Its last line counts the checks.
+# `help.sh --write PROGRAM` writes the files.
+set -u
+top=$(readlink -f "$(dirname "${BASH_SOURCE[0]}")/..")
+source "$top/tests/tally.sh"
+words=$1
+[ "$words" != --write ] || shift
+program=$(readlink -f "$1")
+if [ ! -x "$program" ]; then
+    echo "help.sh: there is no program $1"
+    echo "0 passed, 1 failed"
+    exit 1
+fi
+room=$(mktemp -d) || exit 1
+trap 'rm -rf "$room"' EXIT
+
+mapfile -t commands < <("$program" --help | awk '/^Commands:/ { on = 1; next } /^[^ ]/ { on = 0 } on && /^  [a-z]/ { print $1 }')
+# The files, and the words that ask for each.
+texts=("_none=" "_version=--version" "_help=--help")
+for command in "${commands[@]}"; do texts+=("$command=$command --help"); done
+
+if [ "$words" = --write ]; then
+    mkdir -p "$top/docs/help"
+    rm -f "$top/docs/help"/*.txt
+    for text in "${texts[@]}"; do
+        read -ra words <<<"${text#*=}"
+        "$program" "${words[@]}" </dev/null >"$top/docs/help/${text%%=*}.txt"
+    done
+    exit
+fi
+
+# A repository whose program isn't built, and a PATH without a kit.
+mkdir -p "$room/repo/docs" "$room/repo/crates/invite/src" "$room/bin"
+cp "$top/invite" "$top/crates.txt" "$top/HANDLES" "$room/repo"
+cp -R "$top/docs/help" "$room/repo/docs"
+for tool in bash cat dirname find readlink; do ln -s "$(type -P "$tool")" "$room/bin/$tool"; done
+
+# says TEXT WORDS..: the file has what the program prints of these words, and the script prints that, and ends as the program
+says() {
+    local text=$1 problem='' status begun again
+    shift
+    "$program" "$@" </dev/null >"$room/want" 2>"$room/err"
+    status=$?
+    [ ! -s "$room/err" ] || problem='the program writes to standard error'
+    cmp -s "$room/want" "$top/docs/help/$text.txt" || problem="docs/help/$text.txt isn't what the program prints (tests/help.sh --write PROGRAM)"
+    for again in 1 2 0; do # on a busy machine a second may be too short: then it is tried again, at most twice
+        begun=${EPOCHREALTIME/./}
+        env -i PATH="$room/bin" "$room/repo/invite" "$@" </dev/null >"$room/out" 2>"$room/err"
+        [ "$?,$status" = "$status,$status" ] || problem="the script doesn't end with status $status"
+        [ $((${EPOCHREALTIME/./} - begun)) -ge 1000000 ] || break
+        [ "$again" -gt 0 ] && echo "played again: invite $*" || problem='the script takes more than a second'
+    done
+    cmp -s "$room/want" "$room/out" || problem='the script prints something else'
+    [ "$text" = _none ] || [ ! -s "$room/err" ] || problem="the script says $(head -n 1 "$room/err")"
+    mark "$problem" "invite $*"
+}
+
+for text in "${texts[@]}"; do
+    read -ra words <<<"${text#*=}"
+    says "${text%%=*}" "${words[@]}"
+done
+says _version -V
+says _help -h
+says answer answer -h
+for text in "$top/docs/help"/*.txt; do
+    name=$(basename "$text" .txt)
+    case " ${texts[*]}" in
+        *" $name="*) mark '' "$name" ;;
+        *) mark 'of no command' "docs/help/$name.txt" ;;
+    esac
+done
+# What is no question of this kind isn't answered from a file.
+for words in 'version --help' 'help --help' '_help --help' '--help --help' '../help/answer --help' 'answer 0 3'; do
+    # shellcheck disable=SC2086 # words
+    env -i PATH="$room/bin" "$room/repo/invite" $words </dev/null >"$room/out" 2>&1
+    if grep -q '^invite: there is no command rt, ' "$room/out"; then mark '' "$words"; else mark "it prints '$(head -n 1 "$room/out")'" "invite $words"; fi
+done
+tally
