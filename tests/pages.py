@@ -1,5 +1,5 @@
 #!/usr/bin/env python3
-"""Looks at the pages: README.md, CONTRIBUTING.md, docs/, and the READMEs below crates/, schedules/ and examples/. Each link leads to a file,
+"""Looks at the pages: README.md, CONTRIBUTING.md, SECURITY.md, docs/, and the READMEs below crates/, schedules/ and examples/. Each link leads to a file,
 and to a heading of it; each file, script, schedule and wrong body that is named is there; the hand-written pages keep their measure. Last it
 counts. `pages.py --figures` compares the figures of docs/figures.txt with what their commands print, in place of that; it is run before a
 release."""
@@ -122,7 +122,7 @@ def measure(page, text):
 
 def look():
     hand = [page for page in found("README.md", "CONTRIBUTING.md", "docs/*.md") if page != GENERATED]
-    others = found("CHANGELOG.md", "crates/*/README.md", "schedules/README.md", "examples/*/README.md", "measures/README.md")
+    others = found("CHANGELOG.md", "SECURITY.md", "crates/*/README.md", "schedules/README.md", "examples/*/README.md", "measures/README.md")
     edits = {os.path.basename(path)[:-5] for path in found("crates/*/must-fail/*.edit", "tests/more_edits/*/*.edit")}
     schedules = {os.path.basename(path)[:-4] for path in found("schedules/*.txt")}
     calls = functions()
@@ -136,7 +136,7 @@ def look():
             more += measure(page, text)
         problems += more
         passed += not more
-    for path in found("tests/*", "tests/hostile/*", "crates/*/src/*.rt", "examples/*/*", "packaging/*", "agent/src/*", "agent/tests/*"):
+    for path in found("invite", "check", "tests/*", "tests/hostile/*", "crates/*/src/*.rt", "examples/*/*", "packaging/*", "agent/src/*", "agent/tests/*"):
         if os.path.isfile(os.path.join(TOP, path)):
             with open(os.path.join(TOP, path), errors="replace") as file:
                 for page in set(re.findall(r"docs/\w+\.md", file.read())):
