@@ -104,11 +104,12 @@ OF_A_ROUND_TRIP = [
 
 # A session whose calls on the file fail one after another, what it answers then, and how many calls do so. In front of them stand those that open the
 # file. A mounting of a store with a Base alone makes ten calls; a raise makes six, nine where the slot is sealed, and so does a job six: a look at the length for
-# each write, and a sync.
+# each write, and a sync. A compaction makes two for each gate and for a Base and its gate, one sync, and a raise.
 FAILING = "recover\n\nsubmit 0 -\nrecover\n"
 TAKEN = "take 0 0 0 -\nok 2 id 0\n"
 FAILED = [
     ("fault 1 Device\n", 23),
+    ("group Normal 0 0:1 0\ngroup Down\nfault 1 Device\n", 20),
     (UP + "group Down\nfault 2 Device\n", 6),
     (UP + TAKEN + "group Down\ndrop 0 0\nfault 3 Device\n", 10),
 ]
@@ -271,7 +272,7 @@ def try_failing(tried):
         cut = at % (len(fed) - 1) + 1
         came.append(tried.serve([fed[:cut], fed[cut:]], **env))
         found, status = tried.serve([b"recover\n"])
-        counts, jobs = {"": ((1,), (0,)), **dict(zip((text for text, _ in FAILED), (((1, 2), (0,)), ((2,), (0, 1)), ((2, 3), (1,)))))}.get(came[-1][0], ((3,), (1,)))
+        counts, jobs = {"": ((1,), (0,)), **dict(zip((text for text, _ in FAILED), (((1, 2), (0,)), ((2,), (0,)), ((2,), (0, 1)), ((2, 3), (1,)))))}.get(came[-1][0], ((3,), (1,)))
         allowed = [f"group Normal 0 0:{count} 0\nkeeps {count} {job} {job}\nok 1\n" for count in counts for job in jobs]
         tried.mark("" if status == 0 and found in allowed else f"then there is {found!r}", ("call that fails", at))
         if at > 100:

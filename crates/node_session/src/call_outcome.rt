@@ -13,6 +13,7 @@ pub enum CallOutcome {
 }
 
 /// How the calls of an event ended: that of the event, and the last one, which is another where the journal was written anew behind it.
+#[derive(Clone, Copy, Debug)]
 pub(crate) struct EventEnds {
     pub(crate) step: CallOutcome,
     pub(crate) last: CallOutcome,

@@ -534,7 +534,8 @@ impl<D: SectorDisk + Drop> Session<D> {
         let was_down = self.node.is_down();
         let step = self.turn(event)?;
         if !was_down || self.node.is_down() {
-            return Ok(EventEnds { step, last: step });
+            let last = step;
+            return Ok(EventEnds { step, last });
         }
         let last = self.compact()?;
         Ok(EventEnds { step, last })
