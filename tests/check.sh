@@ -197,7 +197,16 @@ expect 'the long part' 0
 has 'the long part: its seed' <(grep soak "$room/log" | sed 's/.* //') 7
 has 'the long part: none without --long, --all or more' <(grep -cE 'hostile.sh .* --long$|store_faults.sh .* --all$|agent/tests/run .*--long 3600 --only$|store_kills.sh .* 10000$' "$room/log") 4
 
-for word in nothing ./none --long; do
+# The words of a call are those of the folder that it comes from.
+BUILT=invite call bash -c 'cd repo/agent && ../check agent ../../mine'
+expect 'from another folder' 0
+has 'from another folder: the program' <(grep run "$room/log") "agent/tests/run $room/mine"
+call bash -c 'cd repo/agent && ../check --help'
+has 'from another folder: --help' <(head -n 1 "$room/out") 'Tests what is here. Called with'
+call "$check" pages
+has 'no program for what needs none' <(grep -c program "$room/out") 0
+
+for word in nothing ./none --long "$room/mine"; do
     call "$check" "$word"
     expect "$word" 2
     has "$word: nothing is run" "$room/log"
