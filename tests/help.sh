@@ -45,7 +45,6 @@ says() {
     "$program" "$@" </dev/null >"$room/want" 2>"$room/err"
     status=$?
     [ ! -s "$room/err" ] || problem='the program writes to standard error'
-    cmp -s "$room/want" "$top/docs/help/$text.txt" || problem="docs/help/$text.txt isn't what the program prints (tests/help.sh --write PROGRAM)"
     for again in 1 2 0; do # on a busy machine a second may be too short: then it is tried again, at most twice
         begun=${EPOCHREALTIME/./}
         env -i PATH="$room/bin" "$room/repo/invite" "$@" </dev/null >"$room/out" 2>"$room/err"
@@ -55,6 +54,7 @@ says() {
     done
     cmp -s "$room/want" "$room/out" || problem='the script prints something else'
     [ "$text" = _none ] || [ ! -s "$room/err" ] || problem="the script says $(head -n 1 "$room/err")"
+    cmp -s "$room/want" "$top/docs/help/$text.txt" || problem="docs/help/$text.txt isn't what the program prints (tests/help.sh --write PROGRAM)"
     mark "$problem" "invite $*"
 }
 

@@ -35,13 +35,14 @@ if [ "$1" = try ]; then
     own=$(mktemp -d) && mkdir "$own/native"
     sleep "${NAP-0.02}"
     [ -z "${EDITED-}" ] || touch "$ROOM/repo/crates/$EDITED/src/lib.rt"
-    [ "${REFUSED-}" != program ] || echo 'exit 3' >"$own/native/program"
-    printf '%s\n' '#!/usr/bin/env bash' 'case $1 in' 'show) exit ;; trace) cat "$2" >"$ROOM/traced" ;; *) echo "unproved $*"; cat ;; esac' >>"$own/native/program"
+    printf '%s\n' '#!/usr/bin/env bash' 'case $1 in' 'show) exit SHOWN ;; trace) cat "$2" >"$ROOM/traced" ;; *) echo "unproved $*"; cat ;; esac' >"$own/native/program"
+    if [ "${REFUSED-}" = program ]; then sed -i s/SHOWN/3/ "$own/native/program"; else sed -i s/SHOWN// "$own/native/program"; fi
     [ "${REFUSED-}" != none ] && chmod 700 "$own/native/program"
     bash "$own/native/program" "${@:3}" </dev/null
     status=$?
     rm -r "$own"
     echo "checked: ended status=$status"
+    [ "${REFUSED-}" != status ] || exit 4
     exit "$status"
 fi
 echo "$*" >>"$ROOM/log"
@@ -234,7 +235,7 @@ call ./invite --current
 has 'the proved one is the one that is there' "$room/out" "$room/repo/crates/invite/out/invite"
 
 # It can't be built: status 1, and no program is kept in place of the old one.
-for name in try program none; do
+for name in try program status none; do
     anew
     REFUSED=$name call timeout 60 ./invite --unproved answer
     expect "without a proof, refused: $name" 1
