@@ -60,7 +60,7 @@ pub enum ConfigError {
     #[error("{0}")]
     Unreadable(#[from] std::io::Error),
     #[error("{0}")]
-    NoToml(#[from] toml::de::Error),
+    NoToml(String),
     #[error("{setting}: {why}")]
     Setting { setting: &'static str, why: String },
 }
@@ -91,7 +91,7 @@ impl Config {
     }
 
     pub fn parse(text: &str) -> Result<Config, ConfigError> {
-        let config: Config = toml::from_str(text)?;
+        let config: Config = toml::from_str(text).map_err(|error| ConfigError::NoToml(told(text, &error)))?;
         config.check()?;
         Ok(config)
     }
@@ -156,6 +156,40 @@ impl Config {
     }
 }
 
+/// What is wrong, and where: the reader of TOML names the first line where it means a setting, or the whole file.
+fn told(text: &str, error: &toml::de::Error) -> String {
+    let whole = error.to_string();
+    let said = whole.rsplit_once(" at line ").map_or(&*whole, |(said, _)| said);
+    let quoted = |before: &str| said.split_once(before).and_then(|(_, rest)| rest.split_once('`')).map(|(name, _)| name);
+    if let Some(name) = quoted("missing field `") {
+        return format!("the setting {name} is missing");
+    }
+    let unknown = quoted("unknown field `");
+    let name = unknown.or_else(|| quoted("duplicate field `")).or_else(|| quoted(" for key `"));
+    let line = name.and_then(|name| line_of(text, name)).or_else(|| error.line_col().map(|(line, _)| line + 1));
+    let at = line.map_or(String::new(), |line| format!("line {line}: "));
+    match (unknown, name) {
+        (Some(name), _) => format!("{at}there is no setting {name} (dumgerokd.toml(5) has all)"),
+        (_, Some(name)) => format!("{at}{name}: {}", in_words(said.rsplit_once(" for key ").map_or(said, |(said, _)| said))),
+        (_, None) => format!("{at}{said}"),
+    }
+}
+
+/// The line of a setting, or of a table of its name; the last one where there are more.
+fn line_of(text: &str, name: &str) -> Option<usize> {
+    let is_of = |line: &str| {
+        let behind = line.trim_start().trim_start_matches(['[', '"']).strip_prefix(name);
+        behind.map_or(false, |rest| rest.trim_start().starts_with(['=', ']', '.', '"']))
+    };
+    text.lines().collect::<Vec<_>>().iter().rposition(|line| is_of(line)).map(|at| at + 1)
+}
+
+/// The kinds of values as an operator knows them.
+fn in_words(said: &str) -> String {
+    let said = said.replace("invalid socket address syntax", "is an address with a port, as 127.0.0.1:7080");
+    ["u8", "u32", "u64"].iter().fold(said, |said, kind| said.replace(&format!("expected {kind}"), "expected a number"))
+}
+
 /// It stands in the first line of a record, and is a word of a command line.
 fn is_name(cluster: &str) -> bool {
     (1..=64).contains(&cluster.len()) && !cluster.chars().any(char::is_control)
@@ -196,11 +230,14 @@ mod tests {
     #[test]
     fn faults_are_named() {
         for (more, said) in [
-            ("id = 2\n", "duplicate field `id`"),
-            ("tick = 3\n", "unknown field `tick`"),
-            ("log = info\n", "line 8"),
-            ("log = \"loud\"\n", "unknown variant `loud`"),
-            ("[part]\n", "unknown field `part`"),
+            ("id = 2\n", "line 8: "),
+            ("\ntick = 3\n", "line 9: there is no setting tick (dumgerokd.toml(5) has all)"),
+            ("log = info\n", "line 8: "),
+            ("log = \"loud\"\n", "line 8: log: unknown variant `loud`, expected one of `error`"),
+            ("record_mb = \"9\"\n", "line 8: record_mb: invalid type: string \"9\", expected a number"),
+            ("http = \"localhost:80\"\n", "line 8: http: is an address with a port, as 127.0.0.1:7080"),
+            ("[part]\n", "line 8: there is no setting part"),
+            ("key \"k\"\n", "line 8: "),
             ("round_trip_ms = 0\n", "round_trip_ms: is a number from 1 to 60000"),
             ("http = \"10.0.0.1:80\"\n", "http: is an address of the loopback"),
             ("http = \"127.0.0.1:0\"\n", "http: is an address of the loopback with a port"),
@@ -213,7 +250,8 @@ mod tests {
             let error = Config::parse(&format!("{WHOLE}{more}")).unwrap_err().to_string();
             assert!(error.contains(said), "{more}: {error}");
         }
-        assert!(Config::parse("cluster = \"c\"\n").unwrap_err().to_string().contains("missing field"));
+        let missing = Config::parse("cluster = \"c\"\n").unwrap_err().to_string();
+        assert_eq!(missing, "the setting id is missing");
         for cluster in ["", "a\\nb", "\\u0000", &"x".repeat(65)] {
             let error = Config::parse(&WHOLE.replace("prod", cluster)).unwrap_err().to_string();
             assert!(error.starts_with("cluster: is a name of 1 to 64 bytes"), "{cluster}: {error}");

@@ -13,6 +13,7 @@ pub mod http;
 pub mod judge;
 pub mod log_lines;
 pub mod metrics;
+pub mod names;
 pub mod net;
 pub mod node;
 pub mod node_file;

@@ -21,6 +21,10 @@ const KINDS: [&str; 12] = [
     "Work",
 ];
 
+/// Of these the questions that a node in any phase answers at once, and the answers.
+pub const QUESTIONS: [&str; 2] = ["AreYouCoordinator", "AreYouThere"];
+pub const ANSWERS: [&str; 2] = ["Coordinator", "Here"];
+
 /// Why the node refuses something, and NoMessage for what it can't read.
 const REFUSALS: [&str; 10] = [
     "NoMessage",

@@ -3,6 +3,7 @@
 use crate::say::say;
 use rustix::process::{kill_process, kill_process_group, setsid, Pid, Signal};
 use std::ffi::OsStr;
+use std::io::ErrorKind;
 use std::os::unix::ffi::OsStrExt;
 use std::os::unix::fs::PermissionsExt;
 use std::os::unix::process::CommandExt;
@@ -43,15 +44,26 @@ pub fn kill(command: Pid) {
     let _none = kill_process_group(command, Signal::Kill);
 }
 
-/// Whether there is such a command.
-pub fn is_there(program: &OsStr) -> bool {
-    let is_command =
-        |path: &Path| path.metadata().map_or(false, |found| found.is_file() && found.permissions().mode() & 0o111 != 0);
+/// Why a command can't be run, if so.
+pub fn why_not(program: &OsStr) -> Option<String> {
     if program.as_bytes().contains(&b'/') {
-        return is_command(Path::new(program));
+        return why_not_at(Path::new(program));
     }
     let folders = std::env::var_os("PATH").unwrap_or_else(|| "/bin:/usr/bin".into());
-    std::env::split_paths(&folders).any(|folder| is_command(&folder.join(program)))
+    let is_there = std::env::split_paths(&folders).any(|folder| why_not_at(&folder.join(program)).is_none());
+    (!is_there).then(|| "there is no such program in PATH".to_string())
+}
+
+fn why_not_at(path: &Path) -> Option<String> {
+    match path.metadata() {
+        Err(why) if why.kind() == ErrorKind::NotFound => Some("there is no such program".to_string()),
+        Err(why) => Some(why.to_string()),
+        Ok(found) if !found.is_file() => Some("it is no program".to_string()),
+        Ok(found) => match found.permissions().mode() & 0o7777 {
+            mode if mode & 0o111 == 0 => Some(format!("it may not be run (mode {mode:04o}): `chmod +x`")),
+            _ => None,
+        },
+    }
 }
 
 #[cfg(test)]
@@ -59,11 +71,16 @@ mod tests {
     use super::*;
 
     #[test]
-    fn commands_that_are_there() {
-        for (program, is_so) in
-            [("sh", true), ("/bin/sh", true), ("no-such-command", false), ("/bin", false), ("/etc/passwd", false)]
-        {
-            assert_eq!(is_there(OsStr::new(program)), is_so, "{program}");
+    fn commands_that_can_not_be_run() {
+        for (program, why) in [
+            ("sh", None),
+            ("/bin/sh", None),
+            ("no-such-command", Some("there is no such program in PATH")),
+            ("/no/such/command", Some("there is no such program")),
+            ("/bin", Some("it is no program")),
+            ("/etc/passwd", Some("it may not be run (mode 0644): `chmod +x`")),
+        ] {
+            assert_eq!(why_not(OsStr::new(program)).as_deref(), why, "{program}");
         }
     }
 }

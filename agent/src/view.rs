@@ -39,6 +39,8 @@ pub struct View {
     /// Whether the node has mounted its file.
     pub is_ready: bool,
     pub past: VecDeque<Past>,
+    /// The last group that the node worked in.
+    worked_in: Group,
 }
 
 /// The node and its group, as `status` has them.
@@ -83,7 +85,8 @@ fn ms(duration: Duration) -> u64 {
 impl View {
     pub fn new(cluster: &str, own: u8, nodes: usize, now: Instant) -> View {
         let (cluster, group, past) = (cluster.to_string(), Group::default(), VecDeque::new());
-        View { cluster, own, nodes, began: now, group, count: None, changed: now, answered: now, is_ready: false, past }
+        let (count, is_ready, worked_in) = (None, false, Group::default());
+        View { cluster, own, nodes, began: now, group, count, changed: now, answered: now, is_ready, past, worked_in }
     }
 
     /// The node is in another group or phase; how many groups it made for that. It counts its groups, each by one more.
@@ -101,8 +104,19 @@ impl View {
             group: group.number,
             members: group.members.clone(),
         });
+        if group.is_normal() {
+            self.worked_in = group.clone();
+        }
         (self.group, self.changed) = (group, now);
         made
+    }
+
+    /// Of the last group that the node worked in, members that it heard itself and that a new one lacks: a coordinator hears all, a member hears it alone.
+    pub fn lost_in(&self, group: &Group) -> Vec<u8> {
+        let last = &self.worked_in;
+        let is_heard = |node: u8| node != self.own && (last.coordinator == self.own || node == last.coordinator);
+        let members = if group.is_normal() { last.members.as_slice() } else { &[] };
+        members.iter().copied().filter(|node| is_heard(*node) && !group.members.contains(node)).collect()
     }
 
     pub fn is_coordinator(&self) -> bool {
@@ -166,5 +180,22 @@ mod tests {
         assert_eq!(enter(&["Normal", "2", "2:9000", "0,1,2"]), 0, "another node's");
         assert_eq!(enter(&["Down"]), 0);
         assert_eq!(enter(&["Election", "1", "1:1704", "-"]), 3);
+    }
+
+    #[test]
+    fn members_that_it_heard_itself_are_missed() {
+        let now = Instant::now();
+        let mut view = View::new("c", 1, 5, now);
+        let mut lost = |words: &[&str]| {
+            let group = Group::read(words).unwrap();
+            let lost = view.lost_in(&group);
+            view.enter(group, now);
+            lost
+        };
+        assert!(lost(&["Normal", "1", "1:1", "0,1,2,3"]).is_empty());
+        assert!(lost(&["Election", "1", "1:2", "-"]).is_empty(), "it isn't known yet");
+        assert_eq!(lost(&["Normal", "1", "1:2", "1,3"]), [0, 2]);
+        assert!(lost(&["Normal", "3", "3:2", "0,1,3,4"]).is_empty());
+        assert_eq!(lost(&["Normal", "1", "1:4", "1"]), [3], "the coordinator, which was heard");
     }
 }

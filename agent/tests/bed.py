@@ -56,7 +56,7 @@ class Relay:
 
     def __init__(self, count, seed=1):
         self.count, self.chance = count, random.Random(seed)
-        self.loss, self.twice, self.delay, self.cuts = 0.0, 0.0, (0.0, 0.0), set()
+        self.loss, self.twice, self.delay, self.cuts, self.one_way = 0.0, 0.0, (0.0, 0.0), set(), set()
         self.carried = self.lost = 0
         self.kept = []                       # datagrams, to be sent again much later
         self.real = [("127.0.0.1", free_port()) for _ in range(count)]
@@ -82,7 +82,7 @@ class Relay:
                 self.out.sendto(datagram, self.real[j])
 
     def take(self, pair, datagram):
-        if frozenset(pair) in self.cuts or self.chance.random() < self.loss:
+        if frozenset(pair) in self.cuts or pair in self.one_way or self.chance.random() < self.loss:
             self.lost += 1
             return
         if len(self.kept) < 20000:

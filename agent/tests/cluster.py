@@ -121,7 +121,7 @@ def job_elsewhere(agents, check):
     check("it is finished", agents.ask(other, do="finish", origin=lead, id=kept["id"])["ok"])
     agents.until(lambda: agents.ask(lead, do="jobs")["total"] == 0)
     never = agents.ask(other, do="finish", origin=lead, id=kept["id"] + 1000)
-    check("a finish of a job that isn't in hand is refused", never == {"ok": False, "error": "UnknownJob"}, never)
+    check("a finish of a job that isn't in hand is refused", never["error"] == "UnknownJob" and "it isn't in hand here" in never["why"], never)
 
 
 def metrics(agents, check):

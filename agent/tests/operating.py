@@ -18,7 +18,6 @@ ELSEWHERE = [
     (r"cp /usr/share/doc/dumgerok/examples/node.toml ", "packaging/test-systemd"),
     (r"runuser -u dumgerok -- dumgerokctl format", "packaging/test-systemd"),
     (r"systemctl (enable|start|stop|restart|reload)", "packaging/test-systemd"),
-    (r"openssl rand -hex 32", "packaging/test-systemd"),
     (r"chown dumgerok: ", "packaging/test-systemd"),
     (r"dd if=FILE iflag=nocache", "tests/failed_device.py"),
 ]
@@ -26,8 +25,8 @@ ELSEWHERE = [
 # What stands for a word of one's own in a command of dumgerokctl.
 WORDS = {"COMMAND": "true", "ORIGIN": "0", "ID": "0", "QUEUE": "0", "TEXT": "x", "N": "0"}
 
-# Commands over files, not asked of an agent: machine.py, cluster.py and the blocks of the page run them with paths of their own.
-OVER_FILES = ("format", "inspect", "export", "judge")
+# Commands over files, not asked of an agent: machine.py, messages.py, cluster.py and the blocks of the page run them with paths of their own.
+OVER_FILES = ("format", "inspect", "export", "judge", "key")
 
 
 def beside_blocks(text):

@@ -15,7 +15,9 @@ fn main() -> ExitCode {
     match run(Arguments::parse()) {
         Ok(()) => ExitCode::SUCCESS,
         Err(failure) => {
-            say(format!("dumgerokctl: {failure}"));
+            if !failure.is_told() {
+                say(format!("dumgerokctl: {failure}"));
+            }
             failure.status()
         }
     }

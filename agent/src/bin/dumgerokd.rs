@@ -8,13 +8,16 @@ use dumgerok_agent::config::{Config, LogLevel};
 use dumgerok_agent::daemon::Daemon;
 use dumgerok_agent::forward::KeyError;
 use dumgerok_agent::log_lines::LogLines;
+use dumgerok_agent::names;
 use dumgerok_agent::node_file::drop_cache;
 use dumgerok_agent::own_session::become_command;
 use dumgerok_agent::say::say;
 use log::{error, info, LevelFilter};
 use rustix::fs::fstat;
+use rustix::process::geteuid;
 use std::fs::{File, OpenOptions};
 use std::io::{ErrorKind, Write};
+use std::os::unix::fs::MetadataExt;
 use std::path::{Path, PathBuf};
 use std::process::ExitCode;
 
@@ -25,11 +28,12 @@ const UNUSABLE: u8 = 7;
 
 /// Runs the node of a Dumgerok cluster on this machine.
 ///
-/// It ends with the status of the node: 0 by SIGTERM, 1 reading or writing failed, 2 the configuration can't be read, 3 the device failed,
-/// 4 another process has the file open, 5 the file is another node's, was never formatted or is damaged, 6 the key can't be read, 7 the file isn't
-/// there, may not be opened, or is no file.
+/// Exit statuses, which are the node's: 0 by SIGTERM or SIGINT, 1 an address is in use or missing, another agent runs, the program can't be run, the node was
+/// killed or ended by itself, reading or writing failed, or there was no memory; 2 the configuration can't be read; 3 the device failed; 4 another process has
+/// the file open; 5 the file is another node's, no node's, or damaged; 6 the key can't be read, or others than its owner may read it; 7 the file isn't there,
+/// may not be opened, is no regular file, or was removed or cut off while the node ran.
 #[derive(Parser)]
-#[command(name = "dumgerokd", version)]
+#[command(name = "dumgerokd", version, after_help = "Example: dumgerokd /etc/dumgerok/node.toml")]
 struct Arguments {
     /// The configuration, as /etc/dumgerok/node.toml
     config: PathBuf,
@@ -64,24 +68,47 @@ fn is_read_by_journal() -> bool {
 
 /// Opens the file, or answers the status to end with: so the node isn't blamed for what the machine doesn't permit. None where the node is to say what is
 /// wrong with it.
-fn opened(path: &Path) -> Result<Option<File>, u8> {
+fn opened(path: &Path, config: &Path) -> Result<Option<File>, u8> {
+    let file = path.display();
     match OpenOptions::new().read(true).write(true).open(path) {
-        Ok(file) if file.metadata().map_or(false, |found| found.is_file()) => Ok(Some(file)),
+        Ok(opened) if opened.metadata().map_or(false, |found| found.is_file()) => Ok(Some(opened)),
         Ok(_) => Ok(None),
+        Err(why) if why.kind() == ErrorKind::NotFound && !is_folder_there(path) => {
+            error!("{file}: its folder isn't there: is its file system mounted?");
+            Err(UNUSABLE)
+        }
         Err(why) if why.kind() == ErrorKind::NotFound => {
-            error!("{}: there is no such file: `dumgerokctl format` makes it", path.display());
+            error!("{file}: there is no such file. Was there one, is its file system mounted? For a new node {} makes it", format_command(config));
             Err(UNUSABLE)
         }
         Err(why) if why.kind() == ErrorKind::PermissionDenied => {
-            error!("{}: this user may not open it", path.display());
+            let (own, owner) = (names::user(geteuid().as_raw()), path.metadata().map(|found| names::user(found.uid())));
+            let whose = owner.map_or(String::new(), |owner| format!(": it is {owner}'s (`chown {own}: {file}`)"));
+            error!("{file}: this user, {own}, may not open it{whose}");
             Err(UNUSABLE)
         }
         Err(_) => Ok(None),
     }
 }
 
+fn is_folder_there(path: &Path) -> bool {
+    path.parent().map_or(true, |folder| folder.as_os_str().is_empty() || folder.is_dir())
+}
+
+/// The command that makes the file, as the agent's user: a file that is root's it couldn't open.
+fn format_command(config: &Path) -> String {
+    let with = match config.to_str() {
+        Some("/etc/dumgerok/node.toml") => String::new(),
+        _ => format!(" --config {}", config.display()),
+    };
+    match geteuid() {
+        root if root.is_root() => format!("`dumgerokctl format{with}`"),
+        user => format!("`runuser -u {} -- dumgerokctl format{with}`", names::user(user.as_raw())),
+    }
+}
+
 fn run(config: Config, path: PathBuf) -> anyhow::Result<u8> {
-    let file = match opened(&config.file) {
+    let file = match opened(&config.file, &path) {
         Ok(file) => file,
         Err(status) => return Ok(status),
     };

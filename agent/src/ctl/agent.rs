@@ -1,5 +1,6 @@
 //! A connection to the agent.
 
+use crate::names;
 use rustix::fd::OwnedFd;
 use rustix::io::Errno;
 use rustix::net::sockopt::{set_socket_timeout, Timeout};
@@ -7,6 +8,7 @@ use rustix::net::{connect_unix, socket_with, AddressFamily, Protocol, SocketAddr
 use serde_json::Value;
 use std::io::{self, BufRead, BufReader, ErrorKind, Write};
 use std::net::Shutdown;
+use std::os::unix::fs::MetadataExt;
 use std::os::unix::net::UnixStream;
 use std::path::{Path, PathBuf};
 use std::time::Duration;
@@ -91,17 +93,30 @@ fn connected(path: &Path) -> io::Result<UnixStream> {
 
 /// An error with the socket where it came about, and what to do about it where that isn't plain.
 fn named(socket: &Path, error: io::Error) -> io::Error {
-    let hint = match error.kind() {
-        ErrorKind::PermissionDenied => ": root and the group of the socket may ask",
-        _ => "",
+    let path = socket.display();
+    let hint = match (error.kind(), socket.metadata()) {
+        (ErrorKind::PermissionDenied, Ok(found)) => match names::group(found.gid()) {
+            group if found.mode() & 0o060 == 0o060 => {
+                format!(": root and the group {group} may ask (`usermod -aG {group} USER`, and log in anew)")
+            }
+            _ => format!(": {} alone may ask", names::user(found.uid())),
+        },
+        (ErrorKind::PermissionDenied, Err(_)) => ": this user may not look into its folder".to_string(),
+        (ErrorKind::NotFound, _) => ": is the service running (`systemctl status dumgerok`), and its `socket` this one?".to_string(),
+        (ErrorKind::ConnectionRefused, _) => ": the agent ended (`systemctl status dumgerok`)".to_string(),
+        _ => String::new(),
     };
-    io::Error::new(error.kind(), format!("{}: {error}{hint}", socket.display()))
+    io::Error::new(error.kind(), format!("{path}: {error}{hint}"))
 }
 
 /// A wait that ended is told as one.
 fn in_time(error: io::Error) -> io::Error {
+    let seconds = PATIENCE.as_secs();
     match error.kind() {
-        ErrorKind::WouldBlock => io::Error::new(ErrorKind::TimedOut, "it is there, and says nothing"),
+        ErrorKind::WouldBlock => io::Error::new(
+            ErrorKind::TimedOut,
+            format!("it is there, and says nothing for {seconds} s: look at the service (`systemctl status dumgerok`)"),
+        ),
         _ => error,
     }
 }
@@ -109,13 +124,25 @@ fn in_time(error: io::Error) -> io::Error {
 #[cfg(test)]
 mod tests {
     use super::*;
+    use std::os::unix::fs::PermissionsExt;
 
     #[test]
     fn whoever_may_not_ask_is_told_who_may() {
-        let told = |kind: ErrorKind| named(Path::new("/run/x.sock"), kind.into());
-        assert_eq!(told(ErrorKind::PermissionDenied).kind(), ErrorKind::PermissionDenied);
-        assert!(told(ErrorKind::PermissionDenied).to_string().ends_with(": root and the group of the socket may ask"));
-        assert!(!told(ErrorKind::NotFound).to_string().contains("may ask"));
+        let path = std::env::temp_dir().join(format!("dumgerok-named-{}", std::process::id()));
+        std::fs::write(&path, "").unwrap();
+        let told = |kind: ErrorKind, mode: u32| {
+            std::fs::set_permissions(&path, std::fs::Permissions::from_mode(mode)).unwrap();
+            let said = named(&path, kind.into());
+            assert_eq!(said.kind(), kind);
+            said.to_string()
+        };
+        let (own, group) = (names::user(path.metadata().unwrap().uid()), names::group(path.metadata().unwrap().gid()));
+        let said = told(ErrorKind::PermissionDenied, 0o660);
+        assert!(said.ends_with(&format!(": root and the group {group} may ask (`usermod -aG {group} USER`, and log in anew)")), "{said}");
+        assert!(told(ErrorKind::PermissionDenied, 0o600).ends_with(&format!(": {own} alone may ask")));
+        assert!(told(ErrorKind::ConnectionRefused, 0o660).ends_with("the agent ended (`systemctl status dumgerok`)"));
+        std::fs::remove_file(&path).unwrap();
+        assert!(named(Path::new("/nowhere/x"), ErrorKind::NotFound.into()).to_string().contains("is the service running"));
         assert_eq!(in_time(ErrorKind::WouldBlock.into()).kind(), ErrorKind::TimedOut);
     }
 }

@@ -3,15 +3,20 @@
 use super::agent::{socket, Agent, PATIENCE};
 use super::arguments::{Arguments, Command, OnOff};
 use super::worker::{self, Worker};
-use super::{file, program, show, Failure};
+use super::format::Format;
+use super::{file, key, program, show, Failure};
 use clap::CommandFactory;
 use serde_json::{json, Value};
-use std::io::{self, ErrorKind, Write};
+use std::io::{self, ErrorKind, Read, Write};
 use std::path::Path;
+use std::process::ExitStatus;
 use std::time::{Duration, Instant};
 
 /// For what the node has to answer it is waited so long: for longer than systemd's watchdog lets a node be without an answer.
 const NODE_PATIENCE: Duration = Duration::from_secs(60);
+
+/// No more of a payload is read from standard input: its line is one that an agent takes, and it is far too long.
+const MAX_INPUT: u64 = 4096;
 
 /// Writes text; a reader that went away ends the command without a word.
 fn print(text: &str) -> Result<(), Failure> {
@@ -23,11 +28,19 @@ fn print(text: &str) -> Result<(), Failure> {
 }
 
 pub fn run(arguments: Arguments) -> Result<(), Failure> {
-    let Arguments { socket: given, json: is_json, command } = arguments;
+    let Arguments { asks: before, command } = arguments;
+    if let Some(asks) = command.asks() {
+        let given = asks.socket.clone().or(before.socket);
+        return with_agent(&socket(given), asks.json || before.json, command);
+    }
     match &command {
-        Command::Format { config, slots, first, jobs } => program::format(config, *slots, *first, jobs.as_deref()),
-        Command::Inspect(look) => shown(program::look(look, "inspect")?, is_json, file::inspected),
-        Command::Export(look) => shown(program::look(look, "export")?, is_json, file::exported),
+        Command::Format { config, slots, stride, first, jobs } => {
+            let format = Format { slots: *slots, stride: *stride, first: *first, jobs: jobs.as_deref() };
+            print(&format.make(&program::read(config)?)?)
+        }
+        Command::Key { file } => print(&key::make(file)?),
+        Command::Inspect(look) => shown(program::look(look, "inspect")?, look.json || before.json, file::inspected),
+        Command::Export(look) => shown(program::look(look, "export")?, look.json || before.json, file::exported),
         Command::Judge { files, program: _, trace: true } => print(&format!("{}\n", program::trace_of(files)?)),
         Command::Judge { files, program, trace: false } => program::judge(files, program),
         Command::Completions { shell } => {
@@ -35,47 +48,58 @@ pub fn run(arguments: Arguments) -> Result<(), Failure> {
             clap_complete::generate(*shell, &mut Arguments::command(), "dumgerokctl", &mut script);
             print(&String::from_utf8_lossy(&script))
         }
-        _ => with_agent(&socket(given), is_json, command),
+        // these ask an agent
+        _ => Ok(()),
     }
 }
 
 /// Prints what the program said of a file; how the program ended is how the command ends.
-fn shown((text, status): (String, u8), is_json: bool, as_json: fn(&str) -> String) -> Result<(), Failure> {
-    print(&if is_json { as_json(&text) } else { text })?;
-    match status {
-        0 => Ok(()),
-        _ => Err(Failure::Program(status)),
+fn shown((text, status): (String, ExitStatus), is_json: bool, as_json: fn(&str) -> String) -> Result<(), Failure> {
+    print(&if is_json { as_json(&text) } else { text.clone() })?;
+    match Failure::of_status(status) {
+        Err(Failure::Program { status, why: None }) if text.starts_with("too_small ") => {
+            let why = Some("this is no node's file: it is shorter than the least one".to_string());
+            Err(Failure::Program { status, why })
+        }
+        done => done,
     }
 }
 
 fn with_agent(socket: &Path, is_json: bool, command: Command) -> Result<(), Failure> {
     let asked = |request: Value, shown: fn(&Value) -> String| ask(socket, is_json, &request, shown);
     match command {
-        Command::Status => asked(json!({"do": "status"}), show::status),
-        Command::Members => asked(json!({"do": "members"}), show::members),
-        Command::Jobs { queue, skip, limit } => {
+        Command::Status(_) => asked(json!({"do": "status"}), show::status),
+        Command::Members(_) => asked(json!({"do": "members"}), show::members),
+        Command::Jobs { queue, skip, limit, .. } => {
             asked(json!({"do": "jobs", "queue": queue, "skip": skip, "limit": limit}), show::jobs)
         }
-        Command::Submit { queue, text, priority, hex } => {
-            let field = if hex { "hex" } else { "text" };
+        Command::Submit { queue, text, priority, hex, .. } => {
+            let (field, text) = payload(text, hex)?;
             asked(json!({"do": "submit", "queue": queue, "priority": priority, field: text}), kept)
         }
-        Command::Finish { origin, id } => asked(json!({"do": "finish", "origin": origin, "id": id}), silent),
-        Command::Compact => asked(json!({"do": "compact"}), silent),
-        Command::Record { state } => asked(json!({"do": "record", "on": state == OnOff::On}), silent),
-        Command::Watch { since } => watch(socket, is_json, since),
-        Command::Take { queue, once: _, command } if command.is_empty() => {
+        Command::Finish { origin, id, .. } => asked(json!({"do": "finish", "origin": origin, "id": id}), silent),
+        Command::Compact(_) => asked(json!({"do": "compact"}), silent),
+        Command::Record { state, .. } => asked(json!({"do": "record", "on": state == OnOff::On}), silent),
+        Command::Watch { since, .. } => watch(socket, is_json, since),
+        Command::Take { queue, command, .. } if command.is_empty() => {
             let job = worker::next_job(&mut Agent::connect(socket)?, queue)?;
             print(&if is_json { format!("{job}\n") } else { worker::shown(&job) })
         }
-        Command::Take { queue, once, command } => Worker { socket, queue, once, command: &command }.work(),
+        Command::Take { queue, once, command, .. } => Worker { socket, queue, once, command: &command }.work(),
         // these ask no agent
-        Command::Format { .. }
-        | Command::Inspect(_)
-        | Command::Export(_)
-        | Command::Judge { .. }
-        | Command::Completions { .. } => Ok(()),
+        _ => Ok(()),
     }
+}
+
+/// The field of a payload, and what stands there. What comes of standard input may be any bytes.
+fn payload(text: String, is_hex: bool) -> Result<(&'static str, String), Failure> {
+    if text != "-" {
+        return Ok((if is_hex { "hex" } else { "text" }, text));
+    }
+    let mut bytes = Vec::new();
+    let read = io::stdin().take(MAX_INPUT).read_to_end(&mut bytes);
+    read.map_err(|why| Failure::Usage(format!("standard input can't be read: {why}")))?;
+    Ok(("hex", if is_hex { String::from_utf8_lossy(&bytes).trim().to_string() } else { hex::encode(&bytes) }))
 }
 
 fn kept(reply: &Value) -> String {

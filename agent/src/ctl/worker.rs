@@ -60,12 +60,9 @@ pub fn next_job(agent: &mut Agent, queue: Option<u8>) -> Result<Value, Failure> 
 
 impl Worker<'_> {
     pub fn work(&self) -> Result<(), Failure> {
-        match self.command.first() {
-            Some(program) if own_session::is_there(program) => {}
-            Some(program) => {
-                return Err(Failure::Usage(format!("{}: there is no such command", program.to_string_lossy())))
-            }
-            None => return Err(Failure::Usage("no COMMAND".to_string())),
+        let program = self.command.first().ok_or_else(|| Failure::Usage("no COMMAND".to_string()))?;
+        if let Some(why) = own_session::why_not(program) {
+            return Err(Failure::Usage(format!("{}: {why}", program.to_string_lossy())));
         }
         let (mut left_alone, interrupts) = (LeftAlone::default(), Interrupts::register()?);
         loop {

@@ -2,7 +2,7 @@
 
 use super::{Asker, Daemon, FILE_DAMAGED, NO_MEMORY};
 use crate::forward::{Given, Outcome};
-use crate::metrics::kind_of;
+use crate::metrics::{kind_of, ANSWERS};
 use crate::node::{Answer, Closing, Group, Job, JobKey, Line, Refusal};
 use crate::protocol::Reply;
 use crate::service::Given as GivenJob;
@@ -71,6 +71,10 @@ impl Daemon {
 
     fn enter(&mut self, group: Group, now: Instant) {
         self.metrics.groups.inc();
+        for node in self.view.lost_in(&group) {
+            let heard = self.peers.silence(node, now).unwrap_or_default().as_secs_f64();
+            warn!("node {node} is no member any more: it was heard {heard:.1} s ago last");
+        }
         let made = self.view.enter(group, now);
         self.metrics.durable.with_label_values(&["group"]).inc_by(made);
         let status = self.view.status(now);
@@ -141,6 +145,12 @@ impl Daemon {
                     warn!("node {sender}: it is heard from {from}, which isn't {name}: another node of this id, or another way back?");
                 }
                 self.metrics.messages_in.with_label_values(&[kind]).inc();
+                if ANSWERS.contains(&kind) {
+                    self.peers.answered(sender);
+                }
+                if self.peers.is_deaf(sender, now) {
+                    warn!("node {sender} is heard and answers nothing: what is sent to it is lost, or refused there");
+                }
             }
             Closing::Bad => {
                 self.metrics.refused.with_label_values(&["NoMessage"]).inc();
@@ -166,7 +176,10 @@ impl Daemon {
             self.view.is_ready = true;
             self.notify.ready();
         } else {
-            let why = error_of(closing);
+            let why = match closing {
+                Closing::Refused(Refusal::Damaged(sector)) => format!("Damaged, sector {sector}"),
+                other => error_of(other),
+            };
             error!("{} can't be mounted: {why}: `dumgerokctl inspect` says what it holds", self.config.file.display());
             self.notify.status(format!("the file can't be mounted: {why}"));
             self.unusable = unmounted(closing);
@@ -220,6 +233,7 @@ fn has_left_hand(closing: &Closing) -> bool {
 fn name_of(refusal: &Refusal) -> &str {
     match refusal {
         Refusal::NotCoordinator(_) => "NotCoordinator",
+        Refusal::Damaged(_) => "Damaged",
         Refusal::Named(name) => name,
     }
 }
@@ -233,10 +247,16 @@ fn error_of(closing: &Closing) -> String {
     }
 }
 
+const NOT_IN_HAND: &str =
+    "it isn't in hand here: it is done, or the node's group changed since and the queue's owner there has it";
+
 fn reply_of(closing: &Closing) -> Reply {
     match closing {
         Closing::Ok(_) => Reply::ok(),
-        other => Reply::refused(&error_of(other)),
+        other => match error_of(other) {
+            error if error == "UnknownJob" => Reply::refused(&error).with("why", NOT_IN_HAND),
+            error => Reply::refused(&error),
+        },
     }
 }
 

@@ -3,7 +3,7 @@
 use super::{Asker, Daemon};
 use crate::config::Config;
 use crate::forward::{is_of_agents, Datagram};
-use crate::metrics::kind_of;
+use crate::metrics::{kind_of, QUESTIONS};
 use crate::net::MAX_DATAGRAM;
 use crate::node::Lane;
 use log::{info, warn};
@@ -83,6 +83,9 @@ impl Daemon {
         let message = hex::decode(digits).unwrap_or_default();
         let kind = kind_of(&message);
         self.metrics.messages_out.with_label_values(&[kind]).inc();
+        if QUESTIONS.contains(&kind) {
+            self.peers.asked(to, now);
+        }
         let at_once = if kind == "Work" { self.pace.put(to, message) } else { Some((to, message)) };
         if let Some((to, message)) = at_once {
             self.send(to, &message, now);

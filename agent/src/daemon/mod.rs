@@ -116,7 +116,7 @@ impl Daemon {
         is_left(&config.socket).with_context(socket)?;
         // of two agents that begin at the same time one has the port, and the other one leaves its socket alone
         let link = Link::bind(config.listens_at(), registry, LINK)
-            .with_context(|| format!("datagrams can't be received at {}", config.listens_at()))?;
+            .map_err(|why| anyhow::anyhow!("datagrams can't be received at {}: {why}{}", config.listens_at(), hint(&config, &why)))?;
         let clients = Clients::listen(&config.socket, registry, LISTENER, FIRST_CLIENT).with_context(socket)?;
         let http = http_of(&config, &waker)?;
         Ok(Daemon {
@@ -328,6 +328,19 @@ fn poll(poll: &mut Poll, events: &mut Events, sleep: Duration) -> anyhow::Result
 /// A poll counts whole milliseconds and leaves the rest out: so it would be made again and again until the rest is over.
 fn whole_ms(sleep: Duration) -> Duration {
     Duration::from_millis((sleep + Duration::from_micros(999)).as_millis() as u64)
+}
+
+/// What to look at where an address can't be had.
+fn hint(config: &Config, why: &std::io::Error) -> String {
+    let from = match config.listen {
+        Some(_) => "`listen` has it".to_string(),
+        None => format!("`nodes` has it for `id` {}, and there is no `listen`", config.id),
+    };
+    match why.kind() {
+        ErrorKind::AddrInUse => format!(": another process has it, perhaps another agent ({from})"),
+        ErrorKind::AddrNotAvailable => format!(": this machine has no such address ({from}): is `id` this machine's?"),
+        _ => format!(" ({from})"),
+    }
 }
 
 fn seal_of(config: &Config) -> anyhow::Result<Seal> {

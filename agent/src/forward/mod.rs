@@ -4,13 +4,15 @@
 
 mod datagram;
 mod inbox;
+mod key_file;
 mod outbox;
 mod seal;
 
 pub use datagram::{is_of_agents, Datagram, Outcome, Submission, Token, What};
 pub use inbox::{Inbox, Verdict};
+pub use key_file::{read_keys, KeyError};
 pub use outbox::{Client, Due, Given, Outbox};
-pub use seal::{KeyError, Seal};
+pub use seal::Seal;
 
 use std::io::Read;
 

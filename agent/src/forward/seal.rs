@@ -1,27 +1,14 @@
 //! Seals datagrams of agents by HMAC-SHA256, under keys of their own that are drawn from the cluster's.
 
+use super::key_file::{read_keys, KeyError};
 use hmac::{Hmac, Mac};
 use sha2::Sha256;
-use std::fs::File;
-use std::io::Read;
 use std::path::Path;
-use thiserror::Error;
 
 const CONTEXT: &[u8] = b"dumgerok agent 1";
 const TAG: usize = 32;
 
-/// No more of a key file is read: two lines are far shorter, and what is longer is none.
-const MAX_FILE: u64 = 4096;
-
 type HmacSha256 = Hmac<Sha256>;
-
-#[derive(Debug, Error)]
-pub enum KeyError {
-    #[error("it can't be read")]
-    Unreadable(#[from] std::io::Error),
-    #[error("a key file has one or two lines of 64 hex digits")]
-    NoKey,
-}
 
 /// Without keys datagrams are carried as they are.
 #[derive(Default)]
@@ -33,26 +20,11 @@ pub struct Seal {
 impl Seal {
     /// Reads the cluster's key file. The keys are bound to the cluster's name and its number of nodes.
     pub fn read(path: &Path, cluster: &str, nodes: usize) -> Result<Seal, KeyError> {
-        let mut text = String::new();
-        File::open(path)?.take(MAX_FILE).read_to_string(&mut text)?;
-        Seal::of(&text, cluster, nodes)
+        Seal::of_keys(&read_keys(path)?, cluster, nodes)
     }
 
-    fn of(text: &str, cluster: &str, nodes: usize) -> Result<Seal, KeyError> {
-        let key = |line: &str| {
-            let secret = hex::decode(line.trim()).ok().filter(|secret| secret.len() == 32).ok_or(KeyError::NoKey)?;
-            let mut mac = HmacSha256::new_from_slice(&secret).map_err(|_| KeyError::NoKey)?;
-            mac.update(CONTEXT);
-            mac.update(&[nodes as u8]);
-            mac.update(cluster.as_bytes());
-            HmacSha256::new_from_slice(&mac.finalize().into_bytes()).map_err(|_| KeyError::NoKey)
-        };
-        let keys = text.lines().filter(|line| !line.trim().is_empty()).map(key).collect::<Result<Vec<_>, _>>()?;
-        if (1..=2).contains(&keys.len()) {
-            Ok(Seal { keys })
-        } else {
-            Err(KeyError::NoKey)
-        }
+    fn of_keys(keys: &[[u8; 32]], cluster: &str, nodes: usize) -> Result<Seal, KeyError> {
+        Ok(Seal { keys: keys.iter().map(|secret| bound(secret, cluster, nodes)).collect::<Result<_, _>>()? })
     }
 
     pub fn seal(&self, mut bytes: Vec<u8>) -> Vec<u8> {
@@ -74,9 +46,26 @@ impl Seal {
     }
 }
 
+/// The key of a cluster's agents, by its secret.
+fn bound(secret: &[u8; 32], cluster: &str, nodes: usize) -> Result<HmacSha256, KeyError> {
+    let about = [CONTEXT, &[nodes as u8], cluster.as_bytes()].concat();
+    keyed(&keyed(secret)?.chain_update(about).finalize().into_bytes())
+}
+
+fn keyed(key: &[u8]) -> Result<HmacSha256, KeyError> {
+    HmacSha256::new_from_slice(key).map_err(|why| KeyError::Unreadable(why.to_string()))
+}
+
 #[cfg(test)]
 mod tests {
     use super::*;
+    use crate::forward::key_file::keys_of;
+
+    impl Seal {
+        fn of(text: &str, cluster: &str, nodes: usize) -> Result<Seal, KeyError> {
+            Seal::of_keys(&keys_of(text)?, cluster, nodes)
+        }
+    }
 
     const ONE: &str = "000102030405060708090a0b0c0d0e0f101112131415161718191a1b1c1d1e1f\n";
     const TWO: &str = "ff0102030405060708090a0b0c0d0e0f101112131415161718191a1b1c1d1e1f\n";
@@ -104,9 +93,5 @@ mod tests {
         assert!(both.open(&two.seal(b"x".to_vec())).is_some());
         assert!(one.open(&both.seal(b"x".to_vec())).is_some());
         assert!(two.open(&both.seal(b"x".to_vec())).is_none());
-        assert!(Seal::read(Path::new("/dev/zero"), "prod", 3).is_err());
-        for bad in ["", "00\n", "zz", &ONE.repeat(3)] {
-            assert!(Seal::of(bad, "prod", 3).is_err(), "{bad:?}");
-        }
     }
 }

@@ -29,6 +29,9 @@ pub struct Peer {
     refused: Option<Instant>,
     /// When it was first sent something at its address, since it has that one and since it was heard.
     tried: Option<Instant>,
+    /// When it was first asked something that it didn't answer, though it was heard before and since; and when an operator was last told so.
+    unanswered: Option<Instant>,
+    deaf: Option<Instant>,
     /// Whether the last look-up found an address; None before the first.
     was_found: Option<bool>,
     /// Whether it was said that what is sent to it doesn't leave, and when.
@@ -67,6 +70,8 @@ impl Peers {
             elsewhere: None,
             refused: None,
             tried: None,
+            unanswered: None,
+            deaf: None,
             was_found: None,
             is_unsent: false,
             said: None,
@@ -112,6 +117,42 @@ impl Peers {
             }
             _ => false,
         }
+    }
+
+    /// A node is asked something that a live one answers at once. One that isn't heard says nothing of the way to it.
+    pub fn asked(&mut self, node: u8, now: Instant) {
+        if let Some(peer) = self.peers.get_mut(usize::from(node)) {
+            let is_heard = peer.heard.map_or(false, |heard| now.saturating_duration_since(heard) < SILENCE);
+            peer.unanswered = if is_heard { peer.unanswered.or(Some(now)) } else { None };
+        }
+    }
+
+    pub fn answered(&mut self, node: u8) {
+        if let Some(peer) = self.peers.get_mut(usize::from(node)) {
+            peer.unanswered = None;
+        }
+    }
+
+    /// A node is heard now. Whether an operator is to be told, once in a while, that it answered nothing for long.
+    pub fn is_deaf(&mut self, node: u8, now: Instant) -> bool {
+        let patience = self.unanswered;
+        let is_old = |at: Instant, time| now.saturating_duration_since(at) >= time;
+        match self.peers.get_mut(usize::from(node)) {
+            Some(peer) if peer.unanswered.map_or(false, |asked| is_old(asked, patience)) => {
+                let is_new = peer.deaf.map_or(true, |told| is_old(told, PAUSE));
+                if is_new {
+                    peer.deaf = Some(now);
+                }
+                is_new
+            }
+            _ => false,
+        }
+    }
+
+    /// How long ago a node was heard.
+    pub fn silence(&self, node: u8, now: Instant) -> Option<Duration> {
+        let heard = self.peers.get(usize::from(node)).and_then(|peer| peer.heard);
+        heard.map(|heard| now.saturating_duration_since(heard))
     }
 
     /// Which one of the others is at this address, or was heard from there last.
@@ -270,6 +311,27 @@ mod tests {
         peers.hear(2, "10.0.0.2:2".parse().unwrap(), now);
         assert_eq!([now, now + SILENCE].map(|at| peers.refuse(2, at)), [false, true], "while it is heard, too, it may be late");
         assert!(!peers.refuse(3, now), "no node has this number");
+    }
+
+    #[test]
+    fn one_that_is_heard_and_answers_nothing_is_told_once_in_a_while() {
+        let (now, from) = (Instant::now(), "10.0.0.2:2".parse().unwrap());
+        let mut peers = peers_of(&names());
+        let mut turn = |second: u64, is_answered: bool| {
+            let now = now + Duration::from_secs(second);
+            peers.asked(1, now);
+            peers.hear(1, from, now);
+            if is_answered {
+                peers.answered(1);
+            }
+            peers.is_deaf(1, now)
+        };
+        assert!((0..100).all(|second| !turn(second, true)), "it answers");
+        let told: Vec<u64> = (100..200).filter(|second| turn(*second, false)).collect();
+        assert_eq!(told, [105, 165]);
+        assert!(!turn(200, true) && !turn(300, false), "it was silent, and is asked since it is heard");
+        assert!((301..=305).all(|second| !turn(second, false)) && turn(306, false));
+        assert!(!peers.is_deaf(9, now) && peers.silence(1, now + Duration::from_secs(310)) == Some(Duration::from_secs(4)));
     }
 
     #[test]

@@ -6,6 +6,8 @@ use super::line::{Line, LineError};
 pub enum Refusal {
     /// The job has to be submitted at this node.
     NotCoordinator(u8),
+    /// The node's file can't be mounted: this sector is damaged.
+    Damaged(u64),
     /// Any other one, by its name.
     Named(String),
 }
@@ -28,6 +30,9 @@ impl Closing {
             ["ok", _] => Some(Closing::Ok(None)),
             ["refused", _, "NotCoordinator", node] => {
                 node.parse().ok().map(|node| Closing::Refused(Refusal::NotCoordinator(node)))
+            }
+            ["refused", _, "Damaged", sector] => {
+                sector.parse().ok().map(|sector| Closing::Refused(Refusal::Damaged(sector)))
             }
             ["refused", _, name, ..] => Some(Closing::Refused(Refusal::Named(name.to_string()))),
             ["bad", _] => Some(Closing::Bad),
@@ -69,6 +74,7 @@ mod tests {
         assert_eq!(Closing::read("ok 3 id 8"), Some(Closing::Ok(Some(8))));
         assert_eq!(Closing::read("refused 4 NotCoordinator 2"), Some(Closing::Refused(Refusal::NotCoordinator(2))));
         assert_eq!(Closing::read("refused 4 Full"), Some(Closing::Refused(Refusal::Named("Full".to_string()))));
+        assert_eq!(Closing::read("refused 1 Damaged 12"), Some(Closing::Refused(Refusal::Damaged(12))));
         assert_eq!(Closing::read("fault 9 Device"), Some(Closing::Fault));
         assert_eq!(Closing::read("send 1 00"), None);
     }

@@ -3,6 +3,7 @@
 use super::line::LineError;
 use serde::{Deserialize, Serialize};
 use std::fmt;
+use thiserror::Error;
 
 /// The node that keeps a job, and the id that it gave it.
 #[derive(Clone, Copy, Debug, PartialEq, Eq, PartialOrd, Ord, Hash, Serialize, Deserialize)]
@@ -16,30 +17,48 @@ pub struct JobKey {
 #[serde(try_from = "String")]
 pub struct Payload(String);
 
-impl TryFrom<String> for Payload {
-    type Error = LineError;
+/// Why something is no payload.
+#[derive(Debug, Error, PartialEq, Eq)]
+pub enum PayloadError {
+    #[error("a payload has at most {} bytes, and this one has {0}", Payload::MAX_BYTES)]
+    TooLong(usize),
+    #[error("hex digits come in twos, and these are {0}")]
+    OddDigits(usize),
+    #[error("{0:?} is no hex digit")]
+    NoDigit(char),
+}
 
-    fn try_from(digits: String) -> Result<Payload, LineError> {
-        Payload::of_hex(&digits).ok_or(LineError)
+impl TryFrom<String> for Payload {
+    type Error = PayloadError;
+
+    fn try_from(digits: String) -> Result<Payload, PayloadError> {
+        Payload::of_hex(&digits)
     }
 }
 
 impl Payload {
     const MAX_BYTES: usize = 400;
 
-    pub fn of_bytes(bytes: &[u8]) -> Option<Payload> {
-        (bytes.len() <= Payload::MAX_BYTES).then(|| Payload(hex::encode(bytes)))
+    pub fn of_bytes(bytes: &[u8]) -> Result<Payload, PayloadError> {
+        if bytes.len() > Payload::MAX_BYTES {
+            return Err(PayloadError::TooLong(bytes.len()));
+        }
+        Ok(Payload(hex::encode(bytes)))
     }
 
     /// Of hex digits, of either case.
-    pub fn of_hex(digits: &str) -> Option<Payload> {
-        hex::decode(digits).ok().and_then(|bytes| Payload::of_bytes(&bytes))
+    pub fn of_hex(digits: &str) -> Result<Payload, PayloadError> {
+        if let Some(other) = digits.chars().find(|digit| !digit.is_ascii_hexdigit()) {
+            return Err(PayloadError::NoDigit(other));
+        }
+        let bytes = hex::decode(digits).map_err(|_| PayloadError::OddDigits(digits.len()))?;
+        Payload::of_bytes(&bytes)
     }
 
     /// As the node's lines have it: `-` for no bytes.
     fn of_word(word: &str) -> Result<Payload, LineError> {
         let digits = if word == "-" { "" } else { word };
-        Payload::of_hex(digits).ok_or(LineError)
+        Payload::of_hex(digits).map_err(|_| LineError)
     }
 
     pub fn hex(&self) -> &str {

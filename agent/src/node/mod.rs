@@ -8,6 +8,6 @@ mod process;
 
 pub use answer::{Answer, Closing, Refusal};
 pub use group::{Group, GroupNumber, Phase};
-pub use job::{Job, JobKey, Payload};
+pub use job::{Job, JobKey, Payload, PayloadError};
 pub use line::{Line, LineError};
 pub use process::{Lane, NodeProcess};

@@ -66,8 +66,8 @@ pub struct NodeProcess<A> {
 impl<A> NodeProcess<A> {
     /// Starts the node; its output wakes `output`, its input, once it was full, `input`.
     pub fn start(config: &Config, registry: &Registry, input: Token, output: Token) -> io::Result<NodeProcess<A>> {
-        if !own_session::is_there(config.program.as_os_str()) {
-            return Err(io::Error::new(ErrorKind::NotFound, "there is no such program"));
+        if let Some(why) = own_session::why_not(config.program.as_os_str()) {
+            return Err(io::Error::new(ErrorKind::NotFound, why));
         }
         // a session of its own: a signal to the agent's terminal or process group is the agent's to answer
         let mut command = own_session::command([&config.program]);
@@ -256,7 +256,8 @@ impl<A> NodeProcess<A> {
         self.go_on();
         let (answer, faults) = Answer::of(self.own, request.asker, &texts, closing);
         if !faults.is_empty() {
-            warn!("{} lines of the answer to {:?} can't be read", faults.len(), request.text);
+            let word = request.text.split(' ').next().unwrap_or_default();
+            warn!("{} lines of the answer to a request `{word}` can't be read", faults.len());
         }
         Some(answer)
     }

@@ -1,7 +1,7 @@
 //! Requests.
 
 use super::VERSION;
-use crate::node::Payload;
+use crate::node::{Payload, PayloadError};
 use serde::Deserialize;
 use serde_json::{Map, Value};
 use thiserror::Error;
@@ -60,8 +60,14 @@ pub enum RequestError {
     Unreadable(String),
     #[error("a queue is a number from 0 to 15")]
     Queue,
-    #[error("a payload is `text` or `hex`, of at most 400 bytes")]
-    Payload,
+    #[error("a priority is a number from 0 to 255")]
+    Priority,
+    #[error("{0}")]
+    Payload(#[from] PayloadError),
+    #[error("a payload is `text` or `hex`, and here are both")]
+    TwoPayloads,
+    #[error("a payload is missing: `text` or `hex`")]
+    NoPayload,
 }
 
 impl RequestError {
@@ -72,7 +78,8 @@ impl RequestError {
             RequestError::Version => "Version",
             RequestError::Unreadable(_) => "Unreadable",
             RequestError::Queue => "BadQueue",
-            RequestError::Payload => "BadPayload",
+            RequestError::Priority => "BadPriority",
+            RequestError::Payload(_) | RequestError::TwoPayloads | RequestError::NoPayload => "BadPayload",
         }
     }
 }
@@ -105,33 +112,24 @@ impl Envelope {
     }
 
     fn request_of(object: Map<String, Value>) -> Result<Request, RequestError> {
-        let read = serde_json::from_value::<Request>(Value::Object(object));
-        let request = read.map_err(|error| RequestError::Unreadable(error.to_string()))?;
-        match request.queue() {
-            Some(queue) if queue > 15 => Err(RequestError::Queue),
-            _ => Ok(request),
+        for (field, most, error) in [("queue", 15, RequestError::Queue), ("priority", 255, RequestError::Priority)] {
+            let is_wrong = |value: &Value| !value.is_null() && value.as_u64().map_or(true, |value| value > most);
+            if object.get(field).map_or(false, is_wrong) {
+                return Err(error);
+            }
         }
-    }
-}
-
-impl Request {
-    fn queue(&self) -> Option<u8> {
-        match self {
-            Request::Submit { queue, .. } => Some(*queue),
-            Request::Jobs { queue, .. } | Request::Take { queue, .. } => *queue,
-            _ => None,
-        }
+        serde_json::from_value(Value::Object(object)).map_err(|error| RequestError::Unreadable(error.to_string()))
     }
 }
 
 /// The payload of a submitted job.
 pub fn payload_of(text: Option<String>, hex: Option<String>) -> Result<Payload, RequestError> {
-    let payload = match (text, hex) {
-        (Some(text), None) => Payload::of_bytes(text.as_bytes()),
-        (None, Some(hex)) => Payload::of_hex(&hex),
-        _ => None,
-    };
-    payload.ok_or(RequestError::Payload)
+    match (text, hex) {
+        (Some(text), None) => Ok(Payload::of_bytes(text.as_bytes())?),
+        (None, Some(hex)) => Ok(Payload::of_hex(&hex)?),
+        (Some(_), Some(_)) => Err(RequestError::TwoPayloads),
+        (None, None) => Err(RequestError::NoPayload),
+    }
 }
 
 #[cfg(test)]
@@ -162,16 +160,24 @@ mod tests {
             (r#"{"do":1}"#, "Unreadable"),
             (r#"{"do":"dance"}"#, "Unreadable"),
             (r#"{"do":"status","all":true}"#, "Unreadable"),
-            (r#"{"do":"submit","queue":-1,"text":""}"#, "Unreadable"),
+            (r#"{"do":"submit","queue":-1,"text":""}"#, "BadQueue"),
+            (r#"{"do":"submit","queue":"1","text":""}"#, "BadQueue"),
+            (r#"{"do":"submit","queue":1,"text":"","priority":256}"#, "BadPriority"),
             (r#"{"do":"submit","queue":16,"text":""}"#, "BadQueue"),
             (r#"{"do":"take","queue":16}"#, "BadQueue"),
             (r#"{"v":2,"do":"status"}"#, "Version"),
         ] {
             assert_eq!(read(line).unwrap_err().name(), name, "{line}");
         }
-        assert!(payload_of(Some("a".repeat(401)), None).is_err());
-        assert!(payload_of(None, Some("0".to_string())).is_err());
-        assert!(payload_of(Some(String::new()), Some(String::new())).is_err());
+        let said = |text: Option<&str>, hex: Option<&str>| {
+            payload_of(text.map(str::to_string), hex.map(str::to_string)).unwrap_err().to_string()
+        };
+        assert_eq!(said(Some(&"a".repeat(401)), None), "a payload has at most 400 bytes, and this one has 401");
+        assert_eq!(said(None, Some(&"00".repeat(500))), "a payload has at most 400 bytes, and this one has 500");
+        assert_eq!(said(None, Some("abc")), "hex digits come in twos, and these are 3");
+        assert_eq!(said(None, Some("xyz")), "'x' is no hex digit");
+        assert_eq!(said(Some(""), Some("")), "a payload is `text` or `hex`, and here are both");
+        assert_eq!(said(None, None), "a payload is missing: `text` or `hex`");
         assert_eq!(payload_of(Some("hi".to_string()), None).unwrap().hex(), "6869");
     }
 }
