@@ -57,6 +57,7 @@ pub struct Metrics {
     pub fired: IntCounterVec,
     pub dropped: IntCounterVec,
     pub forwarded: IntCounterVec,
+    pub farewells: IntCounterVec,
     pub jobs: IntCounterVec,
     pub durable: IntCounterVec,
     pub groups: IntCounter,
@@ -115,6 +116,7 @@ impl Metrics {
             fired: maker.counters("fired", "Timers that fired.", "timer")?,
             dropped: maker.counters("dropped", "Datagrams that were dropped, by reason.", "reason")?,
             forwarded: maker.counters("forwarded", "Submissions between agents, by what came of them.", "event")?,
+            farewells: maker.counters("farewells", "What agents said that their nodes end: taken, or refused as recorded.", "event")?,
             jobs: maker.counters("jobs", "Jobs, by what happened to them.", "event")?,
             durable: maker.counters("commands_durable", DURABLE, "command")?,
             phase: maker.gauges("phase", "1 for the phase that the node is in, 0 for the others.", "phase")?,
@@ -142,12 +144,13 @@ impl Metrics {
 
     /// A count that isn't told before it is one has no rate: so those that an alarm may follow are told from the start.
     fn begin_at_zero(&self) {
-        let known: [(&IntCounterVec, &[&str]); 7] = [
+        let known: [(&IntCounterVec, &[&str]); 8] = [
             (&self.messages_in, &KINDS),
             (&self.messages_out, &KINDS),
             (&self.refused, &REFUSALS),
             (&self.dropped, &["NoRoom", "NotSent", "Forged", "Empty"]),
             (&self.forwarded, &["taken", "again"]),
+            (&self.farewells, &["taken", "refused"]),
             (&self.jobs, &["kept", "gone", "taken", "dropped"]),
             (&self.durable, &["group", "put", "done"]),
         ];

@@ -142,7 +142,7 @@ def forwarded(bed):
     check = bed.tally.steady(agents)
     kept = [agents.ask((lead + 1) % 3, do="submit", queue=q, text="once %d" % q) for q in range(4)]
     check("sealed submissions are taken", all(one and one["ok"] for one in kept), kept)
-    mine = [message for j, message in list(agents.relay.kept) if j == lead and message[0] == 0xd6]
+    mine = [message for j, message in list(agents.relay.kept) if j == lead and b'"submit"' in message]
     before, bits = refused(agents, lead), 8 * len(mine[-1])
     agents.send_all(lead, [spoiled(mine[-1], bit) for bit in range(bits)])
     # the head's bits make it a message of nodes, which the node refuses

@@ -73,7 +73,8 @@ impl Daemon {
         self.metrics.groups.inc();
         for node in self.view.lost_in(&group) {
             let heard = self.peers.silence(node, now).unwrap_or_default().as_secs_f64();
-            warn!("node {node} is no member any more: it was heard {heard:.1} s ago last");
+            let why = if self.peers.has_left(node) { ", and said that it ends" } else { "" };
+            warn!("node {node} is no member any more: it was heard {heard:.1} s ago last{why}");
         }
         let made = self.view.enter(group, now);
         self.metrics.durable.with_label_values(&["group"]).inc_by(made);
@@ -130,6 +131,7 @@ impl Daemon {
                 let reply = jobs_of(&answer.lines, queue, skip, limit).tagged(&tag);
                 self.clients.answer(client, &reply);
             }
+            Asker::Lost => {}
             Asker::Page => {
                 self.listings -= 1;
                 self.count_jobs(&answer.lines);
@@ -148,6 +150,7 @@ impl Daemon {
                 if ANSWERS.contains(&kind) {
                     self.peers.answered(sender);
                 }
+                self.greet(sender, now);
                 if self.peers.is_deaf(sender, now) {
                     warn!("node {sender} is heard and answers nothing: what is sent to it is lost, or refused there");
                 }

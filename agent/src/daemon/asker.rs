@@ -41,6 +41,8 @@ pub enum Asker {
         skip: usize,
         limit: usize,
     },
+    /// A node is given up.
+    Lost,
     /// The page asks for the jobs.
     Page,
 }

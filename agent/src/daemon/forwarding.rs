@@ -5,6 +5,7 @@ use super::{Asker, Daemon};
 use crate::forward::{Client, Datagram, Due, Given, Outcome, Submission, Token, Verdict, What};
 use crate::node::Lane;
 use crate::protocol::Reply;
+use log::info;
 use std::time::Instant;
 
 fn line_of(job: &Submission) -> String {
@@ -79,13 +80,58 @@ impl Daemon {
 
     pub(super) fn obey_agent(&mut self, datagram: Datagram, now: Instant) {
         let (from, token) = (datagram.from, datagram.token);
+        if !matches!(datagram.what, What::Reply(_)) {
+            // one that began anew may be heard never again, as a member by another one
+            self.outbox.seen(from, token.life);
+            self.greet(from, now);
+        }
         match datagram.what {
+            What::Hello {} => {
+                if let Some(stamps) = self.inbox.stamps_for(from) {
+                    self.send_to_agent(from, token, What::Reply(stamps), now);
+                }
+            }
+            What::Leaving { life, number } => self.take_farewell(from, life, number, now),
+            What::Reply(Outcome::Stale { life, last }) if token.serial == 0 => {
+                self.outbox.greeted(from, token, life, last)
+            }
             What::Submit { life, number, job } => self.take_forwarded((from, token), (life, number), &job, now),
             What::Reply(outcome) => {
                 if let Some((serial, given)) = self.outbox.replied(from, token, outcome) {
                     self.tried(serial, given, now);
                 }
             }
+        }
+    }
+
+    /// Asks the agent of a node that is heard for its stamps, where they aren't known.
+    pub(super) fn greet(&mut self, node: u8, now: Instant) {
+        if let Some(token) = self.outbox.hello(node, now) {
+            self.send_to_agent(node, token, What::Hello {}, now);
+        }
+    }
+
+    /// Tells the other agents that the node ended: twice, for a datagram may be lost.
+    pub(super) fn say_goodbye(&mut self) {
+        let (now, own, count) = (Instant::now(), self.config.id, self.peers.all().len());
+        let others = (0..).zip(0..count).map(|(node, _)| node).filter(|node| *node != own);
+        let farewells: Vec<_> = others.filter_map(|to| self.outbox.goodbye(to).map(|(token, what)| (to, token, what))).collect();
+        for (to, token, what) in farewells.iter().chain(&farewells) {
+            self.send_to_agent(*to, *token, what.clone(), now);
+        }
+    }
+
+    /// Another agent says that its node ends. A coordinator drops it from its group by that; a member whose coordinator it was asks for it first, and by the
+    /// second word leaves.
+    fn take_farewell(&mut self, from: u8, life: u64, number: u64, now: Instant) {
+        if !self.inbox.is_new(from, life, number) {
+            return self.metrics.farewells.with_label_values(&["refused"]).inc();
+        }
+        self.metrics.farewells.with_label_values(&["taken"]).inc();
+        self.peers.leave(from, now);
+        info!("node {from} ends: it said so");
+        for _ in 0..2 {
+            self.ask(Asker::Lost, format!("lost {from}"));
         }
     }
 

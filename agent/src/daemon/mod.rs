@@ -180,10 +180,12 @@ impl Daemon {
             self.node.end(PATIENCE_AT_END)?;
             // what it did meanwhile is told to those who asked for it
             self.hear();
+            self.say_goodbye();
             info!("ended by a signal");
             return Ok(Some(0));
         }
         if let Some(status) = ending {
+            self.say_goodbye();
             return Ok(Some(ended(status)));
         }
         if self.guard.is_gone() {
@@ -192,6 +194,7 @@ impl Daemon {
         }
         if self.unusable.is_some() {
             self.node.end(PATIENCE_AT_END)?;
+            self.say_goodbye();
         }
         Ok(self.unusable)
     }

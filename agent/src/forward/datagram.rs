@@ -42,6 +42,10 @@ pub enum Outcome {
 pub enum What {
     Submit { life: u64, number: u64, job: Submission },
     Reply(Outcome),
+    /// Asks for the stamps by which its receiver takes a request: they are replied as those of one that is stale.
+    Hello {},
+    /// The node of the sender ends now, by these stamps.
+    Leaving { life: u64, number: u64 },
 }
 
 #[derive(Clone, Debug, PartialEq, Eq, Serialize, Deserialize)]

@@ -32,16 +32,31 @@ impl Inbox {
 
     /// A request of node `from` came.
     pub fn judge(&mut self, from: u8, token: Token, life: u64, number: u64) -> Option<Verdict> {
-        let last = self.last.get_mut(usize::from(from))?;
-        if life != self.life || number <= *last {
-            return Some(Verdict::Answer(Outcome::Stale { life: self.life, last: *last }));
+        let stale = self.stamps_for(from)?;
+        if !self.is_new(from, life, number) {
+            return Some(Verdict::Answer(stale));
         }
-        *last = number;
         Some(match self.outcomes.get(&token) {
             Some(Some(outcome)) => Verdict::Answer(outcome.clone()),
             Some(None) => Verdict::Wait,
             None => Verdict::Ask,
         })
+    }
+
+    /// The stamps above which a node's requests are taken, as they are told.
+    pub fn stamps_for(&self, from: u8) -> Option<Outcome> {
+        self.last.get(usize::from(from)).map(|last| Outcome::Stale { life: self.life, last: *last })
+    }
+
+    /// Whether stamps of a node are new, and none that were recorded: by that they are used.
+    pub fn is_new(&mut self, from: u8, life: u64, number: u64) -> bool {
+        match self.last.get_mut(usize::from(from)) {
+            Some(last) if life == self.life && number > *last => {
+                *last = number;
+                true
+            }
+            _ => false,
+        }
     }
 
     /// The node is asked for it.
@@ -91,6 +106,14 @@ mod tests {
         );
         assert_eq!(inbox.judge(3, token, 7, 9), None);
         assert_eq!(Inbox::new(8, 3).judge(1, token, 7, 3), Some(Verdict::Answer(Outcome::Stale { life: 8, last: 0 })));
+    }
+
+    #[test]
+    fn a_farewell_is_taken_once_and_in_this_life_alone() {
+        let mut inbox = Inbox::new(7, 3);
+        assert!(inbox.is_new(1, 7, 5) && !inbox.is_new(1, 7, 5) && !inbox.is_new(1, 7, 4));
+        assert!(!inbox.is_new(1, 6, 9) && !inbox.is_new(1, 0, 9) && !inbox.is_new(3, 7, 9));
+        assert_eq!((inbox.stamps_for(1), inbox.stamps_for(3)), (Some(Outcome::Stale { life: 7, last: 5 }), None));
     }
 
     #[test]

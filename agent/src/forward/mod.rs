@@ -7,6 +7,7 @@ mod inbox;
 mod key_file;
 mod outbox;
 mod seal;
+mod stamps;
 
 pub use datagram::{is_of_agents, Datagram, Outcome, Submission, Token, What};
 pub use inbox::{Inbox, Verdict};

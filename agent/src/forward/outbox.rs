@@ -1,5 +1,6 @@
 //! Jobs that were submitted here and have no answer yet.
 
+use super::stamps::Stamps;
 use super::{Outcome, Submission, Token, What};
 use crate::protocol::{Reply, Tag};
 use crate::service::ClientId;
@@ -18,6 +19,9 @@ const PAUSE: u32 = 4;
 
 /// So often an agent may ask for other stamps before its answer is waited for: where two agents don't agree they don't write to each other without an end.
 const MAX_STALE: u32 = 4;
+
+/// The serial number of what is no submission: theirs begin at 1.
+const NO_SUBMISSION: u64 = 0;
 
 const FULL: &str = "the journal of the node that leads has no room for a further job that isn't done";
 
@@ -88,25 +92,17 @@ impl Open {
     }
 }
 
-/// What is known of another agent.
-#[derive(Clone, Copy, Default)]
-struct Receiver {
-    life: u64,
-    number: u64,
-}
-
 pub struct Outbox {
     life: u64,
     serial: u64,
     open: BTreeMap<u64, Open>,
-    receivers: Vec<Receiver>,
+    stamps: Stamps,
     round_trip: Duration,
 }
 
 impl Outbox {
     pub fn new(life: u64, nodes: usize, round_trip: Duration) -> Outbox {
-        let receivers = vec![Receiver::default(); nodes];
-        Outbox { life, serial: 0, open: BTreeMap::new(), receivers, round_trip }
+        Outbox { life, serial: 0, open: BTreeMap::new(), stamps: Stamps::new(nodes), round_trip }
     }
 
     pub fn count(&self) -> usize {
@@ -145,11 +141,33 @@ impl Outbox {
     /// The datagram that asks the agent of a coordinator.
     pub fn datagram(&mut self, serial: u64, to: u8) -> Option<(Token, What)> {
         let open = self.open.get_mut(&serial)?;
-        let receiver = self.receivers.get_mut(usize::from(to))?;
-        receiver.number = receiver.number.saturating_add(1);
-        open.sent = open.sent.saturating_add(u32::from(receiver.life != 0));
-        let what = What::Submit { life: receiver.life, number: receiver.number, job: open.job.clone() };
+        let (life, number) = self.stamps.next(to)?;
+        open.sent = open.sent.saturating_add(u32::from(life != 0));
+        let what = What::Submit { life, number, job: open.job.clone() };
         Some((Token { life: self.life, serial }, what))
+    }
+
+    /// The token of a question for an agent's stamps, where they aren't known and it is to be asked now.
+    pub fn hello(&mut self, to: u8, now: Instant) -> Option<Token> {
+        self.stamps.asks(to, now).then_some(Token { life: self.life, serial: NO_SUBMISSION })
+    }
+
+    /// An agent answered that question.
+    pub fn greeted(&mut self, from: u8, token: Token, life: u64, last: u64) {
+        if token == (Token { life: self.life, serial: NO_SUBMISSION }) {
+            self.stamps.learn(from, life, last);
+        }
+    }
+
+    /// An agent asked something in this life.
+    pub fn seen(&mut self, from: u8, life: u64) {
+        self.stamps.seen(from, life);
+    }
+
+    /// What tells an agent that the node of this one ends; None where it isn't known how to have it believe that.
+    pub fn goodbye(&mut self, to: u8) -> Option<(Token, What)> {
+        let (life, number) = self.stamps.next(to).filter(|_| self.stamps.is_known(to))?;
+        Some((Token { life: self.life, serial: NO_SUBMISSION }, What::Leaving { life, number }))
     }
 
     /// An agent answered; what its answer says of one of the submissions. Where it asks for other stamps, the request goes there again.
@@ -164,8 +182,7 @@ impl Outbox {
             Outcome::Stale { .. } if open.stale == MAX_STALE => return None,
             Outcome::Stale { life, last } => {
                 open.stale += 1;
-                let receiver = self.receivers.get_mut(usize::from(from))?;
-                *receiver = Receiver { life, number: receiver.number.max(last) };
+                self.stamps.learn(from, life, last);
                 Given::Elsewhere { coordinator: from }
             }
         };

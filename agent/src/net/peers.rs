@@ -32,6 +32,8 @@ pub struct Peer {
     /// When it was first asked something that it didn't answer, though it was heard before and since; and when an operator was last told so.
     unanswered: Option<Instant>,
     deaf: Option<Instant>,
+    /// When its agent said that it ends.
+    left: Option<Instant>,
     /// Whether the last look-up found an address; None before the first.
     was_found: Option<bool>,
     /// Whether it was said that what is sent to it doesn't leave, and when.
@@ -72,6 +74,7 @@ impl Peers {
             tried: None,
             unanswered: None,
             deaf: None,
+            left: None,
             was_found: None,
             is_unsent: false,
             said: None,
@@ -147,6 +150,18 @@ impl Peers {
             }
             _ => false,
         }
+    }
+
+    /// A node's agent says that it ends.
+    pub fn leave(&mut self, node: u8, now: Instant) {
+        if let Some(peer) = self.peers.get_mut(usize::from(node)) {
+            peer.left = Some(now);
+        }
+    }
+
+    /// Whether it said so since it was heard last.
+    pub fn has_left(&self, node: u8) -> bool {
+        self.peers.get(usize::from(node)).map_or(false, |peer| peer.left.is_some() && peer.left >= peer.heard)
     }
 
     /// How long ago a node was heard.
