@@ -1,5 +1,6 @@
 //! Counts and gauges for Prometheus.
 
+use crate::net::Peers;
 use crate::node::Phase;
 use crate::view::View;
 use prometheus::{Encoder, Gauge, IntCounter, IntCounterVec, IntGauge, IntGaugeVec, Opts, Registry, TextEncoder};
@@ -124,7 +125,7 @@ impl Metrics {
             up: maker.gauge("up", "Whether the node answers.")?,
             normal: maker.gauge("normal", "Whether the node is at work in a group.")?,
             coordinator: maker.gauge("coordinator", "Whether it coordinates its group.")?,
-            majority: maker.gauge("majority", "Whether its group has more than half of all nodes.")?,
+            majority: maker.gauge("majority", "Whether its group has more than half of all nodes, and enough of them were heard lately.")?,
             members: maker.gauge("members", "Members of its group.")?,
             nodes: maker.gauge("nodes", "Nodes of the cluster.")?,
             in_hand: maker.gauge("jobs_in_hand", "Jobs that the node is to work on.")?,
@@ -160,7 +161,7 @@ impl Metrics {
     }
 
     /// The text of all, as of now.
-    pub fn text(&self, view: &View, now: Instant) -> String {
+    pub fn text(&self, view: &View, peers: &Peers, now: Instant) -> String {
         self.up.set(i64::from(view.is_ready && view.is_alive(now)));
         for phase in Phase::ALL {
             let is_in = i64::from(view.group.phase == phase);
@@ -168,7 +169,7 @@ impl Metrics {
         }
         self.normal.set(i64::from(view.group.is_normal()));
         self.coordinator.set(i64::from(view.is_coordinator()));
-        self.majority.set(i64::from(view.is_majority()));
+        self.majority.set(i64::from(view.is_majority(peers, now)));
         self.members.set(view.group.members.len() as i64);
         self.nodes.set(view.nodes as i64);
         self.group_age.set(now.saturating_duration_since(view.changed).as_secs_f64());

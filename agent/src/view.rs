@@ -1,5 +1,6 @@
 //! What is known of the node by its lines.
 
+use crate::config::Config;
 use crate::net::Peers;
 use crate::node::{Group, GroupNumber, Phase};
 use crate::protocol::VERSION;
@@ -12,6 +13,18 @@ const MAX_PAST: usize = 400;
 
 /// A node that didn't answer for so long isn't alive.
 const SILENCE: Duration = Duration::from_secs(5);
+
+/// A member asks its coordinator 52 to 55 round trips behind its last question, leaves 10 later, and is in the next group some more later. So whoever heard
+/// nobody for as long says no more that it works in a majority: another one may.
+const LEASE: u32 = 70;
+
+/// For how long the node may say that it works in a group of more than half of all nodes.
+#[derive(Clone, Copy, Debug, PartialEq, Eq)]
+pub enum Majority {
+    No,
+    Until(Instant),
+    Always,
+}
 
 /// A group that the node was in.
 #[derive(Clone, Debug, Serialize)]
@@ -41,6 +54,9 @@ pub struct View {
     pub past: VecDeque<Past>,
     /// The last group that the node worked in.
     worked_in: Group,
+    lease: Duration,
+    /// Whether watchers were told last that it works in a majority.
+    told_majority: bool,
 }
 
 /// The node and its group, as `status` has them.
@@ -57,7 +73,7 @@ pub struct Status {
     /// The queues whose jobs this node works on.
     pub queues: Vec<u8>,
     pub is_coordinator: bool,
-    /// At work in a group of more than half of all nodes: advice, and no lock.
+    /// At work in a group of more than half of all nodes, of which enough were heard lately: advice, and no lock.
     pub majority: bool,
     pub alive: bool,
     pub since_ms: u64,
@@ -83,10 +99,22 @@ fn ms(duration: Duration) -> u64 {
 }
 
 impl View {
-    pub fn new(cluster: &str, own: u8, nodes: usize, now: Instant) -> View {
-        let (cluster, group, past) = (cluster.to_string(), Group::default(), VecDeque::new());
-        let (count, is_ready, worked_in) = (None, false, Group::default());
-        View { cluster, own, nodes, began: now, group, count, changed: now, answered: now, is_ready, past, worked_in }
+    pub fn new(config: &Config, now: Instant) -> View {
+        View {
+            cluster: config.cluster.clone(),
+            own: config.id,
+            nodes: config.nodes.len(),
+            began: now,
+            group: Group::default(),
+            count: None,
+            changed: now,
+            answered: now,
+            is_ready: false,
+            past: VecDeque::new(),
+            worked_in: Group::default(),
+            lease: Duration::from_millis(config.round_trip_ms) * LEASE,
+            told_majority: false,
+        }
     }
 
     /// The node is in another group or phase; how many groups it made for that. It counts its groups, each by one more.
@@ -123,15 +151,45 @@ impl View {
         self.group.is_normal() && self.group.coordinator == self.own
     }
 
-    pub fn is_majority(&self) -> bool {
-        self.group.is_majority(self.nodes)
+    /// For how long a majority is one by what was heard: at a coordinator, which hears its members, of as many as make one with it; at a member of its
+    /// coordinator, whom alone it hears.
+    pub fn majority(&self, peers: &Peers) -> Majority {
+        if !self.group.is_majority(self.nodes) {
+            return Majority::No;
+        }
+        let heard = |node: &u8| peers.all().get(usize::from(*node)).and_then(|peer| peer.heard);
+        let (mut times, needed): (Vec<_>, usize) = if self.is_coordinator() {
+            let others = self.group.members.iter().filter(|node| **node != self.own);
+            (others.map(heard).collect(), self.nodes / 2)
+        } else {
+            (vec![heard(&self.group.coordinator)], 1)
+        };
+        times.sort_unstable_by(|one, other| other.cmp(one));
+        match needed.checked_sub(1) {
+            None => Majority::Always,
+            Some(last) => times.get(last).copied().flatten().map_or(Majority::No, |at| Majority::Until(at + self.lease)),
+        }
+    }
+
+    pub fn is_majority(&self, peers: &Peers, now: Instant) -> bool {
+        match self.majority(peers) {
+            Majority::No => false,
+            Majority::Until(end) => now < end,
+            Majority::Always => true,
+        }
+    }
+
+    /// Whether the node works in a majority, where watchers weren't told so yet.
+    pub fn news_of_majority(&mut self, peers: &Peers, now: Instant) -> Option<bool> {
+        let is_so = self.is_majority(peers, now);
+        (std::mem::replace(&mut self.told_majority, is_so) != is_so).then_some(is_so)
     }
 
     pub fn is_alive(&self, now: Instant) -> bool {
         now.saturating_duration_since(self.answered) < SILENCE
     }
 
-    pub fn status(&self, now: Instant) -> Status {
+    pub fn status(&self, peers: &Peers, now: Instant) -> Status {
         Status {
             v: VERSION,
             cluster: self.cluster.clone(),
@@ -143,7 +201,7 @@ impl View {
             members: self.group.members.clone(),
             queues: self.group.queues_of(self.own),
             is_coordinator: self.is_coordinator(),
-            majority: self.is_majority(),
+            majority: self.is_majority(peers, now),
             alive: self.is_ready && self.is_alive(now),
             since_ms: ms(now - self.changed),
             up_ms: ms(now - self.began),
@@ -169,10 +227,38 @@ impl View {
 mod tests {
     use super::*;
 
+    fn view(nodes: usize, now: Instant) -> View {
+        let names: Vec<String> = (0..nodes).map(|node| format!("\"a:{}\"", node + 1)).collect();
+        let text = format!("cluster = \"c\"\nid = 1\nnodes = [{}]\nfile = \"f\"\n", names.join(","));
+        View::new(&Config::parse(&text).unwrap(), now)
+    }
+
+    #[test]
+    fn a_majority_is_one_as_long_as_enough_are_heard() {
+        let now = Instant::now();
+        let (mut view, names) = (view(5, now), ["a:1", "b:1", "c:1", "d:1", "e:1"].map(str::to_string));
+        let mut peers = Peers::new(1, &names, false, Duration::from_millis(20));
+        let (lease, second) = (Duration::from_millis(1400), Duration::from_secs(1));
+        view.enter(Group::read(&["Normal", "1", "1:1", "0,1,2,4"]).unwrap(), now);
+        assert_eq!(view.majority(&peers), Majority::No, "nobody was heard yet");
+        for (node, at) in [(0, 3), (2, 2), (4, 1), (3, 9)] {
+            peers.hear(node, "10.0.0.1:1".parse().unwrap(), now + second * at);
+        }
+        assert_eq!(view.majority(&peers), Majority::Until(now + second * 2 + lease), "two with it are three of five");
+        view.enter(Group::read(&["Normal", "4", "4:1", "0,1,2,4"]).unwrap(), now);
+        assert_eq!(view.majority(&peers), Majority::Until(now + second + lease), "a member hears its coordinator");
+        let news = [2, 2, 3, 3].map(|at| view.news_of_majority(&peers, now + second * at));
+        assert_eq!(news, [Some(true), None, Some(false), None]);
+        view.enter(Group::read(&["Normal", "1", "1:9", "1,2"]).unwrap(), now);
+        assert!(!view.is_majority(&peers, now), "two of five");
+        view.nodes = 1;
+        assert_eq!(view.majority(&peers), Majority::Always);
+    }
+
     #[test]
     fn groups_that_it_made_are_counted() {
         let now = Instant::now();
-        let mut view = View::new("c", 1, 3, now);
+        let mut view = view(3, now);
         let mut enter = |words: &[&str]| view.enter(Group::read(words).unwrap(), now);
         assert_eq!(enter(&["Normal", "1", "1:1700", "1"]), 1, "that of its recovery");
         assert_eq!(enter(&["Election", "1", "1:1701", "-"]), 1);
@@ -185,7 +271,7 @@ mod tests {
     #[test]
     fn members_that_it_heard_itself_are_missed() {
         let now = Instant::now();
-        let mut view = View::new("c", 1, 5, now);
+        let mut view = view(5, now);
         let mut lost = |words: &[&str]| {
             let group = Group::read(words).unwrap();
             let lost = view.lost_in(&group);

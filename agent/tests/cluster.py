@@ -339,3 +339,34 @@ def ipv6(bed):
     agents.start_all()
     bed.tally.check("names and IPv6", agents.one_group() > 0)
     judged(bed, agents, "IPv6")
+
+
+def said_majority(bed):
+    """A coordinator that is cut off says no more that it works in a majority by the time when another one does, and watchers are told."""
+    agents, tally, overlaps, ended = bed.agents("majority", record=None), bed.tally, [], []
+    agents.start_all()
+    agents.one_group()
+    for turn in range(3):
+        time.sleep(1 + 0.3 * turn)
+        out = agents.status(0)["coordinator"]
+        rest = [i for i in range(3) if i != out]
+        with agents.connect(out) as link:
+            link.sendall(b'{"do":"watch"}\n')
+            reader = link.makefile()
+            reader.readline()
+            agents.relay.cuts.update(frozenset((out, i)) for i in rest)
+            both, last, until = 0.0, time.monotonic(), None
+            while not agents.is_one_group(rest) or until is None:
+                own, others = agents.status(out)["majority"], any(s["majority"] for s in map(agents.status, rest) if s["coordinator"] != out)
+                now = time.monotonic()
+                both, last, until = both + (now - last if own and others else 0.0), now, until or (None if own else now)
+                time.sleep(0.005)
+            told = json.loads(reader.readline())
+        overlaps.append(both)
+        tally.timed("a watcher is told before its group ends", told.get("event") == "majority" and told.get("majority") is False, told)
+        tally.timed("readyz says so", page(agents, out, "/readyz")[0] == 503 and metric(agents, out, "majority") == 0)
+        agents.relay.cuts.clear()
+        agents.one_group()
+    tally.note("a majority was said at both sides for %s" % ["%.2f s" % one for one in overlaps])
+    tally.timed("two majorities are said for a moment at most", max(overlaps) < 0.3, overlaps)
+    agents.stop()

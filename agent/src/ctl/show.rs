@@ -123,6 +123,7 @@ pub fn event(event: &Value) -> String {
             of("queue"),
             payload(event["payload"].as_str().unwrap_or_default())
         ),
+        "majority" => format!("majority {}", of("majority")),
         name => format!("{name} {}", job()),
     };
     format!("{:>6}  {what}\n", of("change"))

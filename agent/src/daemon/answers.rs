@@ -78,7 +78,7 @@ impl Daemon {
         }
         let made = self.view.enter(group, now);
         self.metrics.durable.with_label_values(&["group"]).inc_by(made);
-        let status = self.view.status(now);
+        let status = self.view.status(&self.peers, now);
         let said =
             format!("{:?} {} of {:?}, coordinator {}", status.phase, status.group, status.members, status.coordinator);
         info!("group {said}");
@@ -104,7 +104,7 @@ impl Daemon {
     }
 
     /// Tells watchers of a change.
-    fn tell(&mut self, event: Reply) {
+    pub(super) fn tell(&mut self, event: Reply) {
         let line = self.changes.put(event);
         self.clients.tell_watchers(&line);
     }

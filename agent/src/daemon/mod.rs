@@ -22,10 +22,11 @@ use crate::net::{Backlog, Link, News, Pace, Peers};
 use crate::node::{Answer, Lane, NodeProcess};
 use crate::node_file;
 use crate::notify::Notify;
+use crate::protocol::Reply;
 use crate::record::Record;
 use crate::resolver::Resolver;
 use crate::service::{is_left, Changes, Clients, Hand};
-use crate::view::View;
+use crate::view::{Majority, View};
 use anyhow::Context;
 use datagrams::Waiting;
 use guard::Guard;
@@ -136,7 +137,7 @@ impl Daemon {
             seal,
             inbox: Inbox::new(life, nodes),
             outbox: Outbox::new(life, nodes, round_trip),
-            view: View::new(&config.cluster, config.id, nodes, now),
+            view: View::new(&config, now),
             fill: Fill::of(node_file::slots(&config.file)),
             metrics: Metrics::new()?,
             notify: Notify::of_environment()?,
@@ -249,6 +250,9 @@ impl Daemon {
         self.try_again(now);
         self.look_up(now);
         self.serve_pages(now);
+        if let Some(is_so) = self.view.news_of_majority(&self.peers, now) {
+            self.tell(Reply::event("majority").with("majority", is_so));
+        }
         if let Some(ms) = self.clock.tick(now) {
             self.node.ask(Asker::Tick, Lane::Local, format!("tick {ms}"));
         }
@@ -267,7 +271,11 @@ impl Daemon {
             .outbox
             .next(self.node.has_room(Lane::Local))
             .map_or(Duration::MAX, |next| next.saturating_duration_since(now));
-        self.clock.sleep(now).min(until).min(self.pace.sleep(now))
+        let majority = match self.view.majority(&self.peers) {
+            Majority::Until(end) if now < end => end - now,
+            _ => Duration::MAX,
+        };
+        self.clock.sleep(now).min(until).min(self.pace.sleep(now)).min(majority)
     }
 
     /// Asks the node something else than the time.

@@ -34,8 +34,8 @@ impl Daemon {
         let is_alive = self.view.is_ready && self.view.is_alive(now);
         match page.path.as_str() {
             "/healthz" => Response::probe(is_alive, "the node doesn't answer"),
-            "/readyz" => Response::probe(is_alive && self.view.is_majority(), "not at work in a majority"),
-            "/status" => Response::json(json!(self.view.status(now)).to_string()),
+            "/readyz" => Response::probe(is_alive && self.view.is_majority(&self.peers, now), "not at work in a majority"),
+            "/status" => Response::json(json!(self.view.status(&self.peers, now)).to_string()),
             "/members" => Response::json(json!(self.view.members(&self.peers, now)).to_string()),
             "/state" => self.state(now),
             "/metrics" => {
@@ -48,7 +48,7 @@ impl Daemon {
                 self.metrics.recorded.set(i64::from(self.node.is_recorded()));
                 self.metrics.cut_off.set(self.clients.cut_off as i64);
                 let content_type = "text/plain; version=0.0.4";
-                Response { status: 200, content_type, body: self.metrics.text(&self.view, now) }
+                Response { status: 200, content_type, body: self.metrics.text(&self.view, &self.peers, now) }
             }
             "/" => Response { status: 200, content_type: "text/html; charset=utf-8", body: PAGE.to_string() },
             _ => Response::text(404, "no such page"),
@@ -64,7 +64,7 @@ impl Daemon {
             self.ask(Asker::Page, "jobs".to_string());
         }
         let state = json!({
-            "status": self.view.status(now),
+            "status": self.view.status(&self.peers, now),
             "members": self.view.members(&self.peers, now),
             "past": self.view.past,
             "pending": self.fill.pending(),

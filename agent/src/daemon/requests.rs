@@ -130,7 +130,7 @@ impl Daemon {
     }
 
     fn status(&self, now: Instant) -> Reply {
-        let reply = Reply::ok().and(self.view.status(now)).with("change", self.changes.last());
+        let reply = Reply::ok().and(self.view.status(&self.peers, now)).with("change", self.changes.last());
         reply
             .with("pending", self.fill.pending())
             .with("pending_max", self.fill.most())
