@@ -149,7 +149,7 @@ impl Metrics {
             (&self.messages_in, &KINDS),
             (&self.messages_out, &KINDS),
             (&self.refused, &REFUSALS),
-            (&self.dropped, &["NoRoom", "NotSent", "Forged", "Empty"]),
+            (&self.dropped, &["NoRoom", "NotSent", "Forged", "Empty", "Version", "Kernel"]),
             (&self.forwarded, &["taken", "again"]),
             (&self.farewells, &["taken", "refused"]),
             (&self.jobs, &["kept", "gone", "taken", "dropped"]),
@@ -158,6 +158,12 @@ impl Metrics {
         for (counters, labels) in known {
             labels.iter().for_each(|label| counters.with_label_values(&[label]).inc_by(0));
         }
+    }
+
+    /// The system dropped so many datagrams until now.
+    pub fn count_kernel_drops(&self, drops: u64) {
+        let counter = self.dropped.with_label_values(&["Kernel"]);
+        counter.inc_by(drops.saturating_sub(counter.get()));
     }
 
     /// The text of all, as of now.

@@ -389,6 +389,8 @@ def failed_device(bed):
     while agents.processes[0].poll() is None and len(answers) < 40:
         answers.append(agents.ask(0, do="submit", queue=0, text="x"))
     check("some jobs were kept before", bool(answers) and answers[0] is not None and answers[0].get("ok"), answers[:2])
+    doubted = [answer for answer in answers if answer and not answer["ok"] and answer["error"] == "Device"]
+    check("what a failed device was to keep may be kept", all(answer.get("may_be_kept") for answer in doubted), doubted)
     check("a failed device: 3", agents.processes[0].wait(PATIENCE) == 3)
     agents.write(0)
     agents.start(0)

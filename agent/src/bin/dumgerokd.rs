@@ -5,7 +5,7 @@
 use anyhow::Context;
 use clap::Parser;
 use dumgerok_agent::config::{Config, LogLevel};
-use dumgerok_agent::daemon::Daemon;
+use dumgerok_agent::daemon::{Beginning, Daemon};
 use dumgerok_agent::forward::KeyError;
 use dumgerok_agent::log_lines::LogLines;
 use dumgerok_agent::names;
@@ -107,7 +107,7 @@ fn format_command(config: &Path) -> String {
     }
 }
 
-fn run(config: Config, path: PathBuf) -> anyhow::Result<u8> {
+fn run(config: Config, path: PathBuf, beginning: &Beginning) -> anyhow::Result<u8> {
     let file = match opened(&config.file, &path) {
         Ok(file) => file,
         Err(status) => return Ok(status),
@@ -118,7 +118,7 @@ fn run(config: Config, path: PathBuf) -> anyhow::Result<u8> {
     }
     info!("node {} of cluster {}, {} nodes, at {}", config.id, config.cluster, config.nodes.len(), config.listens_at());
     let file = config.file.clone();
-    let status = Daemon::start(config, path)?.run()?;
+    let status = Daemon::start(config, path)?.run(beginning)?;
     if status == DEVICE {
         error!("{}: look why the device failed before the agent is started again", file.display());
     }
@@ -129,6 +129,13 @@ fn main() -> ExitCode {
     if let Some(status) = become_command() {
         return ExitCode::from(status);
     }
+    let beginning = match Beginning::register() {
+        Ok(beginning) => beginning,
+        Err(why) => {
+            say(format!("dumgerokd: signals can't be waited for: {why}"));
+            return ExitCode::FAILURE;
+        }
+    };
     let Arguments { config: path } = Arguments::parse();
     let config = match Config::read(&path) {
         Ok(config) => config,
@@ -145,7 +152,7 @@ fn main() -> ExitCode {
         }
     };
     log_as(config.log, lines.clone());
-    let status = run(config, path).unwrap_or_else(|why| {
+    let status = run(config, path, &beginning).unwrap_or_else(|why| {
         error!("{why:#}");
         let is_key = why.downcast_ref::<KeyError>().is_some();
         if is_key {

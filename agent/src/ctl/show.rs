@@ -43,6 +43,7 @@ pub fn status(status: &Value) -> String {
         ("jobs kept", kept(status)),
         ("jobs in hand", of("in_hand")),
         ("recorded", of("recorded")),
+        ("keys", if of("keys") == "-" { "none: whoever reaches the port speaks for any node".to_string() } else { of("keys") }),
         ("up", ago(&status["up_ms"])),
     ];
     rows.iter().map(|(name, value)| format!("{name:<13} {value}\n")).collect()

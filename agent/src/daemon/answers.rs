@@ -162,6 +162,11 @@ impl Daemon {
                 }
             }
             Closing::Refused(refusal) if name_of(refusal) == "Forged" => self.doubt(sender, from, now),
+            Closing::Refused(refusal) if name_of(refusal) == "Stale" => {
+                if self.peers.is_stale(sender, now) {
+                    warn!("node {sender}: all that comes in its name from {from} is older than what it said before: was its file made or put back with lower numbers, or is this recorded?");
+                }
+            }
             Closing::Refused(_) | Closing::Fault => {}
         }
     }

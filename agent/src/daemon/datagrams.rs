@@ -2,7 +2,7 @@
 
 use super::{Asker, Daemon};
 use crate::config::Config;
-use crate::forward::{is_of_agents, Datagram};
+use crate::forward::{is_of_agents, Datagram, Seal};
 use crate::metrics::{kind_of, QUESTIONS};
 use crate::net::MAX_DATAGRAM;
 use crate::node::Lane;
@@ -138,6 +138,23 @@ impl Daemon {
         }
     }
 
+    /// What of the network an operator has to know from the start.
+    pub(super) fn warn_of_network(&self) {
+        if self.config.key.is_none() && !self.link.is_loopback() {
+            warn!("there is no `key`: whoever reaches {} can speak for any node, and take jobs away", self.config.listens_at());
+        }
+        let (room, asked) = self.link.room();
+        if room < asked {
+            info!("the system gives the socket room for {room} bytes, of {asked}: net.core.rmem_max is less than {}", asked / 2);
+        }
+    }
+
+    /// Whether the file of keys holds others than those that were read at the start.
+    fn has_other_keys(&self) -> bool {
+        let read = self.config.key.as_ref().map(|key| Seal::read(key, &self.config.cluster, self.config.nodes.len()));
+        read.map_or(false, |read| read.map_or(true, |seal| seal.fingerprints != self.seal.fingerprints))
+    }
+
     /// Reads the configuration again, and takes its addresses.
     pub(super) fn reload(&mut self) {
         let own = &self.config;
@@ -149,6 +166,9 @@ impl Daemon {
                 info!("the addresses were read again");
                 if has_more {
                     warn!("{}: other settings changed, too: they are taken by a restart", self.path.display());
+                }
+                if self.has_other_keys() {
+                    warn!("the file of keys changed, or can't be read any more: a restart takes it");
                 }
                 self.warn_of_addresses();
             }

@@ -2,7 +2,7 @@
 
 use super::datagrams::Waiting;
 use super::{Asker, Daemon};
-use crate::forward::{Client, Datagram, Due, Given, Outcome, Submission, Token, Verdict, What};
+use crate::forward::{is_of_another_version, Client, Datagram, Due, Given, Outcome, Submission, Token, Verdict, What};
 use crate::node::Lane;
 use crate::protocol::Reply;
 use log::info;
@@ -67,6 +67,9 @@ impl Daemon {
 
     /// A datagram of another agent came.
     pub(super) fn take_of_agent(&mut self, bytes: &[u8], now: Instant) {
+        if is_of_another_version(bytes) {
+            return self.metrics.dropped.with_label_values(&["Version"]).inc();
+        }
         let datagram = match Datagram::decode(bytes, &self.seal).filter(|datagram| datagram.to == self.config.id) {
             Some(datagram) => datagram,
             None => return self.metrics.dropped.with_label_values(&["Forged"]).inc(),

@@ -23,8 +23,14 @@ impl Guard {
         let is_gone = Arc::new(AtomicBool::new(false));
         let (path, own, gone) = (path.to_path_buf(), identity(path), Arc::clone(&is_gone));
         thread::Builder::new().spawn(move || {
-            while own.as_ref().map_or(true, |own| is_there(&path, *own)) {
-                thread::sleep(PAUSE);
+            match own {
+                Ok(own) => {
+                    while is_there(&path, own) {
+                        thread::sleep(PAUSE);
+                    }
+                }
+                // it isn't there now: whoever makes it is told to try again
+                Err(_) => thread::sleep(PAUSE),
             }
             gone.store(true, Ordering::SeqCst);
             // it is noticed with the next tick, too

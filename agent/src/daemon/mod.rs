@@ -11,6 +11,7 @@ mod requests;
 mod signals;
 
 pub use asker::Asker;
+pub use signals::Beginning;
 
 use crate::clock::Clock;
 use crate::config::Config;
@@ -77,6 +78,8 @@ pub struct Daemon {
     node: NodeProcess<Asker>,
     guard: Guard,
     socket_guard: Guard,
+    /// Whether the socket couldn't be made again.
+    is_socket_gone: bool,
     waker: Arc<Waker>,
     /// The status to end with, where the node's file is none to go on with.
     unusable: Option<u8>,
@@ -146,6 +149,7 @@ impl Daemon {
             pending_jobs: PendingJobs::default(),
             listings: 0,
             unusable: None,
+            is_socket_gone: false,
             looks: Looks::new(now),
             poll,
             config,
@@ -154,9 +158,11 @@ impl Daemon {
     }
 
     /// Runs until the node ends or a signal ends it; the status to exit with.
-    pub fn run(mut self) -> anyhow::Result<u8> {
+    pub fn run(mut self, beginning: &Beginning) -> anyhow::Result<u8> {
+        beginning.is_over();
         let mut events = Events::with_capacity(256);
         self.warn_of_addresses();
+        self.warn_of_network();
         self.ask(Asker::Start, "recover".to_string());
         loop {
             self.node.flush();
@@ -291,10 +297,14 @@ impl Daemon {
             return;
         }
         let path = self.config.socket.display();
-        match self.clients.listen_again(self.poll.registry(), LISTENER) {
+        let made = self.clients.listen_again(self.poll.registry(), LISTENER);
+        let is_gone = made.is_err();
+        match made {
             Ok(()) => warn!("socket {path}: it was removed, and is made again"),
-            Err(why) => error!("socket {path}: it was removed, and can't be made again: {why}"),
+            Err(why) if !self.is_socket_gone => error!("socket {path}: it was removed, and can't be made again: {why}"),
+            Err(_) => {}
         }
+        self.is_socket_gone = is_gone;
         match Guard::start(&self.config.socket, Arc::clone(&self.waker)) {
             Ok(guard) => self.socket_guard = guard,
             Err(why) => error!("socket {path}: it isn't guarded any more: {why}"),

@@ -47,6 +47,7 @@ impl Daemon {
                 self.metrics.waiting.set(self.clients.waiting_count() as i64);
                 self.metrics.recorded.set(i64::from(self.node.is_recorded()));
                 self.metrics.cut_off.set(self.clients.cut_off as i64);
+                self.link.drops().into_iter().for_each(|drops| self.metrics.count_kernel_drops(drops));
                 let content_type = "text/plain; version=0.0.4";
                 Response { status: 200, content_type, body: self.metrics.text(&self.view, &self.peers, now) }
             }

@@ -137,6 +137,7 @@ impl Daemon {
             .with("in_hand", self.hand.count())
             .with("submissions", self.outbox.count())
             .with("recorded", self.node.is_recorded())
+            .with("keys", &self.seal.fingerprints)
     }
 
     /// The state, or what was missed; from then on each change.

@@ -8,6 +8,26 @@ use std::io::{self, Read};
 use std::sync::atomic::{AtomicBool, Ordering};
 use std::sync::Arc;
 
+/// Signals that come before the loop begins: those that end the agent end it at once, for a name server or a file system may have it wait without an end, and
+/// the others are passed over.
+pub struct Beginning(Arc<AtomicBool>);
+
+impl Beginning {
+    pub fn register() -> io::Result<Beginning> {
+        let is_so = Arc::new(AtomicBool::new(true));
+        for signal in [SIGTERM, SIGINT] {
+            flag::register_conditional_shutdown(signal, 0, Arc::clone(&is_so))?;
+        }
+        flag::register(SIGHUP, Arc::new(AtomicBool::new(false)))?;
+        Ok(Beginning(is_so))
+    }
+
+    /// The loop begins, by which the agent ends from now on.
+    pub fn is_over(&self) {
+        self.0.store(false, Ordering::SeqCst);
+    }
+}
+
 pub struct Signals {
     woken: UnixStream,
     end: Arc<AtomicBool>,

@@ -61,6 +61,11 @@ pub fn is_of_agents(bytes: &[u8]) -> bool {
     bytes.first() == Some(&HEAD[0])
 }
 
+/// Whether it is one of agents of another version than this one.
+pub fn is_of_another_version(bytes: &[u8]) -> bool {
+    is_of_agents(bytes) && bytes.get(1).map_or(false, |version| *version != HEAD[1])
+}
+
 impl Datagram {
     pub fn encode(&self, seal: &Seal) -> Vec<u8> {
         let mut bytes = HEAD.to_vec();
@@ -89,6 +94,8 @@ mod tests {
         assert!(is_of_agents(&bytes) && bytes.len() + 32 < MAX_DATAGRAM.min(1400), "{}", bytes.len());
         assert_eq!(Datagram::decode(&bytes, &Seal::default()), Some(datagram));
         assert_eq!(Datagram::decode(&bytes[1..], &Seal::default()), None);
+        let versions = [&bytes[..], &[0xd6, 2], &[0xd6], &[1, 2]].map(is_of_another_version);
+        assert_eq!(versions, [false, true, false, false]);
     }
 
     #[test]

@@ -9,7 +9,7 @@ mod outbox;
 mod seal;
 mod stamps;
 
-pub use datagram::{is_of_agents, Datagram, Outcome, Submission, Token, What};
+pub use datagram::{is_of_agents, is_of_another_version, Datagram, Outcome, Submission, Token, What};
 pub use inbox::{Inbox, Verdict};
 pub use key_file::{read_keys, KeyError};
 pub use outbox::{Client, Due, Given, Outbox};

@@ -20,6 +20,9 @@ const PAUSE: u32 = 4;
 /// So often an agent may ask for other stamps before its answer is waited for: where two agents don't agree they don't write to each other without an end.
 const MAX_STALE: u32 = 4;
 
+/// The device of the node that was asked failed while it kept the job: it may be kept, as by a kill.
+const IN_DOUBT: &str = "Device";
+
 /// The serial number of what is no submission: theirs begin at 1.
 const NO_SUBMISSION: u64 = 0;
 
@@ -84,7 +87,7 @@ impl Open {
             "Full" => Reply::refused(error).with("why", FULL),
             _ => Reply::refused(error),
         };
-        if self.may_be_kept() {
+        if self.may_be_kept() || error == IN_DOUBT {
             reply.with("may_be_kept", true)
         } else {
             reply
@@ -176,7 +179,7 @@ impl Outbox {
         let given = match outcome {
             Outcome::Kept { id } => Given::Kept { origin: from, id },
             Outcome::Refused { error } => {
-                open.was_refused = true;
+                open.was_refused = error != IN_DOUBT;
                 Given::Refused { error }
             }
             Outcome::Stale { .. } if open.stale == MAX_STALE => return None,
@@ -313,6 +316,24 @@ mod tests {
             let (_, given) = outbox.replied(2, token, full()).unwrap();
             let (_, said) = outbox.settle(serial, given, now).unwrap();
             assert_eq!(serde_json::from_slice::<Value>(&said.line()).unwrap(), reply);
+        }
+    }
+
+    #[test]
+    fn a_device_that_failed_leaves_in_doubt_what_it_was_to_keep() {
+        let (now, device) = (Instant::now(), || "Device".to_string());
+        let (mut own, serial) = outbox(now);
+        own.asks_own(serial);
+        own.own_answered(serial);
+        let (mut other, there) = outbox(now);
+        let token = Token { life: 9, serial: there };
+        other.datagram(there, 2);
+        other.replied(2, token, Outcome::Stale { life: 77, last: 0 });
+        other.datagram(there, 2);
+        let (_, given) = other.replied(2, token, Outcome::Refused { error: device() }).unwrap();
+        for said in [own.settle(serial, Given::Refused { error: device() }, now), other.settle(there, given, now)] {
+            let reply: Value = serde_json::from_slice(&said.unwrap().1.line()).unwrap();
+            assert_eq!(reply, json!({"ok": false, "error": "Device", "may_be_kept": true}));
         }
     }
 

@@ -6,6 +6,7 @@ use sha2::Sha256;
 use std::path::Path;
 
 const CONTEXT: &[u8] = b"dumgerok agent 1";
+const FINGERPRINT: &[u8] = b"dumgerok fingerprint 1";
 const TAG: usize = 32;
 
 type HmacSha256 = Hmac<Sha256>;
@@ -15,6 +16,8 @@ type HmacSha256 = Hmac<Sha256>;
 pub struct Seal {
     /// The first one seals, all open.
     keys: Vec<HmacSha256>,
+    /// Of each a name by which it is told from others, and that says nothing of it.
+    pub fingerprints: Vec<String>,
 }
 
 impl Seal {
@@ -24,7 +27,10 @@ impl Seal {
     }
 
     fn of_keys(keys: &[[u8; 32]], cluster: &str, nodes: usize) -> Result<Seal, KeyError> {
-        Ok(Seal { keys: keys.iter().map(|secret| bound(secret, cluster, nodes)).collect::<Result<_, _>>()? })
+        Ok(Seal {
+            keys: keys.iter().map(|secret| bound(secret, cluster, nodes)).collect::<Result<_, _>>()?,
+            fingerprints: keys.iter().map(fingerprint).collect::<Result<_, _>>()?,
+        })
     }
 
     pub fn seal(&self, mut bytes: Vec<u8>) -> Vec<u8> {
@@ -50,6 +56,10 @@ impl Seal {
 fn bound(secret: &[u8; 32], cluster: &str, nodes: usize) -> Result<HmacSha256, KeyError> {
     let about = [CONTEXT, &[nodes as u8], cluster.as_bytes()].concat();
     keyed(&keyed(secret)?.chain_update(about).finalize().into_bytes())
+}
+
+fn fingerprint(secret: &[u8; 32]) -> Result<String, KeyError> {
+    Ok(hex::encode(&keyed(secret)?.chain_update(FINGERPRINT).finalize().into_bytes()[..4]))
 }
 
 fn keyed(key: &[u8]) -> Result<HmacSha256, KeyError> {
@@ -84,6 +94,14 @@ mod tests {
         for other in [Seal::of(TWO, "prod", 3), Seal::of(ONE, "test", 3), Seal::of(ONE, "prod", 4)] {
             assert_eq!(other.unwrap().open(&sealed), None);
         }
+    }
+
+    #[test]
+    fn keys_are_told_from_each_other() {
+        let both = Seal::of(&format!("{ONE}{TWO}"), "prod", 3).unwrap().fingerprints;
+        let other = Seal::of(TWO, "test", 5).unwrap().fingerprints;
+        assert!(both.len() == 2 && both[0] != both[1] && both[1] == other[0], "of the key alone");
+        assert!(both.iter().all(|name| name.len() == 8 && !ONE.contains(name) && !TWO.contains(name)));
     }
 
     #[test]

@@ -2,6 +2,7 @@
 
 use httparse::{Request, Status, EMPTY_HEADER};
 use std::io::{self, ErrorKind, Read};
+use std::net::IpAddr;
 
 /// So long a head may be, with so many lines.
 const MAX_BYTES: usize = 8 * 1024;
@@ -10,10 +11,12 @@ const MAX_HEADERS: usize = 64;
 /// What is asked for.
 #[derive(Debug, PartialEq, Eq)]
 pub enum Head {
-    /// By GET: the path, without what stands behind `?`.
-    Get(String),
+    /// By GET, or by HEAD, which is answered without a body: the path, without what stands behind `?`.
+    Get { path: String, is_head: bool },
     /// By another method.
     Other,
+    /// In the name of a host that isn't this machine's loopback: of a page elsewhere, say, whose name was bound to it.
+    Elsewhere,
     Unreadable,
 }
 
@@ -40,12 +43,53 @@ fn head_of(bytes: &[u8]) -> Option<Head> {
     let mut request = Request::new(&mut headers);
     match request.parse(bytes) {
         Ok(Status::Partial) if bytes.len() < MAX_BYTES => None,
-        Ok(Status::Complete(_)) => match (request.method, request.path) {
-            (Some("GET"), Some(path)) => Some(Head::Get(path.split('?').next().unwrap_or_default().to_string())),
-            _ => Some(Head::Other),
-        },
+        Ok(Status::Complete(_)) => Some(asked(&request)),
         _ => Some(Head::Unreadable),
     }
+}
+
+fn asked(request: &Request) -> Head {
+    let is_head = match request.method {
+        Some("GET") => false,
+        Some("HEAD") => true,
+        _ => return Head::Other,
+    };
+    // an absolute form, as to a proxy, names the host itself
+    let (host, path) = match split(request.path.unwrap_or_default()) {
+        (Some(host), path) => (Some(host.to_string()), path),
+        (None, path) => (host_of(request), path),
+    };
+    if host.map_or(false, |host| !is_loopback(&host)) {
+        return Head::Elsewhere;
+    }
+    Head::Get { path: path.split('?').next().unwrap_or_default().to_string(), is_head }
+}
+
+/// The host and the path of a target.
+fn split(target: &str) -> (Option<&str>, &str) {
+    let scheme = target.get(..7).filter(|scheme| scheme.eq_ignore_ascii_case("http://"));
+    match scheme.and_then(|_| target.get(7..)) {
+        Some(rest) => match rest.find('/') {
+            Some(at) => (Some(&rest[..at]), &rest[at..]),
+            None => (Some(rest), "/"),
+        },
+        None => (None, target),
+    }
+}
+
+fn host_of(request: &Request) -> Option<String> {
+    let named = request.headers.iter().find(|header| header.name.eq_ignore_ascii_case("host"));
+    named.map(|header| String::from_utf8_lossy(header.value).trim().to_string())
+}
+
+/// Whether HOST[:PORT] is this machine itself.
+fn is_loopback(host: &str) -> bool {
+    let name = match host.rsplit_once(':') {
+        Some((name, port)) if port.bytes().all(|byte| byte.is_ascii_digit()) && !name.ends_with(':') => name,
+        _ => host,
+    };
+    let bare = name.strip_prefix('[').and_then(|name| name.strip_suffix(']')).unwrap_or(name);
+    bare.eq_ignore_ascii_case("localhost") || bare.parse::<IpAddr>().map_or(false, |address| address.is_loopback())
 }
 
 #[cfg(test)]
@@ -55,8 +99,18 @@ mod tests {
     #[test]
     fn heads() {
         let read = |text: &str| read_head(&mut text.as_bytes()).map_err(|error| error.kind());
-        assert_eq!(read("GET /a?b=1 HTTP/1.1\r\nHost: x\r\n\r\nmore"), Ok(Head::Get("/a".to_string())));
-        assert_eq!(read("GET / HTTP/1.0\n\n"), Ok(Head::Get("/".to_string())));
+        let get = |path: &str| Ok(Head::Get { path: path.to_string(), is_head: false });
+        assert_eq!(read("GET /a?b=1 HTTP/1.1\r\nHost: localhost\r\n\r\nmore"), get("/a"));
+        assert_eq!(read("GET / HTTP/1.0\n\n"), get("/"));
+        assert_eq!(read("HEAD /a HTTP/1.1\r\nhost: [::1]:7080\r\n\r\n"), Ok(Head::Get { path: "/a".to_string(), is_head: true }));
+        assert_eq!(read("GET http://127.0.0.1:7080/a?b HTTP/1.1\r\nHost: evil.example\r\n\r\n"), get("/a"));
+        assert_eq!(read("GET HTTP://localhost HTTP/1.1\r\n\r\n"), get("/"));
+        for host in ["evil.example", "evil.example:7080", "10.0.0.1", "localhost.evil.example", "[::2]:1", "", "127.0.0.1.evil"] {
+            assert_eq!(read(&format!("GET /a HTTP/1.1\r\nHost: {host}\r\n\r\n")), Ok(Head::Elsewhere), "{host}");
+        }
+        for host in ["127.0.0.1", "127.0.0.1:7080", "LOCALHOST:1", "::1", "[::1]", "127.9.9.9"] {
+            assert_eq!(read(&format!("GET /a HTTP/1.1\r\nHost: {host}\r\n\r\n")), get("/a"), "{host}");
+        }
         assert_eq!(read("POST /a HTTP/1.1\r\nContent-Length: 3\r\n\r\nabc"), Ok(Head::Other));
         for bad in ["\u{1}\u{2}\r\n\r\n".to_string(), format!("GET / HTTP/1.1\r\nA: {}", "b".repeat(MAX_BYTES))] {
             assert_eq!(read(&bad), Ok(Head::Unreadable), "{}", bad.len());
@@ -74,7 +128,7 @@ mod tests {
                 self.0.read(&mut bytes[..1])
             }
         }
-        let head = read_head(&mut Slow(b"GET /metrics HTTP/1.1\r\nHost: x\r\n\r\n")).unwrap();
-        assert_eq!(head, Head::Get("/metrics".to_string()));
+        let head = read_head(&mut Slow(b"GET /metrics HTTP/1.1\r\nHost: [::1]\r\n\r\n")).unwrap();
+        assert_eq!(head, Head::Get { path: "/metrics".to_string(), is_head: false });
     }
 }

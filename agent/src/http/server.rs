@@ -42,11 +42,13 @@ impl Response {
         Response { status: 200, content_type: "application/json", body }
     }
 
-    fn bytes(&self) -> Vec<u8> {
+    /// All of it, or its head alone.
+    fn bytes(&self, is_head: bool) -> Vec<u8> {
         let reason = match self.status {
             200 => "OK",
             404 => "Not Found",
             405 => "Method Not Allowed",
+            421 => "Misdirected Request",
             503 => "Service Unavailable",
             _ => "Bad Request",
         };
@@ -57,9 +59,10 @@ impl Response {
             format!("Content-Length: {}", self.body.len()),
             format!("Content-Security-Policy: {csp}"),
             "Cache-Control: no-store".to_string(),
+            "Allow: GET, HEAD".to_string(),
             "Connection: close".to_string(),
         ];
-        format!("{}\r\n\r\n{}", head.join("\r\n"), self.body).into_bytes()
+        format!("{}\r\n\r\n{}", head.join("\r\n"), if is_head { "" } else { &self.body }).into_bytes()
     }
 }
 
@@ -113,13 +116,14 @@ fn serve(listener: &TcpListener, to: &SyncSender<Page>, waker: &Waker) {
 
 fn serve_one(stream: &TcpStream, to: &SyncSender<Page>, waker: &Waker) -> io::Result<()> {
     let until = Instant::now() + PATIENCE;
-    let response = match read_head(&mut Timed { stream, until })? {
-        Head::Get(path) => response_to(path, to, waker),
-        Head::Other => Response::text(405, "GET alone"),
-        Head::Unreadable => Response::text(400, "this is no request"),
+    let (response, is_head) = match read_head(&mut Timed { stream, until })? {
+        Head::Get { path, is_head } => (response_to(path, to, waker), is_head),
+        Head::Other => (Response::text(405, "GET and HEAD alone"), false),
+        Head::Elsewhere => (Response::text(421, "this is asked of another host: ask 127.0.0.1, localhost or [::1]"), false),
+        Head::Unreadable => (Response::text(400, "this is no request"), false),
     };
     let until = Instant::now() + PATIENCE;
-    Timed { stream, until }.write_all(&response.bytes())?;
+    Timed { stream, until }.write_all(&response.bytes(is_head))?;
     stream.shutdown(Shutdown::Write)
 }
 

@@ -1,5 +1,6 @@
 //! The UDP socket of an agent.
 
+use super::kernel;
 use mio::net::UdpSocket;
 use mio::{Interest, Registry, Token};
 use socket2::SockRef;
@@ -41,6 +42,16 @@ impl Link {
     /// Whether it is at an address that this machine alone reaches.
     pub fn is_loopback(&self) -> bool {
         self.socket.local_addr().map_or(false, |address| address.ip().is_loopback())
+    }
+
+    /// How many bytes it has room for, of those that were asked for: the system counts its upkeep, too, and gives twice what it permits.
+    pub fn room(&self) -> (usize, usize) {
+        (SockRef::from(&self.socket).recv_buffer_size().unwrap_or(0), 2 * ROOM)
+    }
+
+    /// How many datagrams the system dropped, since this socket had no room for them; None where it doesn't say so.
+    pub fn drops(&self) -> Option<u64> {
+        kernel::drops(self.socket.local_addr().ok()?)
     }
 
     /// Whether its address isn't this machine's any more.

@@ -1,6 +1,7 @@
 //! Datagrams between the machines of a cluster.
 
 mod backlog;
+mod kernel;
 mod link;
 mod pace;
 mod peers;

@@ -34,6 +34,9 @@ pub struct Peer {
     deaf: Option<Instant>,
     /// When its agent said that it ends.
     left: Option<Instant>,
+    /// Since when all that came in its name was too old, and when an operator was last told so.
+    stale: Option<Instant>,
+    told_stale: Option<Instant>,
     /// Whether the last look-up found an address; None before the first.
     was_found: Option<bool>,
     /// Whether it was said that what is sent to it doesn't leave, and when.
@@ -75,6 +78,8 @@ impl Peers {
             unanswered: None,
             deaf: None,
             left: None,
+            stale: None,
+            told_stale: None,
             was_found: None,
             is_unsent: false,
             said: None,
@@ -100,7 +105,7 @@ impl Peers {
             Some(peer) => peer,
             None => return false,
         };
-        (peer.heard, peer.heard_from, peer.tried) = (Some(now), Some(from), None);
+        (peer.heard, peer.heard_from, peer.tried, peer.stale) = (Some(now), Some(from), None, None);
         let was_told = |(at, told): (SocketAddr, Instant)| at == from || now.saturating_duration_since(told) < PAUSE;
         if peer.known.is_empty() || peer.known.contains(&from) || peer.elsewhere.map_or(false, was_told) {
             return false;
@@ -168,6 +173,23 @@ impl Peers {
     pub fn silence(&self, node: u8, now: Instant) -> Option<Duration> {
         let heard = self.peers.get(usize::from(node)).and_then(|peer| peer.heard);
         heard.map(|heard| now.saturating_duration_since(heard))
+    }
+
+    /// What came in the name of a node was refused as older than what it said before. Whether an operator is to be told, once in a while: where nothing else
+    /// comes for long, for a message may overtake another one.
+    pub fn is_stale(&mut self, node: u8, now: Instant) -> bool {
+        let is_old = |at: Option<Instant>, time| at.map_or(false, |at| now.saturating_duration_since(at) >= time);
+        match self.peers.get_mut(usize::from(node)) {
+            Some(peer) => {
+                peer.stale = peer.stale.or(Some(now));
+                let is_new = is_old(peer.stale, SILENCE) && (peer.told_stale.is_none() || is_old(peer.told_stale, PAUSE));
+                if is_new {
+                    peer.told_stale = Some(now);
+                }
+                is_new
+            }
+            None => false,
+        }
     }
 
     /// Which one of the others is at this address, or was heard from there last.
@@ -347,6 +369,17 @@ mod tests {
         assert!(!turn(200, true) && !turn(300, false), "it was silent, and is asked since it is heard");
         assert!((301..=305).all(|second| !turn(second, false)) && turn(306, false));
         assert!(!peers.is_deaf(9, now) && peers.silence(1, now + Duration::from_secs(310)) == Some(Duration::from_secs(4)));
+    }
+
+    #[test]
+    fn one_of_whom_nothing_but_old_messages_comes_is_told_once_in_a_while() {
+        let now = Instant::now();
+        let mut peers = peers_of(&names());
+        let told: Vec<u64> = (0..100).filter(|second| peers.is_stale(1, now + Duration::from_secs(*second))).collect();
+        assert_eq!(told, [5, 65]);
+        peers.hear(1, "10.0.0.2:2".parse().unwrap(), now + Duration::from_secs(100));
+        assert!((130..135).all(|second| !peers.is_stale(1, now + Duration::from_secs(second))), "it was heard");
+        assert!(peers.is_stale(1, now + Duration::from_secs(135)) && !peers.is_stale(9, now));
     }
 
     #[test]

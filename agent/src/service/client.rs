@@ -13,6 +13,9 @@ const MAX_UNREAD: usize = 256 * 1024;
 pub struct Client {
     stream: UnixStream,
     input: Vec<u8>,
+    /// The end of its first line, and so many bytes have none.
+    line_end: Option<usize>,
+    seen: usize,
     output: Vec<u8>,
     /// Whether more of its input may be waiting.
     is_readable: bool,
@@ -42,6 +45,8 @@ impl Client {
         Client {
             stream,
             input: Vec::new(),
+            line_end: None,
+            seen: 0,
             output: Vec::new(),
             is_readable: true,
             is_waiting: false,
@@ -73,10 +78,11 @@ impl Client {
     pub fn next_line(&mut self) -> Next {
         self.is_waiting = false;
         loop {
-            if let Some(end) = self.input.iter().position(|byte| *byte == b'\n') {
+            if let Some(end) = self.line_end {
                 let rest = self.input.split_off(end + 1);
                 let line = std::mem::replace(&mut self.input, rest);
                 self.asked = Instant::now();
+                self.look_for_line(0);
                 return Next::Line(line);
             }
             if self.input.len() >= MAX_LINE {
@@ -99,6 +105,7 @@ impl Client {
                 Ok(0) => (self.is_readable, self.is_ended) = (false, true),
                 Ok(count) => {
                     self.input.extend_from_slice(&piece[..count]);
+                    self.look_for_line(self.seen);
                     return Ok(true);
                 }
                 Err(error) if error.kind() == ErrorKind::WouldBlock => self.is_readable = false,
@@ -109,16 +116,23 @@ impl Client {
         Ok(false)
     }
 
+    /// Looks for the end of the first line behind so many bytes, which have none.
+    fn look_for_line(&mut self, seen: usize) {
+        self.line_end = self.input[seen..].iter().position(|byte| *byte == b'\n').map(|at| seen + at);
+        self.seen = self.line_end.unwrap_or(self.input.len());
+    }
+
     /// Puts its request back, until the node has room for it.
     pub fn put_back(&mut self, line: Vec<u8>) {
         let rest = std::mem::replace(&mut self.input, line);
         self.input.extend(rest);
+        self.look_for_line(0);
         self.is_waiting = true;
     }
 
     /// Whether it may have a request; one that was put back counts where those have their turn.
     pub fn has_input(&self, has_turn: bool) -> bool {
-        (has_turn || !self.is_waiting) && (self.is_readable || self.input.contains(&b'\n'))
+        (has_turn || !self.is_waiting) && (self.is_readable || self.line_end.is_some())
     }
 
     /// Whether it has asked for nothing that it wasn't told.
