@@ -11,7 +11,7 @@ import promises
 TOP = os.path.dirname(os.path.dirname(os.path.abspath(__file__)))
 GENERATED = "docs/PROMISES.md"
 MEASURED = ("docs/PERFORMANCE.md", "docs/COMPARISON.md")
-WORDS, LINE, CELL = 32000, 160, 40
+WORDS, LINE, CELL = 32500, 160, 40
 MONTHS = "January|February|March|April|May|June|July|August|September|October|November|December"
 ROOTS = r"(?:tests|crates|docs|schedules|plans|examples|packaging|agent|measures)"
 

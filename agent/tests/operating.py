@@ -11,7 +11,7 @@ PAGE = os.path.join(TOP, "docs/OPERATING.md")
 ELSEWHERE = [
     (r"\./invite (show|--unproved)|\./invite$", "tests/launcher.sh"),
     (r"rt( version)?$", ".ci/run"),
-    (r"apt-get install cargo ", ".ci/run"),
+    (r"apt-get install cargo ", "check"),
     (r"agent/build", "agent/tests/run"),
     (r"packaging/build ", "packaging/test"),
     (r"apt install ", "packaging/test-systemd"),
@@ -19,7 +19,6 @@ ELSEWHERE = [
     (r"runuser -u dumgerok -- dumgerokctl format", "packaging/test-systemd"),
     (r"systemctl (enable|start|stop|restart|reload)", "packaging/test-systemd"),
     (r"chown dumgerok: ", "packaging/test-systemd"),
-    (r"dd if=FILE iflag=nocache", "tests/failed_device.py"),
 ]
 
 # What stands for a word of one's own in a command of dumgerokctl.
