@@ -9,7 +9,7 @@ ghost use Rattle.line_words.specs.Lines.{lines_of};
 ghost use Rattle.node_session.specs.declared.asked.Asked.TheVariants as ask;
 ghost use Rattle.node_session.specs.declared.call_outcome.CallOutcome.TheVariants as end;
 ghost use Rattle.node_session.specs.Seals.{asked_under, life_of, sealed_behind, taken_under, written};
-ghost use Rattle.node_session.specs.Chains.{AreTimely, ComesAndEnds, IsAtOnce, IsToldBy, is_failed};
+ghost use Rattle.node_session.specs.Chains.{AreTimely, ComesAndEnds, IsAtOnce, IsToldBy, brought_up, is_failed};
 ghost use Rattle.node_session.specs.Serving.{opened, Calls, Fed, Replies, Serves, Turns};
 ghost use Rattle.durable_node.specs.Faults.{answered};
 ghost use Rattle.durable_node.specs.Node.{Stands};
@@ -521,6 +521,12 @@ impl<D: SectorDisk + Drop> Session<D> {
         Ok(ended)
     }
 
+    fn is_down(&self) -> bool
+        ensures { result ≡ is_down self.now.node.state.phase }
+    {
+        self.node.is_down()
+    }
+
     /// Makes an event. Where it brings up a node that was Down, the journal that was mounted is written anew: a cache below may show what the
     /// device never kept, and only writing it again puts that right.
     fn make(&mut self, event: &Event) -> Result<EventEnds, AllocError>
@@ -531,9 +537,9 @@ impl<D: SectorDisk + Drop> Session<D> {
         // Refuses: acknowledged_before_written_anew, written_anew_at_each_event, failure_behind_a_recovery_forgotten.
         ensures calls { IfOk result (λ ends. Calls D.state self.old self.new no_news (ComesAndEnds event.now ends.step) (end.Done None) ends.last) }
     {
-        let was_down = self.node.is_down();
+        let was_down = self.is_down();
         let step = self.turn(event)?;
-        if !was_down || self.node.is_down() {
+        if !brought_up(was_down, self.is_down()) {
             let last = step;
             return Ok(EventEnds { step, last });
         }
@@ -553,6 +559,13 @@ impl<D: SectorDisk + Drop> Session<D> {
         push_changes(&mut self.text, false, &changes)?;
         Ok(compaction_end(&done))
     }
+}
+
+/// Whether a node that was Down is up.
+fn brought_up(was_down: bool, is_down: bool) -> bool
+    ensures { result ≡ brought_up was_down is_down }
+{
+    was_down && !is_down
 }
 
 /// The messages that a step hands out.

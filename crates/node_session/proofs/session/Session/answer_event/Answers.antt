@@ -5,6 +5,6 @@ use Rattle.node_session.proofs.session.Session.answer_event.Goals as goal
 pub returns-clause-replies : goal.returns-clause-replies
 returns-clause-replies g c =
     on_ok c.push_event_closing.result
-    (λ said. event_line g.D.SectorDisk.state c.args.self.now c.hear.new.self c.make.new.self _ c.args.event.now c.in_ok-number.number c.in_ok-ends.ends.step c.in_ok-ends.ends.last c.ended.ended c.push_keeps_news.new.text.items c.push_event_closing.new.text.items
-    c.in_ok-number.ensures.number.0 (c.hear.ensures ∙ c.in_ok-number.ensures.number.1) c.in_ok-ends.ensures.calls (c.self.view_is ∙ c.stop_where_failed.ensures) c.of_event.ensures c.in_ok-push_keeps_news.ensures said)
+    (λ said. event_line g.D.SectorDisk.state c.args.self.now c.hear.new.self c.make.new.self _ c.args.event.now c.in_ok-number.number c.in_ok-ends.ends.step c.in_ok-ends.ends.last c.of_event-ended.result c.push_keeps_news.new.text.items c.push_event_closing.new.text.items
+    c.in_ok-number.ensures.number.0 (c.hear.ensures ∙ c.in_ok-number.ensures.number.1) c.in_ok-ends.ensures.calls (c.self.view_is ∙ c.stop_where_failed.ensures) c.of_event-ended.ensures c.in_ok-push_keeps_news.ensures said)
     c.push_event_closing.ensures

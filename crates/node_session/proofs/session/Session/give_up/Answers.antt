@@ -1,4 +1,4 @@
-use Rattle.std.proofs.Common.{None, refl}
+use Rattle.std.proofs.Common.{None, refl, ◌∙◌}
 use Rattle.node_session.specs.declared.call_outcome.CallOutcome.TheVariants as end
 use Rattle.node_session.proofs.Calls.{due_more, if_ok, no_call}
 use Rattle.node_session.proofs.session.Session.give_up.Goals as goal
