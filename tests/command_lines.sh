@@ -200,7 +200,8 @@ prints 0 'cluster 128 4\ncut 127 0\n' "0 ok\n$every" sim
 file=$room/store
 prints 0 'raise\nformat 4\nmount\nraise\nput 1 6869\n' 'refused Broken\nok\nok\nok 1\nok 0\n' store "$file"
 prints 0 'mount\nlist\ndone 0\ndone 0\nlist\n' 'ok\ncount 1 next 1\njob 0 1 6869\nok\nrefused NoSuchJob\ncount 1 next 1\n' store "$file"
-prints 0 'mount\n' 'refused NotFound\n' store "$room/none"
+says 'line 1: NotFound: there is no such file or folder: No such file or directory (os error 2)'
+prints 0 'mount\n' 'refused Device\n' store "$room/none"
 says 'line 2: no such request: mout'
 prints 1 'mount\nmout\n' 'bad line 2\n' store "$file"
 says 'line 1: not of the form put QUEUE HEX [P]'
@@ -215,12 +216,16 @@ prints 0 'mount\nlist\n' 'ok\ncount 1 next 1\n' store "$file"
 
 # What is no regular file, and what may not be read and written.
 mkfifo "$room/pipe"
-prints 0 'format 4\nmount\n' 'refused NotAFile\nrefused NotAFile\n' store "$room/pipe"
-prints 0 'format 4\nmount\n' 'refused Folder\nrefused Folder\n' store "$room"
-prints 0 'format 4\nmount\n' 'refused NotAFile\nrefused NotAFile\n' store /dev/full
+says $'line 1: NotAFile: it is no regular file\ninvite: line 2: NotAFile: it is no regular file'
+prints 0 'format 4\nmount\n' 'refused Device\nrefused Device\n' store "$room/pipe"
+says $'line 1: Folder: it is a folder: Is a directory (os error 21)\ninvite: line 3: Folder: it is a folder: Is a directory (os error 21)'
+prints 0 'format 4\n\nmount\n' 'refused Device\nrefused Device\n' store "$room"
+says $'line 1: NotAFile: it is no regular file\ninvite: line 2: NotAFile: it is no regular file'
+prints 0 'format 4\nmount\n' 'refused Device\nrefused Device\n' store /dev/full
 chmod a-w "$file"
 if [ ! -w "$file" ]; then
-    prints 0 'mount\nformat 4\n' 'refused Denied\nrefused Denied\n' store "$file"
+    says $'line 1: Denied: it may not be read and written: Permission denied (os error 13)\ninvite: line 2: Denied: it may not be read and written: Permission denied (os error 13)'
+    prints 0 'mount\nformat 4\n' 'refused Device\nrefused Device\n' store "$file"
 fi
 chmod u+w "$file"
 prints 0 'mount\nlist\n' 'ok\ncount 1 next 1\n' store "$file"

@@ -59,7 +59,8 @@ LENGTHS = [(0, "TooSmall"), (1, "TooSmall"), (511, "TooSmall"), (512, "TooSmall"
 # How many bytes stand behind a store of four slots, and how many jobs it then takes: two less than it has slots.
 BEHIND = [(0, 2), (1, 2), (511, 2), (512, 2), (3 * 512 + 511, 2), (4 * 512, 3), (4 * 512 + 511, 3), (8 * 512, 4), (8 * 512 + 13, 4)]
 
-# Where a path leads to, whether `store` may make its file there, and else its word for it, the statuses of `node` and of `format`, and what `node` says.
+# Where a path leads to, whether `store` may make its file there, and else its word for it on standard error (it answers `refused Device`), the statuses
+# of `node` and of `format`, and what `node` says.
 PLACES = [
     ("nothing", True, "NotFound", 7, 0, "there is no such file or folder: No such file or directory (os error 2)"),
     ("nothing/below", False, "NotFound", 7, 7, "there is no such file or folder: No such file or directory (os error 2)"),
@@ -76,10 +77,14 @@ PLACES = [
 ]
 
 # How `node` and `format` end where the system refuses to open the file so, and the word of `store`; and the same where a file can't be locked so.
-OPENING = [(errno.ENOENT, 7, "NotFound"), (errno.EEXIST, 1, "Unusable"), (errno.EACCES, 7, "Denied"), (errno.EPERM, 7, "Denied"), (errno.EROFS, 7, "Denied"),
+OPENING = [(errno.ENOENT, 7, "NotFound"), (errno.EEXIST, 1, "Exists"), (errno.EACCES, 7, "Denied"), (errno.EPERM, 7, "Denied"), (errno.EROFS, 7, "Denied"),
            (errno.EISDIR, 7, "Folder"), (errno.ENOSPC, 8, "NoRoom"), (errno.EDQUOT, 8, "NoRoom"), (errno.EFBIG, 8, "NoRoom"), (errno.EAGAIN, 7, "Unusable"),
            (errno.ETXTBSY, 7, "Unusable"), (errno.EIO, 3, "Device"), (errno.EMFILE, 3, "Device")]
 LOCKING = [(errno.EWOULDBLOCK, 4, "Locked"), (errno.EIO, 3, "Device"), (errno.ENOLCK, 3, "Device")]
+
+# What standard error says of a line of `store` for which the file can't be had, by that word.
+WORDS = {"Exists": "there is something of this name", "NotFound": "there is no such file or folder", "Denied": "it may not be read and written",
+         "Folder": "it is a folder", "Unusable": "it can't be opened", "NoRoom": "there is no room for it", "Device": "the device failed"}
 
 # What is said of a file by the label behind its last sector, or by none.
 NOBODYS = "it is no node's file: it was never formatted, or its end was cut off"
@@ -99,6 +104,11 @@ LABELS = [
 CUT = [0, 1, 512, 1024, 2047, 4096, 4608, 4609, 5120, 12_287, 12_288, 12_303]
 
 UP = b"group Normal 0 0:1 0\nkeeps 1 0 0\nok 1\n"
+
+
+def reason(line, word, error):
+    """What standard error says of this line of `store`."""
+    return f"invite: line {line}: {word}: {WORDS[word]}: {os.strerror(error)} (os error {error})\n"
 
 
 def bytes_of(slots, sectors, behind=""):
@@ -149,6 +159,11 @@ class Tried:
 
     def expect(self, words, fed, text, status=0, **more):
         self.same(self.run(words, fed, **more), (status, text.encode() if isinstance(text, str) else text), (words, fed))
+
+    def answers(self, path, fed, text, said, **more):
+        """What `store` answers, and what standard error says of the lines for which the file can't be had."""
+        ended = subprocess.run([self.program, "store", path], input=fed.encode(), capture_output=True, timeout=600, **more)
+        self.same((ended.returncode, ended.stdout.decode(), ended.stderr.decode()), (0, text, said), (path, fed))
 
     def node(self, path, nodes=1):
         """A node that runs, and has its file open."""
@@ -257,7 +272,7 @@ def try_places(tried, folder):
     for place, may_be_made, word, node, making, said in PLACES:
         path = os.path.join(folder, place)
         before = sorted(os.listdir(folder))
-        tried.expect(["store", path], "mount\nlist\n", f"refused {word}\nrefused Broken\n")
+        tried.answers(path, "\nmount\nlist\n", "refused Device\nrefused Broken\n", f"invite: line 2: {word}: {said}\n")
         tried.says(["node", path, "0", "3"], "recover\n", node, f"{path}: {said}")
         tried.same(sorted(os.listdir(folder)), before, (place, "what is there"))
         if making == 1:
@@ -268,7 +283,7 @@ def try_places(tried, folder):
             tried.expect(["format", path, "4", "0", "3"], "", "")
             os.remove(path)
         tried.same(sorted(os.listdir(folder)), before, (place, "what is there"))
-        tried.expect(["store", path], "format 4\n", "ok\n" if may_be_made else f"refused {word}\n")
+        tried.answers(path, "format 4\n", *(("ok\n", "") if may_be_made else ("refused Device\n", f"invite: line 1: {word}: {said}\n")))
         if may_be_made:
             tried.same(read(path), bytes_of(4, EMPTY), place)
             os.remove(os.path.realpath(path))
@@ -311,14 +326,14 @@ def try_denied(tried, folder):
     for mode in (0o000, 0o444, 0o222):
         write(path, bytes_of(4, EMPTY, NODES[0][3]))
         os.chmod(path, mode)
-        other.expect(["store", path], "mount\nformat 4\n", "refused Denied\n" * 2, **who)
+        other.answers(path, "mount\nformat 4\n", "refused Device\n" * 2, reason(1, "Denied", errno.EACCES) + reason(2, "Denied", errno.EACCES), **who)
         other.says(["node", path, "0", "3"], "recover\n", 7, f"{path}: {denied}", **who)
         os.chmod(path, 0o600)
         tried.same(read(path), bytes_of(4, EMPTY, NODES[0][3]), ("a file of mode", mode))
         os.remove(path)
     new = os.path.join(inner, "new")
     other.says(["format", new, "4", "0", "3"], "", 7, f"{new}: {denied}", **who)
-    other.expect(["store", new], "format 4\n", "refused Denied\n", **who)
+    other.answers(new, "format 4\n", "refused Device\n", reason(1, "Denied", errno.EACCES), **who)
     tried.same(os.listdir(inner), ["there"], "a folder that may not be written")
     tried.passed, tried.failed = tried.passed + other.passed, tried.failed + other.failed
     os.chmod(inner, 0o755)
@@ -442,7 +457,8 @@ def try_too_long(tried, path):
     """A length that can't be had."""
     for kept in (b"", b"\x55" * 5000, bytes_of(5, EMPTY)):
         write(path, kept)
-        tried.expect(["store", path], "format 73\nmount\n" if kept == b"" else "format 73\n", "refused NoRoom\n" + "refused TooSmall\n" * (kept == b""), preexec_fn=limited(150_000))
+        # what is there is mounted as before, for its device hasn't failed
+        tried.answers(path, "format 73\nmount\n", "refused Device\n" + ("ok\n" if len(kept) == 14_336 else "refused TooSmall\n"), reason(1, "NoRoom", errno.EFBIG), preexec_fn=limited(150_000))
         tried.same((read(path), os.path.exists(path + ".unfinished")), (kept, False), "a file that is there")
     tried.expect(["store", path], "format 73\n", "ok\n", preexec_fn=limited(153_600))
     os.remove(path)
@@ -450,7 +466,7 @@ def try_too_long(tried, path):
     for most in (12_287, 12_288, 12_303):
         tried.says(["format", path, "4", "0", "1"], "", 8, f"{path}: there is no room for it: File too large (os error 27)", preexec_fn=limited(most))
         tried.mark("it is there" if os.path.exists(path) else "", ("format", most))
-        tried.expect(["store", path], "format 4\n", "refused NoRoom\n" if most == 12_287 else "ok\n", preexec_fn=limited(most))
+        tried.answers(path, "format 4\n", *(("refused Device\n", reason(1, "NoRoom", errno.EFBIG)) if most == 12_287 else ("ok\n", "")), preexec_fn=limited(most))
         tried.same(os.path.exists(path), most > 12_287, ("store", most))
         if most > 12_287:
             os.remove(path)
@@ -474,7 +490,7 @@ def try_refused_calls(tried, folder, path):
     for error, status, word in OPENING:
         tried.formatted(path)
         tried.expect(["node", path, "0", "1"], "recover\n", "", status, **failing(1, error))
-        tried.expect(["store", path], "mount\nlist\n", f"refused {word}\nrefused Broken\n", **failing(1, error))
+        tried.answers(path, "mount\nlist\n", "refused Device\nrefused Broken\n", reason(1, word, error), **failing(1, error))
         os.remove(path)
         tried.expect(["format", path, "4", "0", "1"], "", "", status, **failing(1, error))
         tried.mark("it was made" if os.path.exists(path) else "", ("format", errno.errorcode[error]))
@@ -484,8 +500,9 @@ def try_refused_calls(tried, folder, path):
         before = read(path)
         tried.expect(["node", path, "0", "1"], "recover\n", "", status, **failing(3, error))
         tried.same(read(noted).split()[1:], [b"flock"], "the third call")
-        tried.expect(["store", path], "mount\n", f"refused {word}\n", **failing(3, error))
-        tried.expect(["store", path], "format 5\n", f"refused {word}\n", **failing(3, error))
+        said = "" if word == "Locked" else reason(1, word, error)
+        tried.answers(path, "mount\n", f"refused {word}\n", said, **failing(3, error))
+        tried.answers(path, "format 5\n", f"refused {word}\n", said, **failing(3, error))
         tried.same(read(noted).split()[1:], [b"flock"], "the third call")
         tried.same(read(path), before, "a file that couldn't be locked")
     # a format that fails at any call removes what it made, and says why
@@ -506,26 +523,27 @@ def try_refused_calls(tried, folder, path):
 
     # Calls of a mounting: it opens the file, asks what it is, locks it and asks for its length, and once more for its label; a sync; eight reads, one
     # less before the first raise, and before all but the last a look whether the file has its name. Of a raise: such a look before the number, a look at
-    # the length with each of two or three writes, and as many syncs. Once one failed, nothing is mounted by this process any more.
+    # the length with each of two or three writes, and as many syncs. Once one failed, nothing is mounted by this process any more. Of a mounting that
+    # fails it is said why.
     session, at, none_more = "mount\nraise\nmount\nraise\nlist\n", 0, "refused Device\nrefused Broken\nrefused Broken\n"
-    for calls, text, counts in (
-        (19, "refused Device\nrefused Broken\n" + none_more, "0"),
-        (6, "ok\nrefused Device\n" + none_more, "01"),
+    for calls, text, counts, line in (
+        (19, "refused Device\nrefused Broken\n" + none_more, "0", 1),
+        (6, "ok\nrefused Device\n" + none_more, "01", None),
         # the sync of the gate alone: it was written
-        (1, "ok\nrefused Device\n" + none_more, "1"),
-        (21, "ok\nok 1\n" + none_more, "1"),
-        (10, "ok\nok 1\nok\nrefused Device\ncount 1 next 0\n", "12"),
-        (3, "ok\nok 1\nok\nok 2\ncount 2 next 0\n", "2"),
+        (1, "ok\nrefused Device\n" + none_more, "1", None),
+        (21, "ok\nok 1\n" + none_more, "1", 3),
+        (10, "ok\nok 1\nok\nrefused Device\ncount 1 next 0\n", "12", None),
+        (3, "ok\nok 1\nok\nok 2\ncount 2 next 0\n", "2", None),
     ):
         for _ in range(calls):
             at += 1
             write(path, bytes_of(4, EMPTY))
-            tried.expect(["store", path], session, text, **failing(at, errno.EIO))
+            tried.answers(path, session, text, reason(line, "Device", errno.EIO) if line else "", **failing(at, errno.EIO))
             found = tried.run(["store", path], "mount\nlist\n")[1].decode()
             tried.mark("" if found in [f"ok\ncount {count} next 0\n" for count in counts] else f"then there is {found!r}", ("call that fails", at))
     # a format makes a file of its own, which may be mounted
     write(path, bytes_of(4, EMPTY))
-    tried.expect(["store", path], "mount\nmount\nformat 4\nmount\nlist\n", "refused Device\nrefused Device\nok\nok\ncount 0 next 0\n", **failing(6, errno.EIO))
+    tried.answers(path, "mount\nmount\nformat 4\nmount\nlist\n", "refused Device\nrefused Device\nok\nok\ncount 0 next 0\n", reason(1, "Device", errno.EIO), **failing(6, errno.EIO))
 
 
 def try_short_calls(tried, folder, path):
@@ -548,9 +566,9 @@ def try_short_calls(tried, folder, path):
     tried.same(answers, (0, b"ok\nok\nok 1\nok 0\nok 1\nok\nok\nok 2\nok\ncount 2 next 2\njob 1 15 " + b"a5" * 400 + b" 255\n"), "the session")
     env["SHORT_MOST"] = "0"
     write(path, before)
-    tried.expect(["store", path], "mount\n", "refused Device\n", env=env)
+    tried.answers(path, "mount\n", "refused Device\n", "invite: line 1: Device: the device failed: failed to fill whole buffer\n", env=env)
     tried.same(read(path), before, "nothing is moved")
-    tried.expect(["store", path], "format 4\n", "refused Device\n", env=env)
+    tried.answers(path, "format 4\n", "refused Device\n", "invite: line 1: Device: the device failed: failed to write whole buffer\n", env=env)
     tried.same((read(path), os.path.exists(path + ".unfinished")), (before, False), "nothing is moved")
     os.remove(path)
     tried.expect(["format", path, "4", "0", "1"], "", "", 3, env=env)

@@ -35,7 +35,7 @@ with() {
 
 # found: what another process finds in the file, in $found
 found() {
-    found=$(printf 'mount\nlist\n' | "$program" store "$file")
+    found=$(printf 'mount\nlist\n' | "$program" store "$file" 2>/dev/null)
 }
 
 # What each line is answered where nothing fails, what is shown after it, and how many calls were made by its end.
@@ -81,10 +81,6 @@ fail_at() {
     done
     if [ "$k" -lt "${#session[@]}" ]; then
         want='refused Device'
-        # a file that can't be opened for want of room
-        if [ "$at" -le "$OPENING" ] && [ "$fault" = 28 ]; then
-            want='refused NoRoom'
-        fi
         for line in "${lines[@]:$k}"; do
             [ "$line" = "$want" ] || problem="line $k is answered $line"
             want='refused Broken'
@@ -124,7 +120,7 @@ format_at() {
     with "$at" "$fault"
     found
     case $found in
-        $'refused NotFound\nrefused Broken' | $'refused TooSmall\nrefused Broken' | $'refused NotFormatted\nrefused Broken' | $'ok\ncount 0 next 0') ;;
+        $'refused Device\nrefused Broken' | $'refused TooSmall\nrefused Broken' | $'refused NotFormatted\nrefused Broken' | $'ok\ncount 0 next 0') ;;
         *) problem="it leaves $found" ;;
     esac
     if [ "$(cat "$room/out")" = ok ] && [ "$found" != $'ok\ncount 0 next 0' ]; then
@@ -135,9 +131,6 @@ format_at() {
     [ "$found" = $'ok\ncount 0 next 0' ] || problem="a second one leaves $found"
     mark "$problem" "$fault at call $at of a format"
 }
-
-# An opening is so many calls: open, a look what the file is, the lock, a look at the length, and one at what is behind the last sector.
-OPENING=5
 
 # EIO, ENOSPC and EINTR
 errors=(5 28 4)

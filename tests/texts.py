@@ -169,16 +169,22 @@ RECORDED = [
      '[{"do":"deliver","msg":"010100020000","sent":["01020200000101"]}]],"nodes":3,"order":"0 - 1 0 2 1 0 2 0 3 0 - 0 - 0 - 0 -"}'),
 ]
 
-# Sessions over one file that isn't there at first, one after another, and what each prints.
+# What standard error says where there is no file.
+NO_FILE = "NotFound: there is no such file or folder: No such file or directory (os error 2)"
+
+# Sessions over one file that isn't there at first, one after another, what each prints, and what is said of it.
 SESSIONS = [
     [("raise\nformat 4\nmount\nraise\nput 1 6869\nmount\nlist\ndone 0\ndone 0\nlist\n",
-      "refused Broken\nok\nok\nok 1\nok 0\nok\ncount 1 next 1\njob 0 1 6869\nok\nrefused NoSuchJob\ncount 1 next 1\n"),
-     ("mount\n\nraise\nput 15 -\nput 1 62 7\nlist", "ok\nok 2\nok 1\nok 2\ncount 2 next 3\njob 1 15 -\njob 2 1 62 7\n")],
+      "refused Broken\nok\nok\nok 1\nok 0\nok\ncount 1 next 1\njob 0 1 6869\nok\nrefused NoSuchJob\ncount 1 next 1\n", ""),
+     ("mount\n\nraise\nput 15 -\nput 1 62 7\nlist", "ok\nok 2\nok 1\nok 2\ncount 2 next 3\njob 1 15 -\njob 2 1 62 7\n", "")],
     [("format 4\nmount\nput 0 61\nput 0 62\nput 0 63\ndone 0\nput 0 64\ndone 1\nlist\ncompact\nlist\nmount\nlist\n",
-      "ok\nok\nok 0\nok 1\nrefused Full\nok\nok 2\nok\ncount 0 next 3\njob 2 0 64\nok\ncount 0 next 3\njob 2 0 64\nok\ncount 0 next 3\njob 2 0 64\n")],
+      "ok\nok\nok 0\nok 1\nrefused Full\nok\nok 2\nok\ncount 0 next 3\njob 2 0 64\nok\ncount 0 next 3\njob 2 0 64\nok\ncount 0 next 3\njob 2 0 64\n", "")],
     # nothing is mounted, for there is no file, or none any more
     [("put 0 61\ndone 0\ncompact\nlist\nmount\nraise\nformat 4\nlist\nmount\nformat 5\nraise\n",
-      "refused Broken\nrefused Broken\nrefused Broken\nrefused Broken\nrefused NotFound\nrefused Broken\nok\nrefused Broken\nok\nok\nrefused Broken\n")],
+      "refused Broken\nrefused Broken\nrefused Broken\nrefused Broken\nrefused Device\nrefused Broken\nok\nrefused Broken\nok\nok\nrefused Broken\n",
+      f"line 5: {NO_FILE}")],
+    # each line for which there is no file has its reason
+    [("\nmount\nlist\n\nmount\nformat 5\nmount", "refused Device\nrefused Broken\nrefused Device\nok\nok\n", f"line 2: {NO_FILE}\ninvite: line 5: {NO_FILE}")],
 ]
 
 # What isn't to be mounted: the bytes of a file of 23 or 24 sectors, or what is written where into a store of four slots; and a session over it.
@@ -338,8 +344,8 @@ def try_records(rows):
 def try_stores(rows, folder):
     for at, sessions in enumerate(SESSIONS):
         path = os.path.join(folder, f"session-{at}")
-        for fed, text in sessions:
-            rows.expect(["store", path], fed, text, 0)
+        for fed, text, said in sessions:
+            rows.expect(["store", path], fed, text, 0, said)
     rows.mark("" if os.path.getsize(path) == 28 * 512 else "its file has another length", "format 5")
 
     path = os.path.join(folder, "damaged")

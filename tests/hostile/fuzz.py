@@ -145,7 +145,7 @@ class Stores:
             return "ok\n"
         if verb == "mount":
             self.mounted = self.file
-            return "ok\n" if self.file else "refused NotFound\n"
+            return "ok\n" if self.file else "refused Device\n"
         if self.mounted is None:
             return "refused Broken\n"
         return self.mounted.listed() if verb == "list" else self.mounted.apply(line) + "\n"

@@ -87,7 +87,7 @@ def try_store(refusing, folder):
             tried.mark("" if right else f"status {status}, it prints {out[-200:]!r}", ("store", "allocation", at))
             found = tried.run(["store", path], b"mount\nlist\n")[1].decode()
             allowed = ["ok\n" + state for state in ([states[-1]] if (status, out) == (0, whole) else states)]
-            allowed += [] if before is formatted or (status, out) == (0, whole) else ["refused NotFound\nrefused Broken\n"]
+            allowed += [] if before is formatted or (status, out) == (0, whole) else ["refused Device\nrefused Broken\n"]
             tried.mark("" if found in allowed else f"then the file has {found!r}", ("store", "allocation", at))
 
 

@@ -6,6 +6,8 @@ import os, re, subprocess, sys, time
 SECONDS, PATIENCE = 20, 300
 # What may stand on standard error: a line, and behind that of a trace that is no run one for each node with entries left.
 ERRORS = re.compile(rb"(invite: [ -~]+\n(node [0-9]+: entry [0-9]+ [ -~]+\n)*)?")
+# what `store` says of the lines for which the file can't be had
+REASONS = re.compile(rb"(invite: line [0-9]+: [A-Z][A-Za-z]+: [ -~]+\n)+")
 STATUSES = {"answer": {0, 1}, "show": {0, 1}, "sim": {0, 1}, "trace": {0, 1}, "record": {0, 1}, "threads": {0, 1}, "draw": {0, 1}, "store": {0, 1}, "format": {0, 1, 2, 3, 4, 5, 7, 8}, "node": {0, 1, 3, 4, 5, 6, 7, 8}, "inspect": {0, 1, 3, 7, 8}, "export": {0, 1, 3, 7, 8}}
 
 
@@ -65,6 +67,8 @@ class Tried:
     def trouble_in(self, words, status, out):
         if status not in STATUSES[words[0]]:
             return f"status {status}"
+        if words[0] == "store" and status == 0 and REASONS.fullmatch(self.error) and self.error.count(b"\n") <= out.splitlines().count(b"refused Device"):
+            return ""
         if not ERRORS.fullmatch(self.error):
             return f"standard error {self.error[:200]!r}"
         if status == 0 and self.error:

@@ -6,8 +6,7 @@ use Rattle.invite_console.specs.Answer.{answer_text}
 use Rattle.invite_console.specs.Show.{show_text}
 use Rattle.invite_console.specs.Sim.{IsSimPrintout}
 use Rattle.invite_console.specs.Reasons.{answer_flaw, schedule_flaw, show_flaw}
-use Rattle.store_console.specs.Session.{IsSession}
-use Rattle.store_console.specs.Reasons.{session_flaw}
+use Rattle.store_console.specs.Session.{IsSession, IsSessionWhy}
 use Rattle.trace_draw.specs.Ongoing.{IsJudgedAt}
 use Rattle.trace_draw.specs.Reported.{IsTold}
 use Rattle.invite_console.specs.Recording.{IsRecording}
@@ -33,7 +32,7 @@ abbrev pub IsWhyOf : Batch → Option (List ℕ) → ExitKind → List ℕ → T
 IsWhyOf (Answer place) = IsWhy (answer_flaw place.id place.nodes)
 IsWhyOf Show = IsWhy show_flaw
 IsWhyOf (Sim details) = IsWhy schedule_flaw
-IsWhyOf (Store path) = IsWhy session_flaw
+IsWhyOf (Store path) = IsSessionWhy
 IsWhyOf (Trace stage) = IsTold
 IsWhyOf Record = IsWhy schedule_flaw
 IsWhyOf Threads = IsWhy plans_flaw

@@ -1,3 +1,5 @@
+mod Aparts
+mod Barrings
 mod Behind
 mod Counts
 mod Finding

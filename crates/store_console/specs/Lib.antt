@@ -1,5 +1,7 @@
 pub mod Requests
+pub mod Barring
 pub mod Replies
+pub mod Explained
 pub mod Session
 pub mod Reasons
 pub mod Held

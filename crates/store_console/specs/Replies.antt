@@ -1,5 +1,5 @@
 -- What a request is answered, by what is mounted.
-use Rattle.std.specs.Prelude.{◌≡◌, ◌⊎◌, ℕ, List, [], ◌++◌, flat_map, Bool, true, false, Option, Some, None, IsTrue, IsFalse, Result, Ok, Err, codes, decimal}
+use Rattle.std.specs.Prelude.{◌≡◌, ◌⊎◌, ◌<◌, ℕ, ◌-◌, ◌^◌, List, [], ◌++◌, flat_map, Bool, true, false, Option, Some, None, IsTrue, IsFalse, Result, Ok, Err, codes, decimal}
 use Rattle.job_model.specs.declared.node_command.NodeCommand.{NodeCommand as Command}
 use Rattle.job_model.specs.declared.node_command.NodeCommand.TheVariants.{Raise, Put, Done}
 use Rattle.job_model.specs.Durable.{Durable}
@@ -11,14 +11,15 @@ use Rattle.file_disk.specs.declared.fault.OpenFault.TheVariants as fault
 use Rattle.node_store.specs.Store.{StoreState, durable_of, append_refusal, compaction_refusal, raise_refusal, Changed}
 use Rattle.node_store.specs.Mounting.{IsMountFault}
 use Rattle.node_store.specs.declared.fault.StoreFault.{StoreFault}
+use Rattle.node_store.specs.declared.mounting.MountFault.{MountFault}
+use Rattle.std.specs.declared.io.Error.{Error}
 use Rattle.console_text.specs.Ends.{line}
 use Rattle.console_text.specs.Words.{work_text}
 use Rattle.store_console.specs.declared.request.Request.{Request}
 use Rattle.store_console.specs.declared.request.Request.TheVariants as request
 use Rattle.store_console.specs.declared.reply.Reply.{Reply}
 use Rattle.store_console.specs.declared.reply.Reply.TheVariants as reply
-use Rattle.store_console.specs.declared.reply.Bar.{Bar}
-use Rattle.store_console.specs.declared.reply.Bar.TheVariants as bar
+use Rattle.store_console.specs.Barring.{IsNoLock, barred}
 
 -- what is mounted, if anything is
 abbrev pub Mounted : Type 0
@@ -26,15 +27,22 @@ Mounted = Option (StoreState FileState)
 
 -- ---- a change of a mounted store
 
--- Some change of the store was made, or its device failed: then the store shows what it showed before, and is broken.
-abbrev pub Attempted : (StoreState FileState → Type 0) → Durable → Reply → StoreState FileState → Type 0
-Attempted Made before answered new = Made new ⊎ ((answered ≡ reply.Refused StoreFault.Device) × (durable_of new ≡ before) × IsTrue new.broken)
+-- The device failed, in a call that is counted: then the store shows what it showed before, and is broken.
+pub record Fails (old : StoreState FileState) (answered : Reply) (new : StoreState FileState) : Type 0 where
+  pub answer : answered ≡ reply.Refused StoreFault.Device
+  pub shown : durable_of new ≡ durable_of old
+  pub broken : IsTrue new.broken
+  pub counted : (old.disk.failures < new.disk.failures) ⊎ (new.disk.failures ≡ 2 ^ 64 - 1)
+
+-- Some change of the store was made, and no call failed, or its device failed.
+abbrev pub Attempted : (StoreState FileState → Type 0) → StoreState FileState → Reply → StoreState FileState → Type 0
+Attempted Made old answered new = (Made new × (new.disk.failures ≡ old.disk.failures)) ⊎ Fails old answered new
 
 -- The store stays mounted. Where the change is refused for what the store knows, nothing changes.
 abbrev pub Tries : (StoreState FileState → Type 0) → Option StoreFault → StoreState FileState → Reply → Mounted → Type 0
 Tries Made refusal old answered None = ⊥
 Tries Made (Some fault) old answered (Some new) = (answered ≡ reply.Refused fault) × (new ≡ old)
-Tries Made None old answered (Some new) = Attempted Made (durable_of old) answered new
+Tries Made None old answered (Some new) = Attempted Made old answered new
 
 -- the command was made, and it is answered so
 abbrev pub Commanded : StoreState FileState → Command → (ℕ → Reply) → Reply → StoreState FileState → Type 0
@@ -46,36 +54,90 @@ Compacted old answered new = (answered ≡ reply.Done) × (durable_of new ≡ du
 
 -- ---- the file
 
--- what is answered where the file can't be made or opened
-abbrev pub barred : OpenFault → Reply
-barred fault.Locked = reply.Barred bar.Locked
-barred (fault.Exists error) = reply.Barred bar.Unusable
-barred (fault.NotFound error) = reply.Barred bar.NotFound
-barred (fault.Denied error) = reply.Barred bar.Denied
-barred (fault.Folder error) = reply.Barred bar.Folder
-barred fault.NotAFile = reply.Barred bar.NotAFile
-barred (fault.Unusable error) = reply.Barred bar.Unusable
-barred (fault.NoRoom error) = reply.Barred bar.NoRoom
-barred (fault.Device error) = reply.Refused StoreFault.Device
-
 -- what making the file is answered; nothing is mounted then
 abbrev pub IsFormatted : Reply → Type 0
 IsFormatted reply.Done = Unit {0}
 IsFormatted (reply.Refused fault) = fault ≡ StoreFault.Device
-IsFormatted (reply.Barred bar) = Unit {0}
+IsFormatted (reply.Barred fault) = IsNoLock fault
+IsFormatted reply.Locked = Unit {0}
+IsFormatted reply.Foreign = Unit {0}
 IsFormatted (reply.Value n) = ⊥
 IsFormatted reply.Listed = ⊥
 
+-- what is answered where no store is mounted
+abbrev pub IsUnmounted : Reply → Type 0
+IsUnmounted reply.Done = ⊥
+IsUnmounted (reply.Refused fault) = IsMountFault fault
+IsUnmounted (reply.Barred fault) = IsNoLock fault
+IsUnmounted reply.Locked = Unit {0}
+IsUnmounted reply.Foreign = Unit {0}
+IsUnmounted (reply.Value n) = ⊥
+IsUnmounted reply.Listed = ⊥
+
+-- a store was mounted of which no call has failed
+pub record IsFresh (store : StoreState FileState) : Type 0 where
+  pub whole : IsFalse store.broken
+  pub unfailed : store.disk.failures ≡ 0
+
 -- what a mounting is answered: a store whose device hasn't failed is mounted, or nothing is
 abbrev pub IsMounted : Reply → Mounted → Type 0
-IsMounted reply.Done (Some new) = IsFalse new.broken
-IsMounted (reply.Refused fault) None = IsMountFault fault
-IsMounted (reply.Barred bar) None = Unit {0}
-IsMounted reply.Done None = ⊥
-IsMounted (reply.Refused fault) (Some new) = ⊥
-IsMounted (reply.Barred bar) (Some new) = ⊥
-IsMounted (reply.Value n) new = ⊥
-IsMounted reply.Listed new = ⊥
+IsMounted answered (Some new) = (answered ≡ reply.Done) × IsFresh new
+IsMounted answered None = IsUnmounted answered
+
+-- ---- for the code
+
+-- the file was opened, or wasn't, and then a store was mounted, or it is answered why not
+abbrev pub MountsOpened : Result FileState OpenFault → Result (StoreState FileState) Reply → Type 0
+MountsOpened (Err fault) (Ok store) = ⊥
+MountsOpened (Err fault) (Err answered) = answered ≡ barred fault
+MountsOpened (Ok disk) (Ok store) = IsFalse store.broken × (store.disk.failures ≡ disk.failures)
+MountsOpened (Ok disk) (Err answered) = IsUnmounted answered
+
+-- the device failed, with the words of the system where there are some
+abbrev pub HasFailed : Reply → Type 0
+HasFailed answered = (answered ≡ reply.Refused StoreFault.Device) ⊎ ((error : Error) × (answered ≡ reply.Barred (fault.Device error)))
+
+-- this is what the fault of a mounting is answered
+abbrev pub IsAnswerTo : StoreFault → Reply → Type 0
+IsAnswerTo StoreFault.Device answered = HasFailed answered
+IsAnswerTo StoreFault.Broken answered = answered ≡ reply.Refused StoreFault.Broken
+IsAnswerTo StoreFault.Exhausted answered = answered ≡ reply.Refused StoreFault.Exhausted
+IsAnswerTo StoreFault.NotFormatted answered = answered ≡ reply.Refused StoreFault.NotFormatted
+IsAnswerTo (StoreFault.Damaged sector) answered = answered ≡ reply.Refused (StoreFault.Damaged sector)
+IsAnswerTo StoreFault.Full answered = answered ≡ reply.Refused StoreFault.Full
+IsAnswerTo StoreFault.NoSuchJob answered = answered ≡ reply.Refused StoreFault.NoSuchJob
+IsAnswerTo StoreFault.NoMemory answered = ⊥
+IsAnswerTo StoreFault.TooSmall answered = answered ≡ reply.Refused StoreFault.TooSmall
+
+-- a store that was mounted is had as it is, and a mounting that was refused is answered by its fault
+abbrev pub Settles : Result (StoreState FileState) (MountFault FileState) → Result (StoreState FileState) Reply → Type 0
+Settles (Ok store) (Ok same) = same ≡ store
+Settles (Ok store) (Err answered) = ⊥
+Settles (Err refused) (Ok store) = ⊥
+Settles (Err refused) (Err answered) = IsAnswerTo refused.fault answered
+
+-- a file was made, or wasn't, and is formatted then, or the device failed
+abbrev pub Finishes : Result FileState OpenFault → Reply → Type 0
+Finishes (Err fault) answered = answered ≡ barred fault
+Finishes (Ok disk) answered = (answered ≡ reply.Done) ⊎ HasFailed answered
+
+-- the format of a disk is answered so
+abbrev pub IsFormattedBy : {A : Type 0} → Result A StoreFault → Reply → Type 0
+IsFormattedBy (Ok done) answered = answered ≡ reply.Done
+IsFormattedBy (Err fault) answered = HasFailed answered
+
+-- a file that is there but can't be opened is answered by the fault
+abbrev pub IsBarredBy : Result FileState OpenFault → Reply → Type 0
+IsBarredBy (Ok disk) answered = Unit {0}
+IsBarredBy (Err fault.Locked) answered = answered ≡ reply.Locked
+IsBarredBy (Err (fault.Exists error)) answered = answered ≡ reply.Barred (fault.Exists error)
+IsBarredBy (Err (fault.NotFound error)) answered = Unit {0}
+IsBarredBy (Err (fault.Denied error)) answered = answered ≡ reply.Barred (fault.Denied error)
+IsBarredBy (Err (fault.Folder error)) answered = answered ≡ reply.Barred (fault.Folder error)
+IsBarredBy (Err fault.NotAFile) answered = answered ≡ reply.Barred fault.NotAFile
+IsBarredBy (Err (fault.Unusable error)) answered = answered ≡ reply.Barred (fault.Unusable error)
+IsBarredBy (Err (fault.NoRoom error)) answered = answered ≡ reply.Barred (fault.NoRoom error)
+IsBarredBy (Err (fault.Device error)) answered = answered ≡ reply.Barred (fault.Device error)
 
 -- ---- a request
 
@@ -114,6 +176,7 @@ RepliesOver failed old request answered new = Replies old request answered new
 abbrev pub fails_after : Bool → Request → Reply → Bool
 fails_after failed (request.Format slots) reply.Done = false
 fails_after failed request (reply.Refused StoreFault.Device) = true
+fails_after failed request (reply.Barred (fault.Device error)) = true
 fails_after failed request answered = failed
 
 -- ---- as text
@@ -128,16 +191,6 @@ fault_text StoreFault.Full = codes "Full"
 fault_text StoreFault.NoSuchJob = codes "NoSuchJob"
 fault_text StoreFault.NoMemory = codes "NoMemory"
 fault_text StoreFault.TooSmall = codes "TooSmall"
-
-abbrev pub bar_text : Bar → List ℕ
-bar_text bar.Locked = codes "Locked"
-bar_text bar.NotFound = codes "NotFound"
-bar_text bar.Denied = codes "Denied"
-bar_text bar.Folder = codes "Folder"
-bar_text bar.NotAFile = codes "NotAFile"
-bar_text bar.Unusable = codes "Unusable"
-bar_text bar.NoRoom = codes "NoRoom"
-bar_text bar.Foreign = codes "Foreign"
 
 abbrev pub job_text : Job → List ℕ
 job_text job = codes "job " ++ decimal job.id ++ codes " " ++ work_text job.work.queue job.work.payload job.work.priority
@@ -155,5 +208,7 @@ abbrev pub reply_text : Mounted → Reply → List ℕ
 reply_text mounted reply.Done = line (codes "ok")
 reply_text mounted (reply.Value n) = line (codes "ok " ++ decimal n)
 reply_text mounted (reply.Refused fault) = line (codes "refused " ++ fault_text fault)
-reply_text mounted (reply.Barred bar) = line (codes "refused " ++ bar_text bar)
+reply_text mounted (reply.Barred fault) = line (codes "refused Device")
+reply_text mounted reply.Locked = line (codes "refused Locked")
+reply_text mounted reply.Foreign = line (codes "refused Foreign")
 reply_text mounted reply.Listed = mounted_text mounted

@@ -8,6 +8,7 @@ use Rattle.schedule.specs.Acts.{work_of}
 use Rattle.schedule.specs.Fields.{number_between, priority_of}
 use Rattle.store_console.specs.declared.request.Request.{Request}
 use Rattle.store_console.specs.declared.request.Request.TheVariants as request
+use Rattle.store_console.specs.declared.request.RequestLine.{RequestLine}
 
 abbrev pub slots_of : List ℕ → Option ℕ
 slots_of word = number_between LEAST_SLOTS MOST_SLOTS word
@@ -43,30 +44,33 @@ request_of (name ∷ a ∷ b ∷ c ∷ d ∷ rest) = None
 
 -- ---- the whole input
 
+abbrev pub numbered : ℕ → Request → RequestLine
+numbered n request = record { number = n; request = request }
+
 -- the request of the line n in front of those of later lines; the first line that can't be read is the one that counts
-abbrev pub in_front : ℕ → Option Request → Result (List Request) ℕ → Result (List Request) ℕ
+abbrev pub in_front : ℕ → Option Request → Result (List RequestLine) ℕ → Result (List RequestLine) ℕ
 in_front n None later = Err n
-in_front n (Some request) (Ok requests) = Ok (request ∷ requests)
+in_front n (Some request) (Ok requests) = Ok (numbered n request ∷ requests)
 in_front n (Some request) (Err m) = Err m
 
 -- the requests of these lines, where n lines came before; empty lines are passed over
-abbrev pub requests_from : ℕ → List (List ℕ) → Result (List Request) ℕ
+abbrev pub requests_from : ℕ → List (List ℕ) → Result (List RequestLine) ℕ
 requests_from n [] = Ok []
 requests_from n ([] ∷ lines) = requests_from (n + 1) lines
 requests_from n ((c ∷ line) ∷ lines) = in_front (n + 1) (request_of (words_of (c ∷ line))) (requests_from (n + 1) lines)
 
--- the requests that an input is, or the number of the first line that can't be read
-abbrev pub requests_of : List ℕ → Result (List Request) ℕ
+-- the requests that an input is, each with the number of its line, or the number of the first line that can't be read
+abbrev pub requests_of : List ℕ → Result (List RequestLine) ℕ
 requests_of input = requests_from 0 (lines_of input)
 
 -- ---- for the code
 
--- requests, and the request of a line behind them; an empty line has none
-abbrev pub onto : List Request → List ℕ → Option (List Request)
-onto requests [] = Some requests
-onto requests (c ∷ line) = option_map (λ request. requests ++ request ∷ []) (request_of (words_of (c ∷ line)))
+-- requests, and the request of the line n behind them; an empty line has none
+abbrev pub onto : List RequestLine → ℕ → List ℕ → Option (List RequestLine)
+onto requests n [] = Some requests
+onto requests n (c ∷ line) = option_map (λ request. requests ++ numbered n request ∷ []) (request_of (words_of (c ∷ line)))
 
 -- requests in front of those of later lines
-abbrev pub behind : List Request → Result (List Request) ℕ → Result (List Request) ℕ
+abbrev pub behind : List RequestLine → Result (List RequestLine) ℕ → Result (List RequestLine) ℕ
 behind requests (Ok more) = Ok (requests ++ more)
 behind requests (Err n) = Err n

@@ -2,15 +2,15 @@
 
 ghost use Rattle.std.specs.Prelude.{◌≡◌, IfOk};
 ghost use Rattle.store_console.specs.declared.request.Request.TheVariants as asked;
-ghost use Rattle.store_console.specs.Replies.{IsMounted, Replies, RepliesOver, valued};
+ghost use Rattle.store_console.specs.Replies.{IsMounted, MountsOpened, Replies, RepliesOver, Settles, valued};
 
-use crate::barring::barred;
+use crate::barring::{bar_by, barred, failed};
 use crate::making::make;
-use crate::reply::{Bar, Reply};
+use crate::reply::Reply;
 use crate::request::Request;
-use file_disk::{FileDisk, OpenFault, is_of_a_node};
+use file_disk::{FileDisk, OpenFault};
 use job_model::Work;
-use node_store::{NodeStore, StoreFault};
+use node_store::{MountFault, NodeStore, StoreFault};
 use std::alloc::{AllocError, Global};
 use std::fs::{File, Files};
 use std::path::AsPath;
@@ -45,6 +45,7 @@ pub fn reply<P: AsPath>(
 }
 
 /// Mounts the file, in place of what was mounted.
+#[tactic(auto, using(crate::proofs::Barrings::mounts_fresh, crate::proofs::Barrings::mounts_not))]
 fn mount<P: AsPath>(
     rt: &impl Files<File = File>,
     alloc: Global,
@@ -53,24 +54,49 @@ fn mount<P: AsPath>(
 ) -> Result<Reply, AllocError>
     ensures { IfOk result (λ reply. IsMounted reply mounted.new) }
 {
+    // what has the file locked is given up first
     *mounted = None;
-    let disk = match FileDisk::open(rt, path) {
-        Ok(disk) => disk,
-        Err(fault) => return Ok(barred(fault)),
-    };
-    match disk.label() {
-        Ok(label) if is_of_a_node(label) => return Ok(Reply::Barred(Bar::Foreign)),
-        Ok(_) => {}
-        Err(error) => return Ok(barred(OpenFault::from(error))),
-    }
-    match NodeStore::mount(alloc, disk) {
+    match mount_opened(alloc, FileDisk::open(rt, path))? {
         Ok(store) => {
             *mounted = Some(store);
             Ok(Reply::Done)
         }
+        Err(refusal) => Ok(refusal),
+    }
+}
+
+/// Mounts a file that was opened, or answers why there is none to mount.
+#[tactic(auto, using(crate::proofs::Barrings::settles_opened, crate::proofs::Barrings::bar_unmounted))]
+fn mount_opened(
+    alloc: Global,
+    opened: Result<FileDisk, OpenFault>,
+) -> Result<Result<NodeStore<FileDisk>, Reply>, AllocError>
+    ensures { IfOk result (λ mounting. MountsOpened opened mounting) }
+{
+    let disk = match opened {
+        Ok(disk) => disk,
+        Err(fault) => return Ok(Err(barred(fault))),
+    };
+    match bar_by(disk.label()) {
+        Some(bar) => Ok(Err(bar)),
+        None => settled(NodeStore::mount(alloc, disk)),
+    }
+}
+
+/// What a mounting is answered. Where the device failed, with the system's words.
+fn settled(
+    mounting: Result<NodeStore<FileDisk>, MountFault<FileDisk>>,
+) -> Result<Result<NodeStore<FileDisk>, Reply>, AllocError>
+    // Promise: A store that was mounted is had as it is, and a mounting that was refused is answered by its fault.
+    // Refuses: good_store_is_damaged.
+    ensures settles { IfOk result (λ settled. Settles mounting settled) }
+{
+    match mounting {
+        Ok(store) => Ok(Ok(store)),
         Err(refusal) => match refusal.fault {
             StoreFault::NoMemory => Err(AllocError),
-            fault => Ok(Reply::Refused(fault)),
+            StoreFault::Device => Ok(Err(failed(refusal.disk.why()))),
+            fault => Ok(Err(Reply::Refused(fault))),
         },
     }
 }

@@ -12,6 +12,8 @@
 mod acting;
 mod barring;
 mod copying;
+mod explaining;
+mod flaw;
 mod found;
 mod found_text;
 mod inspecting;
@@ -26,6 +28,7 @@ mod restoring;
 mod running;
 mod text;
 
+pub use flaw::{JobFlaw, job_flaw};
 pub use inspecting::{Shown, inspect};
 pub use restoring::{no_jobs, read_jobs};
 pub use running::store;

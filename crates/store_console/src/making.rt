@@ -1,11 +1,11 @@
 //! The file of a store is made.
 
-ghost use Rattle.store_console.specs.Replies.{IsFormatted};
+ghost use Rattle.store_console.specs.Replies.{Finishes, IsBarredBy, IsFormatted, IsFormattedBy};
 ghost use Rattle.std.specs.Prelude.{IfOk};
 
-use crate::barring::barred;
-use crate::reply::{Bar, Reply};
-use file_disk::{FileDisk, OpenFault, Stride, is_of_a_node, put_in_place};
+use crate::barring::{bar_by, barred, failed};
+use crate::reply::Reply;
+use file_disk::{FileDisk, OpenFault, Stride, put_in_place};
 use node_store::{StoreFault, format};
 use std::alloc::{AllocError, Global};
 use std::fs::{File, Files};
@@ -30,18 +30,31 @@ pub fn make<P: AsPath>(
     let Some(sectors) = slots.checked_mul(4).and_then(|areas| areas.checked_add(8)) else {
         return Ok(Reply::Refused(StoreFault::Device));
     };
+    make_over(rt, alloc, path, sectors, FileDisk::open(rt, path))
+}
+
+/// Makes the file over what was opened under its name, if anything is there.
+#[tactic(auto, using(crate::proofs::Barrings::barred_formatted, crate::proofs::Barrings::bar_formatted, crate::proofs::Barrings::is_barred))]
+fn make_over<P: AsPath>(
+    rt: &impl Files<File = File>,
+    alloc: Global,
+    path: &P,
+    sectors: u64,
+    opened: Result<FileDisk, OpenFault>,
+) -> Result<Reply, AllocError>
+    ensures formatted { IfOk result IsFormatted }
+    ensures barred { IfOk result (λ reply. IsBarredBy opened reply) }
+{
     // it stays open, and so locked, until another file has its name
-    let old = match FileDisk::open(rt, path) {
+    let old = match opened {
         Ok(disk) => disk,
         Err(OpenFault::NotFound(_)) => {
             return Ok(finish(rt, path, FileDisk::create(rt, path, sectors)));
         }
         Err(fault) => return Ok(barred(fault)),
     };
-    match old.label() {
-        Ok(label) if is_of_a_node(label) => return Ok(Reply::Barred(Bar::Foreign)),
-        Ok(_) => {}
-        Err(error) => return Ok(barred(OpenFault::from(error))),
+    if let Some(bar) = bar_by(old.label()) {
+        return Ok(bar);
     }
     match names(rt, alloc, path) {
         Ok((whole, beside)) => Ok(replace(rt, &whole, &beside, sectors)),
@@ -51,6 +64,7 @@ pub fn make<P: AsPath>(
 }
 
 /// Makes a store of this name beside a whole file, and puts it in that file's place.
+#[tactic(auto, using(crate::proofs::Barrings::barred_formatted))]
 fn replace(rt: &impl Files<File = File>, whole: &PathBuf, beside: &String, sectors: u64) -> Reply
     ensures { IsFormatted result }
 {
@@ -58,7 +72,7 @@ fn replace(rt: &impl Files<File = File>, whole: &PathBuf, beside: &String, secto
     let _ = fs::remove_file(rt, beside);
     let made = FileDisk::create_new(rt, beside, sectors, Stride::Packed);
     let reply = finish(rt, beside, made);
-    if reply != Reply::Done {
+    if !matches!(reply, Reply::Done) {
         return reply;
     }
     if let Err(error) = put_in_place(rt, beside, whole) {
@@ -81,22 +95,34 @@ fn names<P: AsPath>(
 }
 
 /// Formats the file that was made at this path, where one was, and removes it where that fails.
+#[tactic(auto, using(crate::proofs::Barrings::barred_formatted, crate::proofs::Barrings::failed_formatted))]
 fn finish<P: AsPath>(
     rt: &impl Files<File = File>,
     path: &P,
     made: Result<FileDisk, OpenFault>,
 ) -> Reply
-    ensures { IsFormatted result }
+    ensures finishes { Finishes made result }
+    ensures formatted { IsFormatted result }
 {
     let mut disk = match made {
         Ok(disk) => disk,
         Err(fault) => return barred(fault),
     };
-    match format(&mut disk) {
+    let done = format(&mut disk);
+    if done.is_err() {
+        let _ = fs::remove_file(rt, path);
+    }
+    formatted(done, disk.why())
+}
+
+/// What the format of a disk is answered, of which the system said this where it failed.
+fn formatted(done: Result<(), StoreFault>, why: Option<io::Error>) -> Reply
+    // Promise: A format is acknowledged only where that of the disk was.
+    // Refuses: failed_format_is_done.
+    ensures { IsFormattedBy done result }
+{
+    match done {
         Ok(()) => Reply::Done,
-        Err(_) => {
-            let _ = fs::remove_file(rt, path);
-            Reply::Refused(StoreFault::Device)
-        }
+        Err(_) => failed(why),
     }
 }

@@ -13,3 +13,10 @@ pub enum Request {
     Compact,
     List,
 }
+
+/// The number of a line, and what it asks.
+#[derive(Clone, Copy, Debug)]
+pub struct RequestLine {
+    pub number: u64,
+    pub request: Request,
+}

@@ -81,7 +81,7 @@ fn take_line(
 }
 
 /// The job of the words of a line.
-fn job(alloc: Global, line: &[u8]) -> Result<Option<Job>, AllocError>
+pub(crate) fn job(alloc: Global, line: &[u8]) -> Result<Option<Job>, AllocError>
     ensures { IfOk result (λ job. job ≡ job_of (words_of line.now)) }
 {
     let Some((name, fields)) = cut_word(line) else {

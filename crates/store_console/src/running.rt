@@ -1,22 +1,22 @@
 //! The command.
 
-ghost use Rattle.std.specs.Prelude.{◌≡◌, ◌≤◌, ◌+◌, ◌∷◌, List, IfOk, OnOk, None, false};
-ghost use Rattle.console_text.specs.Ends.{printout_of, IsWhy, Prints};
-ghost use Rattle.store_console.specs.Reasons.{session_flaw};
-ghost use Rattle.store_console.specs.declared.request.Request.{Request as Asked};
+ghost use Rattle.std.specs.Prelude.{◌≡◌, ◌≤◌, ◌+◌, [], ◌∷◌, List, IfOk, OnOk, None, false, true};
+ghost use Rattle.console_text.specs.Ends.{printout_of, Prints};
+ghost use Rattle.store_console.specs.declared.request.RequestLine.{RequestLine as Line};
 ghost use Rattle.store_console.specs.Replies.{fails_after};
-ghost use Rattle.store_console.specs.Session.{Answers, GoesOn, IsSession};
+ghost use Rattle.store_console.specs.Session.{Answers, GoesOn, IsSession, IsSessionWhy, IsSessionWith, IsTold};
 
 use crate::acting::reply;
+use crate::explaining::push_why;
 use crate::reading::read_requests;
 use crate::reasons::reason;
 use crate::reply::Reply;
-use crate::request::Request;
+use crate::request::{Request, RequestLine};
 use crate::text::push_reply;
 use console_text::{
     CommandError, Ended, IoTrouble, Output, Source, bad_line, print_explained, read_source,
 };
-use file_disk::FileDisk;
+use file_disk::{FileDisk, OpenFault};
 use line_words::LineFault;
 use node_store::{NodeStore, StoreFault};
 use std::alloc::{AllocError, Global};
@@ -40,13 +40,17 @@ pub fn store<P: AsPath, R: Read, W: Write>(
     // Promise: Where nothing is mounted, each change and `list` is refused `Broken`.
     // Refuses: list_of_nothing.
     // Promise: A change is refused exactly where the store's definitions say, and then nothing changes; else it is made and the
-    // next number is answered, or the device failed and what is shown stays.
-    // Refuses: done_answered_with_its_id.
-    // Promise: A file that is locked is answered as `Locked`, any other that isn't opened as `Device`; `format` leaves nothing
-    // mounted, a refused `mount` too.
-    // Refuses: format_leaves_it_mounted.
+    // next number is answered, or a call failed, which is counted, and what is shown stays.
+    // Refuses: done_answered_with_its_id, compaction_answered_as_a_failure.
+    // Promise: `format` leaves nothing mounted, a refused `mount` too.
+    // Refuses: format_leaves_it_mounted, mounted_after_a_failure, failed_mounting_forgotten.
     ensures prints { Prints IsSession (R.remaining input.old.reader) (W.contents output.old) (W.contents output.new) result.ending }
-    ensures why { IsWhy session_flaw (R.remaining input.old.reader) result.ending result.why.items }
+    // Promise: Standard error says of each line for which the file can't be made, opened or read which of these it was, by the line's
+    // number, in the order of the answers; of an input that can't be read what is wrong with its first bad line; else nothing.
+    // Also: why.
+    // Refuses: reason_of_the_first_line_for_all, denied_is_not_found, reasons_run_together.
+    ensures told { IsTold (R.remaining input.old.reader) (W.contents output.old) (W.contents output.new) result.ending result.why.items }
+    ensures why { IsSessionWhy (R.remaining input.old.reader) result.ending result.why.items }
     ensures reads { input.old.left ≤ input.new.left + 16777216 }
 {
     let outcome = match read_source(alloc, input) {
@@ -56,22 +60,17 @@ pub fn store<P: AsPath, R: Read, W: Write>(
     print_explained(alloc, output, outcome)
 }
 
-/// What `store` prints for an input, and what is wrong with the input.
+/// What `store` prints for an input, and what standard error says of it.
 fn store_to<P: AsPath>(
     rt: &impl Files<File = File>,
     alloc: Global,
     path: &P,
     input: &[u8],
 ) -> Result<CommandError, AllocError>
-    ensures prints { IfOk result (λ explained. IsSession input.now (printout_of explained.printout)) }
-    ensures why { IfOk result (λ explained. explained.why.items ≡ session_flaw input.now) }
+    ensures { IfOk result (λ explained. IsSessionWith input.now (printout_of explained.printout) explained.why.items) }
 {
     match read_requests(alloc, input) {
-        Ok(requests) => {
-            let text = answer(rt, alloc, path, &requests)?;
-            let printout = Output { text, good: true };
-            Ok(printout.without_why(alloc))
-        }
+        Ok(requests) => answer(rt, alloc, path, &requests),
         Err(LineFault::BadLine(number)) => Ok(CommandError {
             printout: bad_line(alloc, number)?,
             why: reason(alloc, input, number)?,
@@ -80,16 +79,18 @@ fn store_to<P: AsPath>(
     }
 }
 
-/// What the requests are answered, one after the other.
+/// What the requests are answered, one after the other, and what is said of them.
 fn answer<P: AsPath>(
     rt: &impl Files<File = File>,
     alloc: Global,
     path: &P,
-    requests: &[Request],
-) -> Result<Vec<u8>, AllocError>
-    ensures { IfOk result (λ text. Answers false None requests.now text.items) }
+    requests: &[RequestLine],
+) -> Result<CommandError, AllocError>
+    ensures good { IfOk result (λ told. told.printout.good ≡ true) }
+    ensures answers { IfOk result (λ told. Answers false None requests.now [] told.printout.text.items told.why.items) }
 {
     let mut text = Vec::new(alloc);
+    let mut why = Vec::new(alloc);
     let mut mounted = None;
     let mut has_failed = false;
     let mut left = requests;
@@ -102,28 +103,34 @@ fn answer<P: AsPath>(
             &mut mounted,
             &mut has_failed,
             &mut text,
+            &mut why,
         )?;
         left = behind;
     }
-    Ok(text)
+    Ok(CommandError {
+        printout: Output { text, good: true },
+        why,
+    })
 }
 
-/// Adds what one request is answered.
+/// Adds what one request is answered, and what is said of it.
 #[tactic(auto, using(crate::proofs::Sessions::one_more))]
 fn answer_one<P: AsPath>(
     rt: &impl Files<File = File>,
     alloc: Global,
     path: &P,
-    request: &Request,
+    line: &RequestLine,
     mounted: &mut Option<NodeStore<FileDisk>>,
     has_failed: &mut bool,
     text: &mut Vec<u8>,
+    why: &mut Vec<u8>,
 ) -> Result<(), AllocError>
-    ensures { (requests left : List Asked) → GoesOn requests has_failed.old mounted.old (request.now ∷ left) text.old.items
-        → OnOk result (GoesOn requests has_failed.new mounted.new left text.new.items) }
+    ensures { (lines left : List Line) → GoesOn lines has_failed.old mounted.old (line.now ∷ left) text.old.items why.old.items
+        → OnOk result (GoesOn lines has_failed.new mounted.new left text.new.items why.new.items) }
 {
-    let reply = reply(rt, alloc, path, mounted, *has_failed, request)?;
-    *has_failed = fails_after(*has_failed, request, reply);
+    let reply = reply(rt, alloc, path, mounted, *has_failed, &line.request)?;
+    *has_failed = fails_after(*has_failed, &line.request, reply);
+    push_why(alloc, why, line.number, reply)?;
     push_reply(text, mounted, reply)
 }
 
@@ -134,6 +141,7 @@ fn fails_after(has_failed: bool, request: &Request, reply: Reply) -> bool
     match (request, reply) {
         (Request::Format(_), Reply::Done) => false,
         (_, Reply::Refused(StoreFault::Device)) => true,
+        (_, Reply::Barred(OpenFault::Device(_))) => true,
         _ => has_failed,
     }
 }

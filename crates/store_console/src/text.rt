@@ -3,9 +3,9 @@
 ghost use Rattle.std.specs.Prelude.{◌≡◌, ◌++◌, OnOk, flat_map};
 ghost use Rattle.job_model.specs.Table.{durable_of};
 ghost use Rattle.console_text.specs.Ends.{line};
-ghost use Rattle.store_console.specs.Replies.{bar_text, fault_text, job_text, list_text, reply_text};
+ghost use Rattle.store_console.specs.Replies.{fault_text, job_text, list_text, reply_text};
 
-use crate::reply::{Bar, Reply};
+use crate::reply::Reply;
 use console_text::{push_named_number, push_text, push_work};
 use file_disk::FileDisk;
 use job_model::{JobRef, JobTable, PendingJobs};
@@ -31,11 +31,9 @@ pub fn push_reply(
             push_fault(text, fault)?;
             push_text(text, "\n")
         }
-        Reply::Barred(bar) => {
-            push_text(text, "refused ")?;
-            push_text(text, bar_name(bar))?;
-            push_text(text, "\n")
-        }
+        Reply::Barred(_) => push_text(text, "refused Device\n"),
+        Reply::Locked => push_text(text, "refused Locked\n"),
+        Reply::Foreign => push_text(text, "refused Foreign\n"),
         Reply::Listed => match mounted {
             None => Ok(()),
             Some(store) => push_list(text, store.counter(), store.table()),
@@ -56,21 +54,6 @@ fn push_fault(text: &mut Vec<u8>, fault: StoreFault) -> Result<(), AllocError>
         StoreFault::NoSuchJob => push_text(text, "NoSuchJob"),
         StoreFault::NoMemory => push_text(text, "NoMemory"),
         StoreFault::TooSmall => push_text(text, "TooSmall"),
-    }
-}
-
-fn bar_name(bar: Bar) -> &'static str
-    ensures { result.now ≡ bar_text bar }
-{
-    match bar {
-        Bar::Locked => "Locked",
-        Bar::NotFound => "NotFound",
-        Bar::Denied => "Denied",
-        Bar::Folder => "Folder",
-        Bar::NotAFile => "NotAFile",
-        Bar::Unusable => "Unusable",
-        Bar::NoRoom => "NoRoom",
-        Bar::Foreign => "Foreign",
     }
 }
 
