@@ -118,6 +118,7 @@ refused store a b
 refused trace --ongoing=1
 refused record 1
 refused threads 1
+refused threads --order=1
 refused draw 1
 refused inspect
 refused inspect a b
@@ -272,7 +273,8 @@ prints 0 'cluster 2 8\ncheck 0\ndeliver 0\n' '{"histories":[[{"do":"check","sent
 says 'line 2: no such act: chek'
 prints 1 'cluster 2 8\nchek 0\n' 'bad line 2\n' record
 prints 1 '{"nodes":1,"histories":[[{"do":"none","sent":[]},{"do":"none"}]]}\n' 'bad trace 0 1\n' draw
-prints 0 'cluster 1 4\nlinks 1\n0 clock check\n0 clock merge\n' '{"histories":[[{"do":"check","sent":[]},{"do":"merge","sent":[]}]],"nodes":1,"order":"0 - 0 -"}\n' threads
+prints 0 'cluster 1 4\nlinks 1\n0 clock check\n0 clock merge\n' '{"histories":[[{"do":"check","sent":[]},{"do":"merge","sent":[]}]],"nodes":1}\n' threads
+prints 0 'cluster 1 4\nlinks 1\n0 clock check\n0 clock merge\n' '{"histories":[[{"do":"check","sent":[]},{"do":"merge","sent":[]}]],"nodes":1,"order":"0 - 0 -"}\n' threads --order
 
 # Plans that can't be read.
 says 'line 1: there is no line cluster NODES SLOTS'

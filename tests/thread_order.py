@@ -1,5 +1,5 @@
 #!/usr/bin/env python3
-"""Reads the trace of a run in threads from standard input, and says what is wrong with the order that stands beside it, or nothing.
+"""Reads what `invite threads --order` printed from standard input, and says what is wrong with the order that stands beside the trace, or nothing.
 
 Each turn takes its node's next entry and none is left; each message that was brought has a number, that of an equal message that was sent
 before; and the messages of one link were brought in the order in which they were sent.

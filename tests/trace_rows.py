@@ -483,7 +483,7 @@ NO_PLANS = [
 
 
 def orders_of(histories):
-    """The orders in which the turns of these histories can have been taken, as `threads` writes them; a message comes as soon as it was sent."""
+    """The orders in which the turns of these histories can have been taken, as `threads --order` writes them; a message comes as soon as it was sent."""
     lone = [node for node, history in enumerate(histories) if history]
     if len(lone) < 2:
         return [" ".join([f"{node} -" for node in lone for _ in histories[node]])]
@@ -545,7 +545,8 @@ def all_rows():
         reason = f"invite: no order takes all entries: {said}\n".encode() if said else b""
         yield Row(name, "trace --ongoing", trace.encode(), status, (printed.encode(),), reason)
     for name, plans, traces in PLANS:
-        yield Row(name, "threads", plans.encode(), 0, tuple(text for trace, _ in traces for text in with_orders(trace)))
+        yield Row(name, "threads", plans.encode(), 0, tuple(f"{trace}\n".encode() for trace, _ in traces))
+        yield Row(name, "threads --order", plans.encode(), 0, tuple(text for trace, _ in traces for text in with_orders(trace)))
         for trace, verdict in traces:
             yield from judged(name, trace, verdict)
     for name, plans, text in UNFINISHED:

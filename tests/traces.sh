@@ -17,8 +17,9 @@ trap 'rm -rf "$room"' EXIT
 
 # judge COMMAND INPUT NAME: what the command prints for this input is the trace of a run, and no run once a first message is one that nobody sent
 judge() {
-    local command=$1 input=$2 name=$3 trace=$room/$1-$3.json problem='' entries turns
-    "$program" "$command" <"$input" >"$trace" || problem="$command gives no trace"
+    local command=$1 input=$2 name=$3 trace=$room/$1-$3.json problem='' entries turns words=("$1")
+    [ "$command" != threads ] || words+=(--order)
+    "$program" "${words[@]}" <"$input" >"$trace" || problem="$command gives no trace"
     "$program" trace <"$trace" >"$room/verdict" || problem='its trace is no run'
     grep -qE '^Run( [0-9]+)*$' "$room/verdict" || problem='its verdict is no order'
     # As many turns as entries.
@@ -70,6 +71,8 @@ for plans in plans/*.txt; do
     if [ -e "plans/$name.out" ]; then
         problem=''
         cmp -s "$room/threads-$name.json" "plans/$name.out" || problem='it is another trace'
+        # without the option there is no order
+        "$program" threads <"$plans" | cmp -s - <(sed 's/,"order":"[^"]*"//' "plans/$name.out") || problem='without its order it is another trace'
         mark "$problem" "the trace of $name"
     fi
 done
@@ -123,7 +126,7 @@ ordered polls
 } >"$room/again.txt"
 problem='node 1 is brought one message at most in 300 runs'
 for _ in {1..300}; do
-    "$program" threads <"$room/again.txt" >"$room/again.json" || { problem='there is no trace'; break; }
+    "$program" threads --order <"$room/again.txt" >"$room/again.json" || { problem='there is no trace'; break; }
     if [ "$(grep -o '"do":"deliver"' "$room/again.json" | wc -l)" -ge 2 ]; then
         cp "$room/again.json" "$room/threads-again.json"
         problem=''

@@ -94,11 +94,11 @@ def one_run_of_plans(fuzz):
     fed = re.sub(rb"(?m)^cluster (?=[0-9]{2})[0-9]+ [0-9]+$", b"cluster 12 8", fed)
     bad = grammar.bad_in_plans(fed)
     if bad is not None:
-        return ["threads"], fed, (1, b"bad line %d\n" % bad)
+        return ["threads", "--order"], fed, (1, b"bad line %d\n" % bad)
     fuzz.tried.count("plans that were run")
     head, _, *turns = [line.decode() for line in fed.split(b"\n") if line]
     words = [line.split(" ") for line in turns]
-    return ["threads"], fed, lambda status, out: f"status {status}" if status != 0 else recorded.problem_in_threads(out, int(head.split(" ")[1]), words)
+    return ["threads", "--order"], fed, lambda status, out: f"status {status}" if status != 0 else recorded.problem_in_threads(out, int(head.split(" ")[1]), words)
 
 
 def unlike(out, text):

@@ -11,7 +11,7 @@ HEAD = b"cluster 3 4\nlinks 2\n"
 
 def judged(tried, fed, note):
     """The plans are run: the trace has each worker's turns in their order, and is that of a run, also as the program judges it."""
-    status, out, trouble = tried.run(["threads"], fed)
+    status, out, trouble = tried.run(["threads", "--order"], fed)
     if not trouble:
         turns = [line.decode().split(" ") for line in fed.split(b"\n")[2:] if line]
         trouble = f"status {status}, it prints {out[-200:]!r}" if status != 0 else problem_in_threads(out, NODES, turns)
@@ -44,5 +44,5 @@ def try_plans(tried):
                 refused(tried, fed, text)
     for fed in (b"", b"\n", b"\n\n", b"cluster 1 4", b"cluster 1 4\n\n", b"links 1\n", b"cluster 1 4\ncluster 1 4\n", b"\xff", b"\0", b"cluster 1 4\nlinks 65537\n"):
         refused(tried, fed, "heads")
-    tried.expect(["threads"], b"cluster 128 4\nlinks 1\n", 0, b'{"histories":[' + b",".join([b"[]"] * 128) + b'],"nodes":128,"order":""}\n', "no turns")
+    tried.expect(["threads"], b"cluster 128 4\nlinks 1\n", 0, b'{"histories":[' + b",".join([b"[]"] * 128) + b'],"nodes":128}\n', "no turns")
     tried.expect(["threads"], b"cluster 2 4\nlinks 1\n" + b"1 clock accept\n" * 65_537, 1, b"unfinished 1 clock\n", "65,537 turns")

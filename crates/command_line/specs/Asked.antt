@@ -11,6 +11,8 @@ use Rattle.trace_draw.specs.declared.judging.Stage.{Stage}
 use Rattle.trace_draw.specs.declared.judging.Stage.TheVariants.{Over, Ongoing}
 use Rattle.trace_draw.specs.declared.drawing.OutputFormat.{OutputFormat}
 use Rattle.trace_draw.specs.declared.drawing.OutputFormat.TheVariants as format
+use Rattle.threads_console.specs.declared.kind.TraceKind.{TraceKind}
+use Rattle.threads_console.specs.declared.kind.TraceKind.TheVariants.{Plain, Ordered}
 use Rattle.command_line.specs.declared.invocation.TheConstants.{MOST_ROUND_TRIP, ROUND_TRIP}
 use Rattle.command_line.specs.declared.invocation.NodePlace.{NodePlace}
 use Rattle.command_line.specs.declared.invocation.Making.{Making}
@@ -42,7 +44,8 @@ pub data Asked : Type 0 where
   -- whether the run may go on, and the files that its records stand in: none where they are read from standard input
   traces : Bool → List (List ℕ) → Asked
   records : Asked
-  runs_threads : Asked
+  -- whether the order is printed, too
+  runs_threads : Bool → Asked
   draws : Bool → Asked
   makes : List ℕ → Made → Option (List ℕ) → Asked
   serves : List ℕ → ℕ × ℕ → ℕ → Option Sealed → Asked
@@ -63,6 +66,11 @@ abbrev pub is_ongoing : Stage → Bool
 is_ongoing Over = false
 is_ongoing Ongoing = true
 
+-- whether the order of a run is printed
+abbrev pub is_ordered : TraceKind → Bool
+is_ordered Plain = false
+is_ordered Ordered = true
+
 -- whether a page is drawn, and no picture
 abbrev pub is_page : OutputFormat → Bool
 is_page format.Picture = false
@@ -75,7 +83,7 @@ asked_batch (Sim details) = simulates details.names details.nodes
 asked_batch (Store path) = stores (string_bytes path)
 asked_batch (Trace stage) = traces (is_ongoing stage) []
 asked_batch Record = records
-asked_batch Threads = runs_threads
+asked_batch (Threads kind) = runs_threads (is_ordered kind)
 asked_batch (Draw format) = draws (is_page format)
 
 abbrev pub asked : Invocation → Asked
@@ -188,7 +196,7 @@ asked_by name arguments lists =
     if bytes_eq name (codes "store") then option_map stores (arguments (codes "PATH")) else
     if bytes_eq name (codes "trace") then Some (traces (is_set (arguments (codes "ongoing"))) (lists (codes "FILE"))) else
     if bytes_eq name (codes "record") then Some records else
-    if bytes_eq name (codes "threads") then Some runs_threads else
+    if bytes_eq name (codes "threads") then Some (runs_threads (is_set (arguments (codes "order")))) else
     if bytes_eq name (codes "draw") then Some (draws (is_set (arguments (codes "html")))) else
     if bytes_eq name (codes "format") then format_of arguments else
     if bytes_eq name (codes "node") then node_of arguments else

@@ -24,7 +24,7 @@ IsOutcomeOf (Sim details) = IsSimPrintout details
 IsOutcomeOf (Store path) = IsSession
 IsOutcomeOf (Trace stage) = IsJudgedAt stage
 IsOutcomeOf Record = IsRecording
-IsOutcomeOf Threads = IsThreading
+IsOutcomeOf (Threads kind) = IsThreading kind
 IsOutcomeOf (Draw format) = IsDrawn format
 
 -- this is what is wrong with the input, or why its entries are no run; what is wrong with a text that is no trace is printed, and not said again
@@ -35,5 +35,5 @@ IsWhyOf (Sim details) = IsWhy schedule_flaw
 IsWhyOf (Store path) = IsSessionWhy
 IsWhyOf (Trace stage) = IsTold
 IsWhyOf Record = IsWhy schedule_flaw
-IsWhyOf Threads = IsWhy plans_flaw
+IsWhyOf (Threads kind) = IsWhy plans_flaw
 IsWhyOf (Draw format) = IsTold

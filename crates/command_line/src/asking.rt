@@ -1,7 +1,7 @@
 // From the words of the command line to what they ask for.
 ghost use Rattle.std.specs.Prelude.{◌≡◌, IfOk, Some, bytes_eq, codes, map, option_map, string_bytes};
 ghost use Rattle.clap.specs.Words.{first_value, found_of};
-ghost use Rattle.command_line.specs.Asked.{answers, asked, asked_by, exports, format_of, inspects, is_ongoing, is_page, is_set, made, making_of, node_of, placed, place_of, round_trip_of, sealed, sealed_by, stores, stride_of, traces, values_of};
+ghost use Rattle.command_line.specs.Asked.{answers, asked, asked_by, exports, format_of, inspects, is_ongoing, is_ordered, is_page, is_set, made, making_of, node_of, placed, place_of, round_trip_of, sealed, sealed_by, stores, stride_of, traces, values_of};
 
 use crate::invocation::{
     Batch, Invocation, MOST_ROUND_TRIP, Making, NodePlace, ROUND_TRIP, Sealing,
@@ -13,6 +13,7 @@ use group_task::{NODES, NodeId};
 use invite_console::Details;
 use line_words::number;
 use std::alloc::{AllocError, Global};
+use threads_console::TraceKind;
 use trace_draw::{OutputFormat, Stage};
 
 /// What the command of this name asks for, with these arguments. None where a number is out of its range.
@@ -40,7 +41,7 @@ pub fn invocation(
     } else if is(name, "record") {
         Ok(Some(Invocation::Batch(Batch::Record)))
     } else if is(name, "threads") {
-        Ok(Some(Invocation::Batch(Batch::Threads)))
+        Ok(Some(Invocation::Batch(Batch::Threads(trace_kind(words)))))
     } else if is(name, "draw") {
         Ok(Some(Invocation::Batch(Batch::Draw(output_format(words)))))
     } else if is(name, "format") {
@@ -113,6 +114,17 @@ fn stage(words: &ArgMatches<'_>) -> Stage
         Stage::Ongoing
     } else {
         Stage::Over
+    }
+}
+
+/// Whether the order of a run is printed beside its trace.
+fn trace_kind(words: &ArgMatches<'_>) -> TraceKind
+    ensures { is_ordered result ≡ is_set (first_value (found_of words.now) (codes "order")) }
+{
+    if is_set(words, "order") {
+        TraceKind::Ordered
+    } else {
+        TraceKind::Plain
     }
 }
 

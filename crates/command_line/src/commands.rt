@@ -135,6 +135,12 @@ const ONGOING: Argument = Argument {
     help: "The run may go on: prints Ongoing and the nodes of the entries that can be taken, where all others wait",
 };
 
+const ORDER: Argument = Argument {
+    name: "order",
+    kind: ArgumentKind::Flag,
+    help: "Prints the order in which the turns were taken, too",
+};
+
 const HTML: Argument = Argument {
     name: "html",
     kind: ArgumentKind::Flag,
@@ -207,7 +213,7 @@ const COMMANDS: [Described; 12] = [
         name: "threads",
         about: "Reads plans, runs them on nodes in threads, and prints the trace of that run",
         more: "The first line is cluster NODES SLOTS, the second links CAPACITY, each other one a turn of a worker, such as 0 clock check, 1 intake 0 or 0 operator crash (docs/SIMULATION.md). The trace is what trace reads, in one line.\n\nExample: invite threads < plans/question.txt",
-        arguments: &[],
+        arguments: &[ORDER],
     },
     Described {
         name: "draw",

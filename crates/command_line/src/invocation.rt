@@ -6,6 +6,7 @@ ghost use Rattle.disk_sector.specs.declared.layout.TheConstants.{LEAST_SLOTS, MO
 use file_disk::Stride;
 use group_task::NodeId;
 use invite_console::Details;
+use threads_console::TraceKind;
 use trace_draw::{OutputFormat, Stage};
 
 /// What a round trip between nodes takes where nothing else is said, and at most, in milliseconds of the clock that ticks tell.
@@ -42,7 +43,8 @@ pub enum Batch {
     /// Of a run that is over, or of one that may go on.
     Trace(Stage),
     Record,
-    Threads,
+    /// The trace of a run alone, or with its order.
+    Threads(TraceKind),
     Draw(OutputFormat),
 }
 

@@ -41,7 +41,7 @@ pub fn perform<T: Threads + Wait + Sync, R: Read, W: Write>(
         Batch::Store(path) => store_console::store(rt, alloc, path.as_str(), input, output),
         Batch::Trace(stage) => trace_draw::trace(alloc, *stage, input, output),
         Batch::Record => invite_console::record(alloc, input, output),
-        Batch::Threads => threads_console::threads(threads, alloc, input, output),
+        Batch::Threads(kind) => { threads_console::threads(threads, alloc, *kind, input, output) }
         Batch::Draw(format) => trace_draw::draw(alloc, *format, input, output),
     };
     let status = ended.ending.status();

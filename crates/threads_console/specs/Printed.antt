@@ -20,6 +20,8 @@ use Rattle.threads_console.specs.Ordering.{IsOrderOf}
 use Rattle.threads_console.specs.Planning.{ArePlanned}
 use Rattle.threads_console.specs.Scripts.{Script, script_of}
 use Rattle.threads_console.specs.Texts.{run_claims}
+use Rattle.threads_console.specs.declared.kind.TraceKind.{TraceKind}
+use Rattle.threads_console.specs.declared.kind.TraceKind.TheVariants.{Plain, Ordered}
 
 abbrev pub worker_name : Worker → List ℕ
 worker_name Intake = codes "intake"
@@ -38,22 +40,28 @@ pub record IsOrderedText (logs : List Log) (text : List ℕ) : Type 0 where
   pub is_order : IsOrderOf logs order
   pub is_text : text ≡ compact_text (ordered_data (run_claims logs) (ordered_by order))
 
--- the text of a trace; it stands alone only where the numbers give no order, which is so of no run that is known
-abbrev pub IsRunText : List Log → List ℕ → Type 0
-IsRunText logs text = IsOrderedText logs text ⊎ (HasNoOrder logs × (text ≡ compact_text (trace_data (run_claims logs))))
+-- the text of a trace alone
+abbrev pub IsPlainText : List Log → List ℕ → Type 0
+IsPlainText logs text = text ≡ compact_text (trace_data (run_claims logs))
+
+-- The text of a trace: alone, or with its order. Where that is asked for the trace stands alone only where the numbers give no order, which
+-- is so of no run that is known.
+abbrev pub IsRunText : TraceKind → List Log → List ℕ → Type 0
+IsRunText Plain logs text = IsPlainText logs text
+IsRunText Ordered logs text = IsOrderedText logs text ⊎ (HasNoOrder logs × IsPlainText logs text)
 
 -- a line, with the text of the trace of these histories
-pub record IsRunPrinted (histories : List Log) (printout : Printout) : Type 0 where
+pub record IsRunPrinted (kind : TraceKind) (histories : List Log) (printout : Printout) : Type 0 where
   pub text : List ℕ
-  pub is_text : IsRunText histories text
+  pub is_text : IsRunText kind histories text
   pub printed : printout ≡ record { text = line text; good = true }
 
 -- some whole run of these plans is printed
-pub record PrintsWhole (size : RunSize) (plans : List Planned) (printout : Printout) : Type 0 where
+pub record PrintsWhole (kind : TraceKind) (size : RunSize) (plans : List Planned) (printout : Printout) : Type 0 where
   pub histories : List Log
   pub links : List LinkEnd
   pub whole : IsWhole size plans histories links
-  pub printed : IsRunPrinted histories printout
+  pub printed : IsRunPrinted kind histories printout
 
 -- the gate that lets all pass
 abbrev pub never_shut : ℕ → Worker → Bool
@@ -65,13 +73,13 @@ pub record PrintsFault (plans : List Planned) (printout : Printout) : Type 0 whe
   pub reason : IsReason never_shut plans fault
   pub printed : printout ≡ refused (fault_text fault)
 
-abbrev pub PrintsRun : RunSize → List Planned → Printout → Type 0
-PrintsRun size plans printout = PrintsWhole size plans printout ⊎ PrintsFault plans printout
+abbrev pub PrintsRun : TraceKind → RunSize → List Planned → Printout → Type 0
+PrintsRun kind size plans printout = PrintsWhole kind size plans printout ⊎ PrintsFault plans printout
 
-abbrev pub PrintsScript : Result Script ℕ → Printout → Type 0
-PrintsScript (Err n) printout = printout ≡ refused (codes "bad line " ++ decimal n)
-PrintsScript (Ok input) printout = (plans : List Planned) × ArePlanned input.size.nodes input.turns plans × PrintsRun input.size plans printout
+abbrev pub PrintsScript : TraceKind → Result Script ℕ → Printout → Type 0
+PrintsScript kind (Err n) printout = printout ≡ refused (codes "bad line " ++ decimal n)
+PrintsScript kind (Ok input) printout = (plans : List Planned) × ArePlanned input.size.nodes input.turns plans × PrintsRun kind input.size plans printout
 
 -- what `threads` prints for an input
-abbrev pub IsThreading : List ℕ → Printout → Type 0
-IsThreading input printout = PrintsScript (script_of input) printout
+abbrev pub IsThreading : TraceKind → List ℕ → Printout → Type 0
+IsThreading kind input printout = PrintsScript kind (script_of input) printout

@@ -1,5 +1,5 @@
 -- The histories of a run as a trace: each turn is an entry, in its place.
-use Rattle.std.specs.Prelude.{ℕ, ◌≡◌, Bool, List, [], Some, map, slice_get}
+use Rattle.std.specs.Prelude.{ℕ, ◌≡◌, Bool, false, List, [], ◌∷◌, ◌++◌, Some, map, slice_get}
 use Rattle.serde_json.specs.View.{items_of}
 use Rattle.serde_json.specs.Written.{compact_text, items_text}
 use Rattle.node_lock.specs.History.{Turn}
@@ -9,6 +9,7 @@ use Rattle.node_lock.specs.Kept.{Log, what_quiet}
 use Rattle.trace_check.specs.Claims.{Claim}
 use Rattle.cluster_sim.specs.Traced.{claim_of, deed_of}
 use Rattle.trace_text.specs.Written.{entry_data, history_data}
+use Rattle.trace_text.specs.Parts.{trace_head}
 use Rattle.threads_console.specs.declared.writing.Known.{Known}
 
 -- the entry of a turn says what came of it and what it sent, as the traces of schedules do
@@ -45,3 +46,7 @@ entries_text later turns = items_text later (items_of (map entry_data (map turn_
 
 abbrev pub histories_text : Bool → List Log → List ℕ
 histories_text later logs = items_text later (items_of (map history_data (run_claims logs)))
+
+-- the text of a trace, but for the bracket behind its histories and what stands behind that
+abbrev pub IsMostText : List Log → List ℕ → Type 0
+IsMostText logs text = text ++ 93 ∷ [] ≡ trace_head ++ histories_text false logs

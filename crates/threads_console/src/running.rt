@@ -7,9 +7,10 @@ ghost use Rattle.threads_console.specs.Printed.{IsThreading, IsRunPrinted, Print
 ghost use Rattle.threads_console.specs.Reasons.{plans_flaw};
 ghost use Rattle.threads_console.specs.Scripts.{CanRun};
 
+use crate::kind::TraceKind;
 use crate::reading::{Setup, read_plans};
 use crate::reasons::bad_plans;
-use crate::writing::write_run;
+use crate::writing::write_trace;
 use console_text::{
     CommandError, Ended, IoTrouble, Output, Source, print_explained, push_named_number, push_text,
     read_source,
@@ -39,11 +40,13 @@ impl Gate for Open {
     }
 }
 
-/// Reads plans, runs them on nodes in threads, and prints the trace of the run as one line of JSON, or why there is none: `unfinished`, with the
-/// first node whose workers have more than 65,536 turns and one that has some, or `unpaired`. Its gate lets all pass, so `gate shut` never comes.
+/// Reads plans, runs them on nodes in threads, and prints the trace of the run as one line of JSON, alone or with its order, or why there is
+/// none: `unfinished`, with the first node whose workers have more than 65,536 turns and one that has some, or `unpaired`. Its gate lets all
+/// pass, so `gate shut` never comes. Where no order is asked for none is made.
 pub fn threads<T: Threads + Wait + Sync, R: Read, W: Write>(
     rt: &T,
     alloc: Global,
+    kind: TraceKind,
     input: &mut Source<R>,
     output: &mut W,
 ) -> Ended
@@ -51,12 +54,14 @@ pub fn threads<T: Threads + Wait + Sync, R: Read, W: Write>(
     // its reason in them, or the first bad line.
     // Also: read_plans.
     // Refuses: entry_left_out, line_of_another_worker, schedule::sizes_swapped, fault_answered_as_another.
-    ensures prints { Prints IsThreading (R.remaining input.old.reader) (W.contents output.old) (W.contents output.new) result.ending }
+    // Promise: Without the order that text is the compact text of an object of `nodes` and `histories` and of nothing else.
+    // Refuses: order_printed_unasked.
+    ensures prints { Prints (IsThreading kind) (R.remaining input.old.reader) (W.contents output.old) (W.contents output.new) result.ending }
     ensures why { IsWhy plans_flaw (R.remaining input.old.reader) result.ending result.why.items }
     ensures reads { input.old.left ≤ input.new.left + 16777216 }
 {
     let outcome = match read_source(alloc, input) {
-        Ok(bytes) => run_text(rt, alloc, &bytes).map_err(IoTrouble::from),
+        Ok(bytes) => run_text(rt, alloc, kind, &bytes).map_err(IoTrouble::from),
         Err(trouble) => Err(trouble),
     };
     print_explained(alloc, output, outcome)
@@ -66,14 +71,15 @@ pub fn threads<T: Threads + Wait + Sync, R: Read, W: Write>(
 fn run_text<T: Threads + Wait + Sync>(
     rt: &T,
     alloc: Global,
+    kind: TraceKind,
     input: &[u8],
 ) -> Result<CommandError, AllocError>
-    ensures printed { IfOk result (λ explained. IsThreading input.now (printout_of explained.printout)) }
+    ensures printed { IfOk result (λ explained. IsThreading kind input.now (printout_of explained.printout)) }
     ensures why { IfOk result (λ explained. explained.why.items ≡ plans_flaw input.now) }
 {
     match read_plans(alloc, input) {
         Ok(setup) => {
-            let printout = run(rt, alloc, &setup)?;
+            let printout = run(rt, alloc, kind, &setup)?;
             Ok(printout.without_why(alloc))
         }
         Err(LineFault::BadLine(number)) => bad_plans(alloc, input, number),
@@ -82,23 +88,28 @@ fn run_text<T: Threads + Wait + Sync>(
 }
 
 /// What is printed for plans that were read.
-fn run<T: Threads + Wait + Sync>(rt: &T, alloc: Global, setup: &Setup) -> Result<Output, AllocError>
+fn run<T: Threads + Wait + Sync>(
+    rt: &T,
+    alloc: Global,
+    kind: TraceKind,
+    setup: &Setup,
+) -> Result<Output, AllocError>
     requires { CanRun setup.now.size setup.now.plans.items }
-    ensures { IfOk result (λ printout. PrintsRun setup.now.size setup.now.plans.items (printout_of printout)) }
+    ensures { IfOk result (λ printout. PrintsRun kind setup.now.size setup.now.plans.items (printout_of printout)) }
 {
     match run_threads(rt, alloc, setup.size, &setup.plans, &Open) {
-        Ok(run) => print_run(alloc, run),
+        Ok(run) => print_run(alloc, kind, run),
         Err(ThreadsFault::NoMemory) => Err(AllocError),
         Err(fault) => refuse(alloc, fault),
     }
 }
 
 /// The line of the trace of a run.
-fn print_run(alloc: Global, run: Gathered) -> Result<Output, AllocError>
+fn print_run(alloc: Global, kind: TraceKind, run: Gathered) -> Result<Output, AllocError>
     requires { vec_len run.histories ≤ NODES }
-    ensures { IfOk result (λ printout. IsRunPrinted run.histories.items (printout_of printout)) }
+    ensures { IfOk result (λ printout. IsRunPrinted kind run.histories.items (printout_of printout)) }
 {
-    let mut text = write_run(alloc, run)?;
+    let mut text = write_trace(alloc, kind, run)?;
     push_text(&mut text, "\n")?;
     Ok(Output { text, good: true })
 }

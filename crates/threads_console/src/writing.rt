@@ -7,9 +7,11 @@ ghost use Rattle.node_lock.specs.Kept.{what_quiet};
 ghost use Rattle.cluster_sim.specs.Traced.{deed_of, done};
 ghost use Rattle.trace_text.specs.Tokens.{Adds, head_tokens, message_tokens};
 ghost use Rattle.trace_text.specs.Written.{entry_data, history_data};
-ghost use Rattle.threads_console.specs.Printed.{IsRunText};
-ghost use Rattle.threads_console.specs.Texts.{AreKnown, IsTextAt, entries_text, histories_text, log_claims, quiet_claim};
+ghost use Rattle.threads_console.specs.Printed.{IsPlainText, IsRunText};
+ghost use Rattle.threads_console.specs.declared.kind.TraceKind.TheVariants.{Ordered};
+ghost use Rattle.threads_console.specs.Texts.{AreKnown, IsMostText, IsTextAt, entries_text, histories_text, log_claims, quiet_claim};
 
+use crate::kind::TraceKind;
 use crate::ordering::{count_of, order_of};
 use histories::HistoryEvent;
 use json::Writer;
@@ -33,24 +35,58 @@ struct Known {
     crashed: Vec<u8>,
 }
 
-/// The text of the trace of a run, with its order. Room for most of it is taken at once. What was written is let
-/// go at once, so that no two copies of it all stand in memory.
-pub(crate) fn write_run(alloc: Global, run: Gathered) -> Result<Vec<u8>, AllocError>
+/// The text of the trace of a run, alone or with its order.
+pub(crate) fn write_trace(
+    alloc: Global,
+    kind: TraceKind,
+    run: Gathered,
+) -> Result<Vec<u8>, AllocError>
     requires { vec_len run.histories ≤ NODES }
-    ensures { IfOk result (λ text. IsRunText run.histories.items text.items) }
+    ensures { IfOk result (λ text. IsRunText kind run.histories.items text.items) }
+{
+    match kind {
+        TraceKind::Plain => write_run(alloc, run),
+        TraceKind::Ordered => write_ordered(alloc, run),
+    }
+}
+
+/// The text of the trace of a run.
+fn write_run(alloc: Global, run: Gathered) -> Result<Vec<u8>, AllocError>
+    requires { vec_len run.histories ≤ NODES }
+    ensures { IfOk result (λ text. IsPlainText run.histories.items text.items) }
+{
+    let nodes = run.histories.len() as u8;
+    let text = write_most(alloc, run)?;
+    end_trace(text, nodes)
+}
+
+/// The text of the trace of a run, with its order.
+fn write_ordered(alloc: Global, run: Gathered) -> Result<Vec<u8>, AllocError>
+    requires { vec_len run.histories ≤ NODES }
+    ensures { IfOk result (λ text. IsRunText Ordered run.histories.items text.items) }
 {
     let order = order_of(alloc, &run)?;
-    let Gathered { histories, links } = run;
-    drop(links);
-    let nodes = histories.len() as u8;
-    let known = make_known(alloc)?;
-    let mut text = begin_trace(alloc)?;
-    text.reserve(ROOM.saturating_mul(count_of(&histories)?))?;
-    write_histories(alloc, &known, &mut text, histories)?;
+    let nodes = run.histories.len() as u8;
+    let text = write_most(alloc, run)?;
     match order {
         Some(order) => end_ordered(alloc, text, nodes, &order),
         None => end_trace(text, nodes),
     }
+}
+
+/// The text of the trace of a run, but for what stands behind its histories. Room for most of it is taken at once. What was written is let go
+/// at once, so that no two copies of it all stand in memory.
+fn write_most(alloc: Global, run: Gathered) -> Result<Vec<u8>, AllocError>
+    requires { vec_len run.histories ≤ NODES }
+    ensures { IfOk result (λ text. IsMostText run.histories.items text.items) }
+{
+    let Gathered { histories, links } = run;
+    drop(links);
+    let known = make_known(alloc)?;
+    let mut text = begin_trace(alloc)?;
+    text.reserve(ROOM.saturating_mul(count_of(&histories)?))?;
+    write_histories(alloc, &known, &mut text, histories)?;
+    Ok(text)
 }
 
 /// Makes the texts of the entries of quiet turns.
