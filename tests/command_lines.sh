@@ -38,11 +38,12 @@ refused() {
     mark "$problem" invite "$@"
 }
 
-# helps COMMAND: its help has an example, which runs at the top of the repository
+# helps COMMAND: its help has its exit statuses and an example, which runs at the top of the repository
 helps() {
     local problem='' example
     start '' "$room/out" "$1" --help
     grep -q "^Usage: invite $1\\b" "$room/out" || problem="no usage of $1"
+    grep -q '^Exit status: 0 .*; 1 .*; 2 the command line ' "$room/out" || problem="no exit statuses of $1"
     example=$(sed -n 's/^Example: //p' "$room/out")
     [ -n "$example" ] || problem='no example'
     example=${example//\/tmp\//$room/}
@@ -140,6 +141,45 @@ for command in answer show sim store format node inspect export trace record thr
     mark "$problem" invite --help
     helps "$command"
 done
+
+# mistaken TEXT WORDS..: an argument is out of its range, and it is said which
+mistaken() {
+    local problem='' text=$1
+    start 'unread\n' "$room/out" "${@:2}"
+    [ "$status" -eq 2 ] || problem="status $status in place of 2"
+    [ "$(head -n 1 "$room/out")" = "error: $text" ] || problem="it says '$(head -n 1 "$room/out")' in place of 'error: $text'"
+    mark "$problem" invite "${@:2}"
+}
+
+for words in 'answer 3 3' 'answer 0 129' "format $room/new 4 3 3" "node $room/new 00 3"; do
+    mistaken 'SELF and NODES are decimal numbers, NODES from 1 to 128, and SELF is below NODES' $words
+done
+for slots in 3 4097 04; do
+    mistaken 'SLOTS is a decimal number from 4 to 4096' format "$room/new" "$slots" 0 3
+done
+mistaken 'FIRST is a decimal number below 2^64' format "$room/new" 4 0 3 18446744073709551616
+mistaken 'the stride is 512 or 4096' format "$room/new" 4 0 3 --stride 8
+mistaken 'ROUND_TRIP_MS is a decimal number from 1 to 60000' node "$room/new" 0 3 0
+
+# A file that is made where one is, whose that is; which rule a line of jobs breaks; and a file that is none of a node or of a store.
+says "$room/node0: there is something of this name: File exists (os error 17): it is the file of node 0 of 3"
+prints 1 '' '' format "$room/node0" 64 0 3
+echo 'a text' >"$room/text"
+nobody="it is no node's file: it was never formatted, or its end was cut off"
+says "$room/text: there is something of this name: File exists (os error 17): $nobody"
+prints 1 '' '' format "$room/text" 64 0 3
+says "$room/text: something is damaged or missing: $nobody"
+prints 1 '' 'too_small 0\n' inspect "$room/text"
+says "$room/text: something is damaged or missing: $nobody"
+prints 1 '' 'too_small 0\n' export "$room/text"
+says 'line 2: not of the form job ID QUEUE HEX [P]'
+prints 1 '\njob 0 1\n' '' format "$room/new" 4 0 3 9 --jobs -
+says "line 2: its ID isn't below FIRST"
+prints 1 'job 0 1 -\njob 9 1 -\n' '' format "$room/new" 4 0 3 9 --jobs -
+says "line 3: its ID isn't above those before it"
+prints 1 'job 4 1 -\n\njob 4 1 -\n' '' format "$room/new" 4 0 3 9 --jobs -
+says 'line 3: too many jobs for SLOTS, which takes two fewer'
+prints 1 'job 4 1 -\njob 5 1 -\njob 6 1 -\n' '' format "$room/new" 4 0 3 9 --jobs -
 
 prints 0 '010102000000\n' '01020002000101\n' answer 0 3
 prints 0 '010102000000\n' '01020002000101\n' answer 0 128

@@ -201,7 +201,7 @@ fn sealing(alloc: Global, words: &ArgMatches<'_>) -> Result<Option<Option<Sealin
 }
 
 /// What a round trip takes, in milliseconds.
-fn round_trip(words: &ArgMatches<'_>) -> Option<u16>
+pub(crate) fn round_trip(words: &ArgMatches<'_>) -> Option<u16>
     ensures { result ≡ round_trip_of (first_value (found_of words.now) (codes "ROUND_TRIP_MS")) }
 {
     let Some(word) = words.get_str("ROUND_TRIP_MS") else {
@@ -255,7 +255,7 @@ fn making(words: &ArgMatches<'_>) -> Option<Making>
 }
 
 /// How many bytes of a file there are for each sector.
-fn stride(words: &ArgMatches<'_>) -> Option<Stride>
+pub(crate) fn stride(words: &ArgMatches<'_>) -> Option<Stride>
     ensures { result ≡ stride_of (first_value (found_of words.now) (codes "stride")) }
 {
     let Some(word) = words.get_str("stride") else {
@@ -269,7 +269,7 @@ fn stride(words: &ArgMatches<'_>) -> Option<Stride>
 }
 
 /// The node that SELF and NODES name.
-fn place(words: &ArgMatches<'_>) -> Option<NodePlace>
+pub(crate) fn place(words: &ArgMatches<'_>) -> Option<NodePlace>
     ensures { option_map placed result ≡ place_of (λ id. first_value (found_of words.now) id) }
 {
     let id = number(words.get_str("SELF")?.as_bytes())?;

@@ -152,73 +152,73 @@ const COMMANDS: [Described; 12] = [
     Described {
         name: "answer",
         about: "Reads messages in hex lines, and prints what one node answers",
-        more: "The node begins alone in its group and keeps nothing. A line is one message or several (docs/FORMATS.md).\n\nExample: echo 010102000000 | invite answer 0 3",
+        more: "The node begins alone in its group and keeps nothing. A line is one message or several (docs/FORMATS.md).\n\nExit status: 0 all was answered; 1 a line or a message can't be read, or comes of a stranger, reading or writing failed, or there was no memory; 2 the command line can't be read, or asks for help.\n\nExample: echo 010102000000 | invite answer 0 3",
         arguments: &[SELF, NODES],
     },
     Described {
         name: "show",
         about: "Reads messages in hex lines, and prints them as text",
-        more: "A line is one message or several (docs/FORMATS.md).\n\nExample: echo 010102000000 | invite show",
+        more: "A line is one message or several (docs/FORMATS.md).\n\nExit status: 0 all was shown; 1 a line or a message can't be read, reading or writing failed, or there was no memory; 2 the command line can't be read, or asks for help.\n\nExample: echo 010102000000 | invite show",
         arguments: &[],
     },
     Described {
         name: "sim",
         about: "Reads a schedule, runs it on a simulated cluster, and prints what each act did",
-        more: "The first line is cluster NODES SLOTS, each other one an act, such as check 0, deliver 3, cut 0 1 or crash 2 (docs/SIMULATION.md). After the last act each node is printed.\n\nExample: invite sim < schedules/partition_heals.txt",
+        more: "The first line is cluster NODES SLOTS, each other one an act, such as check 0, deliver 3, cut 0 1 or crash 2 (docs/SIMULATION.md). After the last act each node is printed.\n\nExit status: 0 the acts were done, or refused; 1 a line can't be read, reading or writing failed, or there was no memory; 2 the command line can't be read, or asks for help.\n\nExample: invite sim < schedules/partition_heals.txt",
         arguments: &[NAMES, TABLES],
     },
     Described {
         name: "store",
         about: "Reads lines that ask something of a store in a file, and prints what each was answered",
-        more: "A store is a counter and a journal of jobs. Its lines are format SLOTS, mount, raise, put, done, compact and list (docs/FORMATS.md).\n\nExample: printf 'format 4\\nmount\\nraise\\n' | invite store /tmp/store",
+        more: "A store is a counter and a journal of jobs. Its lines are format SLOTS, mount, raise, put, done, compact and list (docs/FORMATS.md).\n\nExit status: 0 the lines were answered, some as refused; 1 a line can't be read, reading or writing failed, or there was no memory; 2 the command line can't be read, or asks for help.\n\nExample: printf 'format 4\\nmount\\nraise\\n' | invite store /tmp/store",
         arguments: &[PATH],
     },
     Described {
         name: "format",
         about: "Makes the file of a node, where there is none of this name",
-        more: "It reads nothing but the jobs. A node that lost its file takes FIRST above each count and id that it gave (docs/FORMATS.md).\n\nExample: invite format /tmp/node0 64 0 3",
+        more: "It reads nothing but the jobs. A node that lost its file takes FIRST above each count and id that it gave (docs/FORMATS.md).\n\nExit status: 0 the file was made; 1 there is something of its name, or a line of the jobs can't be taken, reading or writing failed, or there was no memory; 2 the command line can't be read, or asks for help; 3 the device failed; 7 its folder isn't there, or may not be written; 8 there is no room for it.\n\nExample: invite format /tmp/node0 64 0 3",
         arguments: &[FILE, SLOTS, SELF, NODES, FIRST, JOBS, STRIDE],
     },
     Described {
         name: "node",
         about: "Reads lines that ask something of the node over its file, and answers each at once",
-        more: "Its lines are events such as check, deliver HEX, submit, finish, tick MS, and state and jobs (docs/FORMATS.md).\n\nExample: printf 'state\\n' | invite node /tmp/node0 0 3",
+        more: "Its lines are events such as check, deliver HEX, submit, finish, tick MS, and state and jobs (docs/FORMATS.md).\n\nExit status: 0 the input ended; 1 reading or writing failed, or there was no memory; 2 the command line can't be read, or asks for help; 3 the device failed; 4 another process has the file open; 5 the file isn't this node's; 6 the keys can't be used; 7 the file can't be opened, or was removed or cut off meanwhile.\n\nExample: printf 'state\\n' | invite node /tmp/node0 0 3",
         arguments: &[FILE, SELF, NODES, ROUND_TRIP_MS, KEY, CLUSTER],
     },
     Described {
         name: "inspect",
         about: "Prints what the file of a node or of a store holds",
-        more: "A line for each name and its value: whose file it is, the slots, the count of groups, the next id, the jobs by queue, or what is damaged and where (docs/FORMATS.md). It takes no lock and writes nothing.\n\nExample: invite inspect /tmp/node0",
+        more: "A line for each name and its value: whose file it is, the slots, the count of groups, the next id, the jobs by queue, or what is damaged and where (docs/FORMATS.md). It takes no lock and writes nothing.\n\nExit status: 0 all was printed; 1 something is damaged or missing, reading or writing failed, or there was no memory; 2 the command line can't be read, or asks for help; 3 the device failed; 7 the file can't be opened.\n\nExample: invite inspect /tmp/node0",
         arguments: &[LOOKED_AT],
     },
     Described {
         name: "export",
         about: "Prints the jobs of the file of a node or of a store",
-        more: "A line for each job: job ID QUEUE HEX P, as list of invite store prints it. It takes no lock and writes nothing.\n\nExample: invite export /tmp/node0 > /tmp/jobs",
+        more: "A line for each job: job ID QUEUE HEX P, as list of invite store prints it. It takes no lock and writes nothing.\n\nExit status: 0 the jobs were printed; 1 something is damaged or missing, reading or writing failed, or there was no memory; 2 the command line can't be read, or asks for help; 3 the device failed; 7 the file can't be opened.\n\nExample: invite export /tmp/node0 > /tmp/jobs",
         arguments: &[LOOKED_AT],
     },
     Described {
         name: "trace",
         about: "Reads a trace, and prints an order in which its entries can have come, or where none goes on",
-        more: "A trace is the nodes' histories as JSON. It is read from standard input, or from files that have some of the nodes each, in their order (docs/SIMULATION.md).\n\nExample: echo '{\"nodes\":1,\"histories\":[[{\"do\":\"check\",\"sent\":[]}]]}' | invite trace",
+        more: "A trace is the nodes' histories as JSON. It is read from standard input, or from files that have some of the nodes each, in their order (docs/SIMULATION.md).\n\nExit status: 0 it is a run, or one that may go on; 1 it is none, or no trace, reading or writing failed, or there was no memory; 2 the command line can't be read, or asks for help.\n\nExample: echo '{\"nodes\":1,\"histories\":[[{\"do\":\"check\",\"sent\":[]}]]}' | invite trace",
         arguments: &[JUDGED, ONGOING],
     },
     Described {
         name: "record",
         about: "Reads a schedule, runs it on a simulated cluster, and prints its trace",
-        more: "The trace is what trace reads: the nodes' histories as JSON, in one line, with the order in which their entries came (docs/SIMULATION.md).\n\nExample: invite record < schedules/partition_heals.txt",
+        more: "The trace is what trace reads: the nodes' histories as JSON, in one line, with the order in which their entries came (docs/SIMULATION.md).\n\nExit status: 0 the trace was printed; 1 a line can't be read, reading or writing failed, or there was no memory; 2 the command line can't be read, or asks for help.\n\nExample: invite record < schedules/partition_heals.txt",
         arguments: &[],
     },
     Described {
         name: "threads",
         about: "Reads plans, runs them on nodes in threads, and prints the trace of that run",
-        more: "The first line is cluster NODES SLOTS, the second links CAPACITY, each other one a turn of a worker, such as 0 clock check, 1 intake 0 or 0 operator crash (docs/SIMULATION.md). The trace is what trace reads, in one line.\n\nExample: invite threads < plans/question.txt",
+        more: "The first line is cluster NODES SLOTS, the second links CAPACITY, each other one a turn of a worker, such as 0 clock check, 1 intake 0 or 0 operator crash (docs/SIMULATION.md). The trace is what trace reads: the nodes and their histories, in one line.\n\nExit status: 0 the trace was printed; 1 a line can't be read, or the run is unfinished, reading or writing failed, or there was no memory; 2 the command line can't be read, or asks for help.\n\nExample: invite threads < plans/question.txt",
         arguments: &[ORDER],
     },
     Described {
         name: "draw",
         about: "Reads a trace, and prints a picture of the run that was recorded",
-        more: "The picture is an SVG: a row for each node, a mark for each entry, an arrow for each message that came, in the order that stands beside the trace, if one does (docs/SIMULATION.md).\n\nExample: echo '{\"nodes\":1,\"histories\":[[{\"do\":\"check\",\"sent\":[]}]]}' | invite draw",
+        more: "The picture is an SVG: a row for each node, a mark for each entry, an arrow for each message that came, in the order that stands beside the trace, if one does (docs/SIMULATION.md).\n\nExit status: 0 the picture was printed; 1 it is no run, or no trace, reading or writing failed, or there was no memory; 2 the command line can't be read, or asks for help.\n\nExample: echo '{\"nodes\":1,\"histories\":[[{\"do\":\"check\",\"sent\":[]}]]}' | invite draw",
         arguments: &[HTML],
     },
 ];
@@ -231,7 +231,7 @@ pub fn command<'a>(alloc: Global) -> Result<Command<'a>, AllocError> {
         )
         .version(VERSION)
         .after_help(
-            "Each command but format, inspect and export reads standard input, trace where no file is named. invite COMMAND --help says what, with an example.",
+            "Each command but format, inspect and export reads standard input, trace where no file is named. invite COMMAND --help says what, with its exit statuses and an example.",
         )
         .subcommand_required(true)
         .disable_help_subcommand(true);

@@ -14,6 +14,7 @@ mod invocation;
 mod keys;
 mod label;
 mod making;
+mod mistake;
 mod performing;
 mod reading;
 mod reasons;
@@ -21,16 +22,16 @@ mod serving;
 mod status;
 
 use commands::command;
-use console_text::{Ended, IoTrouble, MAX_READS, Sink, Source, read_source};
-use disk_sector::{LEAST_SLOTS, MOST_SLOTS};
-use group_task::NODES;
-use invocation::{Batch, Invocation, MOST_ROUND_TRIP, Making, NodePlace, Sealing};
+use console_text::{Ended, ExitKind, IoTrouble, MAX_READS, Sink, Source, read_source};
+use file_disk::OpenFault;
+use invocation::{Batch, Invocation, Making, NodePlace, Sealing};
 use job_model::JobTable;
 use keys::Keys;
 use line_words::LineFault;
 use making::format_file;
+use mistake::mistake_in;
 use performing::perform;
-use reading::{file_to_read, image_of};
+use reading::{file_to_read, image_of, owner_at};
 use reasons::{Reason, explain, reason_of};
 use serving::serve_file;
 use status::Status;
@@ -232,6 +233,12 @@ fn format(rt: &HostRuntime, path: &str, making: &Making, jobs: &Option<String>) 
         making.stride,
         &jobs,
     );
+    if let Status::File(OpenFault::Exists(_)) = status {
+        if let Some(owner) = owner_at(rt, path) {
+            eprintln!(rt; "invite: {path}: {status}: {owner}")?;
+            return Ok(status.code());
+        }
+    }
     explain_status(rt, path, status)
 }
 
@@ -255,9 +262,14 @@ fn listed(rt: &HostRuntime, path: &str, making: &Making) -> io::Result<Result<Jo
         Ok(jobs) => Ok(Ok(jobs)),
         Err(LineFault::NoMemory) => Err(io::Error::from(ErrorKind::OutOfMemory)),
         Err(LineFault::BadLine(number)) => {
-            eprintln!(rt;
-                "invite: line {number}: not of the form job ID QUEUE HEX [P], its ID not above those before it and below FIRST, or too many jobs for SLOTS"
+            let flaw = store_console::job_flaw(
+                rt.alloc(),
+                making.slots,
+                making.first,
+                &bytes,
+                number,
             )?;
+            eprintln!(rt; "invite: line {number}: {flaw}")?;
             Ok(Err(1))
         }
     }
@@ -282,8 +294,8 @@ fn look(rt: &HostRuntime, path: &str, shown: Shown) -> io::Result<u8> {
         Err(status) => return explain_status(rt, path, status),
     };
     match image_of(rt.alloc(), &file) {
-        Ok(None) => shown_of(rt, Source::new(file), shown),
-        Ok(Some(bytes)) => shown_of(rt, Source::new(bytes.as_slice()), shown),
+        Ok(None) => shown_of(rt, path, Source::new(file), shown),
+        Ok(Some(bytes)) => shown_of(rt, path, Source::new(bytes.as_slice()), shown),
         Err(error) if error.kind() == ErrorKind::OutOfMemory => Err(error),
         Err(error) => {
             explain(rt, Reason::Unread(Some(error)))?;
@@ -292,14 +304,22 @@ fn look(rt: &HostRuntime, path: &str, shown: Shown) -> io::Result<u8> {
     }
 }
 
-/// Prints what the bytes of a file hold, and answers the exit status.
+/// Prints what the bytes of the file of this path hold, and answers the exit status. Where something of it is damaged or missing, standard
+/// error says whose it is.
 fn shown_of<R: Read + Drop>(
     rt: &HostRuntime,
+    path: &str,
     mut input: Source<R>,
     shown: Shown,
 ) -> io::Result<u8> {
     let mut output = Sink::new(rt.stdout());
     let ending = store_console::inspect(rt.alloc(), shown, &mut input, &mut output);
+    if ending == ExitKind::Refused {
+        if let Some(owner) = owner_at(rt, path) {
+            eprintln!(rt; "invite: {path}: something is damaged or missing: {owner}")?;
+        }
+        return Ok(ending.status());
+    }
     let why = Vec::new(rt.alloc());
     tell(rt, Ended { ending, why }, input.fault(), output.fault())
 }
@@ -319,14 +339,13 @@ fn invocation_of(rt: &HostRuntime, words: &[String]) -> io::Result<Result<Invoca
     let alloc = rt.alloc();
     match command(alloc)?.try_get_matches_from(words) {
         Ok(matches) => {
-            let invocation = match matches.subcommand() {
-                Some((name, words)) => asking::invocation(alloc, name, words)?,
-                None => None,
+            let Some((name, words)) = matches.subcommand() else {
+                return Ok(Err(UNREADABLE));
             };
+            let invocation = asking::invocation(alloc, name, words)?;
             if invocation.is_none() {
-                println!(rt;
-                    "error: SELF and NODES are decimal numbers, NODES from 1 to {NODES}, and SELF is below NODES; SLOTS is from {LEAST_SLOTS} to {MOST_SLOTS}, FIRST below 2^64, the stride 512 or 4096, and ROUND_TRIP_MS from 1 to {MOST_ROUND_TRIP}\n\nFor more information, try '--help'."
-                )?;
+                let mistake = mistake_in(name, words);
+                println!(rt; "error: {mistake}\n\nFor more information, try '--help'.")?;
             }
             Ok(invocation.ok_or(UNREADABLE))
         }

@@ -1,8 +1,10 @@
+use crate::label::{LabelOwner, owner_of};
 use crate::status::Status;
-use file_disk::{open_to_read, read_spaced};
+use file_disk::{LABEL, open_to_read, read_spaced};
 use std::alloc::Global;
 use std::fs::{File, Files};
 use std::io;
+use std::os::unix::fs::FileExt;
 use std::path::AsPath;
 
 /// Opens a file that is read and not written, also while a node has it open.
@@ -13,4 +15,21 @@ pub fn file_to_read<P: AsPath>(rt: &impl Files<File = File>, path: P) -> Result<
 /// Of a file whose sectors have a block each: its bytes as a packed file has them. None of any other file.
 pub fn image_of(alloc: Global, file: &File) -> io::Result<Option<Vec<u8>>> {
     read_spaced(alloc, file)
+}
+
+/// Whose the regular file of this path is, by what stands behind its last sector. None where it can't be looked at.
+pub fn owner_at<P: AsPath>(rt: &impl Files<File = File>, path: P) -> Option<LabelOwner> {
+    let file = open_to_read(rt, path).ok()?;
+    owner_in(&file).ok()
+}
+
+/// Whose this file is.
+pub fn owner_in(file: &File) -> io::Result<LabelOwner> {
+    let length = file.metadata()?.len();
+    if length % 512 != LABEL as u64 {
+        return Ok(owner_of(None));
+    }
+    let mut label = [0u8; LABEL];
+    file.read_exact_at(&mut label, length.saturating_sub(LABEL as u64))?;
+    Ok(owner_of(Some(label)))
 }

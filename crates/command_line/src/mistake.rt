@@ -1,0 +1,72 @@
+use crate::asking::{place, round_trip, stride};
+use crate::invocation::MOST_ROUND_TRIP;
+use clap::ArgMatches;
+use disk_sector::{LEAST_SLOTS, MOST_SLOTS};
+use group_task::NODES;
+use line_words::number;
+use std::fmt;
+use std::fmt::{Display, Formatter};
+
+/// Which argument of a command is out of its range.
+#[derive(Clone, Copy, Debug, PartialEq, Eq)]
+pub enum Mistake {
+    Place,
+    Slots,
+    First,
+    Stride,
+    RoundTrip,
+    /// A key without the name of a cluster, or the other way round.
+    Sealing,
+}
+
+/// What is wrong with the arguments of the command of this name, where it asks for nothing.
+pub fn mistake_in(name: &str, words: &ArgMatches<'_>) -> Mistake {
+    if place(words).is_none() {
+        Mistake::Place
+    } else if name.as_bytes() == "format".as_bytes() {
+        mistake_in_format(words)
+    } else if round_trip(words).is_none() {
+        Mistake::RoundTrip
+    } else {
+        Mistake::Sealing
+    }
+}
+
+fn mistake_in_format(words: &ArgMatches<'_>) -> Mistake {
+    let slots = match words.get_str("SLOTS") {
+        Some(word) => number(word.as_bytes()),
+        None => None,
+    };
+    match slots {
+        Some(slots) if LEAST_SLOTS <= slots && slots <= MOST_SLOTS => {}
+        _ => return Mistake::Slots,
+    }
+    if stride(words).is_none() {
+        Mistake::Stride
+    } else {
+        Mistake::First
+    }
+}
+
+/// What a person reads of it.
+impl Display for Mistake {
+    fn fmt<W: fmt::Write>(&self, f: &mut Formatter<W>) -> fmt::Result {
+        match self {
+            Mistake::Place => write!(
+                f,
+                "SELF and NODES are decimal numbers, NODES from 1 to {NODES}, and SELF is below NODES"
+            ),
+            Mistake::Slots => write!(
+                f,
+                "SLOTS is a decimal number from {LEAST_SLOTS} to {MOST_SLOTS}"
+            ),
+            Mistake::First => f.write_str("FIRST is a decimal number below 2^64"),
+            Mistake::Stride => f.write_str("the stride is 512 or 4096"),
+            Mistake::RoundTrip => write!(
+                f,
+                "ROUND_TRIP_MS is a decimal number from 1 to {MOST_ROUND_TRIP}"
+            ),
+            Mistake::Sealing => f.write_str("--key and --cluster are given together"),
+        }
+    }
+}
