@@ -1,11 +1,11 @@
 -- A client that keeps to the rules relies on what it holds.
 use Rattle.std.proofs.Common.{◌≡◌, ◌⊎◌, ℕ, ◌+◌, ◌<◌, ◌≤◌, Bool, true, false, List, [], ◌∷◌, ◌++◌, Option, Some, None, refl, sym, ◌∙◌, ap, subst, inl, inr, arith}
 use Rattle.std.proofs.lemmas.Bool.{ltb-true, leb-false, eqb-true}
-use Rattle.std.specs.Prelude.{◌*◌, ◌==◌, ◌&&◌, not, ltb, leb, max, if◌then◌else◌}
+use Rattle.std.specs.Prelude.{◌*◌, ◌==◌, ◌&&◌, leb, if◌then◌else◌}
 use Rattle.lease_runs.specs.Lists.{IsAmong, count}
 use Rattle.lease_runs.specs.Voter.{Client, Ask}
-use Rattle.lease_runs.specs.Run.{ClientEvent, asks, hears, stops, Run, Does, Relies, IsRun}
-use Rattle.lease_runs.specs.Candidate.{ClientMoment, Candidate, IsClientOf, MayAct, FollowsFrom, above, after_act, beginning, is_in_time, is_most, is_taken, left, no_votes, taken, voted, with_vote}
+use Rattle.lease_runs.specs.Run.{ClientEvent, asks, hears, stops, Does}
+use Rattle.lease_runs.specs.Candidate.{ClientMoment, Candidate, MayAct, FollowsFrom, above, after_act, beginning, is_most, is_taken, left, taken, voted, with_vote}
 use Rattle.lease_runs.specs.Holding.{HeldEpochsRise, HolderRelies, OneHolds}
 use Rattle.lease_runs.proofs.Apart.{one_holder}
 use Rattle.lease_runs.proofs.Epochs.{epochs_rise}

@@ -1,5 +1,5 @@
 -- What the client's code does when it hears of a grant.
-use Rattle.std.proofs.Common.{◌≡◌, ℕ, zero, suc, ◌+◌, ◌<◌, ◌≤◌, Bool, true, false, List, Option, Some, None, refl, sym, ◌∙◌, ap, subst, get_or, length, arith}
+use Rattle.std.proofs.Common.{◌≡◌, ℕ, zero, suc, ◌+◌, ◌<◌, Bool, true, false, List, Option, Some, None, refl, sym, ◌∙◌, ap, subst, get_or, length, arith}
 use Rattle.std.proofs.lemmas.Bool.{eqb-true, eqb-false}
 use Rattle.std.proofs.lemmas.List.{get_or-set_same, get_or-set_other}
 use Rattle.std.specs.Prelude.{◌*◌, ◌==◌, ◌&&◌, not, ltb, replicate, set, if◌then◌else◌}
@@ -7,9 +7,8 @@ use Rattle.lease_runs.specs.Lists.{count}
 use Rattle.lease_runs.specs.declared.candidate.LeaseCandidate.{LeaseCandidate}
 use Rattle.lease_runs.specs.declared.candidate.Request.{Request}
 use Rattle.lease_runs.specs.Voter.{Client, Ask}
-use Rattle.lease_runs.specs.Run.{hears}
 use Rattle.lease_runs.specs.Code.{client_of}
-use Rattle.lease_runs.specs.Candidate.{Candidate, after_act, is_in_time, is_most, is_taken, is_too_late, taken, voted, with_vote}
+use Rattle.lease_runs.specs.Candidate.{is_in_time, is_most, is_taken, is_too_late, taken, voted, with_vote}
 use Rattle.lease_runs.specs.CandidateCode.{IsHeard, IsSent, IsSentAs, Shows, is_renewal_late, takes}
 
 count_same : (f g : ℕ → Bool) (n : ℕ) → ((k : ℕ) → k < n → f k ≡ g k) → count f n ≡ count g n

@@ -1,6 +1,6 @@
-use Rattle.std.proofs.Common.{rules, refl, sym, ◌∙◌, ap, true, false, slice_set, arith}
+use Rattle.std.proofs.Common.{refl, sym, ◌∙◌, ap, true, false, slice_set, arith}
 use Rattle.lease_runs.specs.CandidateCode.{takes}
-use Rattle.lease_runs.proofs.Voting.{heard, unheard}
+use Rattle.lease_runs.proofs.Voting.{heard}
 use Rattle.lease_runs.proofs.candidate.LeaseCandidate.hear.Goals as goal
 
 pub returns-then-is_taken-clause-hears : goal.returns-then-is_taken-clause-hears
