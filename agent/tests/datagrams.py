@@ -17,7 +17,7 @@ def refused(agents, i):
     """How many datagrams were refused, by the node or by the agent."""
     total = 0.0
     for line in page(agents, i, "/metrics")[1].splitlines():
-        if line.startswith("dumgerok_refused_total") or line.startswith('dumgerok_dropped_total{reason="Forged"}'):
+        if line.startswith(("dumgerok_refused_total", 'dumgerok_dropped_total{reason="Forged"}', 'dumgerok_dropped_total{reason="Version"}')):
             total += float(line.rsplit(" ", 1)[1])
     return total
 
