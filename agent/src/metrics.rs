@@ -4,7 +4,10 @@ use crate::net::Peers;
 use crate::node::Phase;
 use crate::view::View;
 use prometheus::{Encoder, Gauge, IntCounter, IntCounterVec, IntGauge, IntGaugeVec, Opts, Registry, TextEncoder};
+use std::collections::HashMap;
 use std::time::Instant;
+
+const VERSION: &str = env!("CARGO_PKG_VERSION");
 
 /// The kinds of messages, by their number.
 const KINDS: [&str; 12] = [
@@ -77,6 +80,8 @@ pub struct Metrics {
     pub clients: IntGauge,
     pub waiting: IntGauge,
     pub recorded: IntGauge,
+    pub record_wanted: IntGauge,
+    pub unheld: Gauge,
     group_age: Gauge,
 }
 
@@ -96,6 +101,12 @@ impl Maker {
         Ok(made)
     }
 
+    fn seconds(&self, name: &str, help: &str) -> prometheus::Result<Gauge> {
+        let made = Gauge::with_opts(Opts::new(format!("dumgerok_{name}_seconds"), help))?;
+        self.0.register(Box::new(made.clone()))?;
+        Ok(made)
+    }
+
     fn gauge(&self, name: &str, help: &str) -> prometheus::Result<IntGauge> {
         let made = IntGauge::with_opts(Opts::new(format!("dumgerok_{name}"), help))?;
         self.0.register(Box::new(made.clone()))?;
@@ -104,12 +115,16 @@ impl Maker {
 }
 
 impl Metrics {
-    pub fn new() -> prometheus::Result<Metrics> {
-        let maker = Maker(Registry::new());
+    /// Those of an agent of this cluster, whose keys have these names. All have the cluster as a label, so that one Prometheus tells two of them apart.
+    pub fn new(cluster: &str, keys: &[String]) -> prometheus::Result<Metrics> {
+        let of_cluster = HashMap::from([("cluster".to_string(), cluster.to_string())]);
+        let maker = Maker(Registry::new_custom(None, Some(of_cluster))?);
         let groups = IntCounter::new("dumgerok_groups_total", "Changes of the node's group or phase.")?;
-        let group_age = Gauge::new("dumgerok_group_age_seconds", "Since the node's group last changed.")?;
         maker.0.register(Box::new(groups.clone()))?;
-        maker.0.register(Box::new(group_age.clone()))?;
+        maker.gauges("build_info", "1, with the version of the agent.", "version")?.with_label_values(&[VERSION]).set(1);
+        maker.gauge("sealed", "Whether messages are sealed by a key.")?.set(i64::from(!keys.is_empty()));
+        let named = maker.gauges("key", "1 for the name of the key that seals, 2 for one that only opens.", "name")?;
+        (1..).zip(keys).for_each(|(place, name)| named.with_label_values(&[name]).set(place));
         let metrics = Metrics {
             messages_in: maker.counters("messages_in", "Messages that the node took, by kind.", "kind")?,
             messages_out: maker.counters("messages_out", "Messages that the node sent, by kind.", "kind")?,
@@ -135,8 +150,10 @@ impl Metrics {
             clients: maker.gauge("clients", "Local clients.")?,
             waiting: maker.gauge("clients_waiting", "Requests of clients that wait for a job.")?,
             recorded: maker.gauge("recorded", "Whether the node is recorded.")?,
+            record_wanted: maker.gauge("record_wanted", "Whether it is to be recorded.")?,
+            unheld: maker.seconds("jobs_unheld", "For how long a job in hand has had nobody who works on it, at most.")?,
+            group_age: maker.seconds("group_age", "Since the node's group last changed.")?,
             groups,
-            group_age,
             registry: maker.0,
         };
         metrics.begin_at_zero();

@@ -68,8 +68,13 @@ def page(agents, i, path):
         time.sleep(0.05)
 
 
+def told(agents, i):
+    """What Prometheus is told, without the label that all of it has."""
+    return re.sub(r'\{cluster="[^"]*"\}|,cluster="[^"]*"', "", page(agents, i, "/metrics")[1])
+
+
 def metric(agents, i, name):
-    text = page(agents, i, "/metrics")[1]
+    text = told(agents, i)
     return sum(float(line.rsplit(" ", 1)[1]) for line in text.splitlines() if line.startswith(("dumgerok_" + name + " ", "dumgerok_" + name + "{")))
 
 
@@ -131,10 +136,11 @@ def metrics(agents, check):
     for i, rows in ((lead, ['phase{phase="Normal"} 1', 'phase{phase="Down"} 0', "coordinator 1", "majority 1", "members 3", "nodes 3", "up 1",
                             'commands_durable_total{command="put"} 1', 'commands_durable_total{command="done"} 1', 'commands_durable_total{command="group"} ',
                             'messages_in_total{kind="Accept"} ', 'messages_out_total{kind="Invitation"} ', 'messages_out_total{kind="Ready"} ', "jobs_pending 0",
+                            'build_info{version="', "sealed 0", "record_wanted 1", "recorded 1", "jobs_unheld_seconds 0",
                             'jobs_total{event="kept"} 1', 'jobs_total{event="gone"} 1', "group_age_seconds ", "groups_total "]),
                     (other, ["coordinator 0", 'messages_in_total{kind="Ready"} ', 'refused_total{reason="UnknownJob"} 1', "jobs_in_hand 0", "jobs_held 0",
                              'jobs_total{event="taken"} ', 'commands_durable_total{command="group"} '])):
-        text = page(agents, i, "/metrics")[1]
+        text = told(agents, i)
         missing = [row for row in rows if not any(line.startswith("dumgerok_" + row) for line in text.splitlines())]
         check("node %d's metrics" % i, not missing, (missing, text))
 

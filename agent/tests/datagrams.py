@@ -2,7 +2,7 @@
 import json, os, random, shutil, signal, socket, time
 
 from bed import HERE, PATIENCE, free_port
-from cluster import judged, metric, page
+from cluster import judged, metric, told
 from machine import compiled
 
 # Recorded datagrams come for so many seconds, and so many at least.
@@ -16,7 +16,7 @@ def random_bytes(chance, least, most):
 def refused(agents, i):
     """How many datagrams were refused, by the node or by the agent."""
     total = 0.0
-    for line in page(agents, i, "/metrics")[1].splitlines():
+    for line in told(agents, i).splitlines():
         if line.startswith(("dumgerok_refused_total", 'dumgerok_dropped_total{reason="Forged"}', 'dumgerok_dropped_total{reason="Version"}')):
             total += float(line.rsplit(" ", 1)[1])
     return total

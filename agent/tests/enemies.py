@@ -153,6 +153,7 @@ def too_low(bed):
     told = agents.status(0)["keys"]
     check("a key has a name by which it is told from others, the same at each machine", re.fullmatch("[0-9a-f]{8}", told[0]) and agents.status(1)["keys"] == told and len(told) == 1, told)
     check("dumgerokctl shows it", re.search("^keys +%s$" % told[0], agents.ctl(0, "status").stdout, re.M))
+    check("so do the metrics, and each has its cluster", 'dumgerok_key{name="%s",cluster="bed"} 1\n' % told[0] in page(agents, 0, "/metrics")[1] and metric(agents, 0, "sealed") == 1)
     for i in range(2):
         agents.relay.send(i, b"\xd6\x02{}")
         agents.until(lambda: metric(agents, i, 'dropped_total{reason="Version"}') == 1)

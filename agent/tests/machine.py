@@ -483,6 +483,8 @@ def full_record(bed):
     is_told = lambda: ("the record ends: No space left" in open(agents.path(0, "log")).read() and metric(agents, 0, "recorded") == 0 and
                        re.search("^recorded +no$", agents.ctl(0, "status").stdout, re.M))
     check("the log, the metrics and dumgerokctl say that the record ended", agents.until(is_told) >= 0)
+    check("though it was wanted, by which an alarm knows", metric(agents, 0, "record_wanted") == 1)
+    check("a record that nobody wants any more is none to be missed", agents.ask(0, do="record", on=False)["ok"] and metric(agents, 0, "record_wanted") == 0)
     # the folder as the agent sees it
     done = agents.ctl(0, "judge", "--program", bed.program, "/proc/%d/root%s/record.1" % (agents.processes[0].pid, folder))
     check("and it isn't judged", done.returncode == 2 and "the node ran on" in done.stderr, done)

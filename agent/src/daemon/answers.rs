@@ -45,7 +45,7 @@ impl Daemon {
         match line {
             Line::Send { to, hex } => self.carry(*to, hex, now),
             Line::Group(group) => self.enter(group.clone(), now),
-            Line::Take(job) => self.take_job(job.clone()),
+            Line::Take(job) => self.take_job(job.clone(), now),
             Line::Drop(key) => self.drop_job(*key),
             Line::Gone { id } => {
                 self.metrics.jobs.with_label_values(&["gone"]).inc();
@@ -86,11 +86,11 @@ impl Daemon {
         self.tell(Reply::event("group").and(status));
     }
 
-    fn take_job(&mut self, job: Job) {
+    fn take_job(&mut self, job: Job, now: Instant) {
         self.metrics.jobs.with_label_values(&["taken"]).inc();
         let event = Reply::event("take").and(GivenJob::of(&job));
         let (key, queue) = (job.key, job.queue);
-        self.hand.take(job);
+        self.hand.take(job, now);
         self.tell(event);
         self.offer(key, queue);
     }

@@ -103,6 +103,8 @@ pub struct Daemon {
     signals: Signals,
     http: Option<Server>,
     pending_jobs: PendingJobs,
+    /// Whether the node is to be recorded, by the configuration or since somebody asked.
+    wants_record: bool,
     /// Listings of jobs that the node is asked for.
     listings: usize,
 }
@@ -137,13 +139,14 @@ impl Daemon {
             clients,
             hand: Hand::default(),
             changes: Changes::new(life),
-            seal,
+            wants_record: config.record.is_some(),
             inbox: Inbox::new(life, nodes),
             outbox: Outbox::new(life, nodes, round_trip),
             view: View::new(&config, now),
             fill: Fill::of(node_file::slots(&config.file)),
-            metrics: Metrics::new()?,
+            metrics: Metrics::new(&config.cluster, &seal.fingerprints)?,
             notify: Notify::of_environment()?,
+            seal,
             signals,
             http,
             pending_jobs: PendingJobs::default(),
@@ -252,7 +255,7 @@ impl Daemon {
         self.send_on(now);
         self.clients.accept(self.poll.registry(), now, || self.hand.holders());
         self.obey(now);
-        self.give_up_gone();
+        self.give_up_gone(now);
         self.try_again(now);
         self.look_up(now);
         self.serve_pages(now);

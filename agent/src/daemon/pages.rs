@@ -45,7 +45,9 @@ impl Daemon {
                 self.metrics.held.set(self.hand.count_held() as i64);
                 self.metrics.clients.set(self.clients.count() as i64);
                 self.metrics.waiting.set(self.clients.waiting_count() as i64);
+                self.metrics.unheld.set(self.hand.unheld(now).as_secs_f64());
                 self.metrics.recorded.set(i64::from(self.node.is_recorded()));
+                self.metrics.record_wanted.set(i64::from(self.wants_record));
                 self.metrics.cut_off.set(self.clients.cut_off as i64);
                 self.link.drops().into_iter().for_each(|drops| self.metrics.count_kernel_drops(drops));
                 let content_type = "text/plain; version=0.0.4";

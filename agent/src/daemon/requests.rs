@@ -109,6 +109,7 @@ impl Daemon {
     /// Begins or ends the record, at its path or beside the node's file.
     fn record(&mut self, on: bool) -> Reply {
         if on == self.node.is_recorded() {
+            self.wants_record = on;
             return Reply::ok();
         }
         // the whole name, by which nodes whose files are in one folder have records of their own
@@ -118,11 +119,13 @@ impl Daemon {
         let path = self.config.record.as_ref().unwrap_or(&beside);
         if !on {
             self.node.end_record();
+            self.wants_record = false;
             return Reply::ok().with("record", path);
         }
         match Record::open(path, &self.config) {
             Ok(record) => {
                 self.node.begin_record(record);
+                self.wants_record = true;
                 Reply::ok().with("record", path)
             }
             Err(why) => Reply::refused("NoRecord").with("why", format!("{}: {why}", path.display())),
@@ -193,7 +196,7 @@ impl Daemon {
     }
 
     /// Jobs of clients that ended are handed to others; what they submitted isn't tried again.
-    pub(super) fn give_up_gone(&mut self) {
+    pub(super) fn give_up_gone(&mut self, now: Instant) {
         loop {
             let gone = self.clients.take_gone();
             if gone.is_empty() {
@@ -201,7 +204,7 @@ impl Daemon {
             }
             let mut has_freed = false;
             for client in gone {
-                has_freed |= self.hand.give_up(client);
+                has_freed |= self.hand.give_up(client, now);
                 self.outbox.give_up(client);
             }
             if has_freed {

@@ -4,6 +4,7 @@ use super::ClientId;
 use crate::node::{Job, JobKey};
 use serde::Serialize;
 use std::collections::{BTreeMap, BTreeSet};
+use std::time::{Duration, Instant};
 
 /// A job as a client is given it.
 #[derive(Clone, Debug, PartialEq, Eq, Serialize)]
@@ -25,14 +26,22 @@ impl Given {
 struct InHand {
     job: Job,
     holder: Option<ClientId>,
+    /// Since when nobody works on it, where that is so.
+    free: Instant,
 }
 
 #[derive(Default)]
 pub struct Hand(BTreeMap<JobKey, InHand>);
 
 impl Hand {
-    pub fn take(&mut self, job: Job) {
-        self.0.insert(job.key, InHand { job, holder: None });
+    pub fn take(&mut self, job: Job, now: Instant) {
+        self.0.insert(job.key, InHand { job, holder: None, free: now });
+    }
+
+    /// For how long a job has had nobody who works on it, at most.
+    pub fn unheld(&self, now: Instant) -> Duration {
+        let free = self.0.values().filter(|in_hand| in_hand.holder.is_none()).map(|in_hand| in_hand.free).min();
+        free.map_or(Duration::ZERO, |free| now.saturating_duration_since(free))
     }
 
     /// A job left the hand; the client that works on it, if any.
@@ -72,10 +81,10 @@ impl Hand {
     }
 
     /// A client ended: what it worked on may be given to another. Whether there was any.
-    pub fn give_up(&mut self, client: ClientId) -> bool {
+    pub fn give_up(&mut self, client: ClientId, now: Instant) -> bool {
         let mut has_freed = false;
         for in_hand in self.0.values_mut().filter(|in_hand| in_hand.holder == Some(client)) {
-            (in_hand.holder, has_freed) = (None, true);
+            (in_hand.holder, in_hand.free, has_freed) = (None, now, true);
         }
         has_freed
     }
@@ -92,14 +101,18 @@ mod tests {
 
     #[test]
     fn each_job_has_one_holder_at_a_time() {
-        let mut hand = Hand::default();
-        [job(0, 1, 0), job(1, 1, 9), job(2, 2, 0)].into_iter().for_each(|job| hand.take(job));
+        let (mut hand, now) = (Hand::default(), Instant::now());
+        let after = |seconds| now + Duration::from_secs(seconds);
+        assert_eq!(hand.unheld(now), Duration::ZERO);
+        [job(0, 1, 0), job(1, 1, 9), job(2, 2, 0)].into_iter().for_each(|job| hand.take(job, now));
         let ids = |given: Option<Given>| given.map(|given| given.id);
         assert_eq!(ids(hand.give(7, None)), Some(1), "the greatest priority first");
         assert_eq!(ids(hand.give(7, Some(2))), Some(2));
         assert_eq!(ids(hand.give(8, None)), Some(0));
         assert_eq!(ids(hand.give(9, None)), None);
-        assert!(hand.give_up(7) && !hand.give_up(7));
+        assert_eq!(hand.unheld(after(9)), Duration::ZERO, "each is held");
+        assert!(hand.give_up(7, after(5)) && !hand.give_up(7, after(6)));
+        assert_eq!(hand.unheld(after(9)), Duration::from_secs(4));
         assert_eq!(ids(hand.give(9, Some(2))), Some(2), "handed to another where its holder ended");
         assert_eq!(hand.leave(JobKey { origin: 0, id: 0 }), Some(8));
         assert_eq!(hand.leave(JobKey { origin: 0, id: 0 }), None);
