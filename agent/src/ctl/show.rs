@@ -85,13 +85,20 @@ fn heard(member: &Value, coordinator: Option<&Value>) -> String {
     }
 }
 
-/// A payload as text where it can be read as such.
+/// A payload as text where it can be read as such, and can't be taken for digits.
 pub fn payload(digits: &str) -> String {
     let text = hex::decode(digits).ok().and_then(|bytes| String::from_utf8(bytes).ok());
     match text {
-        Some(text) if !text.chars().any(char::is_control) => text,
+        Some(text) if !text.starts_with("0x") && !text.chars().any(is_unseen) => text,
         _ => format!("0x{digits}"),
     }
+}
+
+/// Whether a terminal shows nothing for it, or something else than what stands there: controls, and those of Unicode that turn the direction of a line, join or
+/// part words, or name tags.
+fn is_unseen(letter: char) -> bool {
+    let is_format = matches!(letter, '\u{ad}' | '\u{61c}' | '\u{180e}' | '\u{200b}'..='\u{200f}' | '\u{2028}'..='\u{202e}');
+    letter.is_control() || is_format || matches!(letter, '\u{2060}'..='\u{206f}' | '\u{feff}' | '\u{fff9}'..='\u{fffb}' | '\u{e0000}'..='\u{e007f}')
 }
 
 pub fn jobs(reply: &Value) -> String {
@@ -175,6 +182,9 @@ mod tests {
         let change = json!({"event": "drop", "origin": 1, "id": 7, "change": 12});
         assert_eq!(event(&change), "    12  drop 1:7\n");
         assert_eq!((payload("ff00"), payload("")), ("0xff00".to_string(), String::new()));
+        for (text, is_shown) in [("größer 0x", true), ("0xff", false), ("a\u{202e}b", false), ("a\u{200d}b", false), ("a\nb", false)] {
+            assert_eq!(payload(&hex::encode(text)) == text, is_shown, "{text:?}");
+        }
         assert_eq!(
             [json!(400), json!(90_000), json!(700_000), json!(null)].map(|ms| ago(&ms)),
             ["0.4 s", "90 s", "11 min", "-"]
