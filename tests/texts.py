@@ -5,7 +5,7 @@
 
 Of each row the whole text on standard output and the status are compared, and what stands on standard error: a reason where the row has one, else
 nothing. Then streams that fail half way. The last line counts the checks."""
-import os, pty, re, resource, shutil, signal, subprocess, sys, tempfile, tty
+import os, pty, re, resource, signal, subprocess, sys, tempfile, tty
 
 HERE = os.path.dirname(os.path.abspath(__file__))
 
@@ -404,24 +404,6 @@ def try_failing_output(rows, folder):
     rows.mark("" if is_right else f"status {found.returncode}, {text!r}, {found.stderr!r}", "a write that fails")
 
 
-def try_endless_input(rows, folder):
-    """An input without an end, a line feed at each read: 16,777,216 reads are made, and it can't be read."""
-    compiler = shutil.which("cc")
-    if compiler is None:
-        print("texts.py: there is no C compiler cc, so no input was without an end")
-        return
-    library, noted = os.path.join(folder, "endless.so"), os.path.join(folder, "reads")
-    subprocess.run([compiler, "-shared", "-fPIC", "-O1", "-o", library, os.path.join(HERE, "shim", "endless.c")], check=True)
-    with open(noted, "wb") as file:
-        file.truncate(8)
-    found = subprocess.run([rows.program, "show"], stdin=subprocess.DEVNULL, capture_output=True, env={**os.environ, "LD_PRELOAD": library, "NOTED": noted}, timeout=600)
-    with open(noted, "rb") as file:
-        reads = int.from_bytes(file.read(), "little")
-    said = b"invite: can't read: the input has no end within 16777216 reads\n"
-    is_right = (found.returncode, found.stdout, found.stderr, reads) == (1, b"", said, 16777216)
-    rows.mark("" if is_right else f"status {found.returncode}, {found.stdout!r:.100}, {found.stderr!r}, {reads} reads", "an input without an end")
-
-
 def main():
     rows = Rows(os.path.abspath(sys.argv[1]))
     try_messages(rows)
@@ -437,7 +419,6 @@ def main():
     with tempfile.TemporaryDirectory() as folder:
         try_stores(rows, folder)
         try_failing_output(rows, folder)
-        try_endless_input(rows, folder)
     print(f"{rows.passed} passed, {rows.failed} failed")
     return 0 if rows.failed == 0 and rows.passed > 0 else 1
 
