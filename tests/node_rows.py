@@ -261,6 +261,21 @@ def try_greatest(tried):
         tried.same(file.read(), before, "the file of the greatest count")
 
 
+def try_no_room(tried):
+    """A call of a submission for which there is no room: the node ends as one that may be started again."""
+    library, noted, said = tried.library("faults"), os.path.join(tried.folder, "noted"), FAILED[2][0]
+    for error in (errno.ENOSPC, errno.EDQUOT):
+        found = []
+        for at in range(1, 100):
+            env = {"LD_PRELOAD": library, "FAULT_FILE": tried.path, "FAULT_AT": str(at), "FAULT": str(error), "FAULT_COUNT": noted}
+            tried.fresh()
+            text, status = tried.serve([FAILING.encode()], **env)
+            found += [status] if text == said else []
+            if text == UNFAILED:
+                break
+        tried.same(found, [8] * FAILED[2][1], ("no room", errno.errorcode[error]))
+
+
 def try_failing(tried):
     """Each call on the file fails in turn. Then the process ends; another one finds what was answered, and of the last line all or nothing."""
     library, noted = tried.library("faults"), os.path.join(tried.folder, "noted")
@@ -329,6 +344,7 @@ def main():
         try_greatest(tried)
         try_disks_in_memory(tried)
         try_failing(tried)
+        try_no_room(tried)
         try_own_syncs(tried)
     print(f"{tried.passed} passed, {tried.failed} failed")
     return 0 if tried.failed == 0 and tried.passed > 0 else 1

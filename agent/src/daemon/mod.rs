@@ -56,7 +56,7 @@ const WAKER: Token = Token(5);
 const FIRST_CLIENT: usize = 16;
 
 /// The statuses by which a node says what failed.
-const NODE_FAILED: RangeInclusive<u8> = 1..=7;
+const NODE_FAILED: RangeInclusive<u8> = 1..=8;
 
 /// The status of an agent whose node can't mount its file, and of one that lacks memory for it.
 const FILE_DAMAGED: u8 = 5;
