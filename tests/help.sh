@@ -1,7 +1,7 @@
 #!/usr/bin/env bash
 # What the program says of itself stands in docs/help, from where the script `invite` prints it while the program isn't built: _none.txt (no word), _version.txt,
 # _help.txt, and COMMAND.txt of each command. Called with the program, as in: tests/help.sh crates/invite/out/invite. Each file has what the program prints, no
-# command is without one, and the script prints the same and ends so, within a second, where there is neither a kit nor a program. Its last line counts the checks.
+# command is without one, and the script prints the same and ends so, in a second of a processor at most, where there is neither a kit nor a program. Its last line counts the checks.
 # `help.sh --write PROGRAM` writes the files.
 set -u
 top=$(readlink -f "$(dirname "${BASH_SOURCE[0]}")/..")
@@ -40,18 +40,14 @@ for tool in bash cat dirname find readlink; do ln -s "$(type -P "$tool")" "$room
 
 # says TEXT WORDS..: the file has what the program prints of these words, and the script prints that, and ends as the program
 says() {
-    local text=$1 problem='' status begun again
+    local text=$1 problem='' status TIMEFORMAT='%U %S'
     shift
     "$program" "$@" </dev/null >"$room/want" 2>"$room/err"
     status=$?
     [ ! -s "$room/err" ] || problem='the program writes to standard error'
-    for again in 1 2 0; do # on a busy machine a second may be too short: then it is tried again, at most twice
-        begun=${EPOCHREALTIME/./}
-        env -i PATH="$room/bin" "$room/repo/invite" "$@" </dev/null >"$room/out" 2>"$room/err"
-        [ "$?,$status" = "$status,$status" ] || problem="the script doesn't end with status $status"
-        [ $((${EPOCHREALTIME/./} - begun)) -ge 1000000 ] || break
-        [ "$again" -gt 0 ] && echo "played again: invite $*" || problem='the script takes more than a second'
-    done
+    { time env -i PATH="$room/bin" "$room/repo/invite" "$@" </dev/null >"$room/out" 2>"$room/err"; } 2>"$room/took"
+    [ "$?,$status" = "$status,$status" ] || problem="the script doesn't end with status $status"
+    awk '{ exit $1 + $2 >= 1 }' "$room/took" || problem='the script takes more than a second of a processor'
     cmp -s "$room/want" "$room/out" || problem='the script prints something else'
     [ "$text" = _none ] || [ ! -s "$room/err" ] || problem="the script says $(head -n 1 "$room/err")"
     cmp -s "$room/want" "$top/docs/help/$text.txt" || problem="docs/help/$text.txt isn't what the program prints (tests/help.sh --write PROGRAM)"

@@ -207,7 +207,7 @@ has 'without a proof: what rt ran it on' "$room/traced" '{"nodes":1,"histories":
 has 'without a proof: what is said' "$room/err" 'invite: building the program without proofs, which takes a minute or two' 'invite: the program is built' \
     'invite: nothing is proved of this run: checks at run time stand in place of the proofs'
 call ./invite --current
-has 'it is the one that is there' "$room/out" "$room/repo/crates/invite/out/unproved"
+has 'it is the one that is there, and has its name' "$room/out" "$room/repo/crates/invite/out/unproved/invite"
 NAP=60 call timeout 20 ./invite --unproved answer 1 3
 has 'the second call builds nothing' "$room/log"
 has 'the second call prints' "$room/out" 'unproved answer 1 3' input
@@ -241,7 +241,7 @@ for name in try program status none; do
     expect "without a proof, refused: $name" 1
     has "without a proof, refused: $name: what is printed" "$room/out"
     has "without a proof, refused: $name: what is said" <(tail -n 1 "$room/err") 'invite: the program was not built'
-    has "without a proof, refused: $name: what is kept" <(find "$room/repo/crates/invite" -name 'unproved*')
+    has "without a proof, refused: $name: what is kept" <(find "$room/repo/crates/invite/out" -type f 2>/dev/null)
 done
 anew
 REFUSED=try call ./invite --unproved answer
