@@ -18,8 +18,8 @@ returns-in-Some c =
     let is : IsOrderOf logs order = subst (λ (o : Option Order). IfSome o (IsOrderOf logs)) c.in-Some.is c.in_ok-order.ensures.some in
     IfOk-weaker c.end_ordered.result _ _ (λ text ended. inl (record { order = order; is_order = is; is_text = ended ∙ ordered_whole hs (ordered_by order) c.len-nodes.result c.in_ok-text.text.items many c.in_ok-text.ensures })) c.end_ordered.ensures
 
-pub returns : goal.returns
-returns c =
+pub returns-in-None : goal.returns-in-None
+returns-in-None c =
     let logs = c.args.run.histories.items in
     let hs = run_claims logs in
     let many : c.len-nodes.result ≡ length hs = c.len-nodes.ensures ∙ c.args.run.histories.ok.0 ∙ sym (length-map logs log_claims) in
