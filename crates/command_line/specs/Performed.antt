@@ -6,7 +6,7 @@ use Rattle.invite_console.specs.Answer.{answer_text}
 use Rattle.invite_console.specs.Show.{show_text}
 use Rattle.invite_console.specs.Sim.{IsSimPrintout}
 use Rattle.invite_console.specs.Reasons.{answer_flaw, schedule_flaw, show_flaw}
-use Rattle.store_console.specs.Session.{IsSession, IsSessionWhy}
+use Rattle.store_console.specs.Session.{IsSession, IsSessionWhy, IsTold as IsSessionTold}
 use Rattle.trace_draw.specs.Ongoing.{IsJudgedAt}
 use Rattle.trace_draw.specs.Reported.{IsTold}
 use Rattle.invite_console.specs.Recording.{IsRecording}
@@ -37,3 +37,8 @@ IsWhyOf (Trace stage) = IsTold
 IsWhyOf Record = IsWhy schedule_flaw
 IsWhyOf (Threads kind) = IsWhy plans_flaw
 IsWhyOf (Draw format) = IsTold
+
+-- what standard error says of the requests of a store belongs to what was printed
+abbrev pub IsSaidOf : Batch → Option (List ℕ) → Option (List ℕ) → Option (List ℕ) → ExitKind → List ℕ → Type 0
+IsSaidOf (Store path) input old new ending why = IsSessionTold input old new ending why
+IsSaidOf batch input old new ending why = Unit {0}

@@ -1,7 +1,7 @@
 // The commands that read their whole input first.
 ghost use Rattle.std.specs.Prelude.{◌≡◌, ◌≤◌, ◌+◌};
 ghost use Rattle.console_text.specs.Ends.{Prints, status_of};
-ghost use Rattle.command_line.specs.Performed.{IsOutcomeOf, IsWhyOf};
+ghost use Rattle.command_line.specs.Performed.{IsOutcomeOf, IsSaidOf, IsWhyOf};
 
 use crate::invocation::Batch;
 use console_text::{Ended, Source};
@@ -29,6 +29,7 @@ pub fn perform<T: Threads + Wait + Sync, R: Read, W: Write>(
 ) -> Performed
     ensures prints { Prints (IsOutcomeOf batch.now) (R.remaining input.old.reader) (W.contents output.old) (W.contents output.new) result.ended.ending }
     ensures why { IsWhyOf batch.now (R.remaining input.old.reader) result.ended.ending result.ended.why.items }
+    ensures said { IsSaidOf batch.now (R.remaining input.old.reader) (W.contents output.old) (W.contents output.new) result.ended.ending result.ended.why.items }
     ensures status { result.status ≡ status_of result.ended.ending }
     ensures reads { input.old.left ≤ input.new.left + 16777216 }
 {
