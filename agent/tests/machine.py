@@ -378,10 +378,11 @@ def failed_device(bed):
     check = bed.tally.check
     if not shutil.which("cc"):
         return bed.tally.left_out("a device that fails, a slow sync", "there is no C compiler")
-    agents = bed.agents("device", count=1)
+    slots = 64
+    agents = bed.agents("device", count=1, slots=slots)
     library = compiled(bed, "faults", os.path.join(ROOT, "tests/shim/faults.c"))
-    # the calls of a start are some 20; later ones are those of a submission
-    faulty = wrapped(agents, "faulty", LD_PRELOAD=library, FAULT_FILE=agents.path(0, "node"), FAULT=5, FAULT_AT=60)
+    # the calls of a start are some 40, and two for each slot of the area that it writes anew; later ones are those of a submission
+    faulty = wrapped(agents, "faulty", LD_PRELOAD=library, FAULT_FILE=agents.path(0, "node"), FAULT=5, FAULT_AT=80 + 2 * slots)
     agents.write(0, program=faulty)
     agents.start(0)
     agents.one_group()
