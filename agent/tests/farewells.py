@@ -17,7 +17,9 @@ def planned(bed):
                 lead = agents.status(0)["coordinator"]
                 gone = lead if kind == "coordinator" else next(i for i in range(3) if i != lead)
                 rest = [i for i in range(3) if i != gone]
-                told = [metric(agents, i, 'farewells_total{event="taken"}') for i in rest]
+                # two members hear each other only while a group is made, so one of them may not know the other's stamps
+                partners = rest if kind == "coordinator" else [lead]
+                told = [metric(agents, i, 'farewells_total{event="taken"}') for i in partners]
                 # nobody waits for a check that is due by chance
                 time.sleep(random.Random(bed.seed + turn).uniform(0.5, 1.5))
                 node, begin = agents.node(gone), time.monotonic()
@@ -26,8 +28,10 @@ def planned(bed):
                 times.setdefault((kind, way), []).append(time.monotonic() - begin)
                 agents.processes[gone].wait()
                 agents.until(lambda: not is_there(node))
-                now = [metric(agents, i, 'farewells_total{event="taken"}') for i in rest]
-                tally.check("%s, %s: the others are told" % (kind, way), all(a - b == 1 for a, b in zip(now, told)), (now, told))
+                taken = lambda: [metric(agents, i, 'farewells_total{event="taken"}') for i in partners]
+                # they may be a group by what one of them was told
+                agents.until(lambda: all(a > b for a, b in zip(taken(), told)))
+                tally.check("%s, %s: those who talked with it are told, once" % (kind, way), all(a - b == 1 for a, b in zip(taken(), told)), (kind, way))
                 tally.timed("and say why it is missing", any(said(i, "node %d is no member any more" % gone) and said(i, "and said that it ends") for i in rest))
                 agents.start(gone)
                 agents.one_group()
