@@ -92,6 +92,27 @@ impl LeaseCandidate {
         }
     }
 
+    /// Who it is.
+    pub fn client(&self) -> ClientId
+        ensures { result ≡ self.now.client }
+    {
+        self.client
+    }
+
+    /// No epoch up to this one is relied on any more.
+    pub fn given_up(&self) -> u64
+        ensures { result ≡ self.now.given_up }
+    {
+        self.given_up
+    }
+
+    /// The last request, where it isn't given up.
+    pub fn asked(&self) -> Option<Request>
+        ensures { result ≡ self.now.asked }
+    {
+        self.asked
+    }
+
     /// Whether the client relies by its last request from now on.
     fn is_taken(&self, now: u64, request: &Request) -> bool
         ensures { result ≡ takes self.now.voters self.now.relies_for now self.now.votes request.now self.now.lease }

@@ -17,20 +17,20 @@ pub struct Request {
     pub sent: u64,
 }
 
-/// What a client keeps of one name, among so many voters, and for how long it relies on what it holds.
+/// What a client keeps of one name, among so many voters, and for how long it relies on what it holds. Its methods alone change it.
 #[derive(Drop)]
 pub struct LeaseCandidate {
-    pub client: ClientId,
-    pub voters: u8,
-    pub relies_for: u64,
+    pub(crate) client: ClientId,
+    pub(crate) voters: u8,
+    pub(crate) relies_for: u64,
     /// The number of the last request.
-    pub number: u64,
+    pub(crate) number: u64,
     /// No epoch up to this one is relied on any more.
-    pub given_up: u64,
+    pub(crate) given_up: u64,
     /// The last request, where it isn't given up, and who granted it.
-    pub asked: Option<Request>,
-    pub votes: [bool; 128],
+    pub(crate) asked: Option<Request>,
+    pub(crate) votes: [bool; 128],
     /// The request by which the client relies, until its time is over.
-    pub lease: Option<Request>,
+    pub(crate) lease: Option<Request>,
     ghost most: { voters ≤ 128 },
 }
