@@ -1,25 +1,24 @@
 -- What the client's code does, as what a client may do.
-use Rattle.std.specs.Prelude.{ℕ, ◌≡◌, ◌+◌, ◌<◌, ◌==◌, ◌&&◌, not, ltb, leb, get_or, if◌then◌else◌, Bool, false, List, Option, Some, None}
+use Rattle.std.specs.Prelude.{ℕ, ◌≡◌, ◌<◌, get_or, Bool, false, List, Option, option_map}
 use Rattle.lease_runs.specs.declared.client_id.ClientId.{ClientId}
 use Rattle.lease_runs.specs.declared.candidate.LeaseCandidate.{LeaseCandidate}
 use Rattle.lease_runs.specs.declared.candidate.Request.{Request}
 use Rattle.lease_runs.specs.Voter.{Client, Ask}
 use Rattle.lease_runs.specs.Run.{ClientEvent, hears}
-use Rattle.lease_runs.specs.Candidate.{Candidate, MayAct, after_act, is_most}
+use Rattle.lease_runs.specs.Candidate.{Candidate, MayAct, after_act, is_taken}
 use Rattle.lease_runs.specs.Code.{client_of}
 
--- the request, sent when the clock showed what is kept
-pub record IsSentAs (clock : ℕ → ℕ) (client : Client) (r : Request) (a : Ask) : Type 0 where
-  pub own : a.client ≡ client
-  pub number : a.number ≡ r.number
-  pub epoch : a.epoch ≡ r.epoch
-  pub sent : clock a.sent ≡ r.sent
+-- the code's request, with what its client's clock showed in place of the true time
+abbrev pub by_clock : Client → Request → Ask
+by_clock client r = record { client = client; number = r.number; epoch = r.epoch; sent = r.sent }
 
+-- the model's request, so
+abbrev pub shown : (ℕ → ℕ) → Ask → Ask
+shown clock a = record { client = a.client; number = a.number; epoch = a.epoch; sent = clock a.sent }
+
+-- the code keeps the request of the model
 abbrev pub IsSent : (ℕ → ℕ) → Client → Option Request → Option Ask → Type 0
-IsSent clock client None None = Unit {0}
-IsSent clock client None (Some a) = ⊥
-IsSent clock client (Some r) None = ⊥
-IsSent clock client (Some r) (Some a) = IsSentAs clock client r a
+IsSent clock client r a = option_map (shown clock) a ≡ option_map (by_clock client) r
 
 -- the client of the model, by what the code keeps
 pub record Shows (clock : ℕ → ℕ) (c : LeaseCandidate) (v : Candidate) : Type 0 where
@@ -43,15 +42,11 @@ IsActed old new now what = (clock : ℕ → ℕ) (at : ℕ) (v : Candidate) → 
 abbrev pub IsHeard : LeaseCandidate → LeaseCandidate → ℕ → ℕ → ℕ → Type 0
 IsHeard old new now voter number = (ask : Ask) → ask.client ≡ client_of old.client → ask.number ≡ number → IsActed old new now (λ at. hears voter ask)
 
-abbrev pub is_renewal_late : ℕ → ℕ → Request → Option Request → Bool
-is_renewal_late relies_for now request None = false
-is_renewal_late relies_for now request (Some lease) = (lease.epoch == request.epoch) && not (ltb now (lease.sent + relies_for))
+-- what the code keeps as its lease
+abbrev pub lease_by_clock : LeaseCandidate → Option Ask
+lease_by_clock c = option_map (by_clock (client_of c.client)) c.lease
 
-abbrev pub request_above : ℕ → Option Request → Option Request
-request_above epoch None = None
-request_above epoch (Some request) = if leb request.epoch epoch then None else Some request
-
--- the client relies by its last request from now on
-abbrev pub takes : ℕ → ℕ → ℕ → List Bool → Request → Option Request → Bool
-takes voters relies_for now votes request lease =
-    is_most voters (λ voter. get_or votes voter false) && (ltb now (request.sent + relies_for) && not (is_renewal_late relies_for now request lease))
+-- by this request, with these votes, the client relies from now on, as the model judges where the clock is the time
+abbrev pub takes : LeaseCandidate → ℕ → List Bool → Request → Bool
+takes c now votes request =
+    is_taken c.voters c.relies_for (λ t. t) now (λ voter. get_or votes voter false) (by_clock (client_of c.client) request) (lease_by_clock c)

@@ -1,10 +1,11 @@
 //! One client's way to the lease of one name.
 
-ghost use Rattle.std.specs.Prelude.{ℕ, ◌≡◌, ◌⊎◌, ◌+◌, ◌-◌, ◌<◌, ◌≤◌, ◌^◌, IfSome, IsNone, Some, false, get_or, ltb};
-ghost use Rattle.lease_runs.specs.Candidate.{beginning, is_most};
-ghost use Rattle.lease_runs.specs.CandidateCode.{HasTerms, IsActed, IsHeard, Shows, is_renewal_late, request_above, takes};
-ghost use Rattle.lease_runs.specs.Code.{ask_of};
+ghost use Rattle.std.specs.Prelude.{ℕ, ◌≡◌, ◌⊎◌, ◌+◌, ◌-◌, ◌<◌, ◌≤◌, ◌^◌, IfSome, IsNone, Some, false, get_or, option_map};
+ghost use Rattle.lease_runs.specs.Candidate.{above as above_epoch, beginning, is_in_time, is_most, is_too_late};
+ghost use Rattle.lease_runs.specs.CandidateCode.{HasTerms, IsActed, IsHeard, Shows, by_clock, lease_by_clock, takes};
+ghost use Rattle.lease_runs.specs.Code.{ask_of, client_of};
 ghost use Rattle.lease_runs.specs.Run.{asks, stops};
+ghost use Rattle.lease_runs.specs.Voter.{Client};
 
 use crate::candidate::{LeaseCandidate, Request};
 use crate::client_id::ClientId;
@@ -115,7 +116,7 @@ impl LeaseCandidate {
 
     /// Whether the client relies by its last request from now on.
     fn is_taken(&self, now: u64, request: &Request) -> bool
-        ensures { result ≡ takes self.now.voters self.now.relies_for now self.now.votes request.now self.now.lease }
+        ensures { result ≡ takes self.now now self.now.votes request.now }
     {
         self.is_most() && self.is_in_time(now, request) && !self.is_too_late(now, request)
     }
@@ -135,14 +136,14 @@ impl LeaseCandidate {
 
     /// Whether less than the time for which a client relies passed since it sent the request.
     fn is_in_time(&self, now: u64, request: &Request) -> bool
-        ensures { result ≡ ltb now (request.now.sent + self.now.relies_for) }
+        ensures { result ≡ is_in_time self.now.relies_for (λ t. t) now (by_clock (client_of self.now.client) request.now) }
     {
         now < request.sent || now - request.sent < self.relies_for
     }
 
     /// Whether the request renews a lease that is over.
     fn is_too_late(&self, now: u64, request: &Request) -> bool
-        ensures { result ≡ is_renewal_late self.now.relies_for now request.now self.now.lease }
+        ensures { result ≡ is_too_late self.now.relies_for (λ t. t) now (by_clock (client_of self.now.client) request.now) (lease_by_clock self.now) }
     {
         match self.lease {
             Some(lease) => lease.epoch == request.epoch && !self.is_in_time(now, &lease),
@@ -159,7 +160,7 @@ fn no_votes() -> [bool; 128]
 
 /// A request of an epoch above this one.
 fn above(epoch: u64, request: Option<Request>) -> Option<Request>
-    ensures { result ≡ request_above epoch request }
+    ensures { (client : Client) → option_map (by_clock client) result ≡ above_epoch epoch (option_map (by_clock client) request) }
 {
     match request {
         Some(request) if request.epoch > epoch => Some(request),
