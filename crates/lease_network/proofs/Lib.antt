@@ -1,0 +1,5 @@
+mod Steps
+mod Voters
+mod Clients
+mod Runs
+mod Held

@@ -1,0 +1,43 @@
+-- The laws of leases of many names, over all steps of machines that vote and ask.
+use Rattle.std.specs.Prelude.{ℕ, ◌≡◌, ◌⊎◌, ◌+◌, ◌*◌, ◌<◌, ◌≤◌, leb, if◌then◌else◌, true, List, [], ◌∷◌, Some}
+use Rattle.lease_runs.specs.Voter.{Client, Ask}
+use Rattle.lease_runs.specs.Run.{KeepsRate}
+use Rattle.lease_runs.specs.Candidate.{is_in_time}
+use Rattle.lease_network.specs.Network.{Name, Step, Terms, AreSteps, machines}
+
+-- the steps up to this true time
+abbrev pub up_to : ℕ → List Step → List Step
+up_to time [] = []
+up_to time (s ∷ past) = if leb s.at time then s ∷ past else up_to time past
+
+-- At this true time the process holds the lease of the name by this request: it keeps it as its lease, and by its own clock less than its time passed since it
+-- sent it.
+pub record Holds (terms : Terms) (steps : List Step) (name : Name) (time : ℕ) (client : Client) (ask : Ask) : Type 0 where
+  pub running : (machines terms (up_to time steps) client.machine).process ≡ Some client
+  pub lease : ((machines terms (up_to time steps) client.machine).candidate name).lease ≡ Some ask
+  pub in_time : is_in_time terms.relies_for (terms.clock client.machine client.boot) time ask ≡ true
+
+-- the clocks keep to their bound, and a holder's time by the slowest is no longer than a voter's by the fastest
+pub record AreClocks (terms : Terms) : Type 0 where
+  pub rates : (machine boot : ℕ) → KeepsRate terms.grain (terms.clock machine boot)
+  pub margin : 33 * terms.relies_for + 2 * terms.grain ≤ 31 * terms.keeps
+
+-- With no word on clocks: a lease of a name that is asked for while or after another was held has a greater epoch, or is the same process's and of the same epoch.
+abbrev pub EpochsRise : Type 0
+EpochsRise = (terms : Terms) (steps : List Step) → AreSteps terms steps → (name : Name) (time_a time_b : ℕ) (c d : Client) (a b : Ask) →
+    Holds terms steps name time_a c a → Holds terms steps name time_b d b → time_a < b.sent → (a.epoch < b.epoch) ⊎ ((c ≡ d) × (a.epoch ≡ b.epoch))
+
+-- No two processes ever hold leases of one name and one epoch.
+abbrev pub OneEpoch : Type 0
+OneEpoch = (terms : Terms) (steps : List Step) → AreSteps terms steps → (name : Name) (time_a time_b : ℕ) (c d : Client) (a b : Ask) →
+    Holds terms steps name time_a c a → Holds terms steps name time_b d b → a.epoch ≡ b.epoch → c ≡ d
+
+-- At each moment of true time one process at most holds the lease of a name.
+abbrev pub OneHolder : Type 0
+OneHolder = (terms : Terms) (steps : List Step) → AreSteps terms steps → AreClocks terms → (name : Name) (time : ℕ) (c d : Client) (a b : Ask) →
+    Holds terms steps name time c a → Holds terms steps name time d b → c ≡ d
+
+-- Of two processes that hold the lease of a name one after the other the later has the greater epoch.
+abbrev pub EpochsFollow : Type 0
+EpochsFollow = (terms : Terms) (steps : List Step) → AreSteps terms steps → AreClocks terms → (name : Name) (time_a time_b : ℕ) (c d : Client) (a b : Ask) →
+    Holds terms steps name time_a c a → Holds terms steps name time_b d b → time_a ≤ time_b → (a.epoch < b.epoch) ⊎ (c ≡ d)
