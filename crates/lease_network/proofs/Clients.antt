@@ -7,7 +7,7 @@ use Rattle.lease_runs.specs.Lists.{IsAmong}
 use Rattle.lease_runs.specs.Voter.{Client, Ask}
 use Rattle.lease_runs.specs.Run.{ClientEvent, asks, hears, stops, Act}
 use Rattle.lease_runs.specs.Candidate.{ClientMoment, Candidate, beginning, voted, MayAct, after_act, FollowsFrom, left}
-use Rattle.lease_network.specs.Network.{Name, Message, request, grant, release, Event, begins, reserves, sends, takes, Step, Terms, Machine, MayDo, IsNext, AreSteps, ask_at, done, last_time, machines}
+use Rattle.lease_network.specs.Network.{Name, Message, request, grant, release, Event, begins, reserves, sends, takes, Step, Terms, Machine, MayDo, IsNext, AreSteps, ask_at, candidate_then, done, last_time, machines}
 use Rattle.lease_network.specs.Laws.{up_to}
 use Rattle.lease_network.specs.Projection.{act_at, acts, asked_for, client_events, same_client, when}
 use Rattle.lease_network.proofs.Steps.{asked_as, begins_or_runs, client_is, is_client, name_is, process_stays, same_some, same_true}
@@ -26,7 +26,7 @@ moments_more client (a ∷ xs) ys = by_test (same_client a.client client) (momen
   where
     by_test : (b : Bool) → moments client (xs ++ ys) ≡ moments client xs ++ moments client ys
         → (if b then at_moment a.at a.what ∷ moments client (xs ++ ys) else moments client (xs ++ ys))
-            ≡ (if b then at_moment a.at a.what ∷ moments client xs else moments client xs) ++ moments client ys
+        ≡ (if b then at_moment a.at a.what ∷ moments client xs else moments client xs) ++ moments client ys
     by_test true same = ap (λ (x : List ClientMoment). at_moment a.at a.what ∷ x) same
     by_test false same = same
 
@@ -36,10 +36,9 @@ Acted nodes relies_for clock self at old [] new = new ≡ old
 Acted nodes relies_for clock self at old (what ∷ []) new = MayAct nodes self old at what × (new ≡ after_act nodes relies_for clock old at what)
 Acted nodes relies_for clock self at old (what ∷ more ∷ rest) new = ⊥
 
-acted_same : (nodes relies_for : ℕ) (clock : ℕ → ℕ) (self : Client) (at : ℕ) (n name : Name) (candidate : Name → Candidate) (new : Candidate) (what : ClientEvent)
-    → MayAct nodes self (candidate n) at what → new ≡ after_act nodes relies_for clock (candidate n) at what → n ≡ name → Acted nodes relies_for clock self at (candidate name) (what ∷ []) new
-acted_same nodes relies_for clock self at n name candidate new what may is same =
-    subst (λ (x : Name). Acted nodes relies_for clock self at (candidate x) (what ∷ []) new) same (may, is)
+acted_same : (nodes relies_for : ℕ) (clock : ℕ → ℕ) (self : Client) (at : ℕ) (n name : Name) (candidate : Name → Candidate) (what : ClientEvent) → MayAct nodes self (candidate n) at what → n ≡ name
+    → Acted nodes relies_for clock self at (candidate name) (what ∷ []) (after_act nodes relies_for clock (candidate name) at what)
+acted_same nodes relies_for clock self at n name candidate what may same = (subst (λ (x : Name). MayAct nodes self (candidate x) at what) same may, refl)
 
 -- what a process does but begin is to the client of the name one event at most that it may do
 acted : (terms : Terms) (all : List Step) (name : Name) (self : Client) (m : Machine) (at : ℕ) (what : Event) → MayDo terms self m at what → ((floor : ℕ) → what ≡ begins floor → ⊥)
@@ -50,27 +49,28 @@ acted terms all name self m at (sends (request n client number epoch)) may goes_
   where
     by_test : (b : Bool) → bytes_eq n name ≡ b
         → Acted terms.nodes terms.relies_for (terms.clock self.machine self.boot) self at (m.candidate name) (when b (asks (ask_at client number epoch at)))
-            (if b then after_act terms.nodes terms.relies_for (terms.clock self.machine self.boot) (m.candidate n) at (asks (ask_at client number epoch at)) else m.candidate name)
-    by_test true same = acted_same terms.nodes terms.relies_for (terms.clock self.machine self.boot) self at n name m.candidate _ (asks (ask_at client number epoch at)) may refl (name_is n name same)
+        (if b then candidate_then terms self m at (asks (ask_at client number epoch at)) name else m.candidate name)
+    by_test true same = acted_same terms.nodes terms.relies_for (terms.clock self.machine self.boot) self at n name m.candidate (asks (ask_at client number epoch at)) may (name_is n name same)
     by_test false other = refl
 acted terms all name self m at (sends (grant n client number voter)) may goes_on = absurd may
 acted terms all name self m at (sends (release n client epoch)) may goes_on = by_test (bytes_eq n name) refl
   where
     by_test : (b : Bool) → bytes_eq n name ≡ b
         → Acted terms.nodes terms.relies_for (terms.clock self.machine self.boot) self at (m.candidate name) (when b (stops epoch))
-            (if b then after_act terms.nodes terms.relies_for (terms.clock self.machine self.boot) (m.candidate n) at (stops epoch) else m.candidate name)
-    by_test true same = acted_same terms.nodes terms.relies_for (terms.clock self.machine self.boot) self at n name m.candidate _ (stops epoch) tt refl (name_is n name same)
+        (if b then candidate_then terms self m at (stops epoch) name else m.candidate name)
+    by_test true same = acted_same terms.nodes terms.relies_for (terms.clock self.machine self.boot) self at n name m.candidate (stops epoch) tt (name_is n name same)
     by_test false other = refl
 acted terms all name self m at (takes (request n client number epoch)) may goes_on = refl
 acted terms all name self m at (takes (grant n client number voter)) may goes_on = by_test (bytes_eq n name) refl
   where
+    numbered : voted terms.nodes terms.relies_for (terms.clock self.machine self.boot) at voter number (m.candidate name) (m.candidate name).asked
+        ≡ voted terms.nodes terms.relies_for (terms.clock self.machine self.boot) at voter (asked_for all name client number).number (m.candidate name) (m.candidate name).asked
+    numbered = ap (λ (k : ℕ). voted terms.nodes terms.relies_for (terms.clock self.machine self.boot) at voter k (m.candidate name) (m.candidate name).asked) (sym (asked_as all name client number).1)
+
     by_test : (b : Bool) → bytes_eq n name ≡ b
         → Acted terms.nodes terms.relies_for (terms.clock self.machine self.boot) self at (m.candidate name) (when b (hears voter (asked_for all name client number)))
-            (if b then voted terms.nodes terms.relies_for (terms.clock self.machine self.boot) at voter number (m.candidate n) (m.candidate n).asked else m.candidate name)
-    by_test true same = acted_same terms.nodes terms.relies_for (terms.clock self.machine self.boot) self at n name m.candidate _ (hears voter (asked_for all name client number))
-        ((asked_as all name client number).0 ∙ may.0, may.1)
-        (ap (λ (k : ℕ). voted terms.nodes terms.relies_for (terms.clock self.machine self.boot) at voter k (m.candidate n) (m.candidate n).asked) (sym (asked_as all name client number).1))
-        (name_is n name same)
+        (if b then candidate_then terms self m at (hears voter (ask_at client number 0 at)) name else m.candidate name)
+    by_test true same = (((asked_as all name client number).0 ∙ may.0, may.1), numbered)
     by_test false other = refl
 acted terms all name self m at (takes (release n client epoch)) may goes_on = refl
 

@@ -6,8 +6,9 @@ use Rattle.std.proofs.lemmas.Bool.{eqb-true, eq-eqb}
 use Rattle.std.proofs.lemmas.Slice.Eq.{bytes_eq-Decides}
 use Rattle.lease_runs.specs.Lists.{IsAmong}
 use Rattle.lease_runs.specs.Voter.{Client, Ask}
+use Rattle.lease_runs.specs.Run.{asks, hears, stops}
 use Rattle.lease_runs.specs.Candidate.{Candidate, taken, voted, with_vote}
-use Rattle.lease_network.specs.Network.{Name, Message, request, grant, release, Event, begins, reserves, sends, takes, Step, Terms, Machine, MayDo, IsRunning, WasSent, IsNext, AreSteps, ask_at, at_name, done, last_time, machines}
+use Rattle.lease_network.specs.Network.{Name, Message, request, grant, release, Event, begins, reserves, sends, takes, Step, Terms, Machine, MayDo, IsRunning, WasSent, IsNext, AreSteps, ask_at, at_name, candidate_then, done, last_time, machines}
 use Rattle.lease_network.specs.Projection.{asked_for, or_before, same_client}
 
 -- ---- equal names, clients
@@ -45,11 +46,11 @@ is_client c = by_parts (c.machine == c.machine) (c.boot == c.boot) (c.number == 
 
 -- ---- of the name, and of others
 
-pub by_name : {A : Type 0} (P : A → Type 0) (name other : Name) (x : A) (of : Name → A) → (bytes_eq name other ≡ true → P x) → (bytes_eq name other ≡ false → P (of other))
-    → P (at_name name x of other)
-by_name P name other x of same different = by_test (bytes_eq name other) refl
+pub by_name : {A : Type 0} (P : A → Type 0) (name other : Name) (new old : Name → A) → (bytes_eq name other ≡ true → P (new other)) → (bytes_eq name other ≡ false → P (old other))
+    → P (at_name name new old other)
+by_name P name other new old same different = by_test (bytes_eq name other) refl
   where
-    by_test : (b : Bool) → bytes_eq name other ≡ b → P (if b then x else of other)
+    by_test : (b : Bool) → bytes_eq name other ≡ b → P (if b then new other else old other)
     by_test true is = same is
     by_test false is = different is
 
@@ -89,7 +90,7 @@ pub asker : (terms : Terms) (past : List Step) (s : Step) → IsNext terms past 
 asker terms past s next name client number epoch is = (may_be terms past s next (sends (request name client number epoch)) is).0
 
 pub releaser : (terms : Terms) (past : List Step) (s : Step) → IsNext terms past s → (name : Name) (client : Client) (epoch : ℕ) → s.what ≡ sends (release name client epoch) → client ≡ s.by
-releaser terms past s next name client epoch is = may_be terms past s next (sends (release name client epoch)) is
+releaser terms past s next name client epoch is = (may_be terms past s next (sends (release name client epoch)) is).0
 
 -- ---- a request has a number of its own
 
@@ -109,20 +110,17 @@ number_rises : (terms : Terms) (self : Client) (m : Machine) (at : ℕ) (what : 
 number_rises terms self m at (begins floor) name may goes_on = absurd (goes_on floor refl)
 number_rises terms self m at (reserves bound) name may goes_on = omega arith
 number_rises terms self m at (sends (request n client number epoch)) name may goes_on =
-    by_name (λ (c : Candidate). (m.candidate name).number ≤ c.number) n name _ m.candidate
+    by_name (λ (c : Candidate). (m.candidate name).number ≤ c.number) n name (candidate_then terms self m at (asks (ask_at client number epoch at))) m.candidate
     (λ same. (let is = name_is n name same in let less : (m.candidate name).number < number = subst (λ (x : Name). (m.candidate x).number < number) is may.2 in omega (arith, less)))
     (λ other. omega arith)
 number_rises terms self m at (sends (grant n client number voter)) name may goes_on = omega arith
 number_rises terms self m at (sends (release n client epoch)) name may goes_on =
-    by_name (λ (c : Candidate). (m.candidate name).number ≤ c.number) n name _ m.candidate
-    (λ same. subst (λ (x : Name). (m.candidate name).number ≤ (m.candidate x).number) (sym (name_is n name same)) (omega arith))
-    (λ other. omega arith)
+    by_name (λ (c : Candidate). (m.candidate name).number ≤ c.number) n name (candidate_then terms self m at (stops epoch)) m.candidate (λ same. omega arith) (λ other. omega arith)
 number_rises terms self m at (takes (request n client number epoch)) name may goes_on = omega arith
 number_rises terms self m at (takes (grant n client number voter)) name may goes_on =
-    by_name (λ (c : Candidate). (m.candidate name).number ≤ c.number) n name _ m.candidate
+    by_name (λ (c : Candidate). (m.candidate name).number ≤ c.number) n name (candidate_then terms self m at (hears voter (ask_at client number 0 at))) m.candidate
     (λ same. subst (λ (k : ℕ). (m.candidate name).number ≤ k)
-        (sym (number_voted terms.nodes terms.relies_for (terms.clock self.machine self.boot) at voter number (m.candidate n) (m.candidate n).asked))
-        (subst (λ (x : Name). (m.candidate name).number ≤ (m.candidate x).number) (sym (name_is n name same)) (omega arith)))
+    (sym (number_voted terms.nodes terms.relies_for (terms.clock self.machine self.boot) at voter number (m.candidate name) (m.candidate name).asked)) (omega arith))
     (λ other. omega arith)
 number_rises terms self m at (takes (release n client epoch)) name may goes_on = omega arith
 
@@ -185,7 +183,7 @@ numbered terms (p ∷ past) are s (inl e) name client number epoch is =
     by_machine : (b : Bool) → b ≡ true → p.what ≡ sends (request name client number epoch)
         → Numbered number name client (if b then done terms p.by (machines terms past p.by.machine) p.at p.what else machines terms past client.machine)
     by_machine true e what running = subst (λ (x : Event). number ≤ ((done terms p.by (machines terms past p.by.machine) p.at x).candidate name).number) (sym what)
-        (by_name (λ (c : Candidate). number ≤ c.number) name name _ (machines terms past p.by.machine).candidate (λ same. omega arith)
+        (by_name (λ (c : Candidate). number ≤ c.number) name name (candidate_then terms p.by (machines terms past p.by.machine) p.at (asks (ask_at client number epoch p.at))) (machines terms past p.by.machine).candidate (λ same. omega arith)
         (λ other. absurd (let bad : true ≡ false = sym (is_name name) ∙ other in cc)))
     by_machine false bad what running = absurd cc
 numbered terms (p ∷ past) are s (inr i) name client number epoch is =

@@ -15,10 +15,9 @@ Voted keeps clock at old [] new = new ≡ old
 Voted keeps clock at old (what ∷ []) new = IsPossible keeps clock old at what × (new ≡ after keeps clock old at what)
 Voted keeps clock at old (what ∷ more ∷ rest) new = ⊥
 
-voted_same : (keeps : ℕ) (clock : ℕ → ℕ → ℕ) (at : ℕ) (n name : Name) (voter : Name → Voter) (new : Voter) (what : VoterEvent)
-    → IsPossible keeps clock (voter n) at what → new ≡ after keeps clock (voter n) at what → n ≡ name → Voted keeps clock at (voter name) (what ∷ []) new
-voted_same keeps clock at n name voter new what can is same =
-    subst (λ (x : Name). Voted keeps clock at (voter x) (what ∷ []) new) same (can, is)
+voted_same : (keeps : ℕ) (clock : ℕ → ℕ → ℕ) (at : ℕ) (n name : Name) (voter : Name → Voter) (what : VoterEvent) → IsPossible keeps clock (voter n) at what → n ≡ name
+    → Voted keeps clock at (voter name) (what ∷ []) (after keeps clock (voter name) at what)
+voted_same keeps clock at n name voter what can same = (subst (λ (x : Name). IsPossible keeps clock (voter x) at what) same can, refl)
 
 -- what a process does is to the voter of the name one possible event at most
 voted : (terms : Terms) (all : List Step) (name : Name) (self : Client) (m : Machine) (at : ℕ) (what : Event) → MayDo terms self m at what
@@ -36,15 +35,15 @@ voted terms all name self m at (takes (request n client number epoch)) may = by_
     ask = ask_at client number epoch (asked_for all name client number).sent
 
     by_test : (b : Bool) → bytes_eq n name ≡ b → Voted terms.keeps (terms.clock self.machine) at (m.voter name) (when b (grants ask))
-        (if b then after terms.keeps (terms.clock self.machine) (m.voter n) at (grants ask) else m.voter name)
-    by_test true same = voted_same terms.keeps (terms.clock self.machine) at n name m.voter _ (grants ask) may refl (name_is n name same)
+        (if b then after terms.keeps (terms.clock self.machine) (m.voter name) at (grants ask) else m.voter name)
+    by_test true same = voted_same terms.keeps (terms.clock self.machine) at n name m.voter (grants ask) may (name_is n name same)
     by_test false other = refl
 voted terms all name self m at (takes (grant n client number epoch)) may = refl
 voted terms all name self m at (takes (release n client epoch)) may = by_test (bytes_eq n name) refl
   where
     by_test : (b : Bool) → bytes_eq n name ≡ b → Voted terms.keeps (terms.clock self.machine) at (m.voter name) (when b (releases client epoch))
-        (if b then after terms.keeps (terms.clock self.machine) (m.voter n) at (releases client epoch) else m.voter name)
-    by_test true same = voted_same terms.keeps (terms.clock self.machine) at n name m.voter _ (releases client epoch) may refl (name_is n name same)
+        (if b then after terms.keeps (terms.clock self.machine) (m.voter name) at (releases client epoch) else m.voter name)
+    by_test true same = voted_same terms.keeps (terms.clock self.machine) at n name m.voter (releases client epoch) may (name_is n name same)
     by_test false other = refl
 
 -- the moments are a history of the voter, and leave what it keeps
@@ -89,13 +88,13 @@ step_votes law terms all name n p past next h = by_machine (p.by.machine == n) r
         ((done terms p.by (machines terms past p.by.machine) p.at p.what).voter name) p.at
     here same = subst (λ (k : ℕ). IsHistory terms.keeps (terms.clock k) (history all name k past) ((machines terms past k).voter name) (last_time past)
         → IsHistory terms.keeps (terms.clock k) (history all name k past ++ map (moment_at p.at) (voter_events all name p.by p.what))
-            ((done terms p.by (machines terms past p.by.machine) p.at p.what).voter name) p.at) same
+        ((done terms p.by (machines terms past p.by.machine) p.at p.what).voter name) p.at) same
         (λ old. goes_on law terms.keeps (terms.clock p.by.machine) (history all name p.by.machine past) ((machines terms past p.by.machine).voter name) _ (last_time past) p.at
-            (voter_events all name p.by p.what) next.time (voted terms all name p.by (machines terms past p.by.machine) p.at p.what next.may) old) h
+        (voter_events all name p.by p.what) next.time (voted terms all name p.by (machines terms past p.by.machine) p.at p.what next.may) old) h
 
     by_machine : (b : Bool) → (p.by.machine == n) ≡ b
         → IsHistory terms.keeps (terms.clock n) (history all name n past ++ (if b then map (moment_at p.at) (voter_events all name p.by p.what) else []))
-            ((if b then done terms p.by (machines terms past p.by.machine) p.at p.what else machines terms past n).voter name) p.at
+        ((if b then done terms p.by (machines terms past p.by.machine) p.at p.what else machines terms past n).voter name) p.at
     by_machine true same = here (eqb-true p.by.machine n same)
     by_machine false other = unchanged terms.keeps (terms.clock n) (history all name n past) _ _ (last_time past) p.at next.time refl h
 

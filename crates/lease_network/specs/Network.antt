@@ -1,22 +1,20 @@
 -- Machines that vote for leases of many names and ask for them, and what goes between them.
-use Rattle.std.specs.Prelude.{ℕ, ◌≡◌, ◌≤◌, ◌<◌, ◌==◌, Bool, if◌then◌else◌, List, [], ◌∷◌, Option, Some, None}
+use Rattle.std.specs.Prelude.{ℕ, ◌≡◌, ◌≤◌, ◌==◌, Bool, if◌then◌else◌, List, [], ◌∷◌, Option, Some, None}
 use Rattle.std.specs.Str.{bytes_eq}
 use Rattle.lease_runs.specs.Lists.{IsAmong}
 use Rattle.lease_runs.specs.Voter.{Client, Ask, VoterEvent, grants, releases, raises, restarts, Voter, opening, IsPossible, after}
-use Rattle.lease_runs.specs.Run.{ClientEvent, asks, stops}
-use Rattle.lease_runs.specs.Candidate.{Candidate, beginning, MayAct, after_act, voted}
+use Rattle.lease_runs.specs.Run.{ClientEvent, asks, hears, stops}
+use Rattle.lease_runs.specs.Candidate.{Candidate, beginning, MayAct, after_act}
 
 -- the bytes of a name
 abbrev pub Name : Type 0
 Name = List ℕ
 
--- what goes from machine to machine
+-- What goes from machine to machine: a client asks for the lease of a name, or for its renewal, by a request of this number, under this epoch; a client's request of
+-- this number was granted by this voter; a client relies on no epoch of the name up to this one any more.
 pub data Message : Type 0 where
-  -- this client asks for the lease of the name, or for its renewal, by a request of this number, under this epoch
   request : Name → Client → ℕ → ℕ → Message
-  -- this client's request of this number for the name was granted by this voter
   grant : Name → Client → ℕ → ℕ → Message
-  -- this client relies on no epoch of the name up to this one any more
   release : Name → Client → ℕ → Message
 
 -- what a process does
@@ -27,8 +25,7 @@ pub data Event : Type 0 where
   reserves : ℕ → Event
   -- it sends a message of its own: it asks, or it stops relying and says so
   sends : Message → Event
-  -- A message came, and is taken: a request is granted, and the grant is sent; a grant is counted; a release frees the name. What is refused or passed over changes nothing,
-  -- and is no event.
+  -- a message came: a request is granted, and the grant is sent; a grant is counted; a release frees the name; what is refused or passed over is no event
   takes : Message → Event
 
 -- a true time, a process, and what it did then
@@ -37,77 +34,66 @@ pub record Step : Type 0 where
   pub by : Client
   pub what : Event
 
--- what stays the same
+-- What stays the same: how many voters there are, the machines below this number; how long a voter keeps a grant, and how long a holder may rely on it; what the clock
+-- of a machine shows in one of its boots, at a true time; how much readings may be off by rounding, in parts of 32 of the unit of time.
 pub record Terms : Type 0 where
-  -- how many voters: the machines below this number
   pub nodes : ℕ
-  -- how long a voter keeps a grant, and how long a holder may rely on it
   pub keeps : ℕ
   pub relies_for : ℕ
-  -- what the clock of a machine shows in one of its boots, at a true time
   pub clock : ℕ → ℕ → ℕ → ℕ
-  -- how much readings may be off by rounding, in parts of 32 of the unit of time
   pub grain : ℕ
 
--- what a machine keeps
+-- what a machine keeps: the process that began last, and of each name what it keeps as a voter and as a client
 pub record Machine : Type 0 where
-  -- the process that began last
   pub process : Option Client
-  -- of each name, as a voter and as a client
   pub voter : Name → Voter
   pub candidate : Name → Candidate
 
--- a request that was sent at this true time, which no message says
+-- a request that was sent at this true time: no message says when
 abbrev pub ask_at : Client → ℕ → ℕ → ℕ → Ask
 ask_at client number epoch sent = record { client = client; number = number; epoch = epoch; sent = sent }
 
--- the event may come at the voter
-abbrev pub MayVote : Terms → Client → ℕ → Voter → VoterEvent → Type 0
-MayVote terms self at voter what = IsPossible terms.keeps (terms.clock self.machine) voter at what
+-- the name's voter may do this, and is this then
+abbrev pub MayVote : Terms → Client → Machine → ℕ → VoterEvent → Name → Type 0
+MayVote terms self m at what name = IsPossible terms.keeps (terms.clock self.machine) (m.voter name) at what
 
--- what the process may do on its machine; the bound of epochs is one of all names
+abbrev pub voter_then : Terms → Client → Machine → ℕ → VoterEvent → Name → Voter
+voter_then terms self m at what name = after terms.keeps (terms.clock self.machine) (m.voter name) at what
+
+-- the name's client may do this, and is this then
+abbrev pub MayAsk : Terms → Client → Machine → ℕ → ClientEvent → Name → Type 0
+MayAsk terms self m at what name = MayAct terms.nodes self (m.candidate name) at what
+
+abbrev pub candidate_then : Terms → Client → Machine → ℕ → ClientEvent → Name → Candidate
+candidate_then terms self m at what name = after_act terms.nodes terms.relies_for (terms.clock self.machine self.boot) (m.candidate name) at what
+
+-- what a process may do on its machine: a start and a raise are of all names, whose epochs one count on the disk bounds
 abbrev pub MayDo : Terms → Client → Machine → ℕ → Event → Type 0
-MayDo terms self m at (begins floor) = (name : Name) → MayVote terms self at (m.voter name) (restarts self.boot floor)
-MayDo terms self m at (reserves bound) = (name : Name) → MayVote terms self at (m.voter name) (raises bound)
-MayDo terms self m at (sends (request name client number epoch)) = MayAct terms.nodes self (m.candidate name) at (asks (ask_at client number epoch at))
+MayDo terms self m at (begins floor) = (name : Name) → MayVote terms self m at (restarts self.boot floor) name
+MayDo terms self m at (reserves bound) = (name : Name) → MayVote terms self m at (raises bound) name
+MayDo terms self m at (sends (request name client number epoch)) = MayAsk terms self m at (asks (ask_at client number epoch at)) name
 MayDo terms self m at (sends (grant name client number voter)) = ⊥
-MayDo terms self m at (sends (release name client epoch)) = client ≡ self
-MayDo terms self m at (takes (request name client number epoch)) = MayVote terms self at (m.voter name) (grants (ask_at client number epoch at))
-MayDo terms self m at (takes (grant name client number voter)) = (client ≡ self) × (voter < terms.nodes)
-MayDo terms self m at (takes (release name client epoch)) = MayVote terms self at (m.voter name) (releases client epoch)
+MayDo terms self m at (sends (release name client epoch)) = (client ≡ self) × MayAsk terms self m at (stops epoch) name
+MayDo terms self m at (takes (request name client number epoch)) = MayVote terms self m at (grants (ask_at client number epoch at)) name
+MayDo terms self m at (takes (grant name client number voter)) = MayAsk terms self m at (hears voter (ask_at client number 0 at)) name
+MayDo terms self m at (takes (release name client epoch)) = MayVote terms self m at (releases client epoch) name
 
--- of the name this, of others what was
-abbrev pub at_name : {A : Type 0} → Name → A → (Name → A) → Name → A
-at_name name x of other = if bytes_eq name other then x else of other
-
-abbrev pub vote : Terms → Client → Machine → ℕ → Name → VoterEvent → Machine
-vote terms self m at name what =
-    record { process = m.process; voter = at_name name (after terms.keeps (terms.clock self.machine) (m.voter name) at what) m.voter; candidate = m.candidate }
-
-abbrev pub act : Machine → Name → Candidate → Machine
-act m name c = record { process = m.process; voter = m.voter; candidate = at_name name c m.candidate }
+-- of this name the new, of others the old
+abbrev pub at_name : {A : Type 0} → Name → (Name → A) → (Name → A) → Name → A
+at_name name new old other = if bytes_eq name other then new other else old other
 
 -- what the machine keeps then
 abbrev pub done : Terms → Client → Machine → ℕ → Event → Machine
-done terms self m at (begins floor) = record {
-  process = Some self;
-  voter = λ name. after terms.keeps (terms.clock self.machine) (m.voter name) at (restarts self.boot floor);
-  candidate = λ name. beginning;
-}
-done terms self m at (reserves bound) = record {
-  process = m.process;
-  voter = λ name. after terms.keeps (terms.clock self.machine) (m.voter name) at (raises bound);
-  candidate = m.candidate;
-}
+done terms self m at (begins floor) = record { process = Some self; voter = voter_then terms self m at (restarts self.boot floor); candidate = λ name. beginning }
+done terms self m at (reserves bound) = record m { voter = voter_then terms self m at (raises bound) }
 done terms self m at (sends (request name client number epoch)) =
-    act m name (after_act terms.nodes terms.relies_for (terms.clock self.machine self.boot) (m.candidate name) at (asks (ask_at client number epoch at)))
+    record m { candidate = at_name name (candidate_then terms self m at (asks (ask_at client number epoch at))) m.candidate }
 done terms self m at (sends (grant name client number voter)) = m
-done terms self m at (sends (release name client epoch)) =
-    act m name (after_act terms.nodes terms.relies_for (terms.clock self.machine self.boot) (m.candidate name) at (stops epoch))
-done terms self m at (takes (request name client number epoch)) = vote terms self m at name (grants (ask_at client number epoch at))
+done terms self m at (sends (release name client epoch)) = record m { candidate = at_name name (candidate_then terms self m at (stops epoch)) m.candidate }
+done terms self m at (takes (request name client number epoch)) = record m { voter = at_name name (voter_then terms self m at (grants (ask_at client number epoch at))) m.voter }
 done terms self m at (takes (grant name client number voter)) =
-    act m name (voted terms.nodes terms.relies_for (terms.clock self.machine self.boot) at voter number (m.candidate name) (m.candidate name).asked)
-done terms self m at (takes (release name client epoch)) = vote terms self m at name (releases client epoch)
+    record m { candidate = at_name name (candidate_then terms self m at (hears voter (ask_at client number 0 at))) m.candidate }
+done terms self m at (takes (release name client epoch)) = record m { voter = at_name name (voter_then terms self m at (releases client epoch)) m.voter }
 
 -- what the machines keep after these steps, the newest of which is the first
 abbrev pub machines : Terms → List Step → ℕ → Machine

@@ -9,16 +9,13 @@ pub record ClientMoment : Type 0 where
   pub at : ℕ
   pub what : ClientEvent
 
--- what a client keeps
+-- What a client keeps: the number of its last request; the greatest epoch that it gave up, with all smaller ones; its last request, where it isn't given up, and who
+-- granted it; the request by which it relies, until its time is over.
 pub record Candidate : Type 0 where
-  -- the number of its last request
   pub number : ℕ
-  -- it relies on no epoch up to this one any more
   pub given_up : ℕ
-  -- its last request, where it isn't given up, and who granted it
   pub asked : Option Ask
   pub votes : ℕ → Bool
-  -- the request by which it relies, until its time is over
   pub lease : Option Ask
 
 abbrev pub no_votes : ℕ → Bool

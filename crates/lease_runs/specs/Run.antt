@@ -3,13 +3,11 @@ use Rattle.std.specs.Prelude.{ℕ, ◌≡◌, ◌+◌, ◌*◌, ◌<◌, ◌≤�
 use Rattle.lease_runs.specs.Lists.{IsAmong, count}
 use Rattle.lease_runs.specs.Voter.{Client, Ask, Moment, grants, releases, opening, Follows}
 
--- what a client does
+-- What a client does: it sends this request to the voters; it hears that this voter granted this request, which the answer names; it stops relying on this epoch, and
+-- on smaller ones, for good.
 pub data ClientEvent : Type 0 where
-  -- it sends this request to the voters
   asks : Ask → ClientEvent
-  -- it hears that this voter granted this request: an answer names its request
   hears : ℕ → Ask → ClientEvent
-  -- it stops relying on this epoch, and on smaller ones, for good
   stops : ℕ → ClientEvent
 
 -- a true time, a client, and what it did then
