@@ -3,3 +3,4 @@ mod Voters
 mod Clients
 mod Runs
 mod Held
+mod Happens

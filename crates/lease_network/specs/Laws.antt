@@ -41,3 +41,23 @@ OneHolder = (terms : Terms) (steps : List Step) → AreSteps terms steps → Are
 abbrev pub EpochsFollow : Type 0
 EpochsFollow = (terms : Terms) (steps : List Step) → AreSteps terms steps → AreClocks terms → (name : Name) (time_a time_b : ℕ) (c d : Client) (a b : Ask) →
     Holds terms steps name time_a c a → Holds terms steps name time_b d b → time_a ≤ time_b → (a.epoch < b.epoch) ⊎ (c ≡ d)
+
+-- The premises can be met. One process of three machines holds the lease of a name; a second one holds that of another name, and then the next one of the first, which
+-- was released. The second one's machine begins anew, and the first process holds the next lease of the other name.
+pub record LeasesHappen : Type 0 where
+  pub terms : Terms
+  pub steps : List Step
+  pub three : terms.nodes ≡ 3
+  pub are : AreSteps terms steps
+  pub clocks : AreClocks terms
+  pub x : Name
+  pub y : Name
+  pub names : x ≡ y → ⊥
+  pub c : Client
+  pub d : Client
+  pub processes : c ≡ d → ⊥
+  pub first : (time : ℕ) × (a : Ask) × Holds terms steps x time c a
+  pub other : (time : ℕ) × (a : Ask) × (first.0 < time) × Holds terms steps y time d a
+  pub handed_over : (time : ℕ) × (a : Ask) × (other.0 < time) × Holds terms steps x time d a
+  pub began_anew : (time : ℕ) × (e : Client) × (handed_over.0 < time) × ((machines terms (up_to time steps) d.machine).process ≡ Some e) × (d ≡ e → ⊥)
+  pub taken_over : (time : ℕ) × (a : Ask) × (began_anew.0 < time) × Holds terms steps y time c a

@@ -3,7 +3,7 @@
 //! Each law is the contract of a function that does nothing; a caller takes the law by calling it.
 #![tactic(auto)]
 
-ghost use Rattle.lease_network.specs.Laws.{EpochsFollow, EpochsRise, OneEpoch, OneHolder};
+ghost use Rattle.lease_network.specs.Laws.{EpochsFollow, EpochsRise, LeasesHappen, OneEpoch, OneHolder};
 ghost use Rattle.lease_network.specs.Projection.{StepsAreRuns};
 
 /// Epochs of a name rise, with no word on clocks.
@@ -32,3 +32,8 @@ pub fn steps_are_runs()
 {
     lease_runs::history_goes_on();
 }
+
+/// The premises of the laws can be met.
+pub fn leases_happen()
+    ensures { LeasesHappen }
+{}
