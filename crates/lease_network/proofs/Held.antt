@@ -7,9 +7,10 @@ use Rattle.lease_runs.specs.Candidate.{Candidate, ClientMoment, IsClientOf, Foll
 use Rattle.lease_runs.specs.Holding.{HeldEpochsRise, HolderRelies, OneHolds}
 use Rattle.lease_runs.specs.Holding as one_name
 use Rattle.lease_runs.specs.Laws as run_laws
-use Rattle.lease_network.specs.Network.{Name, Step, Terms, AreSteps, last_time, machines}
-use Rattle.lease_network.specs.Laws.{EpochsFollow, EpochsRise, Holds, OneEpoch, OneHolder, up_to}
+use Rattle.lease_network.specs.Network.{Name, request, sends, Step, Terms, AreSteps, last_time, machines}
+use Rattle.lease_network.specs.Laws.{EpochsFollow, EpochsRise, HeldWasAsked, Holds, OneEpoch, OneHolder, up_to}
 use Rattle.lease_network.specs.Projection.{StepsAreRuns, acts, run_of}
+use Rattle.lease_network.proofs.Runs.{was_sent}
 use Rattle.lease_network.proofs.Clients.{act_of_moment, clients, cut, moment_of_act, moments, moments_before}
 
 pub holds : (terms : Terms) (steps : List Step) → AreSteps terms steps → (name : Name) (time : ℕ) (client : Client) (ask : Ask) → Holds terms steps name time client ask
@@ -60,3 +61,11 @@ epochs_follow runs relies law terms steps are clocks name time_a time_b c d a b 
     let x = relies run is.0 c time_a a (holds terms steps are name time_a c a first) in
     let y = relies run is.0 d time_b b (holds terms steps are name time_b d b second) in
     elim (law run is.0 (is.1 clocks) time_a time_b a b x.0 y.0 le) [ inl less ↦ inl less | inr same ↦ inr (sym x.1 ∙ (same ∙ y.1)) ]
+
+pub held_was_asked : StepsAreRuns → HolderRelies → run_laws.ReliedWasAsked → HeldWasAsked
+held_was_asked runs relies law terms steps are name time client ask h =
+    let run = run_of terms name steps in
+    let is = (runs terms steps are name).0 in
+    let x = relies run is client time ask (holds terms steps are name time client ask h) in
+    subst (λ (c : Client). IsAmong (record { at = ask.sent; by = c; what = sends (request name c ask.number ask.epoch) }) steps) x.1
+    (was_sent terms steps are name ask (law run is time ask x.0))

@@ -215,6 +215,30 @@ asks_is all name client number epoch at what is = subst (λ (x : Event). IsAmong
 stops_is : (all : List Step) (name : Name) (client : Client) (epoch at : ℕ) (what : Event) → what ≡ sends (release name client epoch) → IsAmong (stops epoch) (client_events all name at what)
 stops_is all name client epoch at what is = subst (λ (x : Event). IsAmong (stops epoch) (client_events all name at x)) (sym is) (one_among (bytes_eq name name) (stops epoch) (is_name name))
 
+asks_same : (a b : Ask) → asks a ≡ asks b → a ≡ b
+asks_same a b is = cc
+
+-- a request of a client is one that its process sent
+record IsAsking (name : Name) (at : ℕ) (ask : Ask) (what : Event) : Type 0 where
+  pub client : Client
+  pub number : ℕ
+  pub epoch : ℕ
+  pub sent : what ≡ sends (request name client number epoch)
+  pub same : ask ≡ ask_at client number epoch at
+
+is_asking : (all : List Step) (name : Name) (at : ℕ) (ask : Ask) (what : Event) → IsAmong (asks ask) (client_events all name at what) → IsAsking name at ask what
+is_asking all name at ask (begins floor) i = absurd i
+is_asking all name at ask (reserves bound) i = absurd i
+is_asking all name at ask (sends (request n c k e)) i =
+    let x = among_one (bytes_eq n name) (asks (ask_at c k e at)) (asks ask) i in
+    record { client = c; number = k; epoch = e; sent = ap (λ (y : Name). sends (request y c k e)) (name_is n name x.0); same = asks_same ask (ask_at c k e at) x.1 }
+is_asking all name at ask (sends (grant n c k voter)) i = absurd i
+is_asking all name at ask (sends (release n c e)) i = absurd (let e : asks ask ≡ stops e = (among_one (bytes_eq n name) (stops e) (asks ask) i).1 in cc)
+is_asking all name at ask (takes (request n c k e)) i = absurd i
+is_asking all name at ask (takes (grant n c k voter)) i =
+    absurd (let e : asks ask ≡ hears voter (asked_for all name c k) = (among_one (bytes_eq n name) (hears voter (asked_for all name c k)) (asks ask) i).1 in cc)
+is_asking all name at ask (takes (release n c e)) i = absurd i
+
 -- ---- a run
 
 -- the request that a step takes was sent, by its client, no later, and is what is looked up
@@ -311,3 +335,25 @@ steps_are_runs law terms steps are name = (
     released = λ voter below time client epoch i. released terms steps are name voter time client epoch i;
   },
 )
+
+abbrev asking : Name → Client → Ask → Step
+asking name client ask = record { at = ask.sent; by = client; what = sends (request name client ask.number ask.epoch) }
+
+abbrev step_of : ℕ → Client → Event → Step
+step_of at by what = record { at = at; by = by; what = what }
+
+-- a request of a run is a step
+pub was_sent : (terms : Terms) (all : List Step) → AreSteps terms all → (name : Name) (ask : Ask) → Does (run_of terms name all) ask.sent ask.client (asks ask) → IsAmong (asking name ask.client ask) all
+was_sent terms all are name ask i =
+    let d = is_done all name all ask.sent ask.client (asks ask) i in
+    let a = is_asking all name d.step.at ask d.step.what d.event in
+    let own : ask.client ≡ a.client = ap (λ (x : Ask). x.client) a.same in
+    let number : ask.number ≡ a.number = ap (λ (x : Ask). x.number) a.same in
+    let epoch : ask.epoch ≡ a.epoch = ap (λ (x : Ask). x.epoch) a.same in
+    let what : sends (request name ask.client ask.number ask.epoch) ≡ d.step.what =
+    ap (λ (c : Client). sends (request name c ask.number ask.epoch)) own
+    ∙ (ap (λ (k : ℕ). sends (request name a.client k ask.epoch)) number ∙ (ap (λ (e : ℕ). sends (request name a.client a.number e)) epoch ∙ sym a.sent)) in
+    let is : asking name ask.client ask ≡ d.step =
+    ap (λ (t : ℕ). step_of t ask.client (sends (request name ask.client ask.number ask.epoch))) d.then_at
+    ∙ (ap (λ (c : Client). step_of d.step.at c (sends (request name ask.client ask.number ask.epoch))) d.by ∙ ap (λ (e : Event). step_of d.step.at d.step.by e) what) in
+    subst (λ (x : Step). IsAmong x all) (sym is) d.among

@@ -1,9 +1,10 @@
 -- The laws of leases of many names, over all steps of machines that vote and ask.
 use Rattle.std.specs.Prelude.{ℕ, ◌≡◌, ◌⊎◌, ◌+◌, ◌*◌, ◌<◌, ◌≤◌, leb, if◌then◌else◌, true, List, [], ◌∷◌, Some}
+use Rattle.lease_runs.specs.Lists.{IsAmong}
 use Rattle.lease_runs.specs.Voter.{Client, Ask}
 use Rattle.lease_runs.specs.Run.{KeepsRate}
 use Rattle.lease_runs.specs.Candidate.{is_in_time}
-use Rattle.lease_network.specs.Network.{Name, Step, Terms, AreSteps, machines}
+use Rattle.lease_network.specs.Network.{Name, request, sends, Step, Terms, AreSteps, machines}
 
 -- the steps up to this true time
 abbrev pub up_to : ℕ → List Step → List Step
@@ -26,6 +27,11 @@ pub record AreClocks (terms : Terms) : Type 0 where
 abbrev pub EpochsRise : Type 0
 EpochsRise = (terms : Terms) (steps : List Step) → AreSteps terms steps → (name : Name) (time_a time_b : ℕ) (c d : Client) (a b : Ask) →
     Holds terms steps name time_a c a → Holds terms steps name time_b d b → time_a < b.sent → (a.epoch < b.epoch) ⊎ ((c ≡ d) × (a.epoch ≡ b.epoch))
+
+-- What is held was asked for: this process sent that request, of that epoch, when the law says.
+abbrev pub HeldWasAsked : Type 0
+HeldWasAsked = (terms : Terms) (steps : List Step) → AreSteps terms steps → (name : Name) (time : ℕ) (client : Client) (ask : Ask) → Holds terms steps name time client ask →
+    IsAmong (record { at = ask.sent; by = client; what = sends (request name client ask.number ask.epoch) }) steps
 
 -- No two processes ever hold leases of one name and one epoch.
 abbrev pub OneEpoch : Type 0

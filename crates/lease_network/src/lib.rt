@@ -3,13 +3,14 @@
 //! Each law is the contract of a function that does nothing; a caller takes the law by calling it.
 #![tactic(auto)]
 
-ghost use Rattle.lease_network.specs.Laws.{EpochsFollow, EpochsRise, LeasesHappen, OneEpoch, OneHolder};
+ghost use Rattle.lease_network.specs.Laws.{EpochsFollow, EpochsRise, HeldWasAsked, LeasesHappen, OneEpoch, OneHolder};
 ghost use Rattle.lease_network.specs.Projection.{StepsAreRuns};
 
 /// Epochs of a name rise, with no word on clocks.
 pub fn epochs_rise()
     ensures rise { EpochsRise }
     ensures one { OneEpoch }
+    ensures asked { HeldWasAsked }
 {
     steps_are_runs();
     lease_runs::holders_rely();

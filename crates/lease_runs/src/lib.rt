@@ -10,7 +10,7 @@ mod voter;
 
 ghost use Rattle.lease_runs.specs.Growing.{HistoryGoesOn};
 ghost use Rattle.lease_runs.specs.Holding.{HeldEpochsRise, HolderRelies, OneHolds};
-ghost use Rattle.lease_runs.specs.Laws.{EpochsFollow, EpochsRise, LeasesHappen, OneClient, OneHolder};
+ghost use Rattle.lease_runs.specs.Laws.{EpochsFollow, EpochsRise, LeasesHappen, OneClient, OneHolder, ReliedWasAsked};
 
 pub use candidate::{LeaseCandidate, MOST_VOTERS, Request};
 pub use client_id::ClientId;
@@ -23,6 +23,8 @@ pub fn epochs_rise()
     ensures rise { EpochsRise }
     // Promise: No two clients ever have one epoch of a name.
     ensures client { OneClient }
+    // Promise: What is relied on was asked for, by its client, when the request says.
+    ensures asked { ReliedWasAsked }
 {}
 
 /// One process at most relies on a lease at a time, where clocks keep to their bound.
