@@ -1,13 +1,13 @@
 -- What the steps of a process are to the client of one name.
-use Rattle.std.proofs.Common.{◌≡◌, ◌⊎◌, ℕ, ◌≤◌, ◌<◌, Bool, true, false, List, [], ◌∷◌, ◌++◌, Option, Some, None, refl, sym, ◌∙◌, ap, subst, inl, inr, arith}
+use Rattle.std.proofs.Common.{◌≡◌, ◌⊎◌, ℕ, ◌≤◌, ◌<◌, Bool, true, false, List, [], ◌∷◌, ◌++◌, Some, refl, sym, ◌∙◌, ap, subst, inl, inr, arith}
 use Rattle.std.specs.Prelude.{◌==◌, if◌then◌else◌, map, leb}
 use Rattle.std.specs.Str.{bytes_eq}
-use Rattle.std.proofs.lemmas.Bool.{eqb-true, leb-false, leb-true}
+use Rattle.std.proofs.lemmas.Bool.{leb-false, leb-true}
 use Rattle.lease_runs.specs.Lists.{IsAmong}
-use Rattle.lease_runs.specs.Voter.{Client, Ask}
+use Rattle.lease_runs.specs.Voter.{Client}
 use Rattle.lease_runs.specs.Run.{ClientEvent, asks, hears, stops, Act}
 use Rattle.lease_runs.specs.Candidate.{ClientMoment, Candidate, beginning, voted, MayAct, after_act, FollowsFrom, left}
-use Rattle.lease_network.specs.Network.{Name, Message, request, grant, release, Event, begins, reserves, sends, takes, Step, Terms, Machine, MayDo, IsNext, AreSteps, ask_at, candidate_then, done, last_time, machines}
+use Rattle.lease_network.specs.Network.{Name, request, grant, release, Event, begins, reserves, sends, takes, Step, Terms, Machine, MayDo, IsNext, AreSteps, ask_at, candidate_then, done, last_time, machines}
 use Rattle.lease_network.specs.Laws.{up_to}
 use Rattle.lease_network.specs.Projection.{act_at, acts, asked_for, client_events, same_client, when}
 use Rattle.lease_network.proofs.Steps.{asked_as, begins_or_runs, client_is, is_client, name_is, process_stays, same_some, same_true}

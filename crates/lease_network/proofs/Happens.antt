@@ -1,97 +1,9 @@
 -- Steps of three machines, in which leases of two names are held, one after the other.
-use Rattle.std.proofs.Common.{◌≡◌, ℕ, ◌+◌, ◌≤◌, Bool, true, false, List, [], ◌∷◌, Option, Some, None, refl, sym, ◌∙◌, ap, subst, inl, inr, arith}
-use Rattle.std.specs.Prelude.{◌==◌, ◌&&◌, not, leb, if◌then◌else◌}
-use Rattle.std.specs.Str.{bytes_eq}
-use Rattle.std.proofs.lemmas.Bool.{leb-true}
-use Rattle.lease_runs.specs.Lists.{IsAmong}
-use Rattle.lease_runs.specs.Voter.{Client, Ask, Voter}
-use Rattle.lease_network.specs.Network.{Name, Message, request, grant, release, Event, begins, reserves, sends, takes, Step, Terms, Machine, IsNext, AreSteps, ask_at, done, machines}
-use Rattle.lease_network.specs.Laws.{AreClocks, Holds, LeasesHappen}
-use Rattle.lease_network.specs.Projection.{same_client}
-use Rattle.lease_network.proofs.Steps.{both, by_name, is_client}
-
--- ---- what a process allows, and that it is new
-
--- no step allows an epoch above this one
-abbrev allows_at_most : ℕ → Event → Bool
-allows_at_most most (begins floor) = leb floor most
-allows_at_most most (reserves bound) = leb bound most
-allows_at_most most (sends message) = true
-allows_at_most most (takes message) = true
-
-abbrev all_at_most : ℕ → List Step → Bool
-all_at_most most [] = true
-all_at_most most (s ∷ past) = allows_at_most most s.what && all_at_most most past
-
-bounded_by : (terms : Terms) (most : ℕ) (self : Client) (m : Machine) (at : ℕ) (what : Event) (name : Name) → allows_at_most most what ≡ true → (m.voter name).bound ≤ most
-    → ((done terms self m at what).voter name).bound ≤ most
-bounded_by terms most self m at (begins floor) name is old = leb-true floor most is
-bounded_by terms most self m at (reserves bound) name is old = leb-true bound most is
-bounded_by terms most self m at (sends (request n client number epoch)) name is old = old
-bounded_by terms most self m at (sends (grant n client number voter)) name is old = old
-bounded_by terms most self m at (sends (release n client epoch)) name is old = old
-bounded_by terms most self m at (takes (request n client number epoch)) name is old = by_test (bytes_eq n name) where
-  by_test : (b : Bool) → (if b then record (m.voter name) { last = epoch; holder = Some client; ends = terms.clock self.machine (m.voter name).boot at + terms.keeps } else m.voter name).bound ≤ most
-  by_test true = old
-  by_test false = old
-bounded_by terms most self m at (takes (grant n client number voter)) name is old = old
-bounded_by terms most self m at (takes (release n client epoch)) name is old = by_test (bytes_eq n name) where
-  by_test : (b : Bool) → (if b then record (m.voter name) { holder = None } else m.voter name).bound ≤ most
-  by_test true = old
-  by_test false = old
-
-bounded : (terms : Terms) (most : ℕ) (steps : List Step) (n : ℕ) (name : Name) → all_at_most most steps ≡ true → ((machines terms steps n).voter name).bound ≤ most
-bounded terms most [] n name is = omega arith
-bounded terms most (s ∷ past) n name is = by_machine (s.by.machine == n) (bounded terms most past s.by.machine name parts.1) (bounded terms most past n name parts.1)
-  where
-    parts : (allows_at_most most s.what ≡ true) × (all_at_most most past ≡ true)
-    parts = both (allows_at_most most s.what) (all_at_most most past) is
-
-    by_machine : (b : Bool) → ((machines terms past s.by.machine).voter name).bound ≤ most → ((machines terms past n).voter name).bound ≤ most
-        → ((if b then done terms s.by (machines terms past s.by.machine) s.at s.what else machines terms past n).voter name).bound ≤ most
-    by_machine true here there = bounded_by terms most s.by (machines terms past s.by.machine) s.at s.what name parts.0 here
-    by_machine false here there = there
-
-abbrev is_unused : Client → List Step → Bool
-is_unused self [] = true
-is_unused self (s ∷ past) = not (same_client s.by self) && is_unused self past
-
-fresh : (self : Client) (past : List Step) → is_unused self past ≡ true → (s : Step) → IsAmong s past → s.by ≡ self → ⊥
-fresh self [] is s i same = i
-fresh self (p ∷ past) is s (inl e) same =
-    (let used : same_client p.by self ≡ true = ap (λ (c : Client). same_client c self) (ap (λ (x : Step). x.by) (sym e) ∙ same) ∙ is_client self in
-    let bad : not (same_client p.by self) ≡ true = (both (not (same_client p.by self)) (is_unused self past) is).0 in
-    by_test (same_client p.by self) used bad)
-  where
-    by_test : (b : Bool) → b ≡ true → not b ≡ true → ⊥
-    by_test true used unused = cc
-    by_test false used unused = cc
-fresh self (p ∷ past) is s (inr i) same = fresh self past (both (not (same_client p.by self)) (is_unused self past) is).1 s i same
-
--- ---- the steps
-
-abbrev first_byte : Name → ℕ
-first_byte [] = 0
-first_byte (b ∷ rest) = b
-
-abbrev ann : Client
-ann = record { machine = 0; boot = 0; number = 1 }
-
-abbrev bob : Client
-bob = record { machine = 1; boot = 0; number = 1 }
-
-abbrev cid : Client
-cid = record { machine = 2; boot = 0; number = 1 }
-
--- what follows Bob on his machine
-abbrev new : Client
-new = record { machine = 1; boot = 0; number = 2 }
-
-abbrev x : Name
-x = 120 ∷ []
-
-abbrev y : Name
-y = 121 ∷ []
+use Rattle.std.proofs.Common.{◌≡◌, List, [], ◌∷◌, refl, ap, inl, inr, arith}
+use Rattle.lease_runs.specs.Voter.{Client}
+use Rattle.lease_network.specs.Network.{request, grant, release, begins, reserves, sends, takes, Step, Terms, IsNext, AreSteps, ask_at}
+use Rattle.lease_network.specs.Laws.{AreClocks, LeasesHappen}
+use Rattle.lease_network.proofs.Witness.{ann, bob, bounded, cid, first_byte, fresh, new, x, y}
 
 abbrev terms : Terms
 terms = record { nodes = 3; keeps = 160; relies_for = 150; clock = λ machine boot t. t; grain = 5 }
@@ -284,19 +196,19 @@ abbrev l31 : List Step
 l31 = s31 ∷ l30
 
 n1 : IsNext terms [] s1
-n1 = record { time = omega arith; running = fresh ann [] refl; may = λ name. bounded terms 0 [] 0 name refl; sent = tt }
+n1 = record { time = omega arith; running = fresh ann [] refl; may = λ name. (let le = bounded terms 0 [] 0 name refl in omega (arith, le)); sent = tt }
 
 n2 : IsNext terms l1 s2
-n2 = record { time = omega arith; running = fresh bob l1 refl; may = λ name. bounded terms 0 l1 1 name refl; sent = tt }
+n2 = record { time = omega arith; running = fresh bob l1 refl; may = λ name. (let le = bounded terms 0 l1 1 name refl in omega (arith, le)); sent = tt }
 
 n3 : IsNext terms l2 s3
-n3 = record { time = omega arith; running = fresh cid l2 refl; may = λ name. bounded terms 0 l2 2 name refl; sent = tt }
+n3 = record { time = omega arith; running = fresh cid l2 refl; may = λ name. (let le = bounded terms 0 l2 2 name refl in omega (arith, le)); sent = tt }
 
 n4 : IsNext terms l3 s4
-n4 = record { time = omega arith; running = refl; may = λ name. bounded terms 8 l3 0 name refl; sent = tt }
+n4 = record { time = omega arith; running = refl; may = λ name. (let le = bounded terms 8 l3 0 name refl in omega (arith, le)); sent = tt }
 
 n5 : IsNext terms l4 s5
-n5 = record { time = omega arith; running = refl; may = λ name. bounded terms 8 l4 1 name refl; sent = tt }
+n5 = record { time = omega arith; running = refl; may = λ name. (let le = bounded terms 8 l4 1 name refl in omega (arith, le)); sent = tt }
 
 n6 : IsNext terms l5 s6
 n6 = record { time = omega arith; running = refl; may = (refl, refl, omega arith, omega arith); sent = tt }
@@ -353,13 +265,13 @@ n23 : IsNext terms l22 s23
 n23 = record { time = omega arith; running = refl; may = (refl, omega arith); sent = (s21, inr (inl refl), (refl, (2, refl))) }
 
 n24 : IsNext terms l23 s24
-n24 = record { time = omega arith; running = fresh new l23 refl; may = λ name. bounded terms 8 l23 1 name refl; sent = tt }
+n24 = record { time = omega arith; running = fresh new l23 refl; may = λ name. (let le = bounded terms 8 l23 1 name refl in omega (arith, le)); sent = tt }
 
 n25 : IsNext terms l24 s25
-n25 = record { time = omega arith; running = refl; may = λ name. bounded terms 16 l24 1 name refl; sent = tt }
+n25 = record { time = omega arith; running = refl; may = λ name. (let le = bounded terms 16 l24 1 name refl in omega (arith, le)); sent = tt }
 
 n26 : IsNext terms l25 s26
-n26 = record { time = omega arith; running = refl; may = λ name. bounded terms 16 l25 0 name refl; sent = tt }
+n26 = record { time = omega arith; running = refl; may = λ name. (let le = bounded terms 16 l25 0 name refl in omega (arith, le)); sent = tt }
 
 n27 : IsNext terms l26 s27
 n27 = record { time = omega arith; running = refl; may = (refl, refl, omega arith, omega arith); sent = tt }

@@ -1,13 +1,12 @@
 -- What holds of runs of one name holds of the steps of machines.
-use Rattle.std.proofs.Common.{◌≡◌, ℕ, ◌≤◌, ◌<◌, true, List, ◌++◌, Some, sym, ◌∙◌, ap, subst, inl, inr, arith}
+use Rattle.std.proofs.Common.{◌≡◌, ℕ, List, sym, ◌∙◌, ap, subst, inl, inr, arith}
 use Rattle.lease_runs.specs.Lists.{IsAmong}
 use Rattle.lease_runs.specs.Voter.{Client, Ask}
-use Rattle.lease_runs.specs.Run.{ClientEvent, Does, IsRun, IsTimed}
-use Rattle.lease_runs.specs.Candidate.{Candidate, ClientMoment, IsClientOf, FollowsFrom, beginning, left}
+use Rattle.lease_runs.specs.Candidate.{Candidate, ClientMoment, IsClientOf, beginning, left}
 use Rattle.lease_runs.specs.Holding.{HeldEpochsRise, HolderRelies, OneHolds}
 use Rattle.lease_runs.specs.Holding as one_name
 use Rattle.lease_runs.specs.Laws as run_laws
-use Rattle.lease_network.specs.Network.{Name, request, sends, Step, Terms, AreSteps, last_time, machines}
+use Rattle.lease_network.specs.Network.{Name, request, sends, Step, Terms, AreSteps, machines}
 use Rattle.lease_network.specs.Laws.{EpochsFollow, EpochsRise, HeldWasAsked, Holds, OneEpoch, OneHolder, up_to}
 use Rattle.lease_network.specs.Projection.{StepsAreRuns, acts, run_of}
 use Rattle.lease_network.proofs.Runs.{was_sent}

@@ -3,4 +3,6 @@ mod Voters
 mod Clients
 mod Runs
 mod Held
+mod Witness
 mod Happens
+mod Suspended

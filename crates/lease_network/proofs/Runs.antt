@@ -5,12 +5,11 @@ use Rattle.std.specs.Str.{bytes_eq}
 use Rattle.std.proofs.lemmas.Bool.{eqb-true, eq-eqb}
 use Rattle.lease_runs.specs.Lists.{IsAmong}
 use Rattle.lease_runs.specs.Voter.{Client, Ask, VoterEvent, grants, passes, releases, raises, restarts, Moment}
-use Rattle.lease_runs.specs.Run.{ClientEvent, asks, hears, stops, Act, Run, Grants, Releases, Does, IsRun, IsTimed}
+use Rattle.lease_runs.specs.Run.{ClientEvent, asks, hears, stops, Act, Grants, Releases, Does}
 use Rattle.lease_runs.specs.Growing.{HistoryGoesOn}
-use Rattle.lease_network.specs.Network.{Name, Message, request, grant, release, Event, begins, reserves, sends, takes, Step, Terms, AreSteps, ask_at}
-use Rattle.lease_network.specs.Laws.{AreClocks}
+use Rattle.lease_network.specs.Network.{Name, request, grant, release, Event, begins, reserves, sends, takes, Step, Terms, AreSteps, ask_at}
 use Rattle.lease_network.specs.Projection.{StepsAreRuns, act_at, acts, asked_for, client_events, history, moment_at, run_of, voter_events, when}
-use Rattle.lease_network.proofs.Steps.{Placed, asked_is, asker, before, is_name, name_is, placed, releaser, sent_be}
+use Rattle.lease_network.proofs.Steps.{asked_is, asker, before, is_name, name_is, placed, releaser, sent_be}
 use Rattle.lease_network.proofs.Voters.{votes}
 
 -- ---- where a moment or an act comes from

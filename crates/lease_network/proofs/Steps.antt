@@ -8,7 +8,7 @@ use Rattle.lease_runs.specs.Lists.{IsAmong}
 use Rattle.lease_runs.specs.Voter.{Client, Ask}
 use Rattle.lease_runs.specs.Run.{asks, hears, stops}
 use Rattle.lease_runs.specs.Candidate.{Candidate, taken, voted, with_vote}
-use Rattle.lease_network.specs.Network.{Name, Message, request, grant, release, Event, begins, reserves, sends, takes, Step, Terms, Machine, MayDo, IsRunning, WasSent, IsNext, AreSteps, ask_at, at_name, candidate_then, done, last_time, machines}
+use Rattle.lease_network.specs.Network.{Name, request, grant, release, Event, begins, reserves, sends, takes, Step, Terms, Machine, MayDo, IsRunning, WasSent, IsNext, AreSteps, ask_at, at_name, candidate_then, done, last_time, machines}
 use Rattle.lease_network.specs.Projection.{asked_for, or_before, same_client}
 
 -- ---- equal names, clients

@@ -3,11 +3,11 @@ use Rattle.std.proofs.Common.{◌≡◌, ℕ, ◌≤◌, Bool, true, false, List
 use Rattle.std.specs.Prelude.{◌==◌, if◌then◌else◌, map}
 use Rattle.std.specs.Str.{bytes_eq}
 use Rattle.std.proofs.lemmas.Bool.{eqb-true}
-use Rattle.lease_runs.specs.Voter.{Client, Ask, VoterEvent, grants, releases, raises, restarts, Moment, Voter, opening, IsPossible, after, Follows}
+use Rattle.lease_runs.specs.Voter.{Client, Ask, VoterEvent, grants, releases, Moment, Voter, opening, IsPossible, after, Follows}
 use Rattle.lease_runs.specs.Growing.{HistoryGoesOn, end, replay}
 use Rattle.lease_network.specs.Network.{Name, Message, request, grant, release, Event, begins, reserves, sends, takes, Step, Terms, Machine, MayDo, IsNext, AreSteps, ask_at, done, last_time, machines}
 use Rattle.lease_network.specs.Projection.{asked_for, history, moment_at, voter_events, when}
-use Rattle.lease_network.proofs.Steps.{by_name, name_is}
+use Rattle.lease_network.proofs.Steps.{name_is}
 
 -- what one event at most does
 abbrev Voted : ℕ → (ℕ → ℕ → ℕ) → ℕ → Voter → List VoterEvent → Voter → Type 0

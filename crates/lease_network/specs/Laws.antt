@@ -67,3 +67,17 @@ pub record LeasesHappen : Type 0 where
   pub handed_over : (time : ℕ) × (a : Ask) × (other.0 < time) × Holds terms steps x time d a
   pub began_anew : (time : ℕ) × (e : Client) × (handed_over.0 < time) × ((machines terms (up_to time steps) d.machine).process ≡ Some e) × (d ≡ e → ⊥)
   pub taken_over : (time : ℕ) × (a : Ask) × (began_anew.0 < time) × Holds terms steps y time c a
+
+-- The rates are needed: where a clock stands, two processes may hold the lease of a name at a time.
+pub record TwoMayHold : Type 0 where
+  pub terms : Terms
+  pub steps : List Step
+  pub are : AreSteps terms steps
+  pub margin : 33 * terms.relies_for + 2 * terms.grain ≤ 31 * terms.keeps
+  pub name : Name
+  pub time : ℕ
+  pub c : Client
+  pub d : Client
+  pub processes : c ≡ d → ⊥
+  pub first : (a : Ask) × Holds terms steps name time c a
+  pub second : (a : Ask) × Holds terms steps name time d a

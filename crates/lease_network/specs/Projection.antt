@@ -3,7 +3,7 @@ use Rattle.std.specs.Prelude.{ℕ, ◌==◌, ◌&&◌, Bool, if◌then◌else◌
 use Rattle.std.specs.Str.{bytes_eq}
 use Rattle.lease_runs.specs.Voter.{Client, Ask, VoterEvent, grants, releases, raises, restarts, Moment}
 use Rattle.lease_runs.specs.Run.{Run, ClientEvent, asks, hears, stops, Act, IsRun, IsTimed}
-use Rattle.lease_network.specs.Network.{Name, Message, request, grant, release, Event, begins, reserves, sends, takes, Step, Terms, AreSteps, ask_at}
+use Rattle.lease_network.specs.Network.{Name, request, grant, release, Event, begins, reserves, sends, takes, Step, Terms, AreSteps, ask_at}
 use Rattle.lease_network.specs.Laws.{AreClocks}
 
 abbrev pub when : {A : Type 0} → Bool → A → List A
