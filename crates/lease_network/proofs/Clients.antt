@@ -1,16 +1,17 @@
--- What the steps of a process are to the client of one name.
+-- What the steps of machines are to a client of one name.
 use Rattle.std.proofs.Common.{◌≡◌, ◌⊎◌, ℕ, ◌≤◌, ◌<◌, Bool, true, false, List, [], ◌∷◌, ◌++◌, Some, refl, sym, ◌∙◌, ap, subst, inl, inr, arith}
-use Rattle.std.specs.Prelude.{◌==◌, if◌then◌else◌, map, leb}
+use Rattle.std.specs.Prelude.{◌==◌, ◌&&◌, if◌then◌else◌, map, leb}
 use Rattle.std.specs.Str.{bytes_eq}
-use Rattle.std.proofs.lemmas.Bool.{leb-false, leb-true}
+use Rattle.std.proofs.lemmas.Bool.{eq-eqb, eqb-true, leb-false, leb-true}
+use Rattle.std.proofs.lemmas.List.{append-nil, append_assoc}
 use Rattle.lease_runs.specs.Lists.{IsAmong}
 use Rattle.lease_runs.specs.Voter.{Client}
 use Rattle.lease_runs.specs.Run.{ClientEvent, asks, hears, stops, Act}
 use Rattle.lease_runs.specs.Candidate.{ClientMoment, Candidate, beginning, voted, MayAct, after_act, FollowsFrom, left}
-use Rattle.lease_network.specs.Network.{Name, request, grant, release, Event, begins, reserves, sends, takes, Step, Terms, Machine, MayDo, IsNext, AreSteps, ask_at, candidate_then, done, last_time, machines}
+use Rattle.lease_network.specs.Network.{Name, request, grant, release, Event, begins, reserves, sends, takes, Step, Terms, Machine, MayAsk, MayDo, IsNext, AreSteps, acted, ask_at, at_name, candidate_then, done, last_time, machines}
 use Rattle.lease_network.specs.Laws.{up_to}
 use Rattle.lease_network.specs.Projection.{act_at, acts, asked_for, client_events, same_client, when}
-use Rattle.lease_network.proofs.Steps.{asked_as, begins_or_runs, client_is, is_client, name_is, process_stays, same_some, same_true}
+use Rattle.lease_network.proofs.Steps.{IsBeginning, IsUnborn, asked_as, begins_or_runs, by_client, client_is, is_client, name_is, process_stays, same_some, same_true}
 
 abbrev pub at_moment : ℕ → ClientEvent → ClientMoment
 at_moment at what = record { at = at; what = what }
@@ -36,43 +37,58 @@ Acted nodes relies_for clock self at old [] new = new ≡ old
 Acted nodes relies_for clock self at old (what ∷ []) new = MayAct nodes self old at what × (new ≡ after_act nodes relies_for clock old at what)
 Acted nodes relies_for clock self at old (what ∷ more ∷ rest) new = ⊥
 
-acted_same : (nodes relies_for : ℕ) (clock : ℕ → ℕ) (self : Client) (at : ℕ) (n name : Name) (candidate : Name → Candidate) (what : ClientEvent) → MayAct nodes self (candidate n) at what → n ≡ name
-    → Acted nodes relies_for clock self at (candidate name) (what ∷ []) (after_act nodes relies_for clock (candidate name) at what)
-acted_same nodes relies_for clock self at n name candidate what may same = (subst (λ (x : Name). MayAct nodes self (candidate x) at what) same may, refl)
+-- what a client does for a name is one event of it, and none of others
+act_done : (terms : Terms) (name : Name) (self : Client) (m : Machine) (at : ℕ) (n : Name) (what said : ClientEvent) → MayAsk terms self m at what n
+    → (MayAsk terms self m at what name → MayAct terms.nodes self (m.candidate self.number name) at said)
+    → candidate_then terms self m at what name ≡ after_act terms.nodes terms.relies_for (terms.clock self.machine self.boot) (m.candidate self.number name) at said
+    → Acted terms.nodes terms.relies_for (terms.clock self.machine self.boot) self at (m.candidate self.number name) (when (bytes_eq n name) said) ((acted terms self m at n what).candidate self.number name)
+act_done terms name self m at n what said may so is = by_client
+    (λ (c : Candidate). Acted terms.nodes terms.relies_for (terms.clock self.machine self.boot) self at (m.candidate self.number name) (when (bytes_eq n name) said) c)
+    self.number self.number (at_name n (candidate_then terms self m at what) (m.candidate self.number)) m.candidate name (λ same. by_test (bytes_eq n name) refl)
+    (λ other. absurd (let bad : true ≡ false = sym (same_true self.number) ∙ other in cc))
+  where
+    by_test : (b : Bool) → bytes_eq n name ≡ b → Acted terms.nodes terms.relies_for (terms.clock self.machine self.boot) self at (m.candidate self.number name) (when b said)
+        (if b then candidate_then terms self m at what name else m.candidate self.number name)
+    by_test true same = (so (subst (λ (x : Name). MayAsk terms self m at what x) (name_is n name same) may), is)
+    by_test false other = refl
 
--- what a process does but begin is to the client of the name one event at most that it may do
-acted : (terms : Terms) (all : List Step) (name : Name) (self : Client) (m : Machine) (at : ℕ) (what : Event) → MayDo terms self m at what → ((floor : ℕ) → what ≡ begins floor → ⊥)
-    → Acted terms.nodes terms.relies_for (terms.clock self.machine self.boot) self at (m.candidate name) (client_events all name at what) ((done terms self m at what).candidate name)
-acted terms all name self m at (begins floor) may goes_on = absurd (goes_on floor refl)
-acted terms all name self m at (reserves bound) may goes_on = refl
-acted terms all name self m at (sends (request n client number epoch)) may goes_on = by_test (bytes_eq n name) refl
-  where
-    by_test : (b : Bool) → bytes_eq n name ≡ b
-        → Acted terms.nodes terms.relies_for (terms.clock self.machine self.boot) self at (m.candidate name) (when b (asks (ask_at client number epoch at)))
-        (if b then candidate_then terms self m at (asks (ask_at client number epoch at)) name else m.candidate name)
-    by_test true same = acted_same terms.nodes terms.relies_for (terms.clock self.machine self.boot) self at n name m.candidate (asks (ask_at client number epoch at)) may (name_is n name same)
-    by_test false other = refl
-acted terms all name self m at (sends (grant n client number voter)) may goes_on = absurd may
-acted terms all name self m at (sends (release n client epoch)) may goes_on = by_test (bytes_eq n name) refl
-  where
-    by_test : (b : Bool) → bytes_eq n name ≡ b
-        → Acted terms.nodes terms.relies_for (terms.clock self.machine self.boot) self at (m.candidate name) (when b (stops epoch))
-        (if b then candidate_then terms self m at (stops epoch) name else m.candidate name)
-    by_test true same = acted_same terms.nodes terms.relies_for (terms.clock self.machine self.boot) self at n name m.candidate (stops epoch) tt (name_is n name same)
-    by_test false other = refl
-acted terms all name self m at (takes (request n client number epoch)) may goes_on = refl
-acted terms all name self m at (takes (grant n client number voter)) may goes_on = by_test (bytes_eq n name) refl
-  where
-    numbered : voted terms.nodes terms.relies_for (terms.clock self.machine self.boot) at voter number (m.candidate name) (m.candidate name).asked
-        ≡ voted terms.nodes terms.relies_for (terms.clock self.machine self.boot) at voter (asked_for all name client number).number (m.candidate name) (m.candidate name).asked
-    numbered = ap (λ (k : ℕ). voted terms.nodes terms.relies_for (terms.clock self.machine self.boot) at voter k (m.candidate name) (m.candidate name).asked) (sym (asked_as all name client number).1)
+-- what is done but a beginning is to the client of the name one event at most that it may do
+did : (terms : Terms) (all : List Step) (name : Name) (self : Client) (m : Machine) (at : ℕ) (what : Event) → MayDo terms self m at what → ((floor : ℕ) → what ≡ begins floor → ⊥)
+    → Acted terms.nodes terms.relies_for (terms.clock self.machine self.boot) self at (m.candidate self.number name) (client_events all name at what) ((done terms self m at what).candidate self.number name)
+did terms all name self m at (begins floor) may goes_on = absurd (goes_on floor refl)
+did terms all name self m at (reserves bound) may goes_on = refl
+did terms all name self m at (sends (request n client number epoch)) may goes_on =
+    act_done terms name self m at n (asks (ask_at client number epoch at)) (asks (ask_at client number epoch at)) may (λ x. x) refl
+did terms all name self m at (sends (grant n client number voter)) may goes_on = absurd may
+did terms all name self m at (sends (release n client epoch)) may goes_on = act_done terms name self m at n (stops epoch) (stops epoch) tt (λ x. x) refl
+did terms all name self m at (takes (request n client number epoch)) may goes_on = refl
+did terms all name self m at (takes (grant n client number voter)) may goes_on =
+    act_done terms name self m at n (hears voter (ask_at client number 0 at)) (hears voter (asked_for all name client number)) may
+    (λ x. ((asked_as all name client number).0 ∙ x.0, x.1))
+    (ap (λ (k : ℕ). voted terms.nodes terms.relies_for (terms.clock self.machine self.boot) at voter k (m.candidate self.number name) (m.candidate self.number name).asked)
+    (sym (asked_as all name client number).1))
+did terms all name self m at (takes (release n client epoch)) may goes_on = refl
 
-    by_test : (b : Bool) → bytes_eq n name ≡ b
-        → Acted terms.nodes terms.relies_for (terms.clock self.machine self.boot) self at (m.candidate name) (when b (hears voter (asked_for all name client number)))
-        (if b then candidate_then terms self m at (hears voter (ask_at client number 0 at)) name else m.candidate name)
-    by_test true same = (((asked_as all name client number).0 ∙ may.0, may.1), numbered)
-    by_test false other = refl
-acted terms all name self m at (takes (release n client epoch)) may goes_on = refl
+not_his : (terms : Terms) (name : Name) (self : Client) (m : Machine) (at : ℕ) (n : Name) (other : ℕ) (what : ClientEvent) → (self.number == other) ≡ false
+    → m.candidate other name ≡ (acted terms self m at n what).candidate other name
+not_his terms name self m at n other what different = by_client (λ (c : Candidate). m.candidate other name ≡ c) self.number other
+    (at_name n (candidate_then terms self m at what) (m.candidate self.number)) m.candidate name
+    (λ same. absurd (let bad : true ≡ false = sym (eq-eqb self.number other same) ∙ different in cc)) (λ different. refl)
+
+-- other clients keep what they kept
+others_stay : (terms : Terms) (name : Name) (self : Client) (m : Machine) (at : ℕ) (what : Event) (other : ℕ) → (self.number == other) ≡ false → ((floor : ℕ) → what ≡ begins floor → ⊥)
+    → m.candidate other name ≡ (done terms self m at what).candidate other name
+others_stay terms name self m at (begins floor) other different goes_on = absurd (goes_on floor refl)
+others_stay terms name self m at (reserves bound) other different goes_on = refl
+others_stay terms name self m at (sends (request n client number epoch)) other different goes_on = not_his terms name self m at n other (asks (ask_at client number epoch at)) different
+others_stay terms name self m at (sends (grant n client number voter)) other different goes_on = refl
+others_stay terms name self m at (sends (release n client epoch)) other different goes_on = not_his terms name self m at n other (stops epoch) different
+others_stay terms name self m at (takes (request n client number epoch)) other different goes_on = refl
+others_stay terms name self m at (takes (grant n client number voter)) other different goes_on = not_his terms name self m at n other (hears voter (ask_at client number 0 at)) different
+others_stay terms name self m at (takes (release n client epoch)) other different goes_on = refl
+
+all_same : (x y z : Bool) → x ≡ true → y ≡ true → z ≡ true → (x && (y && z)) ≡ true
+all_same x y z a b c = cc
 
 -- ---- moments that follow
 
@@ -83,10 +99,6 @@ last_moment time (m ∷ ms) = last_moment m.at ms
 last_there : (time : ℕ) (ms : List ClientMoment) (m : ClientMoment) → last_moment time (ms ++ m ∷ []) ≡ m.at
 last_there time [] m = refl
 last_there time (n ∷ ms) m = last_there n.at ms m
-
-pub nothing_more : (ms : List ClientMoment) → ms ++ [] ≡ ms
-nothing_more [] = refl
-nothing_more (m ∷ ms) = ap (λ (x : List ClientMoment). m ∷ x) (nothing_more ms)
 
 follows_on : (nodes relies_for : ℕ) (clock : ℕ → ℕ) (self : Client) (time : ℕ) (c : Candidate) (ms : List ClientMoment) (m : ClientMoment) → FollowsFrom nodes relies_for clock self time c ms
     → last_moment time ms ≤ m.at → MayAct nodes self (left nodes relies_for clock c ms) m.at m.what
@@ -103,7 +115,7 @@ pub record IsClients (nodes relies_for : ℕ) (clock : ℕ → ℕ) (self : Clie
 
 unchanged : (nodes relies_for : ℕ) (clock : ℕ → ℕ) (self : Client) (ms : List ClientMoment) (old new : Candidate) (time at : ℕ) → time ≤ at → new ≡ old
     → IsClients nodes relies_for clock self ms old time → IsClients nodes relies_for clock self (ms ++ []) new at
-unchanged nodes relies_for clock self ms old new time at le same h = subst (λ (x : List ClientMoment). IsClients nodes relies_for clock self x new at) (sym (nothing_more ms))
+unchanged nodes relies_for clock self ms old new time at le same h = subst (λ (x : List ClientMoment). IsClients nodes relies_for clock self x new at) (sym (append-nil ms))
     (record { follows = h.follows; leaves = h.leaves ∙ sym same; ends = (let ends = h.ends in omega (arith, ends, le)) })
 
 goes_on : (nodes relies_for : ℕ) (clock : ℕ → ℕ) (self : Client) (ms : List ClientMoment) (old new : Candidate) (time at : ℕ) (what : List ClientEvent) → time ≤ at
@@ -139,95 +151,113 @@ others_moments client at (e ∷ rest) self other = by_test (same_client self cli
     by_test true is none = absurd cc
     by_test false is none = none
 
--- the process runs: what its moments leave is what its machine keeps; it did not begin: it has none; in any case they follow one another
-pub record OfProcess (terms : Terms) (name : Name) (client : Client) (past : List Step) (ms : List ClientMoment) : Type 0 where
+-- Where the client's process runs, what its moments leave is what its machine keeps; before its process began it has none; in any case they follow one another.
+pub record OfClient (terms : Terms) (name : Name) (client : Client) (past : List Step) (ms : List ClientMoment) : Type 0 where
   pub left_there : Candidate
   pub clients : IsClients terms.nodes terms.relies_for (terms.clock client.machine client.boot) client ms left_there (last_time past)
-  pub runs : (machines terms past client.machine).process ≡ Some client → left_there ≡ (machines terms past client.machine).candidate name
-  pub unborn : ((p : Step) → IsAmong p past → p.by ≡ client → ⊥) → ms ≡ []
+  pub runs : (machines terms past client.machine).process ≡ Some client.boot → left_there ≡ (machines terms past client.machine).candidate client.number name
+  pub unborn : IsUnborn past client → ms ≡ []
 
--- a step of another process, on this machine or elsewhere
+-- a step of another client, in this process or elsewhere
 step_elsewhere : (terms : Terms) (name : Name) (client : Client) (p : Step) (past : List Step) (ms : List ClientMoment) → IsNext terms past p → same_client p.by client ≡ false
-    → OfProcess terms name client past ms → OfProcess terms name client (p ∷ past) ms
+    → OfClient terms name client past ms → OfClient terms name client (p ∷ past) ms
 step_elsewhere terms name client p past ms next other h = record {
   left_there = h.left_there;
-  clients = (let le = next.time in subst (λ (x : List ClientMoment). IsClients terms.nodes terms.relies_for (terms.clock client.machine client.boot) client x h.left_there p.at) (nothing_more ms)
+  clients = (let le = next.time in subst (λ (x : List ClientMoment). IsClients terms.nodes terms.relies_for (terms.clock client.machine client.boot) client x h.left_there p.at) (append-nil ms)
       (unchanged terms.nodes terms.relies_for (terms.clock client.machine client.boot) client ms h.left_there h.left_there (last_time past) p.at le refl h.clients));
   runs = by_machine (p.by.machine == client.machine) refl;
   unborn = λ none. h.unborn (λ q i. none q (inr i));
 }
   where
-    different : p.by ≡ client → ⊥
-    different same = (let bad : true ≡ false = sym (is_client client) ∙ (ap (λ (c : Client). same_client c client) (sym same) ∙ other) in cc)
+    m : Machine
+    m = machines terms past p.by.machine
 
-    began : (floor : ℕ) → p.what ≡ begins floor → (done terms p.by (machines terms past p.by.machine) p.at p.what).process ≡ Some p.by
-    began floor is = subst (λ (x : Event). (done terms p.by (machines terms past p.by.machine) p.at x).process ≡ Some p.by) (sym is) refl
+    apart : p.by.machine ≡ client.machine → p.by.boot ≡ client.boot → (p.by.number == client.number) ≡ false
+    apart machine boot = by_test (p.by.number == client.number) refl
+      where
+        by_test : (b : Bool) → (p.by.number == client.number) ≡ b → b ≡ false
+        by_test false is = refl
+        by_test true is = absurd (let same : same_client p.by client ≡ true = all_same (p.by.machine == client.machine) (p.by.boot == client.boot) (p.by.number == client.number)
+            (eq-eqb p.by.machine client.machine machine) (eq-eqb p.by.boot client.boot boot) is in
+            let bad : true ≡ false = sym same ∙ other in cc)
 
-    ran : (done terms p.by (machines terms past p.by.machine) p.at p.what).process ≡ Some p.by
-    ran = elim (begins_or_runs past p.by (machines terms past p.by.machine).process p.what next.running) [
-      | inl x ↦ began x.0 x.1
-      | inr x ↦ process_stays terms p.by (machines terms past p.by.machine) p.at p.what x.1 ∙ x.0
-    ]
+    nothing_left : ms ≡ [] → h.left_there ≡ beginning
+    nothing_left none = sym h.clients.leaves ∙ ap (λ (x : List ClientMoment). left terms.nodes terms.relies_for (terms.clock client.machine client.boot) beginning x) none
+
+    by_running : IsBeginning past p.by p.what ⊎ ((m.process ≡ Some p.by.boot) × ((floor : ℕ) → p.what ≡ begins floor → ⊥)) → p.by.machine ≡ client.machine
+        → (done terms p.by m p.at p.what).process ≡ Some client.boot → h.left_there ≡ (done terms p.by m p.at p.what).candidate client.number name
+    by_running (inl begun) same running =
+        let began : Some p.by.boot ≡ Some client.boot = subst (λ (x : Event). (done terms p.by m p.at x).process ≡ Some client.boot) begun.1 running in
+        let boot : p.by.boot ≡ client.boot = same_some p.by.boot client.boot began in
+        subst (λ (x : Event). h.left_there ≡ (done terms p.by m p.at x).candidate client.number name) (sym begun.1)
+        (nothing_left (h.unborn (λ q i machine at_boot. begun.2 q i (machine ∙ sym same) (at_boot ∙ sym boot))))
+    by_running (inr (run, goes_on)) same running =
+        let still : m.process ≡ Some client.boot = sym (process_stays terms p.by m p.at p.what goes_on) ∙ running in
+        let boot : p.by.boot ≡ client.boot = same_some p.by.boot client.boot (sym run ∙ still) in
+        let old : h.left_there ≡ m.candidate client.number name =
+        subst (λ (n : ℕ). (machines terms past n).process ≡ Some client.boot → h.left_there ≡ (machines terms past n).candidate client.number name) (sym same) h.runs still in
+        old ∙ others_stay terms name p.by m p.at p.what client.number (apart same boot) goes_on
 
     by_machine : (b : Bool) → (p.by.machine == client.machine) ≡ b
-        → (if b then done terms p.by (machines terms past p.by.machine) p.at p.what else machines terms past client.machine).process ≡ Some client
-        → h.left_there ≡ (if b then done terms p.by (machines terms past p.by.machine) p.at p.what else machines terms past client.machine).candidate name
-    by_machine true same running = absurd (different (same_some p.by client (sym ran ∙ running)))
+        → (if b then done terms p.by (machines terms past p.by.machine) p.at p.what else machines terms past client.machine).process ≡ Some client.boot
+        → h.left_there ≡ (if b then done terms p.by (machines terms past p.by.machine) p.at p.what else machines terms past client.machine).candidate client.number name
+    by_machine true same running =
+        by_running (begins_or_runs past p.by (machines terms past p.by.machine).process p.what next.running) (eqb-true p.by.machine client.machine same) running
     by_machine false elsewhere running = h.runs running
 
--- a step of the process
-step_here : (terms : Terms) (all : List Step) (name : Name) (p : Step) (past : List Step) (ms : List ClientMoment) → IsNext terms past p → OfProcess terms name p.by past ms
-    → OfProcess terms name p.by (p ∷ past) (ms ++ map (at_moment p.at) (client_events all name p.at p.what))
+-- a step of the client
+step_here : (terms : Terms) (all : List Step) (name : Name) (p : Step) (past : List Step) (ms : List ClientMoment) → IsNext terms past p → OfClient terms name p.by past ms
+    → OfClient terms name p.by (p ∷ past) (ms ++ map (at_moment p.at) (client_events all name p.at p.what))
 step_here terms all name p past ms next h = by_running (begins_or_runs past p.by (machines terms past p.by.machine).process p.what next.running)
   where
     new : Candidate
-    new = (done terms p.by (machines terms past p.by.machine) p.at p.what).candidate name
+    new = (done terms p.by (machines terms past p.by.machine) p.at p.what).candidate p.by.number name
 
-    runs_new : new ≡ (machines terms (p ∷ past) p.by.machine).candidate name
+    runs_new : new ≡ (machines terms (p ∷ past) p.by.machine).candidate p.by.number name
     runs_new = by_test (p.by.machine == p.by.machine) (same_true p.by.machine)
       where
-        by_test : (b : Bool) → b ≡ true
-            → (done terms p.by (machines terms past p.by.machine) p.at p.what).candidate name ≡ (if b then done terms p.by (machines terms past p.by.machine) p.at p.what else machines terms past p.by.machine).candidate name
+        by_test : (b : Bool) → b ≡ true → (done terms p.by (machines terms past p.by.machine) p.at p.what).candidate p.by.number name
+            ≡ (if b then done terms p.by (machines terms past p.by.machine) p.at p.what else machines terms past p.by.machine).candidate p.by.number name
         by_test true is = refl
         by_test false is = absurd cc
 
     made : IsClients terms.nodes terms.relies_for (terms.clock p.by.machine p.by.boot) p.by (ms ++ map (at_moment p.at) (client_events all name p.at p.what)) new p.at
-        → OfProcess terms name p.by (p ∷ past) (ms ++ map (at_moment p.at) (client_events all name p.at p.what))
-    made is = record { left_there = new; clients = is; runs = λ running. runs_new; unborn = λ none. absurd (none p (inl refl) refl) }
+        → OfClient terms name p.by (p ∷ past) (ms ++ map (at_moment p.at) (client_events all name p.at p.what))
+    made is = record { left_there = new; clients = is; runs = λ running. runs_new; unborn = λ none. absurd (none p (inl refl) refl refl) }
 
-    by_running : ((floor : ℕ) × (p.what ≡ begins floor) × ((q : Step) → IsAmong q past → q.by ≡ p.by → ⊥)) ⊎ (((machines terms past p.by.machine).process ≡ Some p.by) × ((floor : ℕ) → p.what ≡ begins floor → ⊥))
-        → OfProcess terms name p.by (p ∷ past) (ms ++ map (at_moment p.at) (client_events all name p.at p.what))
+    by_running : IsBeginning past p.by p.what ⊎ (((machines terms past p.by.machine).process ≡ Some p.by.boot) × ((floor : ℕ) → p.what ≡ begins floor → ⊥))
+        → OfClient terms name p.by (p ∷ past) (ms ++ map (at_moment p.at) (client_events all name p.at p.what))
     by_running (inl x) = made (subst (λ (e : Event). IsClients terms.nodes terms.relies_for (terms.clock p.by.machine p.by.boot) p.by (ms ++ map (at_moment p.at) (client_events all name p.at e))
-        ((done terms p.by (machines terms past p.by.machine) p.at e).candidate name) p.at) (sym x.1)
+        ((done terms p.by (machines terms past p.by.machine) p.at e).candidate p.by.number name) p.at) (sym x.1)
         (subst (λ (l : List ClientMoment). IsClients terms.nodes terms.relies_for (terms.clock p.by.machine p.by.boot) p.by (l ++ []) beginning p.at) (sym (h.unborn x.2))
         (record { follows = tt; leaves = refl; ends = omega arith })))
-    by_running (inr x) = made (goes_on terms.nodes terms.relies_for (terms.clock p.by.machine p.by.boot) p.by ms ((machines terms past p.by.machine).candidate name) new (last_time past) p.at
-        (client_events all name p.at p.what) next.time (acted terms all name p.by (machines terms past p.by.machine) p.at p.what next.may x.1)
+    by_running (inr x) = made (goes_on terms.nodes terms.relies_for (terms.clock p.by.machine p.by.boot) p.by ms ((machines terms past p.by.machine).candidate p.by.number name) new (last_time past) p.at
+        (client_events all name p.at p.what) next.time (did terms all name p.by (machines terms past p.by.machine) p.at p.what next.may x.1)
         (subst (λ (c : Candidate). IsClients terms.nodes terms.relies_for (terms.clock p.by.machine p.by.boot) p.by ms c (last_time past)) (h.runs x.0) h.clients))
 
 -- one step more
 step_acts : (terms : Terms) (all : List Step) (name : Name) (client : Client) (p : Step) (past : List Step) → IsNext terms past p
-    → OfProcess terms name client past (moments client (acts all name past)) → OfProcess terms name client (p ∷ past) (moments client (acts all name (p ∷ past)))
+    → OfClient terms name client past (moments client (acts all name past)) → OfClient terms name client (p ∷ past) (moments client (acts all name (p ∷ past)))
 step_acts terms all name client p past next h =
-    subst (λ (x : List ClientMoment). OfProcess terms name client (p ∷ past) x) (sym (moments_more client (acts all name past) (map (act_at p.at p.by) (client_events all name p.at p.what))))
+    subst (λ (x : List ClientMoment). OfClient terms name client (p ∷ past) x) (sym (moments_more client (acts all name past) (map (act_at p.at p.by) (client_events all name p.at p.what))))
     (by_test (same_client p.by client) refl)
   where
     ms : List ClientMoment
     ms = moments client (acts all name past)
 
-    here : p.by ≡ client → OfProcess terms name client (p ∷ past) (ms ++ map (at_moment p.at) (client_events all name p.at p.what))
-    here same = subst (λ (c : Client). OfProcess terms name c past ms → OfProcess terms name c (p ∷ past) (ms ++ map (at_moment p.at) (client_events all name p.at p.what))) same
+    here : p.by ≡ client → OfClient terms name client (p ∷ past) (ms ++ map (at_moment p.at) (client_events all name p.at p.what))
+    here same = subst (λ (c : Client). OfClient terms name c past ms → OfClient terms name c (p ∷ past) (ms ++ map (at_moment p.at) (client_events all name p.at p.what))) same
         (λ old. step_here terms all name p past ms next old) h
 
     by_test : (b : Bool) → same_client p.by client ≡ b
-        → OfProcess terms name client (p ∷ past) (ms ++ moments client (map (act_at p.at p.by) (client_events all name p.at p.what)))
-    by_test true is = subst (λ (x : List ClientMoment). OfProcess terms name client (p ∷ past) (ms ++ x))
+        → OfClient terms name client (p ∷ past) (ms ++ moments client (map (act_at p.at p.by) (client_events all name p.at p.what)))
+    by_test true is = subst (λ (x : List ClientMoment). OfClient terms name client (p ∷ past) (ms ++ x))
         (sym (own_moments client p.at (client_events all name p.at p.what) p.by (client_is p.by client is))) (here (client_is p.by client is))
-    by_test false is = subst (λ (x : List ClientMoment). OfProcess terms name client (p ∷ past) (ms ++ x))
+    by_test false is = subst (λ (x : List ClientMoment). OfClient terms name client (p ∷ past) (ms ++ x))
         (sym (others_moments client p.at (client_events all name p.at p.what) p.by is))
-        (subst (λ (x : List ClientMoment). OfProcess terms name client (p ∷ past) x) (sym (nothing_more ms)) (step_elsewhere terms name client p past ms next is h))
+        (subst (λ (x : List ClientMoment). OfClient terms name client (p ∷ past) x) (sym (append-nil ms)) (step_elsewhere terms name client p past ms next is h))
 
-pub clients : (terms : Terms) (all : List Step) (name : Name) (client : Client) (past : List Step) → AreSteps terms past → OfProcess terms name client past (moments client (acts all name past))
+pub clients : (terms : Terms) (all : List Step) (name : Name) (client : Client) (past : List Step) → AreSteps terms past → OfClient terms name client past (moments client (acts all name past))
 clients terms all name client [] are =
     record { left_there = beginning; clients = record { follows = tt; leaves = refl; ends = omega arith }; runs = λ running. refl; unborn = λ none. refl }
 clients terms all name client (p ∷ past) are = step_acts terms all name client p past are.1 (clients terms all name client past are.0)
@@ -278,7 +308,7 @@ moment_before nodes relies_for clock self time c (n ∷ ms) follows m (inr i) =
     moment_before nodes relies_for clock self n.at (after_act nodes relies_for clock c n.at n.what) ms follows.2 m i
 
 -- no moment is later than the last step
-pub moments_before : (terms : Terms) (name : Name) (client : Client) (past : List Step) (ms : List ClientMoment) → OfProcess terms name client past ms → (m : ClientMoment) → IsAmong m ms → m.at ≤ last_time past
+pub moments_before : (terms : Terms) (name : Name) (client : Client) (past : List Step) (ms : List ClientMoment) → OfClient terms name client past ms → (m : ClientMoment) → IsAmong m ms → m.at ≤ last_time past
 moments_before terms name client past ms h m i =
     let ends = h.clients.ends in
     let le = moment_before terms.nodes terms.relies_for (terms.clock client.machine client.boot) client 0 beginning ms h.clients.follows m i in omega (arith, ends, le)
@@ -300,10 +330,6 @@ among_both x [] ys i = inr i
 among_both x (y ∷ xs) ys (inl e) = inl (inl e)
 among_both x (y ∷ xs) ys (inr i) = elim (among_both x xs ys i) [ inl j ↦ inl (inr j) | inr j ↦ inr j ]
 
-append_more : (xs ys zs : List ClientMoment) → (xs ++ ys) ++ zs ≡ xs ++ (ys ++ zs)
-append_more [] ys zs = refl
-append_more (x ∷ xs) ys zs = ap (λ (l : List ClientMoment). x ∷ l) (append_more xs ys zs)
-
 -- the steps that are kept are those up to a true time; what the client did later, it did behind that
 pub record IsCut (terms : Terms) (all : List Step) (name : Name) (client : Client) (time : ℕ) (steps kept : List Step) : Type 0 where
   pub are : AreSteps terms kept
@@ -318,7 +344,7 @@ step_cut terms all name client time p past are h true le = record {
   are = are;
   by = leb-true p.at time le;
   later = [];
-  parts = sym (nothing_more (moments client (acts all name (p ∷ past))));
+  parts = sym (append-nil (moments client (acts all name (p ∷ past))));
   behind = λ m i. absurd i;
 }
 step_cut terms all name client time p past are h false less =
@@ -327,7 +353,7 @@ step_cut terms all name client time p past are h false less =
       by = h.by;
       later = h.later ++ new;
       parts = moments_more client (acts all name past) (map (act_at p.at p.by) (client_events all name p.at p.what))
-          ∙ (ap (λ (x : List ClientMoment). x ++ new) h.parts ∙ append_more (moments client (acts all name (up_to time past))) h.later new);
+          ∙ (ap (λ (x : List ClientMoment). x ++ new) h.parts ∙ append_assoc (moments client (acts all name (up_to time past))) h.later new);
       behind = λ m i. elim (among_both m h.later new i) [
         | inl j ↦ h.behind m j
         | inr j ↦ at_end (leb-false p.at time less) (later_moments client p.at (client_events all name p.at p.what) p.by m j)

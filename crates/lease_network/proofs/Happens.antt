@@ -306,10 +306,10 @@ leases_happen = record {
   names = λ same. (let bad : 120 ≡ 121 = ap first_byte same in omega (arith, bad));
   c = ann;
   d = bob;
-  processes = λ same. (let bad : 0 ≡ 1 = ap (λ (z : Client). z.machine) same in omega (arith, bad));
+  others = λ same. (let bad : 0 ≡ 1 = ap (λ (z : Client). z.machine) same in omega (arith, bad));
   first = (201, ask_at ann 1 1 199, record { running = refl; lease = refl; in_time = refl });
   other = (204, ask_at bob 1 2 202, omega arith, record { running = refl; lease = refl; in_time = refl });
   handed_over = (221, ask_at bob 1 2 219, omega arith, record { running = refl; lease = refl; in_time = refl });
-  began_anew = (230, new, omega arith, refl, λ same. (let bad : 1 ≡ 2 = ap (λ (z : Client). z.number) same in omega (arith, bad)));
+  began_anew = (230, 1, omega arith, refl, λ same. (let bad : 0 ≡ 1 = same in omega (arith, bad)));
   taken_over = (402, ask_at ann 1 9 400, omega arith, record { running = refl; lease = refl; in_time = refl });
 }

@@ -21,7 +21,7 @@ holds terms steps are name time client ask h =
     let all = moments client (acts steps name steps) in
     let whole = clients terms steps name client steps are in
     let now = clients terms steps name client kept c.are in
-    let leaves : left terms.nodes terms.relies_for (terms.clock client.machine client.boot) beginning past ≡ (machines terms kept client.machine).candidate name =
+    let leaves : left terms.nodes terms.relies_for (terms.clock client.machine client.boot) beginning past ≡ (machines terms kept client.machine).candidate client.number name =
     now.clients.leaves ∙ now.runs h.running in record {
       past = past;
       later = c.later;

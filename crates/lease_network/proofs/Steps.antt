@@ -6,9 +6,9 @@ use Rattle.std.proofs.lemmas.Bool.{eqb-true, eq-eqb}
 use Rattle.std.proofs.lemmas.Slice.Eq.{bytes_eq-Decides}
 use Rattle.lease_runs.specs.Lists.{IsAmong}
 use Rattle.lease_runs.specs.Voter.{Client, Ask}
-use Rattle.lease_runs.specs.Run.{asks, hears, stops}
+use Rattle.lease_runs.specs.Run.{ClientEvent, asks, hears, stops}
 use Rattle.lease_runs.specs.Candidate.{Candidate, taken, voted, with_vote}
-use Rattle.lease_network.specs.Network.{Name, request, grant, release, Event, begins, reserves, sends, takes, Step, Terms, Machine, MayDo, IsRunning, WasSent, IsNext, AreSteps, ask_at, at_name, candidate_then, done, last_time, machines}
+use Rattle.lease_network.specs.Network.{Name, request, grant, release, Event, begins, reserves, sends, takes, Step, Terms, Machine, MayDo, IsRunning, WasSent, IsNext, AreSteps, ask_at, at_client, acted, at_name, candidate_then, done, last_time, machines}
 use Rattle.lease_network.specs.Projection.{asked_for, or_before, same_client}
 
 -- ---- equal names, clients
@@ -54,6 +54,14 @@ by_name P name other new old same different = by_test (bytes_eq name other) refl
     by_test true is = same is
     by_test false is = different is
 
+pub by_client : (P : Candidate → Type 0) (number other : ℕ) (new : Name → Candidate) (old : ℕ → Name → Candidate) (name : Name) → (number ≡ other → P (new name))
+    → ((number == other) ≡ false → P (old other name)) → P (at_client number new old other name)
+by_client P number other new old name same different = by_test (number == other) refl
+  where
+    by_test : (b : Bool) → (number == other) ≡ b → P (if b then new name else old other name)
+    by_test true is = same (eqb-true number other is)
+    by_test false is = different is
+
 -- ---- where a step stands
 
 pub record Placed (terms : Terms) (steps : List Step) (s : Step) : Type 0 where
@@ -94,7 +102,7 @@ releaser terms past s next name client epoch is = (may_be terms past s next (sen
 
 -- ---- a request has a number of its own
 
-pub same_some : (x y : Client) → Some x ≡ Some y → x ≡ y
+pub same_some : (x y : ℕ) → Some x ≡ Some y → x ≡ y
 same_some x y e = cc
 
 number_voted : (nodes relies_for : ℕ) (clock : ℕ → ℕ) (at voter number : ℕ) (c : Candidate) (req : Option Ask) → (voted nodes relies_for clock at voter number c req).number ≡ c.number
@@ -104,25 +112,31 @@ number_voted nodes relies_for clock at voter number c (Some o) = by_same (o.numb
   by_same true = refl
   by_same false = refl
 
--- what a process does but begin keeps the number of its last request of a name, or raises it
-number_rises : (terms : Terms) (self : Client) (m : Machine) (at : ℕ) (what : Event) (name : Name) → MayDo terms self m at what → ((floor : ℕ) → what ≡ begins floor → ⊥)
-    → (m.candidate name).number ≤ ((done terms self m at what).candidate name).number
-number_rises terms self m at (begins floor) name may goes_on = absurd (goes_on floor refl)
-number_rises terms self m at (reserves bound) name may goes_on = omega arith
-number_rises terms self m at (sends (request n client number epoch)) name may goes_on =
-    by_name (λ (c : Candidate). (m.candidate name).number ≤ c.number) n name (candidate_then terms self m at (asks (ask_at client number epoch at))) m.candidate
-    (λ same. (let is = name_is n name same in let less : (m.candidate name).number < number = subst (λ (x : Name). (m.candidate x).number < number) is may.2 in omega (arith, less)))
-    (λ other. omega arith)
-number_rises terms self m at (sends (grant n client number voter)) name may goes_on = omega arith
-number_rises terms self m at (sends (release n client epoch)) name may goes_on =
-    by_name (λ (c : Candidate). (m.candidate name).number ≤ c.number) n name (candidate_then terms self m at (stops epoch)) m.candidate (λ same. omega arith) (λ other. omega arith)
-number_rises terms self m at (takes (request n client number epoch)) name may goes_on = omega arith
-number_rises terms self m at (takes (grant n client number voter)) name may goes_on =
-    by_name (λ (c : Candidate). (m.candidate name).number ≤ c.number) n name (candidate_then terms self m at (hears voter (ask_at client number 0 at))) m.candidate
-    (λ same. subst (λ (k : ℕ). (m.candidate name).number ≤ k)
-    (sym (number_voted terms.nodes terms.relies_for (terms.clock self.machine self.boot) at voter number (m.candidate name) (m.candidate name).asked)) (omega arith))
-    (λ other. omega arith)
-number_rises terms self m at (takes (release n client epoch)) name may goes_on = omega arith
+act_rises : (terms : Terms) (self : Client) (m : Machine) (at : ℕ) (n name : Name) (other : ℕ) (what : ClientEvent)
+    → (n ≡ name → (m.candidate self.number name).number ≤ (candidate_then terms self m at what name).number) → (m.candidate other name).number ≤ ((acted terms self m at n what).candidate other name).number
+act_rises terms self m at n name other what rises =
+    by_client (λ (c : Candidate). (m.candidate other name).number ≤ c.number) self.number other (at_name n (candidate_then terms self m at what) (m.candidate self.number)) m.candidate name
+    (λ same. subst (λ (k : ℕ). (m.candidate k name).number ≤ (at_name n (candidate_then terms self m at what) (m.candidate self.number) name).number) same
+    (by_name (λ (c : Candidate). (m.candidate self.number name).number ≤ c.number) n name (candidate_then terms self m at what) (m.candidate self.number)
+    (λ is. rises (name_is n name is)) (λ not. omega arith)))
+    (λ different. omega arith)
+
+-- what a process does but begin keeps the number of the last request of a client for a name, or raises it
+number_rises : (terms : Terms) (self : Client) (m : Machine) (at : ℕ) (what : Event) (name : Name) (other : ℕ) → MayDo terms self m at what → ((floor : ℕ) → what ≡ begins floor → ⊥)
+    → (m.candidate other name).number ≤ ((done terms self m at what).candidate other name).number
+number_rises terms self m at (begins floor) name other may goes_on = absurd (goes_on floor refl)
+number_rises terms self m at (reserves bound) name other may goes_on = omega arith
+number_rises terms self m at (sends (request n client number epoch)) name other may goes_on =
+    act_rises terms self m at n name other (asks (ask_at client number epoch at))
+    (λ is. (let less : (m.candidate self.number name).number < number = subst (λ (x : Name). (m.candidate self.number x).number < number) is may.2 in omega (arith, less)))
+number_rises terms self m at (sends (grant n client number voter)) name other may goes_on = omega arith
+number_rises terms self m at (sends (release n client epoch)) name other may goes_on = act_rises terms self m at n name other (stops epoch) (λ is. omega arith)
+number_rises terms self m at (takes (request n client number epoch)) name other may goes_on = omega arith
+number_rises terms self m at (takes (grant n client number voter)) name other may goes_on =
+    act_rises terms self m at n name other (hears voter (ask_at client number 0 at))
+    (λ is. subst (λ (k : ℕ). (m.candidate self.number name).number ≤ k)
+    (sym (number_voted terms.nodes terms.relies_for (terms.clock self.machine self.boot) at voter number (m.candidate self.number name) (m.candidate self.number name).asked)) (omega arith))
+number_rises terms self m at (takes (release n client epoch)) name other may goes_on = omega arith
 
 -- what a process does but begin leaves it running
 pub process_stays : (terms : Terms) (self : Client) (m : Machine) (at : ℕ) (what : Event) → ((floor : ℕ) → what ≡ begins floor → ⊥) → (done terms self m at what).process ≡ m.process
@@ -135,16 +149,23 @@ process_stays terms self m at (takes (request n client number epoch)) goes_on = 
 process_stays terms self m at (takes (grant n client number voter)) goes_on = refl
 process_stays terms self m at (takes (release n client epoch)) goes_on = refl
 
+-- nothing before was done in this process
+abbrev pub IsUnborn : List Step → Client → Type 0
+IsUnborn past self = (s : Step) → IsAmong s past → s.by.machine ≡ self.machine → s.by.boot ≡ self.boot → ⊥
+
+abbrev pub IsBeginning : List Step → Client → Event → Type 0
+IsBeginning past self what = (floor : ℕ) × (what ≡ begins floor) × IsUnborn past self
+
 -- a process begins, or is the one that runs
-pub begins_or_runs : (past : List Step) (self : Client) (process : Option Client) (what : Event) → IsRunning past self process what
-    → ((floor : ℕ) × (what ≡ begins floor) × ((s : Step) → IsAmong s past → s.by ≡ self → ⊥)) ⊎ ((process ≡ Some self) × ((floor : ℕ) → what ≡ begins floor → ⊥))
+pub begins_or_runs : (past : List Step) (self : Client) (process : Option ℕ) (what : Event) → IsRunning past self process what
+    → IsBeginning past self what ⊎ ((process ≡ Some self.boot) × ((floor : ℕ) → what ≡ begins floor → ⊥))
 begins_or_runs past self process (begins floor) running = inl (floor, refl, running)
 begins_or_runs past self process (reserves bound) running = inr (running, λ floor is. cc)
 begins_or_runs past self process (sends message) running = inr (running, λ floor is. cc)
 begins_or_runs past self process (takes message) running = inr (running, λ floor is. cc)
 
 abbrev Numbered : ℕ → Name → Client → Machine → Type 0
-Numbered number name client m = m.process ≡ Some client → number ≤ (m.candidate name).number
+Numbered number name client m = m.process ≡ Some client.boot → number ≤ (m.candidate client.number name).number
 
 -- one step more
 numbered_later : (terms : Terms) (p : Step) (past : List Step) → AreSteps terms (p ∷ past) → (s : Step) → IsAmong s past → (name : Name) (client : Client) (number epoch : ℕ)
@@ -154,16 +175,16 @@ numbered_later terms p past are s i name client number epoch is rest = by_machin
     here : p.by.machine ≡ client.machine → Numbered number name client (machines terms past p.by.machine)
     here same = subst (λ (n : ℕ). Numbered number name client (machines terms past n)) (sym same) rest
 
-    by_running : ((floor : ℕ) × (p.what ≡ begins floor) × ((q : Step) → IsAmong q past → q.by ≡ p.by → ⊥)) ⊎ (((machines terms past p.by.machine).process ≡ Some p.by) × ((floor : ℕ) → p.what ≡ begins floor → ⊥))
-        → p.by.machine ≡ client.machine → Numbered number name client (done terms p.by (machines terms past p.by.machine) p.at p.what)
+    by_running : IsBeginning past p.by p.what ⊎ (((machines terms past p.by.machine).process ≡ Some p.by.boot) × ((floor : ℕ) → p.what ≡ begins floor → ⊥)) → p.by.machine ≡ client.machine
+        → Numbered number name client (done terms p.by (machines terms past p.by.machine) p.at p.what)
     by_running (inl begun) same running =
         let of = placed terms past s are.0 i in
         let own : client ≡ s.by = asker terms of.past s of.next name client number epoch is in
-        let began : Some p.by ≡ Some client = subst (λ (x : Event). (done terms p.by (machines terms past p.by.machine) p.at x).process ≡ Some client) begun.1 running in
-        absurd (begun.2 s i (sym own ∙ sym (same_some p.by client began)))
+        let began : Some p.by.boot ≡ Some client.boot = subst (λ (x : Event). (done terms p.by (machines terms past p.by.machine) p.at x).process ≡ Some client.boot) begun.1 running in
+        absurd (begun.2 s i (ap (λ (c : Client). c.machine) (sym own) ∙ sym same) (ap (λ (c : Client). c.boot) (sym own) ∙ sym (same_some p.by.boot client.boot began)))
     by_running (inr (run, goes_on)) same running =
         let m = machines terms past p.by.machine in
-        let rises = number_rises terms p.by m p.at p.what name are.1.may goes_on in
+        let rises = number_rises terms p.by m p.at p.what name client.number are.1.may goes_on in
         let low = here same (sym (process_stays terms p.by m p.at p.what goes_on) ∙ running) in omega (arith, rises, low)
 
     by_machine : (b : Bool) → (p.by.machine == client.machine) ≡ b
@@ -171,21 +192,34 @@ numbered_later terms p past are s i name client number epoch is rest = by_machin
     by_machine true same = by_running (begins_or_runs past p.by (machines terms past p.by.machine).process p.what are.1.running) (eqb-true p.by.machine client.machine same)
     by_machine false other = rest
 
--- the process that asked keeps the number, or a greater one
+number_now : (terms : Terms) (p : Step) (past : List Step) (name : Name) (number epoch : ℕ) → p.what ≡ sends (request name p.by number epoch) → Numbered number name p.by (machines terms (p ∷ past) p.by.machine)
+number_now terms p past name number epoch what = by_machine (p.by.machine == p.by.machine) (same_true p.by.machine)
+  where
+    m : Machine
+    m = machines terms past p.by.machine
+
+    act : ClientEvent
+    act = asks (ask_at p.by number epoch p.at)
+
+    asked : number ≤ ((acted terms p.by m p.at name act).candidate p.by.number name).number
+    asked = by_client (λ (c : Candidate). number ≤ c.number) p.by.number p.by.number (at_name name (candidate_then terms p.by m p.at act) (m.candidate p.by.number)) m.candidate name
+        (λ same. by_name (λ (c : Candidate). number ≤ c.number) name name (candidate_then terms p.by m p.at act) (m.candidate p.by.number) (λ is. omega arith)
+        (λ not. absurd (let bad : true ≡ false = sym (is_name name) ∙ not in cc)))
+        (λ other. absurd (let bad : true ≡ false = sym (same_true p.by.number) ∙ other in cc))
+
+    by_machine : (b : Bool) → b ≡ true → Numbered number name p.by (if b then done terms p.by (machines terms past p.by.machine) p.at p.what else machines terms past p.by.machine)
+    by_machine true e running = subst (λ (x : Event). number ≤ ((done terms p.by (machines terms past p.by.machine) p.at x).candidate p.by.number name).number) (sym what) asked
+    by_machine false bad running = absurd cc
+
+-- the client that asked keeps the number, or a greater one
 numbered : (terms : Terms) (past : List Step) → AreSteps terms past → (s : Step) → IsAmong s past → (name : Name) (client : Client) (number epoch : ℕ)
     → s.what ≡ sends (request name client number epoch) → Numbered number name client (machines terms past client.machine)
 numbered terms [] are s i name client number epoch is = absurd i
 numbered terms (p ∷ past) are s (inl e) name client number epoch is =
     let what : p.what ≡ sends (request name client number epoch) = subst (λ (x : Step). x.what ≡ sends (request name client number epoch)) e is in
     let own : client ≡ p.by = asker terms past p are.1 name client number epoch what in
-    by_machine (p.by.machine == client.machine) (ap (λ (x : Client). p.by.machine == x.machine) own ∙ same_true p.by.machine) what
-  where
-    by_machine : (b : Bool) → b ≡ true → p.what ≡ sends (request name client number epoch)
-        → Numbered number name client (if b then done terms p.by (machines terms past p.by.machine) p.at p.what else machines terms past client.machine)
-    by_machine true e what running = subst (λ (x : Event). number ≤ ((done terms p.by (machines terms past p.by.machine) p.at x).candidate name).number) (sym what)
-        (by_name (λ (c : Candidate). number ≤ c.number) name name (candidate_then terms p.by (machines terms past p.by.machine) p.at (asks (ask_at client number epoch p.at))) (machines terms past p.by.machine).candidate (λ same. omega arith)
-        (λ other. absurd (let bad : true ≡ false = sym (is_name name) ∙ other in cc)))
-    by_machine false bad what running = absurd cc
+    subst (λ (c : Client). Numbered number name c (machines terms (p ∷ past) c.machine)) (sym own)
+    (number_now terms p past name number epoch (subst (λ (c : Client). p.what ≡ sends (request name c number epoch)) own what))
 numbered terms (p ∷ past) are s (inr i) name client number epoch is =
     numbered_later terms p past are s i name client number epoch is (numbered terms past are.0 s i name client number epoch is)
 
@@ -198,9 +232,9 @@ asked_before terms p past are s i name client number epoch is rest = by_what p.w
     again e what =
         let own : client ≡ p.by = asker terms past p are.1 name client number e what in
         let may = may_be terms past p are.1 (sends (request name client number e)) what in
-        let up : ((machines terms past client.machine).candidate name).number < number = subst (λ (c : Client). ((machines terms past c.machine).candidate name).number < number) (sym own) may.2 in
-        let run : (machines terms past client.machine).process ≡ Some client =
-        subst (λ (c : Client). (machines terms past c.machine).process ≡ Some c) (sym own) (running_be terms past p are.1 (sends (request name client number e)) what) in
+        let up : ((machines terms past client.machine).candidate client.number name).number < number = subst (λ (c : Client). ((machines terms past c.machine).candidate c.number name).number < number) (sym own) may.2 in
+        let run : (machines terms past client.machine).process ≡ Some client.boot =
+        subst (λ (c : Client). (machines terms past c.machine).process ≡ Some c.boot) (sym own) (running_be terms past p are.1 (sends (request name client number e)) what) in
         let low = numbered terms past are.0 s i name client number epoch is run in omega (arith, up, low)
 
     by_test : (n : Name) (c : Client) (k e : ℕ) (b : Bool) → (bytes_eq n name && (same_client c client && (k == number))) ≡ b → p.what ≡ sends (request n c k e)

@@ -159,7 +159,7 @@ two_may_hold = record {
   time = 402;
   c = ann;
   d = bob;
-  processes = λ same. (let bad : 0 ≡ 1 = ap (λ (z : Client). z.machine) same in omega (arith, bad));
+  others = λ same. (let bad : 0 ≡ 1 = ap (λ (z : Client). z.machine) same in omega (arith, bad));
   first = (ask_at ann 1 1 199, record { running = refl; lease = refl; in_time = refl });
   second = (ask_at bob 1 2 400, record { running = refl; lease = refl; in_time = refl });
 }

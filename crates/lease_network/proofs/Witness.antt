@@ -1,13 +1,11 @@
 -- What lists of steps are made of: who takes part, that a process is new, and which epochs it allows.
-use Rattle.std.proofs.Common.{◌≡◌, ℕ, ◌+◌, ◌≤◌, Bool, true, false, List, [], ◌∷◌, Some, None, sym, ◌∙◌, ap, inl, inr, arith}
+use Rattle.std.proofs.Common.{◌≡◌, ℕ, ◌+◌, ◌≤◌, Bool, true, false, List, [], ◌∷◌, Some, None, sym, subst, ◌∙◌, ap, inl, inr, arith}
 use Rattle.std.specs.Prelude.{◌==◌, ◌&&◌, not, leb, if◌then◌else◌}
 use Rattle.std.specs.Str.{bytes_eq}
-use Rattle.std.proofs.lemmas.Bool.{leb-true}
-use Rattle.lease_runs.specs.Lists.{IsAmong}
+use Rattle.std.proofs.lemmas.Bool.{eq-eqb, leb-true}
 use Rattle.lease_runs.specs.Voter.{Client}
 use Rattle.lease_network.specs.Network.{Name, request, grant, release, Event, begins, reserves, sends, takes, Step, Terms, Machine, done, machines}
-use Rattle.lease_network.specs.Projection.{same_client}
-use Rattle.lease_network.proofs.Steps.{both, is_client}
+use Rattle.lease_network.proofs.Steps.{IsUnborn, both}
 
 -- ---- what a process allows, and that it is new
 
@@ -51,21 +49,26 @@ bounded terms most (s ∷ past) n name is = by_machine (s.by.machine == n) (boun
     by_machine true here there = bounded_by terms most s.by (machines terms past s.by.machine) s.at s.what name parts.0 here
     by_machine false here there = there
 
+-- the step is of another process
+abbrev pub is_of_another : Client → Step → Bool
+is_of_another self s = not ((s.by.machine == self.machine) && (s.by.boot == self.boot))
+
 abbrev pub is_unused : Client → List Step → Bool
 is_unused self [] = true
-is_unused self (s ∷ past) = not (same_client s.by self) && is_unused self past
+is_unused self (s ∷ past) = is_of_another self s && is_unused self past
 
-pub fresh : (self : Client) (past : List Step) → is_unused self past ≡ true → (s : Step) → IsAmong s past → s.by ≡ self → ⊥
-fresh self [] is s i same = i
-fresh self (p ∷ past) is s (inl e) same =
-    (let used : same_client p.by self ≡ true = ap (λ (c : Client). same_client c self) (ap (λ (x : Step). x.by) (sym e) ∙ same) ∙ is_client self in
-    let bad : not (same_client p.by self) ≡ true = (both (not (same_client p.by self)) (is_unused self past) is).0 in
-    by_test (same_client p.by self) used bad)
+not_another : (self : Client) (s : Step) → is_of_another self s ≡ true → s.by.machine ≡ self.machine → s.by.boot ≡ self.boot → ⊥
+not_another self s is machine boot =
+    by_tests (s.by.machine == self.machine) (s.by.boot == self.boot) (eq-eqb s.by.machine self.machine machine) (eq-eqb s.by.boot self.boot boot) is
   where
-    by_test : (b : Bool) → b ≡ true → not b ≡ true → ⊥
-    by_test true used unused = cc
-    by_test false used unused = cc
-fresh self (p ∷ past) is s (inr i) same = fresh self past (both (not (same_client p.by self)) (is_unused self past) is).1 s i same
+    by_tests : (x y : Bool) → x ≡ true → y ≡ true → not (x && y) ≡ true → ⊥
+    by_tests x y a b no_other = (let bad : not (true && true) ≡ true = subst (λ (z : Bool). not (z && true) ≡ true) a (subst (λ (z : Bool). not (x && z) ≡ true) b no_other) in cc)
+
+pub fresh : (self : Client) (past : List Step) → is_unused self past ≡ true → IsUnborn past self
+fresh self [] is s i machine boot = i
+fresh self (p ∷ past) is s (inl e) machine boot = not_another self p (both (is_of_another self p) (is_unused self past) is).0
+    (ap (λ (x : Step). x.by.machine) (sym e) ∙ machine) (ap (λ (x : Step). x.by.boot) (sym e) ∙ boot)
+fresh self (p ∷ past) is s (inr i) machine boot = fresh self past (both (is_of_another self p) (is_unused self past) is).1 s i machine boot
 
 -- ---- who takes part
 
@@ -84,7 +87,7 @@ cid = record { machine = 2; boot = 0; number = 1 }
 
 -- what follows Bob on his machine
 abbrev pub new : Client
-new = record { machine = 1; boot = 0; number = 2 }
+new = record { machine = 1; boot = 1; number = 1 }
 
 abbrev pub x : Name
 x = 120 ∷ []

@@ -11,11 +11,11 @@ abbrev pub up_to : ℕ → List Step → List Step
 up_to time [] = []
 up_to time (s ∷ past) = if leb s.at time then s ∷ past else up_to time past
 
--- At this true time the process holds the lease of the name by this request: it keeps it as its lease, and by its own clock less than its time passed since it
--- sent it.
+-- At this true time the client holds the lease of the name by this request: its process runs, or ran last, on its machine, the client keeps the request as its lease,
+-- and by its own clock less than its time passed since it sent it.
 pub record Holds (terms : Terms) (steps : List Step) (name : Name) (time : ℕ) (client : Client) (ask : Ask) : Type 0 where
-  pub running : (machines terms (up_to time steps) client.machine).process ≡ Some client
-  pub lease : ((machines terms (up_to time steps) client.machine).candidate name).lease ≡ Some ask
+  pub running : (machines terms (up_to time steps) client.machine).process ≡ Some client.boot
+  pub lease : ((machines terms (up_to time steps) client.machine).candidate client.number name).lease ≡ Some ask
   pub in_time : is_in_time terms.relies_for (terms.clock client.machine client.boot) time ask ≡ true
 
 -- the clocks keep to their bound, and a holder's time by the slowest is no longer than a voter's by the fastest
@@ -23,33 +23,33 @@ pub record AreClocks (terms : Terms) : Type 0 where
   pub rates : (machine boot : ℕ) → KeepsRate terms.grain (terms.clock machine boot)
   pub margin : 33 * terms.relies_for + 2 * terms.grain ≤ 31 * terms.keeps
 
--- With no word on clocks: a lease of a name that is asked for while or after another was held has a greater epoch, or is the same process's and of the same epoch.
+-- With no word on clocks: a lease of a name that is asked for while or after another was held has a greater epoch, or is the same client's and of the same epoch.
 abbrev pub EpochsRise : Type 0
 EpochsRise = (terms : Terms) (steps : List Step) → AreSteps terms steps → (name : Name) (time_a time_b : ℕ) (c d : Client) (a b : Ask) →
     Holds terms steps name time_a c a → Holds terms steps name time_b d b → time_a < b.sent → (a.epoch < b.epoch) ⊎ ((c ≡ d) × (a.epoch ≡ b.epoch))
 
--- What is held was asked for: this process sent that request, of that epoch, when the law says.
+-- What is held was asked for: this client sent that request, of that epoch, when the law says.
 abbrev pub HeldWasAsked : Type 0
 HeldWasAsked = (terms : Terms) (steps : List Step) → AreSteps terms steps → (name : Name) (time : ℕ) (client : Client) (ask : Ask) → Holds terms steps name time client ask →
     IsAmong (record { at = ask.sent; by = client; what = sends (request name client ask.number ask.epoch) }) steps
 
--- No two processes ever hold leases of one name and one epoch.
+-- No two clients ever hold leases of one name and one epoch.
 abbrev pub OneEpoch : Type 0
 OneEpoch = (terms : Terms) (steps : List Step) → AreSteps terms steps → (name : Name) (time_a time_b : ℕ) (c d : Client) (a b : Ask) →
     Holds terms steps name time_a c a → Holds terms steps name time_b d b → a.epoch ≡ b.epoch → c ≡ d
 
--- At each moment of true time one process at most holds the lease of a name.
+-- At each moment of true time one client at most holds the lease of a name.
 abbrev pub OneHolder : Type 0
 OneHolder = (terms : Terms) (steps : List Step) → AreSteps terms steps → AreClocks terms → (name : Name) (time : ℕ) (c d : Client) (a b : Ask) →
     Holds terms steps name time c a → Holds terms steps name time d b → c ≡ d
 
--- Of two processes that hold the lease of a name one after the other the later has the greater epoch.
+-- Of two clients that hold the lease of a name one after the other the later has the greater epoch.
 abbrev pub EpochsFollow : Type 0
 EpochsFollow = (terms : Terms) (steps : List Step) → AreSteps terms steps → AreClocks terms → (name : Name) (time_a time_b : ℕ) (c d : Client) (a b : Ask) →
     Holds terms steps name time_a c a → Holds terms steps name time_b d b → time_a ≤ time_b → (a.epoch < b.epoch) ⊎ (c ≡ d)
 
--- The premises can be met. One process of three machines holds the lease of a name; a second one holds that of another name, and then the next one of the first, which
--- was released. The second one's machine begins anew, and the first process holds the next lease of the other name.
+-- The premises can be met. One client, of three machines, holds the lease of a name; one of another machine holds that of another name, and then the next one of the
+-- first, which was released. Its machine begins anew, and the first client holds the next lease of the other name.
 pub record LeasesHappen : Type 0 where
   pub terms : Terms
   pub steps : List Step
@@ -61,14 +61,14 @@ pub record LeasesHappen : Type 0 where
   pub names : x ≡ y → ⊥
   pub c : Client
   pub d : Client
-  pub processes : c ≡ d → ⊥
+  pub others : c ≡ d → ⊥
   pub first : (time : ℕ) × (a : Ask) × Holds terms steps x time c a
   pub other : (time : ℕ) × (a : Ask) × (first.0 < time) × Holds terms steps y time d a
   pub handed_over : (time : ℕ) × (a : Ask) × (other.0 < time) × Holds terms steps x time d a
-  pub began_anew : (time : ℕ) × (e : Client) × (handed_over.0 < time) × ((machines terms (up_to time steps) d.machine).process ≡ Some e) × (d ≡ e → ⊥)
+  pub began_anew : (time : ℕ) × (process : ℕ) × (handed_over.0 < time) × ((machines terms (up_to time steps) d.machine).process ≡ Some process) × (d.boot ≡ process → ⊥)
   pub taken_over : (time : ℕ) × (a : Ask) × (began_anew.0 < time) × Holds terms steps y time c a
 
--- The rates are needed: where a clock stands, two processes may hold the lease of a name at a time.
+-- The rates are needed: where a clock stands, two clients may hold the lease of a name at a time.
 pub record TwoMayHold : Type 0 where
   pub terms : Terms
   pub steps : List Step
@@ -78,6 +78,6 @@ pub record TwoMayHold : Type 0 where
   pub time : ℕ
   pub c : Client
   pub d : Client
-  pub processes : c ≡ d → ⊥
+  pub others : c ≡ d → ⊥
   pub first : (a : Ask) × Holds terms steps name time c a
   pub second : (a : Ask) × Holds terms steps name time d a

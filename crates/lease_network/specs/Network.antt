@@ -17,25 +17,24 @@ pub data Message : Type 0 where
   grant : Name → Client → ℕ → ℕ → Message
   release : Name → Client → ℕ → Message
 
--- what a process does
+-- What a process does: it begins, with the floor that its disk gives it, in place of the one before it on its machine; its durable count is raised, so that epochs up to
+-- this one may be granted, of all names; one of its clients sends a message: it asks, or it stops relying and says so; a message came: a request is granted, and the
+-- grant is sent, a grant is counted, a release frees the name. What is refused or passed over changes nothing, and is no event.
 pub data Event : Type 0 where
-  -- it begins, with the floor that its disk gives it, in place of the one before it on its machine
   begins : ℕ → Event
-  -- its durable count is raised: epochs up to this one may be granted, of all names
   reserves : ℕ → Event
-  -- it sends a message of its own: it asks, or it stops relying and says so
   sends : Message → Event
-  -- a message came: a request is granted, and the grant is sent; a grant is counted; a release frees the name; what is refused or passed over is no event
   takes : Message → Event
 
--- a true time, a process, and what it did then
+-- A true time, a client, and what it, or the process that it is of, did then. A process is a machine's, and is told by `boot`, a number that no other process of the
+-- machine has; `number` tells its clients apart.
 pub record Step : Type 0 where
   pub at : ℕ
   pub by : Client
   pub what : Event
 
 -- What stays the same: how many voters there are, the machines below this number; how long a voter keeps a grant, and how long a holder may rely on it; what the clock
--- of a machine shows in one of its boots, at a true time; how much readings may be off by rounding, in parts of 32 of the unit of time.
+-- of a machine shows one of its processes, at a true time; how much readings may be off by rounding, in parts of 32 of the unit of time.
 pub record Terms : Type 0 where
   pub nodes : ℕ
   pub keeps : ℕ
@@ -43,11 +42,11 @@ pub record Terms : Type 0 where
   pub clock : ℕ → ℕ → ℕ → ℕ
   pub grain : ℕ
 
--- what a machine keeps: the process that began last, and of each name what it keeps as a voter and as a client
+-- what a machine keeps: the process that began last, what it keeps of each name as a voter, and what each of its clients keeps of each name
 pub record Machine : Type 0 where
-  pub process : Option Client
+  pub process : Option ℕ
   pub voter : Name → Voter
-  pub candidate : Name → Candidate
+  pub candidate : ℕ → Name → Candidate
 
 -- a request that was sent at this true time: no message says when
 abbrev pub ask_at : Client → ℕ → ℕ → ℕ → Ask
@@ -60,14 +59,14 @@ MayVote terms self m at what name = IsPossible terms.keeps (terms.clock self.mac
 abbrev pub voter_then : Terms → Client → Machine → ℕ → VoterEvent → Name → Voter
 voter_then terms self m at what name = after terms.keeps (terms.clock self.machine) (m.voter name) at what
 
--- the name's client may do this, and is this then
+-- this client may do this for the name, and is this then
 abbrev pub MayAsk : Terms → Client → Machine → ℕ → ClientEvent → Name → Type 0
-MayAsk terms self m at what name = MayAct terms.nodes self (m.candidate name) at what
+MayAsk terms self m at what name = MayAct terms.nodes self (m.candidate self.number name) at what
 
 abbrev pub candidate_then : Terms → Client → Machine → ℕ → ClientEvent → Name → Candidate
-candidate_then terms self m at what name = after_act terms.nodes terms.relies_for (terms.clock self.machine self.boot) (m.candidate name) at what
+candidate_then terms self m at what name = after_act terms.nodes terms.relies_for (terms.clock self.machine self.boot) (m.candidate self.number name) at what
 
--- what a process may do on its machine: a start and a raise are of all names, whose epochs one count on the disk bounds
+-- what may be done on its machine: a start and a raise are of all names, whose epochs one count on the disk bounds
 abbrev pub MayDo : Terms → Client → Machine → ℕ → Event → Type 0
 MayDo terms self m at (begins floor) = (name : Name) → MayVote terms self m at (restarts self.boot floor) name
 MayDo terms self m at (reserves bound) = (name : Name) → MayVote terms self m at (raises bound) name
@@ -82,26 +81,32 @@ MayDo terms self m at (takes (release name client epoch)) = MayVote terms self m
 abbrev pub at_name : {A : Type 0} → Name → (Name → A) → (Name → A) → Name → A
 at_name name new old other = if bytes_eq name other then new other else old other
 
+-- of this client the new, of others the old
+abbrev pub at_client : ℕ → (Name → Candidate) → (ℕ → Name → Candidate) → ℕ → Name → Candidate
+at_client number new old other name = if number == other then new name else old other name
+
 -- what the machine keeps then
+abbrev pub acted : Terms → Client → Machine → ℕ → Name → ClientEvent → Machine
+acted terms self m at name what =
+    record m { candidate = at_client self.number (at_name name (candidate_then terms self m at what) (m.candidate self.number)) m.candidate }
+
 abbrev pub done : Terms → Client → Machine → ℕ → Event → Machine
-done terms self m at (begins floor) = record { process = Some self; voter = voter_then terms self m at (restarts self.boot floor); candidate = λ name. beginning }
+done terms self m at (begins floor) = record { process = Some self.boot; voter = voter_then terms self m at (restarts self.boot floor); candidate = λ number name. beginning }
 done terms self m at (reserves bound) = record m { voter = voter_then terms self m at (raises bound) }
-done terms self m at (sends (request name client number epoch)) =
-    record m { candidate = at_name name (candidate_then terms self m at (asks (ask_at client number epoch at))) m.candidate }
+done terms self m at (sends (request name client number epoch)) = acted terms self m at name (asks (ask_at client number epoch at))
 done terms self m at (sends (grant name client number voter)) = m
-done terms self m at (sends (release name client epoch)) = record m { candidate = at_name name (candidate_then terms self m at (stops epoch)) m.candidate }
+done terms self m at (sends (release name client epoch)) = acted terms self m at name (stops epoch)
 done terms self m at (takes (request name client number epoch)) = record m { voter = at_name name (voter_then terms self m at (grants (ask_at client number epoch at))) m.voter }
-done terms self m at (takes (grant name client number voter)) =
-    record m { candidate = at_name name (candidate_then terms self m at (hears voter (ask_at client number 0 at))) m.candidate }
+done terms self m at (takes (grant name client number voter)) = acted terms self m at name (hears voter (ask_at client number 0 at))
 done terms self m at (takes (release name client epoch)) = record m { voter = at_name name (voter_then terms self m at (releases client epoch)) m.voter }
 
 -- what the machines keep after these steps, the newest of which is the first
 abbrev pub machines : Terms → List Step → ℕ → Machine
-machines terms [] n = record { process = None; voter = λ name. opening (terms.clock n); candidate = λ name. beginning }
+machines terms [] n = record { process = None; voter = λ name. opening (terms.clock n); candidate = λ number name. beginning }
 machines terms (s ∷ past) n =
     if s.by.machine == n then done terms s.by (machines terms past s.by.machine) s.at s.what else machines terms past n
 
--- the step sent the message: one of its process's own, or a grant of the request that it took
+-- the step sent the message: one of its client's own, or a grant of the request that its machine took
 abbrev pub Sends : Step → Message → Type 0
 Sends s (request name client number epoch) = s.what ≡ sends (request name client number epoch)
 Sends s (grant name client number voter) = (s.by.machine ≡ voter) × ((epoch : ℕ) × (s.what ≡ takes (request name client number epoch)))
@@ -112,10 +117,10 @@ abbrev pub WasSent : List Step → Event → Type 0
 WasSent past (takes message) = (s : Step) × IsAmong s past × Sends s message
 WasSent past other = Unit {0}
 
--- a process that begins is a new one; what else is done the machine's process does
-abbrev pub IsRunning : List Step → Client → Option Client → Event → Type 0
-IsRunning past self process (begins floor) = (s : Step) → IsAmong s past → s.by ≡ self → ⊥
-IsRunning past self process other = process ≡ Some self
+-- a process that begins is a new one; what else is done is of the machine's process
+abbrev pub IsRunning : List Step → Client → Option ℕ → Event → Type 0
+IsRunning past self process (begins floor) = (s : Step) → IsAmong s past → s.by.machine ≡ self.machine → s.by.boot ≡ self.boot → ⊥
+IsRunning past self process other = process ≡ Some self.boot
 
 abbrev pub last_time : List Step → ℕ
 last_time [] = 0

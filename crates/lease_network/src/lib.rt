@@ -1,5 +1,6 @@
 //! The laws of leases of many names by a majority of voters, over definitions alone: machines that vote for each name and ask
-//! for it, processes that begin anew, and messages of which only what was sent comes, late, repeated, in any order, or never.
+//! for it, with any number of clients, processes that begin anew, and messages of which only what was sent comes, late, repeated,
+//! in any order, or never.
 //! Each law is the contract of a function that does nothing; a caller takes the law by calling it.
 #![tactic(auto)]
 
@@ -9,13 +10,14 @@ ghost use Rattle.lease_network.specs.Projection.{StepsAreRuns};
 /// Epochs of a name rise, with no word on clocks.
 pub fn epochs_rise()
     // Promise: Of two leases of a name, over any network, if the first was held before the second was asked for, its epoch is smaller,
-    // with no word on clocks. A lease is one process's, of one epoch, with its renewals.
+    // with no word on clocks. A lease is one client's, of one epoch, with its renewals.
     // Refuses: grant_that_nobody_gave, request_that_nobody_sent, process_number_had_before, floor_below_the_bound, grant_of_another_voter,
-    // process_goes_on_behind_its_end, requests_kept_over_a_restart, steps_in_any_order, lease_of_an_ended_process.
+    // process_goes_on_behind_its_end, requests_kept_over_a_restart, request_kept_for_another_client, steps_in_any_order,
+    // lease_of_an_ended_process.
     ensures rise { EpochsRise }
-    // Promise: No two processes ever hold leases of one name and one epoch, over any network.
+    // Promise: No two clients ever hold leases of one name and one epoch, over any network.
     ensures one { OneEpoch }
-    // Promise: What is held was asked for: its process sent that request, of that epoch, at the time from which its lease is counted.
+    // Promise: What is held was asked for: its client sent that request, of that epoch, at the time from which its lease is counted.
     ensures asked { HeldWasAsked }
 {
     steps_are_runs();
@@ -23,14 +25,14 @@ pub fn epochs_rise()
     lease_runs::epochs_rise();
 }
 
-/// One process at most holds the lease of a name at a time, where clocks keep to their bound.
+/// One client at most holds the lease of a name at a time, where clocks keep to their bound.
 pub fn one_holder()
-    // Promise: At each moment of true time one process at most holds the lease of a name, over any network and any restarts, where each
+    // Promise: At each moment of true time one client at most holds the lease of a name, over any network and any restarts, where each
     // clock moves by 31/32 to 33/32 of the true time, but for rounding, and a voter keeps a grant by that much longer than a holder
     // relies on it.
     // Refuses: release_of_another_client, release_that_nobody_sent, held_behind_its_time, lease_runs::no_margin_for_drift.
     ensures holder { OneHolder }
-    // Promise: Of two processes that hold the lease of a name one after the other, the later has the greater epoch, where clocks keep to
+    // Promise: Of two clients that hold the lease of a name one after the other, the later has the greater epoch, where clocks keep to
     // the bound.
     ensures follow { EpochsFollow }
 {
@@ -51,14 +53,14 @@ pub fn steps_are_runs()
 
 /// The premises of the laws can be met.
 pub fn leases_happen()
-    // Promise: There are steps of three machines in which one process holds the lease of a name and releases it, and a second one, which
-    // holds that of another name, holds the next; its machine begins anew, and the first process holds the next lease of the other name.
+    // Promise: There are steps of three machines in which one client holds the lease of a name and releases it, and a second one, which
+    // holds that of another name, holds the next; its machine begins anew, and the first client holds the next lease of the other name.
     ensures { LeasesHappen }
 {}
 
 /// The rates of clocks are needed.
 pub fn two_may_hold()
-    // Promise: Where the clock of a machine stands, two processes may hold the lease of a name at a time: one holder rests on clocks, and
+    // Promise: Where the clock of a machine stands, two clients may hold the lease of a name at a time: one holder rests on clocks, and
     // epochs don't.
     ensures { TwoMayHold }
 {}
