@@ -11,7 +11,7 @@ use Rattle.lease_runs.specs.Candidate.{ClientMoment, Candidate, beginning, voted
 use Rattle.lease_network.specs.Network.{Name, request, grant, release, Event, begins, reserves, sends, takes, Step, Terms, Machine, MayAsk, MayDo, IsNext, AreSteps, acted, ask_at, at_name, candidate_then, done, last_time, machines}
 use Rattle.lease_network.specs.Laws.{up_to}
 use Rattle.lease_network.specs.Projection.{act_at, acts, asked_for, client_events, same_client, when}
-use Rattle.lease_network.proofs.Steps.{IsBeginning, IsUnborn, asked_as, begins_or_runs, by_client, client_is, is_client, name_is, process_stays, same_some, same_true}
+use Rattle.lease_network.proofs.Steps.{IsBeginning, IsUnborn, among_both, asked_as, begins_or_runs, by_client, client_is, is_client, name_is, process_stays, same_some, same_true}
 
 abbrev pub at_moment : ℕ → ClientEvent → ClientMoment
 at_moment at what = record { at = at; what = what }
@@ -324,11 +324,6 @@ later_moments client at (e ∷ rest) self m i = by_test (same_client self client
     by_test true (inl e) more = ap (λ (x : ClientMoment). x.at) e
     by_test true (inr i) more = more i
     by_test false i more = more i
-
-among_both : {A : Type 0} (x : A) (xs ys : List A) → IsAmong x (xs ++ ys) → IsAmong x xs ⊎ IsAmong x ys
-among_both x [] ys i = inr i
-among_both x (y ∷ xs) ys (inl e) = inl (inl e)
-among_both x (y ∷ xs) ys (inr i) = elim (among_both x xs ys i) [ inl j ↦ inl (inr j) | inr j ↦ inr j ]
 
 -- the steps that are kept are those up to a true time; what the client did later, it did behind that
 pub record IsCut (terms : Terms) (all : List Step) (name : Name) (client : Client) (time : ℕ) (steps kept : List Step) : Type 0 where

@@ -1,5 +1,5 @@
 -- All steps of machines are runs of each name.
-use Rattle.std.proofs.Common.{◌≡◌, ◌⊎◌, ℕ, ◌≤◌, Bool, true, false, List, [], ◌∷◌, ◌++◌, refl, sym, ◌∙◌, ap, subst, inl, inr, arith}
+use Rattle.std.proofs.Common.{◌≡◌, ℕ, ◌≤◌, Bool, true, false, List, [], ◌∷◌, ◌++◌, refl, sym, ◌∙◌, ap, subst, inl, inr, arith}
 use Rattle.std.specs.Prelude.{◌==◌, if◌then◌else◌, map}
 use Rattle.std.specs.Str.{bytes_eq}
 use Rattle.std.proofs.lemmas.Bool.{eqb-true, eq-eqb}
@@ -9,7 +9,7 @@ use Rattle.lease_runs.specs.Run.{ClientEvent, asks, hears, stops, Act, Grants, R
 use Rattle.lease_runs.specs.Growing.{HistoryGoesOn}
 use Rattle.lease_network.specs.Network.{Name, request, grant, release, Event, begins, reserves, sends, takes, Step, Terms, AreSteps, ask_at}
 use Rattle.lease_network.specs.Projection.{StepsAreRuns, act_at, acts, asked_for, client_events, history, moment_at, run_of, voter_events, when}
-use Rattle.lease_network.proofs.Steps.{asked_is, asker, before, is_name, name_is, placed, releaser, sent_be}
+use Rattle.lease_network.proofs.Steps.{among_both, asked_is, asker, before, is_name, name_is, placed, releaser, sent_be}
 use Rattle.lease_network.proofs.Voters.{votes}
 
 -- ---- where a moment or an act comes from
@@ -22,11 +22,6 @@ among_one false x y i = absurd i
 one_among : {A : Type 0} (b : Bool) (x : A) → b ≡ true → IsAmong x (when b x)
 one_among true x is = inl refl
 one_among false x is = absurd cc
-
-among_both : {A : Type 0} (x : A) (xs ys : List A) → IsAmong x (xs ++ ys) → IsAmong x xs ⊎ IsAmong x ys
-among_both x [] ys i = inr i
-among_both x (y ∷ xs) ys (inl e) = inl (inl e)
-among_both x (y ∷ xs) ys (inr i) = elim (among_both x xs ys i) [ inl j ↦ inl (inr j) | inr j ↦ inr j ]
 
 among_first : {A : Type 0} (x : A) (xs ys : List A) → IsAmong x xs → IsAmong x (xs ++ ys)
 among_first x [] ys i = absurd i

@@ -2,6 +2,7 @@
 use Rattle.std.proofs.Common.{◌≡◌, ℕ, ◌≤◌, Bool, true, false, List, [], ◌∷◌, ◌++◌, refl, sym, ◌∙◌, ap, subst, arith}
 use Rattle.std.specs.Prelude.{◌==◌, if◌then◌else◌, map}
 use Rattle.std.specs.Str.{bytes_eq}
+use Rattle.std.proofs.lemmas.List.{append-nil}
 use Rattle.std.proofs.lemmas.Bool.{eqb-true}
 use Rattle.lease_runs.specs.Voter.{Client, Ask, VoterEvent, grants, releases, Moment, Voter, opening, IsPossible, after, Follows}
 use Rattle.lease_runs.specs.Growing.{HistoryGoesOn, end, replay}
@@ -56,13 +57,9 @@ ends_there : (time : ℕ) (ms : List Moment) (m : Moment) → end time (ms ++ m 
 ends_there time [] m = refl
 ends_there time (n ∷ ms) m = ends_there n.at ms m
 
-nothing_more : (ms : List Moment) → ms ++ [] ≡ ms
-nothing_more [] = refl
-nothing_more (m ∷ ms) = ap (λ (x : List Moment). m ∷ x) (nothing_more ms)
-
 unchanged : (keeps : ℕ) (clock : ℕ → ℕ → ℕ) (ms : List Moment) (old new : Voter) (time at : ℕ) → time ≤ at → new ≡ old → IsHistory keeps clock ms old time
     → IsHistory keeps clock (ms ++ []) new at
-unchanged keeps clock ms old new time at le same h = subst (λ (x : List Moment). IsHistory keeps clock x new at) (sym (nothing_more ms))
+unchanged keeps clock ms old new time at le same h = subst (λ (x : List Moment). IsHistory keeps clock x new at) (sym (append-nil ms))
     (record { follows = h.follows; leaves = h.leaves ∙ sym same; ends = (let ends = h.ends in omega (arith, ends, le)) })
 
 goes_on : HistoryGoesOn → (keeps : ℕ) (clock : ℕ → ℕ → ℕ) (ms : List Moment) (old new : Voter) (time at : ℕ) (what : List VoterEvent) → time ≤ at
