@@ -7,7 +7,7 @@ from datagrams import random_bytes
 
 REFUSED = [(b"\n", "NoObject"), (b"{}\n", "Unreadable"), (b"[1]\n", "NoObject"), (b'{"do":1}\n', "Unreadable"), (b'{"do":"x"}\n', "Unreadable"),
            (b"\xff\xfe\n", "NoObject"), (b'{"do":"submit","queue":16,"text":""}\n', "BadQueue"), (b'{"do":"finish","origin":0}\n', "Unreadable"),
-           (b'{"do":"submit","queue":1}\n', "BadPayload"), (b'{"do":"submit","queue":1,"text":"%s"}\n' % (b"x" * 401), "BadPayload"),
+           (b'{"do":"submit","queue":1}\n', "BadPayload"), (b'{"do":"watch","every_ms":5}\n', "BadInterval"), (b'{"do":"submit","queue":1,"text":"%s"}\n' % (b"x" * 401), "BadPayload"),
            (b'{"do":"status","v":2}\n', "Version"), (b'{"do":"status"}x\n', "NoObject")]
 
 
@@ -29,6 +29,7 @@ def odd_clients(bed):
     check("the agent stays small", memory < 64_000, memory)
     pages(agents, check)
     long_words(agents, check)
+    beats(agents, check, bed.tally.timed)
     silent(agents, check)
     earlier_life(agents, check)
     judged(bed, agents, "odd clients")
@@ -70,12 +71,40 @@ def earlier_life(agents, check):
         agents.kill(0)
         agents.start(0)
         agents.one_group()
-        lives.append(agents.status(0)["change"])
+        lives.append(agents.status(0))
     agents.ask(0, do="submit", queue=6, text="one more change")
+    told = [watch(agents, since=life["change"])[1] for life in lives]
+    check("a change of an earlier life is none of this one", [one.get("event") for one in told] == ["state", None], (lives, told))
+    check("each life has a name of its own", [one["life"] for one in told] == [lives[1]["life"]] * 2 and lives[0]["life"] != lives[1]["life"], (lives, told))
+
+
+def watch(agents, **fields):
+    """A watcher, and what it is told first."""
     with agents.connect(0) as link:
-        link.sendall(json.dumps(dict(do="watch", since=lives[0])).encode() + b"\n")
-        told = json.loads(link.makefile().readline())
-    check("a change of an earlier life is none of this one", told.get("event") == "state", (lives, told))
+        reader = link.makefile()
+        link.sendall(json.dumps(dict(do="watch", **fields)).encode() + b"\n")
+        return reader, json.loads(reader.readline())
+
+
+def beats(agents, check, timed):
+    """A watcher that asks for beats is told that the agent lives, where nothing changes, and whether its node does."""
+    begin = time.monotonic()
+    (quiet, _), (reader, state) = watch(agents), watch(agents, every_ms=100)
+    beat = lambda: json.loads(reader.readline())
+    told, took = [beat() for _ in range(3)], time.monotonic() - begin
+    check("beats name the last change", told == [dict(event="beat", change=state["change"], alive=True)] * 3, (state, told))
+    check("and come no more often than asked for", took >= 0.3, took)
+    timed("nor much less often", took < 2, took)
+    node = agents.node(0)
+    os.kill(node, signal.SIGSTOP)
+    try:
+        agents.until(lambda: not beat()["alive"])
+    finally:
+        os.kill(node, signal.SIGCONT)
+    agents.until(lambda: beat()["alive"])
+    check("who asks for none gets none", agents.ask(0, do="submit", queue=6, text="a change")["ok"] and json.loads(quiet.readline())["event"] == "take")
+    reader.close()
+    quiet.close()
 
 
 def rubbish(agents, check):

@@ -262,6 +262,7 @@ impl Daemon {
         if let Some(is_so) = self.view.news_of_majority(&self.peers, now) {
             self.tell(Reply::event("majority").with("majority", is_so));
         }
+        self.beat(now);
         if let Some(ms) = self.clock.tick(now) {
             self.node.ask(Asker::Tick, Lane::Local, format!("tick {ms}"));
         }
@@ -284,7 +285,8 @@ impl Daemon {
             Majority::Until(end) if now < end => end - now,
             _ => Duration::MAX,
         };
-        self.clock.sleep(now).min(until).min(self.pace.sleep(now)).min(majority)
+        let beat = self.clients.next_beat().map_or(Duration::MAX, |next| next.saturating_duration_since(now));
+        self.clock.sleep(now).min(until).min(self.pace.sleep(now)).min(majority).min(beat)
     }
 
     /// Asks the node something else than the time.

@@ -5,8 +5,8 @@ use crate::forward::{Client, Submission};
 use crate::node::{JobKey, Lane};
 use crate::protocol::{payload_of, Envelope, Reply, Request, RequestError, Tag};
 use crate::record::Record;
-use crate::service::{ClientId, Waiting};
-use std::time::Instant;
+use crate::service::{Beats, ClientId, Waiting};
+use std::time::{Duration, Instant};
 
 /// So many requests of all clients together are taken at a time, and one of each at least: so the node and the network have their turn soon, however many
 /// ask.
@@ -76,7 +76,11 @@ impl Daemon {
             Request::Watch { .. } | Request::Take { .. } if !self.clients.may_stay(client, || self.hand.holders()) => {
                 Some(Reply::refused("TooManyClients"))
             }
-            Request::Watch { since } => self.watch(client, &tag, since, now),
+            Request::Watch { since, every_ms } => {
+                let beats = every_ms.map(|ms| Beats::new(Duration::from_millis(ms), now));
+                self.clients.watch(client, beats);
+                self.state_or_missed(client, &tag, since, now)
+            }
             Request::Take { queue, wait } => self.give(client, tag, queue, wait),
             Request::Submit { queue, priority, text, hex } => {
                 let payload = payload_of(text, hex)?;
@@ -133,8 +137,10 @@ impl Daemon {
     }
 
     fn status(&self, now: Instant) -> Reply {
-        let reply = Reply::ok().and(self.view.status(&self.peers, now)).with("change", self.changes.last());
+        let reply = Reply::ok().and(self.view.status(&self.peers, now));
         reply
+            .with("life", self.changes.life())
+            .with("change", self.changes.last())
             .with("pending", self.fill.pending())
             .with("pending_max", self.fill.most())
             .with("in_hand", self.hand.count())
@@ -143,20 +149,30 @@ impl Daemon {
             .with("keys", &self.seal.fingerprints)
     }
 
-    /// The state, or what was missed; from then on each change.
-    fn watch(&mut self, client: ClientId, tag: &Tag, since: Option<u64>, now: Instant) -> Option<Reply> {
-        self.clients.watch(client);
+    /// What a watcher is told first: the state, or what it missed.
+    fn state_or_missed(&mut self, client: ClientId, tag: &Tag, since: Option<u64>, now: Instant) -> Option<Reply> {
         let missed = since
             .and_then(|since| self.changes.behind(since))
             .map(|lines| lines.flatten().copied().collect::<Vec<u8>>());
         match missed {
             Some(lines) => {
-                self.clients.tell(client, &Reply::ok().tagged(tag));
+                self.clients.tell(client, &Reply::ok().with("life", self.changes.life()).tagged(tag));
                 self.clients.tell_lines(client, &lines);
                 None
             }
             None => Some(self.status(now).with("event", "state")),
         }
+    }
+
+    /// Tells watchers whose beat is due that the agent lives, and whether its node does.
+    pub(super) fn beat(&mut self, now: Instant) {
+        let due = self.clients.take_beats(now);
+        if due.is_empty() {
+            return;
+        }
+        let is_alive = self.view.is_ready && self.view.is_alive(now);
+        let line = Reply::event("beat").with("change", self.changes.last()).with("alive", is_alive).line();
+        due.into_iter().for_each(|client| self.clients.tell_lines(client, &line));
     }
 
     fn give(&mut self, client: ClientId, tag: Tag, queue: Option<u8>, wait: bool) -> Option<Reply> {

@@ -40,9 +40,10 @@ pub enum Request {
         origin: u8,
         id: u64,
     },
-    /// Each change from now on, behind the state; or all that came behind change `since`.
+    /// Each change from now on, behind the state; or all that came behind change `since`. With `every_ms` a beat comes that often, too.
     Watch {
         since: Option<u64>,
+        every_ms: Option<u64>,
     },
     Compact {},
     Record {
@@ -62,6 +63,8 @@ pub enum RequestError {
     Queue,
     #[error("a priority is a number from 0 to 255")]
     Priority,
+    #[error("`every_ms` is a number from 100 to 60000")]
+    Interval,
     #[error("{0}")]
     Payload(#[from] PayloadError),
     #[error("a payload is `text` or `hex`, and here are both")]
@@ -79,6 +82,7 @@ impl RequestError {
             RequestError::Unreadable(_) => "Unreadable",
             RequestError::Queue => "BadQueue",
             RequestError::Priority => "BadPriority",
+            RequestError::Interval => "BadInterval",
             RequestError::Payload(_) | RequestError::TwoPayloads | RequestError::NoPayload => "BadPayload",
         }
     }
@@ -112,8 +116,13 @@ impl Envelope {
     }
 
     fn request_of(object: Map<String, Value>) -> Result<Request, RequestError> {
-        for (field, most, error) in [("queue", 15, RequestError::Queue), ("priority", 255, RequestError::Priority)] {
-            let is_wrong = |value: &Value| !value.is_null() && value.as_u64().map_or(true, |value| value > most);
+        for (field, range, error) in [
+            ("queue", 0..=15, RequestError::Queue),
+            ("priority", 0..=255, RequestError::Priority),
+            ("every_ms", 100..=60_000, RequestError::Interval),
+        ] {
+            let is_wrong =
+                |value: &Value| !value.is_null() && value.as_u64().map_or(true, |value| !range.contains(&value));
             if object.get(field).map_or(false, is_wrong) {
                 return Err(error);
             }
@@ -146,6 +155,9 @@ mod tests {
         assert_eq!(read(r#"{"v":1,"do":"take","wait":true}"#), Ok(Request::Take { queue: None, wait: true }));
         let job = Request::Submit { queue: 3, priority: 0, text: Some("hi".to_string()), hex: None };
         assert_eq!(read(r#"{"do":"submit","queue":3,"text":"hi","request":7}"#), Ok(job));
+        let watch = |since, every_ms| Ok(Request::Watch { since, every_ms });
+        assert_eq!(read(r#"{"do":"watch"}"#), watch(None, None));
+        assert_eq!(read(r#"{"do":"watch","since":7,"every_ms":100}"#), watch(Some(7), Some(100)));
         assert_eq!(Envelope::read(br#"{"do":"status","request":"a"}"#).tag, Some(Value::from("a")));
         assert_eq!(Envelope::read(br#"{"do":"status","request":[1]}"#).tag, None);
     }
@@ -165,6 +177,9 @@ mod tests {
             (r#"{"do":"submit","queue":1,"text":"","priority":256}"#, "BadPriority"),
             (r#"{"do":"submit","queue":16,"text":""}"#, "BadQueue"),
             (r#"{"do":"take","queue":16}"#, "BadQueue"),
+            (r#"{"do":"watch","every_ms":99}"#, "BadInterval"),
+            (r#"{"do":"watch","every_ms":60001}"#, "BadInterval"),
+            (r#"{"do":"watch","every_ms":1.5}"#, "BadInterval"),
             (r#"{"v":2,"do":"status"}"#, "Version"),
         ] {
             assert_eq!(read(line).unwrap_err().name(), name, "{line}");

@@ -1,5 +1,6 @@
 //! One client: what it wrote and wasn't read yet, and what it wasn't told yet.
 
+use super::Beats;
 use mio::net::UnixStream;
 use std::io::{self, ErrorKind, Read, Write};
 use std::time::Instant;
@@ -28,6 +29,7 @@ pub struct Client {
     /// Requests that have no answer yet.
     pub owed: usize,
     pub watches: bool,
+    pub beats: Option<Beats>,
     /// When it came, or asked for something last.
     pub asked: Instant,
 }
@@ -54,6 +56,7 @@ impl Client {
             has_hung_up: false,
             owed: 0,
             watches: false,
+            beats: None,
             asked: now,
         }
     }

@@ -1,6 +1,7 @@
 //! All clients.
 
 use super::client::{Client, Next};
+use super::Beats;
 use crate::protocol::{Reply, Tag};
 use log::{debug, warn};
 use mio::net::{UnixListener, UnixStream};
@@ -263,10 +264,21 @@ impl Clients {
         staying.contains(&id) || staying.len() < MAX_STAYING
     }
 
-    pub fn watch(&mut self, id: ClientId) {
+    pub fn watch(&mut self, id: ClientId, beats: Option<Beats>) {
         if let Some(client) = self.all.get_mut(&id) {
-            client.watches = true;
+            (client.watches, client.beats) = (true, beats);
         }
+    }
+
+    /// When the next beat of a watcher is due.
+    pub fn next_beat(&self) -> Option<Instant> {
+        self.all.values().filter_map(|client| client.beats.as_ref().map(Beats::next)).min()
+    }
+
+    /// Those whose beat is due: they are to be told one now.
+    pub fn take_beats(&mut self, now: Instant) -> Vec<ClientId> {
+        let is_due = |client: &mut Client| client.beats.as_mut().map_or(false, |beats| beats.take(now));
+        self.all.iter_mut().filter_map(|(id, client)| is_due(client).then_some(*id)).collect()
     }
 
     pub fn tell_watchers(&mut self, line: &[u8]) {

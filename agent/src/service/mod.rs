@@ -8,4 +8,4 @@ mod watch;
 pub use client::Client;
 pub use clients::{is_left, ClientId, Clients, Waiting};
 pub use hand::{Given, Hand};
-pub use watch::Changes;
+pub use watch::{Beats, Changes};

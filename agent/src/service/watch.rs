@@ -3,6 +3,7 @@
 
 use crate::protocol::Reply;
 use std::collections::VecDeque;
+use std::time::{Duration, Instant};
 
 /// So many changes are kept for a watcher that comes back, and of so many bytes together: it is told them at once.
 const MAX_KEPT: usize = 1024;
@@ -13,6 +14,8 @@ const SPARE_BITS: u32 = 16;
 
 #[derive(Default)]
 pub struct Changes {
+    /// The number at which this life of the agent began.
+    first: u64,
     /// The number of the last change.
     last: u64,
     kept: VecDeque<Vec<u8>>,
@@ -22,7 +25,13 @@ pub struct Changes {
 impl Changes {
     /// In a life of this name.
     pub fn new(life: u64) -> Changes {
-        Changes { last: life >> SPARE_BITS, ..Changes::default() }
+        let first = life >> SPARE_BITS;
+        Changes { first, last: first, ..Changes::default() }
+    }
+
+    /// The name of the agent's life: each start has another one.
+    pub fn life(&self) -> String {
+        format!("{:012x}", self.first)
     }
 
     pub fn last(&self) -> u64 {
@@ -49,9 +58,46 @@ impl Changes {
     }
 }
 
+/// The beats of a watcher, by which it knows that the agent lives where nothing changes.
+pub struct Beats {
+    every: Duration,
+    next: Instant,
+}
+
+impl Beats {
+    /// Of one that was told the state now.
+    pub fn new(every: Duration, now: Instant) -> Beats {
+        Beats { every, next: now + every }
+    }
+
+    pub fn next(&self) -> Instant {
+        self.next
+    }
+
+    /// Whether one is due; then the next one is, so much later.
+    pub fn take(&mut self, now: Instant) -> bool {
+        let is_due = self.next <= now;
+        if is_due {
+            self.next = now + self.every;
+        }
+        is_due
+    }
+}
+
 #[cfg(test)]
 mod tests {
     use super::*;
+
+    #[test]
+    fn a_beat_is_due_once_in_each_interval() {
+        let (now, every) = (Instant::now(), Duration::from_millis(200));
+        let mut beats = Beats::new(every, now);
+        let taken: Vec<u32> = (0..=10).filter(|tenth| beats.take(now + *tenth * every / 2)).collect();
+        assert_eq!(taken, [2, 4, 6, 8, 10]);
+        assert_eq!(beats.next(), now + every * 6);
+        let late = now + every * 20;
+        assert!(beats.take(late) && !beats.take(late), "those that were missed aren't made up for");
+    }
 
     #[test]
     fn none_is_missed() {
@@ -80,6 +126,7 @@ mod tests {
             assert_eq!(known, [0, 1, 2].map(|other| other == at));
             assert!(changes.last() < 1 << 53);
         }
+        assert_eq!([0, 1, 2].map(|at: usize| lives[at].life()), ["ffffffffffff", "000001000000", "000000000000"]);
     }
 
     #[test]
