@@ -1,17 +1,19 @@
 #!/usr/bin/env python3
 """Looks at the pages: README.md, CONTRIBUTING.md, SECURITY.md, docs/, and the READMEs below crates/, schedules/ and examples/. Each link leads to a file,
-and to a heading of it; each file, script, schedule and wrong body that is named is there; the hand-written pages keep their measure. Last it
-counts. `pages.py --figures` compares the figures of docs/figures.txt with what their commands print, in place of that; it is run before a
-release."""
-import glob, os, re, subprocess, sys
+and to a heading of it; each file, script, schedule and wrong body that is named is there; docs/SOCKET.md names what agent/protocol.json has; the
+hand-written pages keep their measure. Last it counts. `pages.py --figures` compares the figures of docs/figures.txt with what their commands
+print, in place of that; it is run before a release."""
+import collections, glob, os, re, subprocess, sys
 
 sys.dont_write_bytecode = True
-import promises
-
 TOP = os.path.dirname(os.path.dirname(os.path.abspath(__file__)))
+sys.path.append(os.path.join(TOP, "agent/tests"))
+import promises
+from schema import Schema
+
 GENERATED = "docs/PROMISES.md"
 MEASURED = ("docs/PERFORMANCE.md", "docs/COMPARISON.md")
-WORDS, LINE, CELL = 32500, 160, 40
+WORDS, LINE, CELL = 33800, 160, 40
 MONTHS = "January|February|March|April|May|June|July|August|September|October|November|December"
 ROOTS = r"(?:tests|crates|docs|schedules|plans|examples|packaging|agent|measures)"
 
@@ -120,6 +122,53 @@ def measure(page, text):
             yield "%s:%d: a date" % (page, number)
 
 
+def socket_tables():
+    """Of each table of docs/SOCKET.md, by its first title, the cells of each name that a row begins with."""
+    tables, rows = {}, None
+    for line in text_of("docs/SOCKET.md").split("\n"):
+        cells = cells_of(line)
+        if not line.startswith("|"):
+            rows = None
+        elif rows is None:
+            rows = tables[cells[0]] = {}
+        else:
+            rows.update((name, cells[1:]) for name in re.findall(r"`(\w+)`", cells[0]))
+    return tables
+
+
+def socket_page():
+    """Where docs/SOCKET.md says of the requests, events, fields and errors that there are, and of what each has, something else than agent/protocol.json."""
+    schema, said = Schema(), socket_tables()
+    everywhere = {"do", "request", "ok", "event"}
+    fields = lambda name: schema.fields(schema.defs[name]).keys() - everywhere
+
+    def named(cell):
+        """The fields of a cell, with those of an event whose all it has."""
+        others = re.findall(r"all of `(\w+)`", cell)
+        return set(re.findall(r"`(\w+)`", re.sub(r"all of `\w+`", "", cell))).union(*(named(said["Event"][other][0]) for other in others))
+
+    requests, events = schema.names("request"), schema.names("event")
+    answers = {name: fields("answer." + name) | (fields("event.state") if name == "watch" else set()) for name in requests}
+    yield from differing("request", {name: (named(cells[0]), named(cells[1])) for name, cells in said["Request"].items()},
+                         {name: (fields("request." + name) - {"v"}, answers[name]) for name in requests})
+    yield from differing("event", {name: named(cells[0]) for name, cells in said["Event"].items()}, {name: fields("event." + name) for name in events})
+    yield from differing("field", dict.fromkeys(said["Field"], "that it is"), dict.fromkeys(set().union(*map(fields, schema.defs)), "that it is"))
+    of = collections.defaultdict(set)
+    for name in schema.names("refusal"):
+        for error in schema.defs["refusal." + name]["properties"]["error"]["enum"]:
+            of[error].add("no request" if name == "unreadable" else name)
+    # a job may be kept whatever refused a later try, but where it can't be read or the device surely was asked
+    are_in_doubt = {error for error in of if "submit" in of[error]} - {"BadPayload", "Device"}
+    yield from differing("error", {name: (set(cells[0].replace("`", "").split(", ")), "`may_be_kept`" in cells[2]) for name, cells in said["Error"].items()},
+                         {error: (names, error in are_in_doubt) for error, names in of.items()})
+
+
+def differing(what, said, there):
+    for name in sorted(said.keys() | there.keys()):
+        if name not in there or name not in said or said[name] != there[name]:
+            yield "docs/SOCKET.md: %s %s: it says %s, and agent/protocol.json %s" % (what, name, said.get(name, "nothing"), there.get(name, "nothing"))
+
+
 def look():
     hand = [page for page in found("README.md", "CONTRIBUTING.md", "docs/*.md") if page != GENERATED]
     others = found("CHANGELOG.md", "SECURITY.md", "crates/*/README.md", "schedules/README.md", "examples/*/README.md", "measures/README.md")
@@ -142,6 +191,9 @@ def look():
                 for page in set(re.findall(r"docs/\w+\.md", file.read())):
                     if not os.path.exists(os.path.join(TOP, page)):
                         problems.append("%s: there is no %s" % (path, page))
+    more = list(socket_page())
+    problems += more
+    passed += not more
     words = sum(len(text_of(page).split()) for page in hand)
     if words > WORDS:
         problems.append("%d words in the hand-written pages, of at most %d" % (words, WORDS))

@@ -1,6 +1,8 @@
 """A bed for agents on one machine: a relay between them loses, delays, repeats and cuts by a seed. Needs Python 3.8 alone, and no root."""
 import heapq, json, os, random, selectors, signal, socket, subprocess, tempfile, threading, time
 
+from schema import Checked
+
 HERE = os.path.dirname(os.path.abspath(__file__))
 
 # What has to come about at all has so long for it: on a machine that is slow or busy it comes late, and a fault has it never come.
@@ -98,7 +100,9 @@ class Relay:
 class Agents:
     """Agents in a folder, each with a node of its own. The nodes' files are there, too, or in a folder within another one."""
 
-    def __init__(self, folder, program, relay, daemon, ctl, settings=None, first=None, slots=256, within=None):
+    def __init__(self, folder, program, relay, daemon, ctl, settings=None, first=None, slots=256, within=None, lines=None):
+        """With `lines` what they are asked at their sockets and what they answer is checked."""
+        self.lines = lines
         self.folder, self.program, self.relay, self.daemon, self.ctl_path, self.settings = folder, program, relay, daemon, ctl, settings or {}
         self.count, self.processes = relay.count, [None] * relay.count
         self.http, self.within = [None] * relay.count, within and tempfile.TemporaryDirectory(prefix="dumgerok-nodes-", dir=within)
@@ -145,7 +149,8 @@ class Agents:
             return int(file.read().split()[0])
 
     def connect(self, i):
-        link, end = socket.socket(socket.AF_UNIX, socket.SOCK_STREAM), time.monotonic() + PATIENCE
+        link = Checked(self.lines) if self.lines else socket.socket(socket.AF_UNIX, socket.SOCK_STREAM)
+        end = time.monotonic() + PATIENCE
         link.settimeout(PATIENCE)
         while True:
             try:

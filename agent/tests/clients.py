@@ -130,6 +130,16 @@ def rubbish(agents, check):
     check("rubbish stops nobody", agents.status(0)["ok"])
 
 
+def each_request(agents, check):
+    """Those that no other scene makes, and that one that names its version and itself is answered so."""
+    record = dict(record=agents.path(0, "node") + ".record")
+    for ask, said in ((dict(do="compact"), {}), (dict(do="record", on=False), {}), (dict(do="members"), None), (dict(do="record", on=True), record),
+                      (dict(do="record", on=False), record)):
+        answer = agents.ask(0, request="mine", v=1, **ask)
+        is_so = answer["ok"] and len(answer["members"]) == 1 if said is None else answer == dict(ok=True, request="mine", **said)
+        check("%s is answered" % ask["do"], is_so, answer)
+
+
 def half_closed(agents, check):
     """A client that ends what it writes and then waits, as `socat` does, gets its answers."""
     ask = [dict(do="submit", queue=2, text="half", request=1), dict(do="jobs", request=2), dict(do="watch", since=0, request=3)]
@@ -211,6 +221,7 @@ def fill(bed):
     agents, check = bed.agents("fill", count=1, slots=16, record=None), bed.tally.check
     agents.start(0)
     agents.one_group()
+    each_request(agents, check)
     log = lambda: open(agents.path(0, "log")).read()
     warnings = lambda: (log().count("more than half"), log().count("the journal is full"))
     submit = lambda: agents.ask(0, do="submit", queue=1, text="x")

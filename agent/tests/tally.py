@@ -6,7 +6,7 @@ BEGAN = time.monotonic()
 
 class Tally:
     def __init__(self):
-        self.passed, self.failed, self.late, self.lock = 0, [], [], threading.Lock()
+        self.passed, self.failed, self.late, self.seen, self.lock = 0, [], [], set(), threading.Lock()
 
     def check(self, name, is_so, said=""):
         """A check that no load of the machine makes fail."""
