@@ -15,7 +15,7 @@ GENERATED = "docs/PROMISES.md"
 MEASURED = ("docs/PERFORMANCE.md", "docs/COMPARISON.md")
 WORDS, LINE, CELL = 33800, 160, 40
 MONTHS = "January|February|March|April|May|June|July|August|September|October|November|December"
-ROOTS = r"(?:tests|crates|docs|schedules|plans|examples|packaging|agent|measures)"
+ROOTS = r"(?:tests|crates|docs|schedules|plans|examples|packaging|agent|clients|measures)"
 
 
 def found(*patterns):
@@ -185,7 +185,7 @@ def look():
             more += measure(page, text)
         problems += more
         passed += not more
-    for path in found("invite", "check", "tests/*", "tests/hostile/*", "crates/*/src/*.rt", "examples/*/*", "packaging/*", "agent/src/*", "agent/tests/*"):
+    for path in found("invite", "check", "tests/*", "tests/hostile/*", "crates/*/src/*.rt", "examples/*/*", "packaging/*", "agent/src/*", "agent/tests/*", "clients/*/*"):
         if os.path.isfile(os.path.join(TOP, path)):
             with open(os.path.join(TOP, path), errors="replace") as file:
                 for page in set(re.findall(r"docs/\w+\.md", file.read())):

@@ -1,4 +1,4 @@
-//! What services ask and are answered at the socket: JSON, one object a line.
+//! What services ask and are answered at the socket: JSON, one object a line. docs/SOCKET.md and protocol.json say what each line has.
 
 mod reply;
 mod request;
