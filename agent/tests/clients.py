@@ -61,7 +61,7 @@ def silent(agents, check):
         is_told = process.returncode == 9 and "no answer in time" in said and (words[0] == "submit" or "may be done" not in said)
         check("an agent that was stopped isn't waited for without an end, by %s: 9" % " ".join(words), is_told, (process.returncode, said))
     agents.processes[0].send_signal(signal.SIGCONT)
-    check("and answers on", agents.status(0)["alive"])
+    check("and answers on", agents.until(lambda: agents.status(0)["alive"]) >= 0)
 
 
 def earlier_life(agents, check):

@@ -27,6 +27,13 @@ def ended(bed, started, name):
         os.kill(started, signal.SIGKILL)
 
 
+def asked(agents, **request):
+    """The lines that a client is told which asks this at agent 0."""
+    with agents.connect(0) as link:
+        link.sendall(json.dumps(request).encode() + b"\n")
+        return link.makefile()
+
+
 def stopped_worker(bed):
     """By a signal, by its job that goes to another node, by its agent's end."""
     agents, check = bed.agents("worker", count=2), bed.tally.check
@@ -44,13 +51,18 @@ def stopped_worker(bed):
     worker.kill()
     worker.wait()
     ended(bed, started, "what a command started ends with a worker that is killed")
-    # in a group of two the second one works on queue 1
+    # in a group of two the second one works on queues 1 and 3
+    watching, taker = asked(agents, do="watch"), asked(agents, do="take", queue=3, wait=True)
+    agents.ask(0, do="submit", queue=3, text="y")
+    job = json.loads(taker.readline())
     worker, started = begun(agents, 0, "elsewhere")
     agents.start(1)
     agents.one_group()
     agents.until(lambda: not is_there(started))
     agents.until(lambda: metric(agents, 0, "clients_waiting") == 1 or worker.poll() is not None)
     check("a worker whose job went to another node goes on", worker.poll() is None, worker.returncode)
+    stop = json.loads(taker.readline())
+    check("a client whose job went there is told to stop", stop == dict(event="stop", origin=job["origin"], id=job["id"]), (job, stop))
     worker.send_signal(signal.SIGTERM)
     check("and is ended by a signal while it waits", worker.wait(PATIENCE) == -signal.SIGTERM, worker.returncode)
     worker, started = begun(agents, 1, "without-agent")
@@ -59,6 +71,10 @@ def stopped_worker(bed):
     agents.until(lambda: not is_there(started))
     done = agents.ctl(0, "take", "--once", "--", "sh", "-c", 'test "$(cut -d " " -f 6 /proc/$$/stat)" = $$')
     check("a command is run in a session of its own", done.returncode == 0, done)
+    told = []
+    while "gone" not in told:
+        told.append(json.loads(watching.readline())["event"])
+    check("and a watcher of all that", {"state", "take", "drop", "group", "gone"} <= set(told), told)
     agents.stop()
 
 
