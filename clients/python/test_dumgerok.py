@@ -52,8 +52,8 @@ class Scripted:
 class Blocking:
     """Calls of Agent, for a test of both."""
 
-    def __init__(self, path):
-        self.agent = dumgerok.Agent(path, patience=2)
+    def __init__(self, path, patience=PATIENCE):
+        self.agent = dumgerok.Agent(path, patience)
 
     def call(self, name, *words):
         return getattr(self.agent, name)(*words)
@@ -84,8 +84,8 @@ class Blocking:
 class Awaited:
     """Calls of AsyncAgent, for a test of both."""
 
-    def __init__(self, path):
-        self.agent = dumgerok.AsyncAgent(path, patience=2)
+    def __init__(self, path, patience=PATIENCE):
+        self.agent = dumgerok.AsyncAgent(path, patience)
 
     def call(self, name, *words):
         return asyncio.run(getattr(self.agent, name)(*words))
@@ -183,7 +183,7 @@ def doubts(scene, mark):
     mark("a question is asked again", client.call("status")["phase"] == "Normal" and agent.heard == ["status", "status"], agent.heard)
     begin = time.monotonic()
     try:
-        seen = type(client)("/nowhere/sock").call("submit", 3, "x")
+        seen = type(client)("/nowhere/sock", 2).call("submit", 3, "x")
     except dumgerok.Error as why:
         seen = why
     is_so = isinstance(seen, dumgerok.NoAgent) and not seen.in_doubt and time.monotonic() - begin >= 2
@@ -193,12 +193,12 @@ def doubts(scene, mark):
 def watches(scene, mark):
     other, odd = dict(STATE, life="ffffffffffff", change=90), dict(event="new", change=8, more=[1])
     agent, client = scene([None, STATE, odd], [None, dict(ok=True, life=STATE["life"]), dict(odd, change=9)], [None, other, "stays"])
-    seen = client.watch(7, every=0.5)
+    seen = client.watch(7, every=PATIENCE / 4)
     told = [(event["event"], event.get("gap"), event.get("restarted"), event.get("change")) for event in seen]
     mark("a watcher goes on over connections, and is told of gaps and restarts", told == [
         ("state", False, False, 7), ("new", None, None, 8), ("lost", None, None, None), ("back", False, False, None), ("new", None, None, 9), ("lost", None, None, None),
         ("state", True, True, 90)], told)
-    agent, client = scene([None, STATE, dict(event="beat", change=7, alive=True), "stays"])
+    agent, client = scene([None, [STATE, dict(event="beat", change=7, alive=True)], "stays"])
     begin = time.monotonic()
     told = [(event["event"], event.get("why")) for event in client.watch(3, every=0.2)]
     is_so = told == [("state", None), ("beat", None), ("lost", "no beat in 0.6 s")] and time.monotonic() - begin >= 0.6
@@ -240,7 +240,7 @@ class Service:
         dumgerok.Agent(self.agents.path(i, "sock")).work(self.note, until=lambda: self.ends)
 
     def watch(self, i):
-        for event in dumgerok.Agent(self.agents.path(i, "sock")).watch(every=0.2):
+        for event in dumgerok.Agent(self.agents.path(i, "sock")).watch(every=0.5):
             self.events[i].append(event)
             if self.ends:
                 return
@@ -256,7 +256,7 @@ class Service:
             self.note(job)
 
         working = asyncio.ensure_future(agent.work(work))
-        async for event in agent.watch(every=0.2):
+        async for event in agent.watch(every=0.5):
             self.events[i].append(event)
             if self.ends:
                 break
@@ -276,6 +276,7 @@ def over_restarts(bed):
     agents.start_all()
     agents.one_group()
     service, kept, doubts, lives = Service(agents), [], 0, [{agents.status(i)["life"]} for i in range(3)]
+    agents.until(lambda: all(service.events))
     for turn in range(4):
         victim = chance.randrange(3)
         for at in range(20):
@@ -289,7 +290,9 @@ def over_restarts(bed):
                 doubts += why.in_doubt
         agents.start(victim)
         agents.one_group()
-        lives[victim].add(agents.status(victim)["life"])
+        life = agents.status(victim)["life"]
+        lives[victim].add(life)
+        agents.until(lambda: any(event.get("life") == life for event in service.events[victim]))
     pending = lambda: sum(metric(agents, i, "jobs_pending") for i in range(3))
     agents.until(lambda: pending() == 0)
     check("jobs are kept", len(kept) > 40, (len(kept), doubts))
@@ -301,7 +304,8 @@ def over_restarts(bed):
     check("all end", service.end())
     for i, events in enumerate(service.events):
         names, begun = [event["event"] for event in events], [event for event in events if "gap" in event]
-        check("a watcher is told of each end of its agent", names.count("lost") >= kills[i] and len(begun) == names.count("lost") + 1, (kills, names.count("lost"), len(begun)))
+        losses = names[:max(at for at, event in enumerate(events) if "gap" in event)].count("lost")
+        check("a watcher is told of each end of its agent", losses >= kills[i] and len(begun) == losses + 1, (kills, losses, len(begun)))
         check("and of each start", sum(event["restarted"] for event in begun) == kills[i] and {event["life"] for event in begun} == lives[i], (kills, begun))
         check("with all that was missed", all(event["gap"] for event in begun if event["restarted"]), begun)
     client = dumgerok.Agent(agents.path(0, "sock"))
