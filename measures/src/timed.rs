@@ -309,8 +309,8 @@ fn keep(waiting: &mut Retransmission, event: &Event, node: &Node) -> bool {
 
 /// What is sent again at this time is put behind the others; it answers how many messages these are.
 fn put_again(held: &mut Vec<Message>, waiting: &Retransmission, now: u64) -> Result<u64, &'static str> {
-    let again = waiting.due(now);
-    put_all(held, again)?;
+    let again = waiting.due(now).ok().ok_or("no memory")?;
+    put_all(held, &again)?;
     Ok(again.len() as u64)
 }
 

@@ -384,7 +384,8 @@ impl<D: SectorDisk + Drop> Session<D> {
         ensures again { OnOk result (self.new ≡ record self.old { text = self.old.text ++ send_lines (sent_again now self.old.waits); waits = waits_on now self.old.waits }) }
         ensures rest { self.new.rest ≡ self.old.rest }
     {
-        push_messages(&mut self.text, &mut self.bytes, self.waiting.due(now))?;
+        let due = self.waiting.due(now)?;
+        push_messages(&mut self.text, &mut self.bytes, &due)?;
         self.waiting.go_on(now)
     }
 

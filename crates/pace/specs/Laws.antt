@@ -1,5 +1,5 @@
 -- What follows of a policy.
-use Rattle.std.specs.Prelude.{ℕ, ◌≡◌, ◌≤◌, ◌*◌, min, Bool, Option, Some}
+use Rattle.std.specs.Prelude.{ℕ, ◌≡◌, ◌≤◌, ◌*◌, min, Bool, length, Option, Some}
 use Rattle.group_task.specs.Group.{Group}
 use Rattle.node_core.specs.declared.event.Event.TheVariants as on
 use Rattle.node_core.specs.declared.timer.Timer.TheVariants as timer
@@ -7,6 +7,7 @@ use Rattle.pace.specs.declared.wait.Wait.{Wait}
 use Rattle.pace.specs.declared.deadline.Deadline.{Deadline}
 use Rattle.pace.specs.declared.snapshot.NodeSnapshot.{NodeSnapshot}
 use Rattle.pace.specs.Timers.{IsSet, first_pause, jitter_of, later, least_of, measured, most_pause, put_off, raise_of}
+use Rattle.pace.specs.Retransmission.{Waits, sent_again}
 use Rattle.pace.specs.Policy.{Policy, HasCome, IsWorkDue, Dispatches, IsWithin, passed}
 
 -- a deadline that is set now has not come, whatever is seen
@@ -41,3 +42,7 @@ pub record Scales (unit : ℕ) : Type 0 where
 
 abbrev pub WaitsScale : Type 0
 WaitsScale = (unit : ℕ) → 1 ≤ unit → Scales unit
+
+-- at most 16 messages are sent again at one time
+abbrev pub AtMostAtOnce : Type 0
+AtMostAtOnce = (now : ℕ) (w : Waits) → length (sent_again now w) ≤ 16

@@ -1,4 +1,4 @@
-ghost use Rattle.pace.specs.Laws.{FallsBack, PutOffOnce, TimeStands, TimerFiresOnce, WaitsScale, WorkFiresOnce};
+ghost use Rattle.pace.specs.Laws.{AtMostAtOnce, FallsBack, PutOffOnce, TimeStands, TimerFiresOnce, WaitsScale, WorkFiresOnce};
 
 /// At one time no timer fires twice, and work isn't dispatched twice: a caller that asks until nothing is due comes to an
 /// end. This function is the law, and does nothing.
@@ -30,4 +30,9 @@ pub fn scales()
     // Promise: Each wait, its jitter, a turn and the longest raise that is allowed for are so many round trips, whatever one takes.
     // Refuses: jobs_rest_by_the_millisecond.
     ensures { WaitsScale }
+{}
+
+/// However many messages are waited for, few are sent again at one time. This function is the law, and does nothing.
+pub fn sent_again_seldom()
+    ensures { AtMostAtOnce }
 {}

@@ -15,6 +15,7 @@
 mod deadline;
 mod hearing;
 mod laws;
+mod repeat;
 mod retransmission;
 mod snapshot;
 mod timer_policy;
@@ -22,8 +23,8 @@ mod timer_settings;
 mod wait;
 
 pub use deadline::Deadline;
-pub use laws::{falls_back, fires_once, put_off_once, scales};
-pub use retransmission::Retransmission;
+pub use laws::{falls_back, fires_once, put_off_once, scales, sent_again_seldom};
+pub use retransmission::{MOST_AT_ONCE, Retransmission};
 pub use snapshot::NodeSnapshot;
 pub use timer_policy::TimerPolicy;
 pub use timer_settings::TimerSettings;

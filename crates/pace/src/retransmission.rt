@@ -1,8 +1,9 @@
-ghost use Rattle.std.specs.Prelude.{◌≡◌, ◌++◌, ◌<◌, ◌≤◌, ℕ, [], IfSome, IsNone, OnOk, true, None, Some};
+ghost use Rattle.std.specs.Prelude.{◌≡◌, ◌++◌, ◌<◌, ◌≤◌, ℕ, [], IfOk, IfSome, IsNone, OnOk, drop, map, take, true, None, Some};
 ghost use Rattle.std.specs.List.{filter};
 ghost use Rattle.node_core.specs.State.{state_of};
-ghost use Rattle.pace.specs.Retransmission.{answerer, asks, has_come, is_answered, is_check, invites, is_of, is_waited, none_waited, sent_again, waits_behind, waits_on, waits_since};
+ghost use Rattle.pace.specs.Retransmission.{answerer, asks, first, has_come, invites, is_answered, is_check, is_of, is_resting, is_waited, is_waited_still, message_of, nearer, none_waited, overdue, rested, sent_again, waits_behind, waits_on, waits_since};
 
+use crate::repeat::Repeat;
 use crate::snapshot::NodeSnapshot;
 use group_task::{GroupNo, NodeId};
 use node_core::{Event, Phase, Vector};
@@ -10,15 +11,17 @@ use std::alloc::{AllocError, Global};
 use std::marker::Model;
 use wire_msg::{Body, Message};
 
+/// At most so many messages are sent again at one time.
+pub const MOST_AT_ONCE: usize = 16;
+
 /// The messages that a node sent and still waits for. A link may lose a message, so each is sent again, a unit of the setting
 /// after another, until it isn't waited for any more.
 #[derive(Debug, Drop)]
 pub struct Retransmission {
+    alloc: Global,
     unit: u64,
     next: u64,
-    // those that are sent again at the next time, and those that were sent since the last
-    again: Vec<Message>,
-    fresh: Vec<Message>,
+    repeats: Vec<Repeat>,
 }
 
 impl Model for Retransmission {
@@ -26,19 +29,19 @@ impl Model for Retransmission {
 
     ghost Value = { Waits };
 
-    ghost view = { λ a. record { unit = a.unit; next = a.next; again = a.again.items; fresh = a.fresh.items } };
+    ghost view = { λ a. record { unit = a.unit; next = a.next; repeats = a.repeats.items } };
 }
 
 impl Retransmission {
-    /// Nothing is waited for. Messages are sent again each so many milliseconds.
+    /// Nothing is waited for. A time at which messages are sent again comes each so many milliseconds.
     pub fn new(alloc: Global, unit: u16) -> Retransmission
         ensures { result ≡ none_waited unit }
     {
         Retransmission {
+            alloc,
             unit: u64::from(unit),
             next: 0,
-            again: Vec::new(alloc),
-            fresh: Vec::new(alloc),
+            repeats: Vec::new(alloc),
         }
     }
 
@@ -72,31 +75,36 @@ impl Retransmission {
     ) -> Result<(), AllocError>
         ensures { OnOk result (self.new ≡ waits_since answered.now sent.now (state_of vector.now) self.old) }
     {
-        keep_waited(&mut self.again, answered, vector);
-        keep_waited(&mut self.fresh, answered, vector);
-        push_waited(&mut self.fresh, answered, sent, vector)
+        keep_waited(&mut self.repeats, answered, vector);
+        push_waited(&mut self.repeats, answered, sent, vector)
     }
 
     /// What is to be sent again at this time.
-    pub fn due(&self, now: u64) -> &[Message]
-        // Promise: They are due again each unit (a round trip), and one that was sent in between from the next time on; where the
-        // next time is more than a unit away, the clock fell back, and they are due.
-        // Also: Retransmission::go_on.
-        // Refuses: sent_again_at_once, clock_that_falls_back_silences.
-        ensures { result.now ≡ sent_again now self.now }
+    pub fn due(&self, now: u64) -> Result<Vec<Message>, AllocError>
+        // Promise: A time comes each unit (a round trip), and at once where the next is more than a unit away: the clock fell back. A message is
+        // sent again from the second time behind its sending on; a question of a check then rests for 2, 4 and 8 times. At most 16
+        // are sent at one time, and the others go first at the next.
+        // Also: Retransmission::go_on, sent_again_seldom.
+        // Refuses: sent_again_at_once, clock_that_falls_back_silences, asked_without_backoff, more_than_16_at_once, overdue_goes_last.
+        ensures { IfOk result (λ due. due.items ≡ sent_again now self.now) }
     {
-        if self.has_come(now) { &self.again } else { &[] }
+        let mut due = Vec::new(self.alloc);
+        if self.has_come(now) {
+            let overdue = self.overdue()?;
+            push_messages(&mut due, first_of(&overdue))?;
+        }
+        Ok(due)
     }
 
-    /// When something is sent again next, or what was sent since the last time is taken along, where it is so late now and the clock doesn't
+    /// When something is sent again next, or what is waited for is looked through, where it is so late now and the clock doesn't
     /// fall back. None where nothing is waited for.
     pub fn due_at(&self, now: u64) -> Option<u64>
-        // Promise: When they are due next, where the clock doesn't fall back: before it nothing is sent again, and at it it is.
+        // Promise: When they are due next, where the clock doesn't fall back: before it nothing is sent again, and at it they are looked through.
         ensures quiet { IfSome result (λ next. (later : ℕ) → now ≤ later → later < next → (sent_again later self.now ≡ []) × (waits_on later self.now ≡ self.now)) }
         ensures comes { IfSome result (λ next. has_come next self.now ≡ true) }
         ensures never { IsNone result → (later : ℕ) → sent_again later self.now ≡ [] }
     {
-        if self.again.is_empty() && self.fresh.is_empty() {
+        if self.repeats.is_empty() {
             return None;
         }
         if self.has_come(now) {
@@ -119,53 +127,124 @@ impl Retransmission {
         // Refuses: unanswered_check_is_over, found_coordinator_passed_over.
         ensures { result ≡ is_answered snapshot.now self.now }
     {
-        snapshot.checking
-            && snapshot.merge_wait.is_none()
-            && !(asks(&self.again) || asks(&self.fresh))
+        snapshot.checking && snapshot.merge_wait.is_none() && !asks(&self.repeats)
     }
 
-    /// What was due is sent; what was sent since the last time is sent again at the next.
+    /// What was due is sent: it rests. What is overdue goes first at the next time.
     pub fn go_on(&mut self, now: u64) -> Result<(), AllocError>
         ensures { OnOk result (self.new ≡ waits_on now self.old) }
     {
         if !self.has_come(now) {
             return Ok(());
         }
+        let overdue = self.overdue()?;
+        let mut repeats = Vec::new(self.alloc);
+        push_nearer(&mut repeats, behind_first(&overdue))?;
+        push_resting(&mut repeats, &self.repeats)?;
+        push_rested(&mut repeats, first_of(&overdue))?;
+        self.repeats = repeats;
         self.next = now.saturating_add(self.unit);
-        self.again.extend_from_slice(&self.fresh)?;
-        self.fresh.clear();
         Ok(())
+    }
+
+    /// Those whose time has come.
+    fn overdue(&self) -> Result<Vec<Repeat>, AllocError>
+        ensures { IfOk result (λ due. due.items ≡ overdue self.now.repeats) }
+    {
+        let mut due = Vec::new(self.alloc);
+        due.extend_from_slice(&self.repeats)?;
+        keep_due(&mut due);
+        Ok(due)
     }
 }
 
-fn keep_waited(messages: &mut Vec<Message>, answered: &Option<NodeId>, vector: &Vector)
-    ensures { messages.new.items ≡ filter (is_waited answered.now (state_of vector.now)) messages.old.items }
+fn keep_due(repeats: &mut Vec<Repeat>)
+    ensures { repeats.new.items ≡ overdue repeats.old.items }
 {
-    messages.retain(|message| is_waited(answered, vector, message));
+    repeats.retain(|repeat| repeat.is_due());
 }
 
-fn push_waited(
-    messages: &mut Vec<Message>,
-    answered: &Option<NodeId>,
-    sent: &[Message],
-    vector: &Vector,
-) -> Result<(), AllocError>
-    ensures { OnOk result (messages.new.items ≡ messages.old.items ++ filter (is_waited answered.now (state_of vector.now)) sent.now) }
+/// Those of what is overdue that are sent now.
+fn first_of(overdue: &[Repeat]) -> &[Repeat]
+    ensures { result.now ≡ take MOST_AT_ONCE overdue.now }
 {
-    for message in sent {
-        if is_waited(answered, vector, message) {
-            messages.push(*message)?;
+    &overdue[..overdue.len().min(MOST_AT_ONCE)]
+}
+
+/// And those that aren't.
+fn behind_first(overdue: &[Repeat]) -> &[Repeat]
+    ensures { result.now ≡ drop MOST_AT_ONCE overdue.now }
+{
+    &overdue[overdue.len().min(MOST_AT_ONCE)..]
+}
+
+fn push_messages(messages: &mut Vec<Message>, repeats: &[Repeat]) -> Result<(), AllocError>
+    ensures { OnOk result (messages.new.items ≡ messages.old.items ++ map message_of repeats.now) }
+{
+    for repeat in repeats {
+        messages.push(repeat.message)?;
+    }
+    Ok(())
+}
+
+fn push_nearer(into: &mut Vec<Repeat>, repeats: &[Repeat]) -> Result<(), AllocError>
+    ensures { OnOk result (into.new.items ≡ into.old.items ++ map nearer repeats.now) }
+{
+    for repeat in repeats {
+        into.push(repeat.nearer())?;
+    }
+    Ok(())
+}
+
+/// Adds those whose time hasn't come, a time nearer.
+fn push_resting(into: &mut Vec<Repeat>, repeats: &[Repeat]) -> Result<(), AllocError>
+    ensures { OnOk result (into.new.items ≡ into.old.items ++ map nearer (filter is_resting repeats.now)) }
+{
+    for repeat in repeats {
+        if !repeat.is_due() {
+            into.push(repeat.nearer())?;
         }
     }
     Ok(())
 }
 
-/// Whether one of the messages is a check's question.
-fn asks(messages: &[Message]) -> bool
-    ensures { result ≡ asks messages.now }
+fn push_rested(into: &mut Vec<Repeat>, repeats: &[Repeat]) -> Result<(), AllocError>
+    ensures { OnOk result (into.new.items ≡ into.old.items ++ map rested repeats.now) }
 {
-    for message in messages {
-        if is_check(message) {
+    for repeat in repeats {
+        into.push(repeat.rested())?;
+    }
+    Ok(())
+}
+
+fn keep_waited(repeats: &mut Vec<Repeat>, answered: &Option<NodeId>, vector: &Vector)
+    ensures { repeats.new.items ≡ filter (is_waited_still answered.now (state_of vector.now)) repeats.old.items }
+{
+    repeats.retain(|repeat| is_waited(answered, vector, &repeat.message));
+}
+
+fn push_waited(
+    repeats: &mut Vec<Repeat>,
+    answered: &Option<NodeId>,
+    sent: &[Message],
+    vector: &Vector,
+) -> Result<(), AllocError>
+    ensures { OnOk result (repeats.new.items ≡ repeats.old.items ++ map first (filter (is_waited answered.now (state_of vector.now)) sent.now)) }
+{
+    for message in sent {
+        if is_waited(answered, vector, message) {
+            repeats.push(Repeat::first(message))?;
+        }
+    }
+    Ok(())
+}
+
+/// Whether a question of a check is waited for.
+fn asks(repeats: &[Repeat]) -> bool
+    ensures { result ≡ asks repeats.now }
+{
+    for repeat in repeats {
+        if is_check(&repeat.message) {
             return true;
         }
     }
