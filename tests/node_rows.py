@@ -21,10 +21,11 @@ ROWS = [
      UP + "take 0 0 3 6869 7\nok 2 id 0\npending 0 3 6869 7\nhand 0 0 3 6869 7\nok 3\ngone 0\nok 4\ntake 0 1 0 -\nok 5 id 1\nok 6\npending 1 0 -\nhand 0 1 0 -\nok 7\n"),
     # a question, one for another node, and the loss of nodes that aren't in the group
     ("recover\ndeliver 010101000000\ndeliver 010101020000\nlost 0\nlost 1\n", UP + "send 1 01020001000101\nok 2\nrefused 3 Stranger\nok 4\nok 5\n"),
-    # the first tick sets the timers, a check is due after 200 ms and at most 100 more, and its questions are sent again from the second round trip on
-    ("tick 0\nrecover\ntick 2000\ntick 2620\ntick 2620\ntick 2640\ntick 2660\n",
+    # the first tick sets the timers, a check is due after 200 ms and at most 100 more, and its questions are sent again at the second round trip, and two later
+    ("tick 0\nrecover\ntick 2000\ntick 2620\ntick 2620\ntick 2640\ntick 2660\ntick 2680\ntick 2700\n",
      "ok 1\ngroup Normal 0 0:1 0\nkeeps 1 0 0\nok 2\nnext ?\nok 3\nfired check\nsend 1 010100010000\nsend 2 010100020000\n"
-     "next 2640\nok 4\nnext 2640\nok 5\nnext 2660\nok 6\nsend 1 010100010000\nsend 2 010100020000\nnext 2680\nok 7\n"),
+     "next 2640\nok 4\nnext 2640\nok 5\nnext 2660\nok 6\nsend 1 010100010000\nsend 2 010100020000\nnext 2680\nok 7\n"
+     "next 2700\nok 8\nsend 1 010100010000\nsend 2 010100020000\nnext 2720\nok 9\n"),
     # lines that can't be read, empty ones, and a last one that isn't whole
     ("x\n\n\nrecover \ndeliver 00\ntick x\nlost 128\nsubmit 16 -\nstate\r\nrecover", "bad 1\nbad 2\nbad 3\nbad 4\nbad 5\nbad 6\nbad 7\n"),
     # refusals
@@ -32,40 +33,48 @@ ROWS = [
 ]
 
 # A timer: the node and how many there are, the lines before it, the word of its event, and at which times it is fired and at which not. Each time is
-# that of one tick, or of one after a line. A round trip is 20 ms.
+# that of one tick, or of one after a line; by BY it is fired once, and by NONE never, where a tick comes each round trip until then. A round trip is 20 ms.
+BY, NONE = "by", "none"
 INVITING = "recover;check;deliver 01020100000101;merge"
 LEADING = INVITING + ";deliver 010601000009000000000000000002;accept"
 IN_STEP = LEADING + ";deliver 010801000009000000000000000002"
 JOINING = "recover;deliver 010500010009000000000000000002"
+HERE_YES, LOOKS = "deliver 01040001000a00000000000000000201", "deliver 010100010000"
 JOINED = JOINING + ";deliver 01070001000c000000000000000002020001"
 TIMERS = [
     (0, 3, "state", "dispatch", [(0, False), (1000, False), (2**64 - 1, False)]),
     # 10 round trips in a new group, and up to 5 more; it fires once. Then 45, and up to 5 more
     (0, 1, "recover", "check", [(100, False), (100, False), (299, False), (400, True), (400, False), (600, False), (1299, False), (1600, True)]),
     # 5, and up to 5 more, and 10 for each step by which the greatest coordinator found is above the node
-    (0, 3, "recover;check", "merge", [(0, False), (99, False), (200, True), (200, False)]),
+    (0, 3, "recover;check", "merge", [(0, False), (99, False), (200, BY), (200, False)]),
     # at once where all have answered, and none of them leads
     (0, 3, "recover;check", "merge", [(0, False), ("deliver 01020100000100", None), (1, False), ("deliver 01020200000100", None), (2, True), (2, False)]),
-    (0, 3, "recover;check", "merge", [(0, False), ("deliver 01020100000101", None), ("deliver 01020200000100", None), (1, False), (299, False), (400, True)]),
+    (0, 3, "recover;check", "merge", [(0, False), ("deliver 01020100000101", None), ("deliver 01020200000100", None), (1, False), (299, False), (400, BY)]),
     (0, 1, "recover", "merge", [(0, False), (199, False), (300, True)]),
-    (0, 2, "recover;check;deliver 01020100000101", "merge", [(5, False), (304, False), (405, True)]),
-    (2, 6, "recover;check;deliver 01020002000101;deliver 01020502000101", "merge", [(0, False), (699, False), (800, True)]),
-    (5, 6, "recover;check;deliver 01020005000101;deliver 01020205000101", "merge", [(0, False), (99, False), (200, True)]),
+    (0, 2, "recover;check;deliver 01020100000101", "merge", [(5, False), (304, False), (405, BY)]),
+    (2, 6, "recover;check;deliver 01020002000101;deliver 01020502000101", "merge", [(0, False), (699, False), (800, BY)]),
+    (5, 6, "recover;check;deliver 01020005000101;deliver 01020205000101", "merge", [(0, False), (99, False), (200, BY)]),
     # 5
     (0, 2, INVITING, "accept", [(7, False), (106, False), (107, True), (107, False)]),
     # 10
     (0, 2, LEADING, "ready", [(7, False), (206, False), (207, True), (207, False)]),
-    # 20 for the task, and then 10 for the coordinator's answer
-    (1, 2, JOINING, "coord", [(7, False), (406, False), (407, True), (407, False), (606, False), (607, True), (607, False)]),
-    # 20 in a new group, and up to 10 more, and then 10
-    (1, 2, JOINED, "coord", [(7, False), (406, False), (607, True), (607, False), (806, False), (807, True), (807, False)]),
+    # 20 for the task, and then 250 ms for the coordinator's answer
+    (1, 2, JOINING, "coord", [(7, False), (406, False), (407, True), (407, False), (656, False), (657, True), (657, False)]),
+    # 20 in a new group, and up to 10 more; and then 250 ms, or three times as long as the slowest answer took, of which less counts with each answer
+    (1, 2, JOINED, "coord", [(7, False), (406, False), (607, BY)]),
+    (1, 2, JOINED, "coord", [(7, False), (LOOKS, None), (8, True), (257, False), (258, True), (258, False)]),
+    (1, 2, JOINED, "coord", [(7, False), (LOOKS, None), (8, True), (208, False), (HERE_YES, None), (209, False), (LOOKS, None), (210, True), (809, False), (810, True)]),
+    (1, 2, JOINED, "coord", [(7, False), (LOOKS, None), (8, True), (208, False), (HERE_YES, None), (209, False), (LOOKS, None), (210, True), (211, False), (HERE_YES, None), (212, False),
+                             (LOOKS, None), (213, True), (806, False), (807, True)]),
+    # so it does where it was held up itself, for 1 s at most
+    (1, 2, JOINED, "coord", [(7, False), (5000, True), (7999, False), (8000, True)]),
     # at once behind a check of the coordinator, and then 52 behind the answer, and up to 3 more; another node's check changes nothing
     (1, 2, JOINED, "coord", [(7, False), ("deliver 010100010000", None), (8, True), (8, False), ("deliver 01040001000a00000000000000000201", None), (9, False), (1048, False), (1109, True)]),
     (1, 3, JOINED, "coord", [(7, False), ("deliver 010102010000", None), (406, False), (607, True)]),
     # a greater node that looks for others is to merge first: a merge waits twice as long, once; a lesser one changes nothing
-    (0, 2, "recover;check;deliver 01020100000101", "merge", [(0, False), (290, False), ("deliver 010101000000", None), (291, False), (599, False), (800, True)]),
-    (0, 2, "recover;check;deliver 01020100000101", "merge", [(0, False), (200, False), ("deliver 010101000000", None), (201, False), ("deliver 010101000000", None), (599, False), (800, True)]),
-    (1, 6, "recover;check;deliver 01020501000101", "merge", [(0, False), (899, False), ("deliver 010100010000", None), (1000, True)]),
+    (0, 2, "recover;check;deliver 01020100000101", "merge", [(0, False), (290, False), ("deliver 010101000000", None), (291, False), (599, False), (800, BY)]),
+    (0, 2, "recover;check;deliver 01020100000101", "merge", [(0, False), (200, False), ("deliver 010101000000", None), (201, False), ("deliver 010101000000", None), (599, False), (800, BY)]),
+    (1, 6, "recover;check;deliver 01020501000101", "merge", [(0, False), (899, False), ("deliver 010100010000", None), (1000, BY)]),
     # at once in a group that is new, then once the oldest job was the same for 5 and a millisecond for each job, and after a quarter more each time, up to 300;
     # never where there is no job
     (0, 1, "recover", "dispatch", [(0, False), (1000, False), (10_000, False), ("submit 0 -", None), (10_001, False), (10_101, False), (10_102, True)]),
@@ -76,14 +85,21 @@ TIMERS = [
                                               (1_500_000, True), (1_600_000, True), (1_700_000, True), (1_800_000, True), (1_900_000, True), (2_000_000, True),
                                               (2_005_999, False), (2_006_000, True), (2_011_999, False), (2_012_000, True)]),
     # each check is counted, and a member that was silent in three of them is given up at the end of the third
-    (0, 2, IN_STEP, "check", [(0, False), (300, True), (500, False), (1500, True), (1700, False), (2700, True), (2900, False)]),
-    (0, 2, IN_STEP, "recover", [(0, False), (300, False), (500, False), (1500, False), (1700, False), (2700, False), (2900, True), (2900, False)]),
-    (0, 2, IN_STEP, "recover", [(0, False), (300, False), (500, False), (1500, False), (1700, False), (2700, False), ("deliver 01020100000100", None), (2701, False), (2900, False),
-                                (3900, False), (4100, False), (5100, False), (5300, False), (6300, False), (6500, True)]),
+    (0, 2, IN_STEP, "check", [(0, False), (300, BY), (500, NONE), (1500, BY), (1700, NONE), (2180, NONE)]),
+    (0, 2, IN_STEP, "recover", [(0, False), (2280, NONE), (2900, BY), (2900, False)]),
+    (0, 2, IN_STEP, "recover", [(0, False), (2100, NONE), ("deliver 01020100000100", None), (4280, NONE), (5300, BY)]),
     # a jump of an hour, and of 2^63 ms: what waits is due once
     (0, 1, "recover", "check", [(0, False), (3_600_000, True), (3_600_000, False), (3_600_399, False), (3_600_899, False), (3_601_399, True)]),
     (0, 1, "recover", "check", [(0, False), (2**63, True), (2**63, False), (2**63 + 399, False), (2**63 + 899, False), (2**63 + 1399, True)]),
-    (0, 2, INVITING, "accept", [(7, False), (2**63, True), (2**63, False)]),
+    (0, 2, INVITING, "accept", [(7, False), (2**63, False), (2**63 + 19, False), (2**63 + 20, True), (2**63 + 20, False)]),
+    # a process that looks more than two round trips late was itself stopped: it gives others one more, once
+    (0, 2, LEADING, "ready", [(7, False), (247, True), (247, False)]),
+    (0, 2, LEADING, "ready", [(7, False), (248, False), (267, False), (268, True), (268, False)]),
+    (0, 2, LEADING, "ready", [(7, False), (1000, False), (9000, True)]),
+    (1, 2, JOINED, "coord", [(7, False), (5000, True), (9000, False), (9019, False), (9020, True)]),
+    # what came meanwhile is read, and ends the silence
+    (0, 2, IN_STEP, "recover", [(0, False), (2180, NONE), (2700, False), (9000, False), (9019, False), (9020, True)]),
+    (0, 2, IN_STEP, "recover", [(0, False), (2180, NONE), (2700, False), (9000, False), ("deliver 01020100000100", None), (9001, False), (9021, False), (9900, False)]),
     # the clock falls back by an hour, by some milliseconds, and to 0: waits go on from there
     (0, 2, INVITING, "accept", [(4_000_000, False), (4_000_060, False), (400_000, False), (400_039, False), (400_040, True), (400_040, False)]),
     (0, 2, INVITING, "accept", [(1000, False), (1050, False), (1049, False), (1098, False), (1099, True)]),
@@ -97,7 +113,8 @@ TIMERS = [
 OF_A_ROUND_TRIP = [
     ("5", 0, 1, "recover", "check", [(0, False), (49, False), (75, True), (75, False)]),
     ("5", 0, 2, INVITING, "accept", [(7, False), (31, False), (32, True)]),
-    ("1", 1, 2, JOINING, "coord", [(7, False), (26, False), (27, True), (36, False), (37, True)]),
+    ("1", 1, 2, JOINING, "coord", [(7, False), (26, False), (27, True), (276, False), (277, True)]),
+    ("60", 1, 2, JOINING, "coord", [(7, False), (1206, False), (1207, True), (1806, False), (1807, True)]),
     ("60000", 0, 2, INVITING, "accept", [(0, False), (299_999, False), (300_000, True)]),
     ("40", 0, 1, "recover;submit 0 -", "dispatch", [(0, True), (201, False), (202, True)]),
 ]
@@ -179,6 +196,10 @@ def try_cuts(tried):
             tried.same(tried.serve(pieces), (answers, 0), pieces)
 
 
+def unit_of(words):
+    return int(words[0]) if words else 20
+
+
 def fired(answer):
     return re.findall("^fired (.*)$", answer, re.MULTILINE)
 
@@ -186,14 +207,21 @@ def fired(answer):
 def try_timers(tried):
     for *words, own, nodes, before, event, times in TIMERS + OF_A_ROUND_TRIP:
         before = before.split(";")
-        lines = before + [f"tick {time}" if due is not None else time for time, due in times]
+        lines, wanted, told = list(before), [], 0
+        for time, due in times:
+            many = range(told + unit_of(words), time, unit_of(words)) if due in (BY, NONE) else ()
+            lines += [f"tick {each}" for each in (*many, time)] if due is not None else [time]
+            wanted.append((time, due, len(many) + 1))
+            told = time if due is not None else told
         tried.fresh(own, nodes)
         text, status = tried.serve(["".join(line + "\n" for line in lines).encode()], own, nodes, words)
         answers = re.split(r"^ok .*\n", text, flags=re.MULTILINE)
         tried.mark("" if status == 0 and len(answers) == len(lines) + 1 and answers[-1] == "" else f"status {status}, it answers {text!r}", lines)
-        for answer, (time, due) in zip(answers[len(before):], times):
+        at = len(before)
+        for time, due, many in wanted:
+            found, at = [event in fired(answer) for answer in answers[at:at + many]], at + many
             if due is not None:
-                tried.mark("" if (event in fired(answer)) == due else f"{event} at {time}: {fired(answer)}", lines)
+                tried.mark("" if sum(found) == (due in (True, BY)) else f"{event} by {time}: {found}", lines)
 
 
 def try_round_trips(tried):
@@ -238,12 +266,30 @@ def try_next(tried):
 
 
 def try_falling_back(tried):
-    """Questions are sent again once a round trip where the clock falls back, too."""
+    """Questions are sent again where the clock falls back, too: at once, and four round trips later."""
     tried.fresh()
     times = [4_000_000, 4_000_020, 4_000_040, 400_000, 400_020, 400_040]
     text, _ = tried.serve([("recover\ntick 3999980\ncheck\n" + "".join(f"tick {time}\n" for time in times)).encode()])
     answers = re.split(r"^ok .*\n", text, flags=re.MULTILINE)[3:-1]
-    tried.same([answer.count("send 1 010100010000") for answer in answers], [0, 1, 1, 1, 1, 1], "questions of a clock that falls back")
+    tried.same([answer.count("send 1 010100010000") for answer in answers], [0, 1, 0, 1, 0, 0], "questions of a clock that falls back")
+
+
+def try_backoff(tried):
+    """The questions of a check to 39 others: at which times each is sent again, 16 at most at one time. A greater coordinator was found, and so the check lasts."""
+    tried.fresh(0, 40)
+    times = [5000 + 20 * step for step in range(1, 60)]
+    text, _ = tried.serve([b"recover\ntick 4980\ncheck\n", "deliver 01022700000101\n".encode()] + [f"tick {time}\n".encode() for time in times], 0, 40)
+    answers = re.split(r"^ok .*\n", text, flags=re.MULTILINE)[4:-1]
+    # of each node that is asked: how many times pass it by, and for how many it rests behind the next at which it is asked
+    queue, wanted = [(node, 1, 2) for node in range(1, 39)], []
+    for _ in times:
+        due = [each for each in queue if each[1] == 0]
+        asked, waits = due[:16], due[16:] + [each for each in queue if each[1] > 0]
+        wanted.append([node for node, _, _ in asked])
+        queue = [(node, max(left - 1, 0), rest) for node, left, rest in waits] + [(node, rest - 1, min(2 * rest, 8)) for node, left, rest in asked]
+    found = [[int(node) for node in re.findall("^send ([0-9]+) 0101", answer, re.MULTILINE)] for answer in answers]
+    tried.same(found, wanted, "the questions of a check, sent again")
+    tried.mark("" if max(map(len, found)) == 16 else f"{max(map(len, found))} at once", "at most 16 questions at once")
 
 
 def try_greatest(tried):
@@ -302,17 +348,17 @@ def try_failing(tried):
 
 def try_own_syncs(tried):
     """Each sync takes 50 ms, and a raise 150. What is sent in one is waited for from then on, though all ticks come at once; and a question to a coordinator,
-    which may be in a raise, 200 and at least 150 ms more."""
+    which may be in a raise, 3 s, since this node was held up itself, and at least 150 ms more."""
     tried.fresh(0, 2)
-    lines = INVITING.split(";") + [f"tick {time}" for time in (7, 107, 256, 2000)]
+    lines = INVITING.split(";") + [f"tick {time}" for time in (7, 107, 256, 2000, 2020)]
     text, _ = tried.serve(["".join(line + "\n" for line in lines).encode()], 0, 2, LD_PRELOAD=tried.slow, SYNC_MS="50")
-    answers = re.split(r"^ok .*\n", text, flags=re.MULTILINE)[len(lines) - 4:-1]
-    tried.same(["accept" in fired(answer) for answer in answers], [False, False, False, True], "an invitation behind two raises")
+    answers = re.split(r"^ok .*\n", text, flags=re.MULTILINE)[len(lines) - 5:-1]
+    tried.same(["accept" in fired(answer) for answer in answers], [False, False, False, False, True], "an invitation behind two raises")
     tried.fresh(1, 2)
-    lines = JOINED.split(";") + [f"tick {time}" for time in (0, 10_000, 10_349, 30_000)]
+    lines = JOINED.split(";") + [f"tick {time}" for time in (0, 10_000, 13_149, 30_000, 30_020)]
     text, _ = tried.serve(["".join(line + "\n" for line in lines).encode()], 1, 2, LD_PRELOAD=tried.slow, SYNC_MS="50")
-    answers = re.split(r"^ok .*\n", text, flags=re.MULTILINE)[len(lines) - 4:-1]
-    tried.same(["coord" in fired(answer) for answer in answers], [False, True, False, True], "an answer of a node that may be in a raise")
+    answers = re.split(r"^ok .*\n", text, flags=re.MULTILINE)[len(lines) - 5:-1]
+    tried.same(["coord" in fired(answer) for answer in answers], [False, True, False, False, True], "an answer of a node that may be in a raise")
 
 
 def try_disks_in_memory(tried):
@@ -341,6 +387,7 @@ def main():
         try_jitter(tried)
         try_next(tried)
         try_falling_back(tried)
+        try_backoff(tried)
         try_greatest(tried)
         try_disks_in_memory(tried)
         try_failing(tried)

@@ -12,8 +12,8 @@ use Rattle.pace.specs.Policy.{Policy, HasCome, IsWorkDue, Dispatches, IsWithin, 
 
 -- a deadline that is set now has not come, whatever is seen
 abbrev pub TimerFiresOnce : Type 0
-TimerFiresOnce = (p : Policy) (s : NodeSnapshot) (soon : Option Bool) (settled : Bool) (raise : ℕ) (wait : Wait) (group : Group) (d : Deadline) →
-    IsSet soon p.setting settled raise wait group d → HasCome p s d → ⊥
+TimerFiresOnce = (p : Policy) (s : NodeSnapshot) (soon : Option Bool) (settled : Bool) (raise slowest : ℕ) (wait : Wait) (group : Group) (d : Deadline) →
+    IsSet soon p.setting settled raise slowest wait group d → HasCome p s d → ⊥
 
 -- work that was dispatched now is not due, whatever is seen
 abbrev pub WorkFiresOnce : Type 0

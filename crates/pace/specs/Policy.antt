@@ -1,6 +1,7 @@
 -- What a policy keeps, and what it fires.
-use Rattle.std.specs.Prelude.{ℕ, ◌≡◌, ◌≢◌, ◌⊎◌, ◌+◌, ◌-◌, ◌≤◌, ◌<◌, ◌^◌, min, Bool, true, false, not, ◌&&◌, ◌||◌, ◌==◌, nat_le, nat_lt, if◌then◌else◌, List, slice_index, slice_set, replicate, Option, Some, None, is_some}
+use Rattle.std.specs.Prelude.{ℕ, ◌≡◌, ◌≢◌, ◌⊎◌, ◌+◌, ◌-◌, ◌/◌, ◌≤◌, ◌<◌, ◌^◌, max, min, Bool, true, false, not, ◌&&◌, ◌||◌, ◌==◌, nat_le, nat_lt, if◌then◌else◌, List, slice_index, slice_set, replicate, Option, Some, None, is_some}
 use Rattle.std.specs.List.{list_any}
+use Rattle.std.specs.Option.{unwrap_or}
 use Rattle.group_task.specs.declared.node.TheConstants.{NODES}
 use Rattle.node_core.specs.declared.event.Event.{Event}
 use Rattle.node_core.specs.declared.event.Event.TheVariants as on
@@ -11,7 +12,7 @@ use Rattle.pace.specs.declared.wait.Wait.{Wait}
 use Rattle.pace.specs.declared.wait.Wait.TheVariants.{Merge}
 use Rattle.pace.specs.declared.deadline.Deadline.{Deadline}
 use Rattle.pace.specs.declared.snapshot.NodeSnapshot.{NodeSnapshot}
-use Rattle.pace.specs.Timers.{answered, at_once, wait_of, timer_of, first_pause, is_led_by, lasts, later, longer_pause, put_off}
+use Rattle.pace.specs.Timers.{answered, at_once, is_behind_question, is_late, wait_of, timer_of, first_pause, graced, is_led_by, lasts, lateness, later, longer_pause, put_off}
 
 -- the policy of a node: the time that was told last, how much of what comes isn't waited for, the deadline that is set, whether its group is settled
 -- (a check was made or heard of in it), how many checks were fired and how many of them before each node was last heard, the oldest job that was seen, how long work rests and for how long it has to before it is
@@ -31,6 +32,9 @@ pub record Policy : Type 0 where
   pub raise : ℕ
   -- how many checks are to come soon
   pub soon : ℕ
+  -- when the node asked others last, and how long the slowest answer took, or this node itself was held up
+  pub asked : Option ℕ
+  pub slowest : ℕ
 
 abbrev pub fresh : TimerSettings → ℕ → Policy
 fresh setting id = record {
@@ -47,6 +51,8 @@ fresh setting id = record {
   pause = 0;
   raise = 0;
   soon = 0;
+  asked = None;
+  slowest = 0;
 }
 
 -- how long ago a time was told, where it is so late now: a clock that fell back begins anew
@@ -93,6 +99,26 @@ answered_deadline (Some d) = Some (answered d)
 abbrev pub all_answered : Policy → Policy
 all_answered p = record p { deadline = answered_deadline p.deadline }
 
+-- an answer took so long, or the node itself was held up for so long, and others may be, too
+abbrev pub slowest_late : ℕ → Policy → ℕ
+slowest_late late p = max p.slowest (min late p.setting.slowest_most)
+
+-- an answer came to what the node asked
+
+abbrev pub answer_since : Option ℕ → Policy → Policy
+answer_since None p = p
+answer_since (Some asked) p = record p { slowest = slowest_late (unwrap_or p.told 0 - asked) p }
+
+abbrev pub answer_came : Policy → Policy
+answer_came p = answer_since p.asked p
+
+-- when the node asked last, and how slow answers are reckoned to be, once the deadline of this wait is set: what was slow counts less with each question
+abbrev pub asked_at : Wait → Policy → Option ℕ
+asked_at wait p = if is_behind_question wait then p.told else p.asked
+
+abbrev pub slowest_at : Wait → Policy → ℕ
+slowest_at wait p = if is_behind_question wait then p.slowest - (p.slowest / 128 + 1) else p.slowest
+
 -- the node is in another group than before
 abbrev pub in_new_group : Policy → Policy
 in_new_group p = record p { settled = false; rested = 0; pause = 0 }
@@ -124,10 +150,19 @@ pub record Runs (p : Policy) (s : NodeSnapshot) (d : Deadline) : Type 0 where
   pub wait : wait_of s ≡ Some d.wait
   pub group : d.group ≡ s.group
 
--- the deadline of what is waited for has come
-pub record HasCome (p : Policy) (s : NodeSnapshot) (d : Deadline) : Type 0 where
+-- what is waited for is over
+pub record IsOver (p : Policy) (s : NodeSnapshot) (d : Deadline) : Type 0 where
   pub runs : Runs p s d
   pub come : lasts p.setting p.raise s.merge_wait d ≤ d.waited
+
+-- and its deadline has come, unless the process was itself stopped
+pub record HasCome (p : Policy) (s : NodeSnapshot) (d : Deadline) : Type 0 where
+  pub over : IsOver p s d
+  pub in_time : is_late p.setting p.raise s.merge_wait d ≡ false
+
+pub record IsStalled (p : Policy) (s : NodeSnapshot) (d : Deadline) : Type 0 where
+  pub over : IsOver p s d
+  pub late : is_late p.setting p.raise s.merge_wait d ≡ true
 
 -- whether nothing came or went since work was last looked at: the oldest job is the one that was seen
 abbrev pub rests : Option ℕ → Option ℕ → Bool
@@ -156,9 +191,20 @@ IsWorkDue p s = (s.phase ≡ Normal) × (work_left p s ≡ 0)
 abbrev pub MayFire : Policy → NodeSnapshot → Event → Type 0
 MayFire p s event = ((d : Deadline) × HasCome p s d × (event ≡ event_at p s d.wait)) ⊎ ((event ≡ on.Timer timer.Dispatch) × IsWorkDue p s)
 
--- something is fired, if it is asked for now
+-- a wait is over, or work is due, if that is asked for now
 abbrev pub IsDue : Policy → NodeSnapshot → Type 0
-IsDue p s = ((d : Deadline) × HasCome p s d) ⊎ IsWorkDue p s
+IsDue p s = ((d : Deadline) × IsOver p s d) ⊎ IsWorkDue p s
+
+-- what a tick does to the deadline of what is waited for
+pub record MovesDeadline (s : NodeSnapshot) (old new : Policy) : Type 0 where
+  -- where the process was itself stopped, a round trip of it is left
+  pub stalled : (d : Deadline) → IsStalled old s d → new.deadline ≡ Some (graced old.setting old.raise s.merge_wait d)
+  -- one that has come is removed, and one that isn't over stays
+  pub spent : (d : Deadline) → HasCome old s d → new.deadline ≡ None
+  pub runs_on : (d : Deadline) → Runs old s d → d.waited < lasts old.setting old.raise s.merge_wait d → (new.deadline ≡ Some d) × (new.slowest ≡ old.slowest)
+  -- how long it has been over the node itself was held up
+  pub held_up : (d : Deadline) → IsOver old s d → new.slowest ≡ slowest_late (lateness old.setting old.raise s.merge_wait d) old
+  pub asked : (d : Deadline) → Runs old s d → new.asked ≡ old.asked
 
 -- each check is counted, and settles the group; nothing else does
 pub record Counts (fired : Option Event) (old new : Policy) : Type 0 where

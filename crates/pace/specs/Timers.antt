@@ -1,5 +1,5 @@
 -- What a node waits for, for how long, and the timer that fires then.
-use Rattle.std.specs.Prelude.{ℕ, ◌≡◌, ◌+◌, ◌-◌, ◌*◌, ◌/◌, ◌^◌, ◌≤◌, max, min, Bool, true, false, ◌&&◌, ◌==◌, if◌then◌else◌, Option, Some, None}
+use Rattle.std.specs.Prelude.{ℕ, ◌≡◌, ◌+◌, ◌-◌, ◌*◌, ◌/◌, ◌^◌, ◌≤◌, max, min, Bool, true, false, not, nat_lt, ◌&&◌, ◌==◌, if◌then◌else◌, Option, Some, None}
 use Rattle.group_task.specs.Group.{Group}
 use Rattle.node_core.specs.declared.phase.Phase.{Phase}
 use Rattle.node_core.specs.declared.phase.Phase.TheVariants.{Down, Election, Reorganization, Normal}
@@ -78,11 +78,35 @@ put_off d = if is_merge d.wait then record d { put_off = true } else d
 
 -- a wait is over at once
 abbrev pub at_once : Deadline → Deadline
-at_once d = record d { length = 0 }
+at_once d = record d { length = 0; had_grace = true }
+
+-- the end of such a wait says something of others: that they sent nothing
+abbrev pub is_of_others : Wait → Bool
+is_of_others Check = false
+is_of_others Coordinator = false
+is_of_others wait = true
+
+-- the process looks so late behind the end of such a wait that it was itself stopped, and what came meanwhile isn't read yet
+abbrev pub is_late : TimerSettings → ℕ → Option ℕ → Deadline → Bool
+is_late s raise merge_wait d = not d.had_grace && (is_of_others d.wait && nat_lt (lasts s raise merge_wait d + 2 * s.unit) d.waited)
+
+-- for how many milliseconds it has been over
+abbrev pub lateness : TimerSettings → ℕ → Option ℕ → Deadline → ℕ
+lateness s raise merge_wait d = d.waited - lasts s raise merge_wait d
+
+-- a round trip of it is left, once
+abbrev pub graced : TimerSettings → ℕ → Option ℕ → Deadline → Deadline
+graced s raise merge_wait d = record d { waited = lasts s raise merge_wait d - s.unit; had_grace = true }
 
 -- a look for other coordinators is over
 abbrev pub answered : Deadline → Deadline
 answered d = if is_merge d.wait then at_once d else d
+
+-- what a node waits for once it asked: the coordinator, or all who may lead
+abbrev pub is_behind_question : Wait → Bool
+is_behind_question Merge = true
+is_behind_question Answer = true
+is_behind_question wait = false
 
 abbrev pub is_question : Wait → Bool
 is_question Coordinator = true
@@ -92,12 +116,17 @@ is_question wait = false
 abbrev pub is_led_by : ℕ → Deadline → Bool
 is_led_by id d = is_question d.wait && d.group.creator == id
 
--- who is asked may be in a raise, and answers behind it
-abbrev pub patience : Wait → ℕ → ℕ
-patience Merge raise = raise
-patience Ready raise = raise
-patience Answer raise = raise
-patience wait raise = 0
+-- how long an answer is waited for at least, in milliseconds: three times as long as the slowest took
+abbrev pub answer_least : TimerSettings → ℕ → ℕ
+answer_least s slowest = max s.answer_least (3 * slowest)
+
+-- who is asked may be in a raise, and answers behind it; others are waited for as long as the slowest answer took, and a coordinator's answer longer
+abbrev pub patience : TimerSettings → Wait → ℕ → ℕ → ℕ
+patience s Merge raise slowest = raise + (slowest - s.merge * s.unit)
+patience s Accept raise slowest = slowest - s.accept * s.unit
+patience s Ready raise slowest = raise + (slowest - s.ready * s.unit)
+patience s Answer raise slowest = raise + (answer_least s slowest - s.answer * s.unit)
+patience s wait raise slowest = 0
 
 -- a check that comes soon: the first of two at once, the second two round trips later
 abbrev pub soon_by : ℕ → Option Bool
@@ -120,13 +149,14 @@ least_at None s least = least
 least_at (Some second) s least = soon_length s second
 
 -- the deadline of this wait in a group, none of which is over
-pub record IsSet (soon : Option Bool) (s : TimerSettings) (settled : Bool) (raise : ℕ) (wait : Wait) (group : Group) (d : Deadline) : Type 0 where
+pub record IsSet (soon : Option Bool) (s : TimerSettings) (settled : Bool) (raise slowest : ℕ) (wait : Wait) (group : Group) (d : Deadline) : Type 0 where
   pub its_wait : d.wait ≡ wait
   pub its_group : d.group ≡ group
   pub from_now : d.waited ≡ 0
   pub in_time : d.put_off ≡ false
-  pub least : least_at soon s (least_of s settled wait + patience wait raise) ≤ d.length
-  pub most : d.length ≤ least_at soon s (least_of s settled wait + jitter_of s settled wait + patience wait raise)
+  pub has_grace : d.had_grace ≡ false
+  pub least : least_at soon s (least_of s settled wait + patience s wait raise slowest) ≤ d.length
+  pub most : d.length ≤ least_at soon s (least_of s settled wait + jitter_of s settled wait + patience s wait raise slowest)
 
 -- a raise is reckoned with up to so many round trips
 abbrev pub raise_of : TimerSettings → ℕ → ℕ
@@ -163,6 +193,8 @@ measured unit = record {
   coordinator = 52;
   coordinator_jitter = 3;
   answer = 10;
+  answer_least = 250;
+  slowest_most = 1000;
   dispatch = 5;
   dispatch_most = 300;
   raise_most = 100;

@@ -1,5 +1,5 @@
 ghost use Rattle.std.specs.Prelude.{◌≡◌, ◌↔◌, ◌≤◌, ◌<◌, ◌-◌, ◌+◌, ◌*◌, ◌^◌, min, IsTrue};
-ghost use Rattle.pace.specs.Timers.{answered, at_once, is_led_by, lasts, later, put_off, times};
+ghost use Rattle.pace.specs.Timers.{answered, at_once, graced, is_late, is_led_by, lasts, lateness, later, put_off, times};
 
 use crate::timer_settings::TimerSettings;
 use crate::wait::Wait;
@@ -16,6 +16,8 @@ pub struct Deadline {
     pub waited: u64,
     /// Whether it lasts twice as long, for another node's turn.
     pub put_off: bool,
+    /// Whether it had its grace, or needs none: when it is over its timer fires, however late the process looks.
+    pub had_grace: bool,
 }
 
 impl Deadline {
@@ -53,7 +55,11 @@ impl Deadline {
     pub fn at_once(self) -> Deadline
         ensures { result ≡ at_once self }
     {
-        Deadline { length: 0, ..self }
+        Deadline {
+            length: 0,
+            had_grace: true,
+            ..self
+        }
     }
 
     /// A look for other coordinators is over.
@@ -71,6 +77,36 @@ impl Deadline {
         ensures { result ≡ is_led_by node self.now }
     {
         matches!(self.wait, Wait::Coordinator) && self.group.creator().is(node)
+    }
+
+    /// Whether the process looks so late, more than two round trips behind its end, that it was itself stopped: what others sent meanwhile
+    /// waits to be read.
+    pub fn is_late(&self, setting: &TimerSettings, raise: u32, merge_wait: Option<u64>) -> bool
+        ensures { result ≡ is_late setting.now raise merge_wait self.now }
+    {
+        let lasts = u128::from(self.lasts(setting, raise, merge_wait));
+        let late = lasts + 2 * u128::from(setting.unit) < u128::from(self.waited);
+        !self.had_grace && self.wait.is_of_others() && late
+    }
+
+    /// For how many milliseconds it has been over.
+    pub fn lateness(&self, setting: &TimerSettings, raise: u32, merge_wait: Option<u64>) -> u64
+        ensures { result ≡ lateness setting.now raise merge_wait self.now }
+    {
+        let lasts = self.lasts(setting, raise, merge_wait);
+        self.waited.saturating_sub(lasts)
+    }
+
+    /// A round trip of it is left. That is so once.
+    pub fn graced(self, setting: &TimerSettings, raise: u32, merge_wait: Option<u64>) -> Deadline
+        ensures { result ≡ graced setting.now raise merge_wait self }
+    {
+        let lasts = self.lasts(setting, raise, merge_wait);
+        Deadline {
+            waited: lasts.saturating_sub(u64::from(setting.unit)),
+            had_grace: true,
+            ..self
+        }
     }
 
     /// Whether it has come.

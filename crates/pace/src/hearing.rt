@@ -11,9 +11,12 @@ impl TimerPolicy {
     pub fn delivered(&mut self, message: &Message)
         // Promise: A message by which its sender shows that it leads a group of its own ends no silence; any other does, and moves no deadline. Who
         // looks for coordinators is heard to ask.
-        // Refuses: silence_ended_by_a_leader, silence_ended_by_a_no_alone.
+        // Refuses: any_word_ends_silence, leader_kept_as_member.
         ensures { self.new ≡ told_by message.now self.old }
     {
+        if matches!(message.body(), Body::Here(_, _) | Body::Coordinator(_)) {
+            self.answer_came();
+        }
         if let Body::AreYouCoordinator = message.body() {
             self.asked(message.sender());
         } else if !leads_itself(message.body()) {

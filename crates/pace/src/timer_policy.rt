@@ -5,8 +5,8 @@ ghost use Rattle.node_core.specs.declared.event.Event.{Event};
 ghost use Rattle.pace.specs.declared.deadline.Deadline.{Deadline};
 ghost use Rattle.pace.specs.declared.wait.Wait.{Wait};
 ghost use Rattle.pace.specs.declared.wait.Wait.TheVariants as wait;
-ghost use Rattle.pace.specs.Timers.{wait_of, lasts, raise_of, comes_soon, soon_by, soon_left, IsSet};
-ghost use Rattle.pace.specs.Policy.{aged, all_answered, asked_by, fresh, heard_from, in_new_group, is_silent, has_silent, event_at, looked_at, may_dispatch, passed, rests, since, spent, work_left, Runs, HasCome, IsDue, IsWorkDue, MayFire, Counts, Dispatches};
+ghost use Rattle.pace.specs.Timers.{wait_of, raise_of, comes_soon, soon_by, soon_left, IsSet};
+ghost use Rattle.pace.specs.Policy.{aged, all_answered, answer_came, slowest_at, slowest_late, asked_at, asked_by, fresh, heard_from, in_new_group, is_silent, has_silent, event_at, looked_at, may_dispatch, passed, rests, since, spent, work_left, Runs, HasCome, IsDue, IsWorkDue, MayFire, Counts, Dispatches, MovesDeadline};
 
 use crate::deadline::Deadline;
 use crate::snapshot::NodeSnapshot;
@@ -42,6 +42,9 @@ pub struct TimerPolicy {
     raise: u32,
     // how many checks are to come soon: behind a recovery that gives up a silent member
     soon: u8,
+    // when the node asked others last, and how long the slowest answer took, or this node itself was held up
+    asked: Option<u64>,
+    slowest: u32,
 }
 
 impl Model for TimerPolicy {
@@ -63,6 +66,8 @@ impl Model for TimerPolicy {
       pause = a.pause;
       raise = a.raise;
       soon = a.soon;
+      asked = a.asked;
+      slowest = a.slowest;
     } };
 }
 
@@ -86,6 +91,8 @@ impl TimerPolicy {
             pause: 0,
             raise: 0,
             soon: 0,
+            asked: None,
+            slowest: 0,
         }
     }
 
@@ -115,6 +122,21 @@ impl TimerPolicy {
         } else if from.number() > self.id.number() {
             self.deadline = Some(deadline.put_off());
         }
+    }
+
+    /// An answer came to what the node asked, and so it is known how long that took.
+    pub fn answer_came(&mut self)
+        // Promise: Others are waited for as long as the slowest answer took, or as the node itself was held up, up to 1 s, and a coordinator's answer
+        // three times as long, and 250 ms at least. That counts a 128th less with each question.
+        // Also: TimerPolicy::delivered, set, moves.
+        // Refuses: slow_answer_forgotten, own_hold_up_forgotten, slow_answers_for_ever, slow_answer_waited_for_once.
+        ensures { self.new ≡ answer_came self.old }
+    {
+        let Some(asked) = self.asked else {
+            return;
+        };
+        let told = self.told.unwrap_or(0);
+        self.slowest = self.slowest_with(told.saturating_sub(asked));
     }
 
     /// All whom the node asked whether they lead have answered, and none of them does: its check is over.
@@ -189,22 +211,20 @@ impl TimerPolicy {
         ensures not_early { IfSome result (MayFire self.old snapshot.now) }
         // Promise: At a node that is Down nothing is fired and nothing changes.
         ensures down { wait_of snapshot.now ≡ None → (result ≡ None) × (self.new ≡ self.old) }
-        // Promise: A deadline that has come is removed, any other stays. Where none is set, one is, for its wait's length, at most
-        // its jitter more, and a raise more where others may be in one.
-        // Also: runs_on, set.
-        // Refuses: fires_twice, jitter_above_its_bound, another_groups_deadline_taken, raise_of_others_not_waited_for.
-        ensures spent { (d : Deadline) → HasCome self.old snapshot.now d → self.new.deadline ≡ None }
-        ensures runs_on { (d : Deadline) → Runs self.old snapshot.now d → d.waited < lasts self.old.setting self.old.raise snapshot.now.merge_wait d
-            → self.new.deadline ≡ Some d }
-        ensures set { ((d : Deadline) → Runs self.old snapshot.now d → ⊥) → (wait : Wait) → wait_of snapshot.now ≡ Some wait
-            → (d : Deadline) × (self.new.deadline ≡ Some d) × IsSet (comes_soon self.old.soon wait) self.old.setting self.old.settled self.old.raise wait snapshot.now.group d }
-        // Promise: Behind a recovery that gives up a silent member the next check comes at once, and the one behind it two round trips later; each
+        // Promise: From a silence that the process itself may have slept through nothing is concluded: where it looks at a wait for others more than
+        // two round trips behind its end, it gives them a round trip more, once. A deadline that has come is removed, any other stays.
+        // Refuses: silence_of_a_stopped_process_counts, own_stall_blamed_on_others, grace_as_long_as_the_wait, own_hold_up_forgotten, fires_twice,
+        // another_groups_deadline_taken.
+        ensures moves { MovesDeadline snapshot.now self.old self.new }
+        // Promise: Where no deadline is set, one is, for its wait's length, at most its jitter more, and a raise more where others may be in one. Behind a
+        // recovery that gives up a silent member the next check comes at once, and the one behind it two round trips later; each
         // check that was set soon is counted, and nothing else is.
-        // Also: recovers, counted, set, TimerPolicy::gave_up.
-        // Refuses: no_check_comes_soon, every_check_comes_soon.
+        // Also: recovers, TimerPolicy::gave_up.
+        // Refuses: jitter_above_its_bound, raise_of_others_not_waited_for, no_check_comes_soon, every_check_comes_soon.
+        ensures set { ((d : Deadline) → Runs self.old snapshot.now d → ⊥) → (wait : Wait) → wait_of snapshot.now ≡ Some wait
+            → (d : Deadline) × (self.new.deadline ≡ Some d) × IsSet (comes_soon self.old.soon wait) self.old.setting self.old.settled self.old.raise self.old.slowest wait snapshot.now.group d
+            × (self.new.asked ≡ asked_at wait self.old) × (self.new.slowest ≡ slowest_at wait self.old) × (self.new.soon ≡ soon_left self.old.soon wait) }
         ensures recovers { result ≡ Some on.Recover → self.new.soon ≡ 2 }
-        ensures counted { ((d : Deadline) → Runs self.old snapshot.now d → ⊥) → (wait : Wait) → wait_of snapshot.now ≡ Some wait
-            → self.new.soon ≡ soon_left self.old.soon wait }
         // Promise: Each check is counted and settles the group; behind a dispatch work rests anew, the longer the longer it did; where the oldest job is
         // another one than was seen, it begins to; nothing else changes.
         // Also: dispatches, kept.
@@ -219,6 +239,8 @@ impl TimerPolicy {
           rested = self.new.rested;
           pause = self.new.pause;
           soon = self.new.soon;
+          asked = self.new.asked;
+          slowest = self.new.slowest;
         } }
     {
         let wait = Wait::of(snapshot)?;
@@ -226,9 +248,21 @@ impl TimerPolicy {
             self.set(wait, snapshot.group);
             return self.dispatch(snapshot);
         };
-        if deadline.has_come(&self.setting, self.raise, snapshot.merge_wait) {
+        let merge_wait = snapshot.merge_wait;
+        if deadline.has_come(&self.setting, self.raise, merge_wait) {
+            let slowest = self.slowest_with(deadline.lateness(
+                &self.setting,
+                self.raise,
+                merge_wait,
+            ));
+            if deadline.is_late(&self.setting, self.raise, merge_wait) {
+                self.deadline = Some(deadline.graced(&self.setting, self.raise, merge_wait));
+                self.slowest = slowest;
+                return self.dispatch(snapshot);
+            }
             let event = self.fire(wait, snapshot);
             self.deadline = None;
+            self.slowest = slowest;
             return Some(event);
         }
         self.dispatch(snapshot)
@@ -237,7 +271,7 @@ impl TimerPolicy {
     /// When something is due next, where the node stays as it is seen and spends no time itself. None where nothing will be: at a node
     /// that is Down, or past the clock's end.
     pub fn due_at(&self, snapshot: &NodeSnapshot) -> Option<u64>
-        // Promise: Before the time that is given as the next, nothing may be fired, whatever time is told; at it something is. It
+        // Promise: Before the time that is given as the next, nothing may be fired, whatever time is told; at it a wait is over or work is due. It
         // is 0 where no deadline runs yet, and none at a node that is Down.
         // Also: fires, at_once, never.
         // Refuses: due_too_late, due_too_early.
@@ -311,6 +345,15 @@ impl TimerPolicy {
         }
     }
 
+    /// How long answers are reckoned to take where one took so long, or this node itself was held up for so long.
+    fn slowest_with(&self, late: u64) -> u32
+        ensures { result ≡ slowest_late late self.now }
+    {
+        let most = u32::from(self.setting.slowest_most);
+        let late = u32::try_from(late).unwrap_or(most).min(most);
+        self.slowest.max(late)
+    }
+
     /// So much more was waited for.
     fn age(&mut self, waited: u64)
         ensures { self.new ≡ aged waited self.old }
@@ -379,8 +422,8 @@ impl TimerPolicy {
 
     /// Sets the deadline of this wait, with its jitter.
     fn set(&mut self, wait: Wait, group: GroupNo)
-        ensures deadline { (d : Deadline) × (self.new.deadline ≡ Some d) × IsSet (comes_soon self.old.soon wait) self.old.setting self.old.settled self.old.raise wait group d }
-        ensures kept { self.new ≡ record self.old { deadline = self.new.deadline; soon = soon_left self.old.soon wait } }
+        ensures deadline { (d : Deadline) × (self.new.deadline ≡ Some d) × IsSet (comes_soon self.old.soon wait) self.old.setting self.old.settled self.old.raise self.old.slowest wait group d }
+        ensures kept { self.new ≡ record self.old { deadline = self.new.deadline; soon = soon_left self.old.soon wait; asked = asked_at wait self.old; slowest = slowest_at wait self.old } }
     {
         if let Wait::Check = wait {
             if self.soon > 0 {
@@ -395,16 +438,21 @@ impl TimerPolicy {
             group,
             length: u64::from(wait.least(&self.setting, self.settled))
                 + jitter
-                + u64::from(wait.patience(self.raise)),
+                + wait.patience(&self.setting, self.raise, self.slowest),
             waited: 0,
             put_off: false,
+            had_grace: false,
         });
+        if wait.is_behind_question() {
+            self.asked = self.told;
+            self.slowest = self.slowest.saturating_sub(self.slowest / 128 + 1);
+        }
     }
 
     /// Sets the deadline of a check that comes soon: the first at once, the second two round trips later.
     fn set_soon(&mut self, group: GroupNo)
         requires { 0 < self.old.soon }
-        ensures deadline { (d : Deadline) × (self.new.deadline ≡ Some d) × IsSet (soon_by self.old.soon) self.old.setting self.old.settled self.old.raise wait.Check group d }
+        ensures deadline { (d : Deadline) × (self.new.deadline ≡ Some d) × IsSet (soon_by self.old.soon) self.old.setting self.old.settled self.old.raise self.old.slowest wait.Check group d }
         ensures kept { self.new ≡ record self.old { deadline = self.new.deadline; soon = self.old.soon - 1 } }
     {
         let length = if self.soon == 1 {
@@ -419,6 +467,7 @@ impl TimerPolicy {
             length,
             waited: 0,
             put_off: false,
+            had_grace: false,
         });
     }
 

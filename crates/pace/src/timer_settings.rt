@@ -40,6 +40,10 @@ pub struct TimerSettings {
     pub coordinator_jitter: u16,
     /// For the coordinator's answer.
     pub answer: u16,
+    /// And at least so many milliseconds, whatever a round trip takes: a process may be held up for so long.
+    pub answer_least: u16,
+    /// The slowest answer is reckoned with as one of at most so many milliseconds.
+    pub slowest_most: u16,
     /// So long work rests before it is dispatched, and a twentieth of one more for each job; a quarter longer after each dispatch.
     pub dispatch: u16,
     /// The most that it rests.
@@ -73,6 +77,8 @@ impl TimerSettings {
             coordinator: 52,
             coordinator_jitter: 3,
             answer: 10,
+            answer_least: 250,
+            slowest_most: 1000,
             dispatch: 5,
             dispatch_most: 300,
             raise_most: 100,

@@ -1,5 +1,5 @@
-ghost use Rattle.std.specs.Prelude.{◌≡◌};
-ghost use Rattle.pace.specs.Timers.{wait_of, timer_of, units_of, jitter_of, least_of, patience};
+ghost use Rattle.std.specs.Prelude.{◌≡◌, ◌<◌, ◌-◌, ◌*◌, ◌^◌};
+ghost use Rattle.pace.specs.Timers.{is_behind_question, is_of_others, jitter_of, least_of, patience, timer_of, units_of, wait_of};
 
 use crate::snapshot::NodeSnapshot;
 use crate::timer_settings::TimerSettings;
@@ -79,12 +79,37 @@ impl Wait {
         u32::from(units) * u32::from(setting.unit)
     }
 
-    /// How much longer it lasts where a raise takes so many milliseconds: who is asked may be in one.
-    pub fn patience(self, raise: u32) -> u32
-        ensures { result ≡ patience self raise }
+    /// Whether a node waits for answers to what it asked.
+    pub fn is_behind_question(self) -> bool
+        ensures { result ≡ is_behind_question self }
     {
+        matches!(self, Wait::Merge | Wait::Answer)
+    }
+
+    /// Whether its end says something of others: that they sent nothing.
+    pub fn is_of_others(self) -> bool
+        ensures { result ≡ is_of_others self }
+    {
+        !matches!(self, Wait::Check | Wait::Coordinator)
+    }
+
+    /// How much longer it lasts, in milliseconds, where a raise takes so many: who is asked may be in one. Others are waited for as long as the
+    /// slowest answer took, and a coordinator's answer three times as long.
+    pub fn patience(self, setting: &TimerSettings, raise: u32, slowest: u32) -> u64
+        ensures value { result ≡ patience setting.now self raise slowest }
+        ensures fits { result < 2 ^ 35 }
+    {
+        let raise = u64::from(raise);
+        let slowest = u64::from(slowest);
+        let unit = setting.unit;
         match self {
-            Wait::Merge | Wait::Ready | Wait::Answer => raise,
+            Wait::Merge => raise + beyond(slowest, setting.merge, unit),
+            Wait::Accept => beyond(slowest, setting.accept, unit),
+            Wait::Ready => raise + beyond(slowest, setting.ready, unit),
+            Wait::Answer => {
+                let least = u64::from(setting.answer_least).max(3 * slowest);
+                raise + beyond(least, setting.answer, unit)
+            }
             _ => 0,
         }
     }
@@ -104,4 +129,11 @@ impl Wait {
             Wait::Answer => setting.answer,
         }
     }
+}
+
+/// How much longer so many milliseconds are than so many units.
+fn beyond(ms: u64, units: u16, unit: u16) -> u64
+    ensures { result ≡ ms - units * unit }
+{
+    ms.saturating_sub(u64::from(u32::from(units) * u32::from(unit)))
 }

@@ -1,0 +1,206 @@
+#!/usr/bin/env python3
+"""Clusters of `invite node` under a clock of this script: when they become one group, and when they give one up.
+
+    pacing.py PROGRAM [SCENE..]
+
+Each node is a process over a file of its own. This script carries their messages, each way in a time that it draws, and tells a node the time behind what it is brought and where
+it asked to be told: no time goes by but the script's. A node that is stopped does nothing meanwhile; what came for it is brought behind a tick, once it goes on. The
+bounds are those of docs/TIMERS.md. The last line counts the checks."""
+import heapq, os, random, shutil, subprocess, sys, tempfile
+
+HERE = os.path.dirname(os.path.abspath(__file__))
+
+
+class Node:
+    def __init__(self, bed, own):
+        self.bed, self.own, self.path, self.process = bed, own, os.path.join(bed.folder, str(own)), None
+        subprocess.run([bed.program, "format", self.path, "16", str(own), str(bed.nodes)], check=True, timeout=60)
+        self.stopped_until, self.held = 0, []
+
+    def start(self):
+        environment = {**os.environ, "LD_PRELOAD": self.bed.still}
+        self.process = subprocess.Popen([self.bed.program, "node", self.path, str(self.own), str(self.bed.nodes), str(self.bed.unit)], stdin=subprocess.PIPE, stdout=subprocess.PIPE, env=environment)
+        self.group, self.due = None, None
+        self.ask("recover")
+        self.tick()
+
+    def kill(self):
+        if self.process is not None:
+            self.process.kill()
+            self.process.communicate()
+            self.process = None
+        self.group, self.due, self.held = None, None, []
+
+    def ask(self, line):
+        """One line and its answer."""
+        self.process.stdin.write(line.encode() + b"\n")
+        self.process.stdin.flush()
+        while True:
+            words = self.process.stdout.readline().decode().split()
+            if words[0] == "send":
+                self.bed.send(self.own, int(words[1]), words[2], "tick" in line)
+            elif words[0] == "group":
+                self.group = words[1:]
+                self.bed.noted(self.own)
+            elif words[0] == "next":
+                self.due = int(words[1])
+            elif words[0] in ("ok", "refused", "bad"):
+                return
+            elif words[0] == "fault":
+                raise RuntimeError("a node's device failed")
+
+    def tick(self):
+        self.due = None
+        self.ask(f"tick {self.bed.now}")
+        if self.due is not None:
+            self.bed.at(max(self.due, self.bed.now), "tick", self.own, self.due)
+
+
+class Bed:
+    """A cluster. A message takes `way` milliseconds, and up to half of that more."""
+    def __init__(self, program, still, folder, nodes, unit, way, loss=0.0, seed=1):
+        self.program, self.still, self.folder, self.nodes, self.unit, self.way, self.loss = program, still, folder, nodes, unit, way, loss
+        self.random, self.now, self.queue, self.count, self.sent, self.groups, self.lost = random.Random(seed), 1000, [], 0, 0, [], lambda a, b: False
+        self.node = [Node(self, own) for own in range(nodes)]
+
+    def at(self, time, what, own, data):
+        self.count += 1
+        heapq.heappush(self.queue, (time, self.count, what, own, data))
+
+    def send(self, sender, receiver, message, again):
+        self.sent += 1
+        if self.random.random() >= self.loss and not self.lost(sender, receiver):
+            self.at(self.now + max(1, round(self.way * self.random.uniform(1, 1.5))), "deliver", receiver, message)
+
+    def noted(self, own):
+        group = self.node[own].group
+        if group[0] == "Normal" and "," in group[3] and own == int(group[1]):
+            self.groups.append((self.now, group[2], group[3]))
+
+    def run(self, until, done=lambda: False):
+        """Goes on until this time, or until it is done: then it answers the time that went by."""
+        begun = self.now
+        while self.queue and self.queue[0][0] <= until:
+            time, _, what, own, data = heapq.heappop(self.queue)
+            self.now = max(self.now, time)
+            node = self.node[own]
+            if node.process is None:
+                continue
+            if node.stopped_until > self.now:
+                self.at(node.stopped_until, what, own, data)
+            elif what == "deliver":
+                node.ask(f"deliver {data}")
+                node.tick()
+            elif data == node.due:
+                node.tick()
+            if done():
+                return self.now - begun
+        self.now = max(self.now, until)
+        return None
+
+    def stop(self, own, ms):
+        """The process is stopped: when it goes on, the first that it does is a look at its timers."""
+        node = self.node[own]
+        node.stopped_until = self.now + ms
+        self.at(node.stopped_until, "tick", own, node.due)
+
+    def is_one(self, members):
+        groups = [self.node[own].group for own in members]
+        return groups[0] is not None and groups[0][0] == "Normal" and groups[0][3] == ",".join(map(str, members)) and all(group == groups[0] for group in groups)
+
+    def start(self):
+        for node in self.node:
+            node.start()
+
+    def end(self):
+        for node in self.node:
+            node.kill()
+        shutil.rmtree(self.folder)
+
+
+class Tried:
+    def __init__(self, program, folder):
+        self.program, self.folder, self.passed, self.failed, self.beds = program, folder, 0, 0, 0
+        self.still = os.path.join(folder, "still_clock.so")
+        subprocess.run(["cc", "-shared", "-fPIC", "-O1", "-o", self.still, os.path.join(HERE, "shim", "still_clock.c"), "-ldl"], check=True)
+
+    def bed(self, nodes, unit, way, **more):
+        self.beds += 1
+        folder = os.path.join(self.folder, str(self.beds))
+        os.mkdir(folder)
+        return Bed(self.program, self.still, folder, nodes, unit, way, **more)
+
+    def mark(self, good, what):
+        self.passed, self.failed = self.passed + bool(good), self.failed + (not good)
+        print(f"pacing.py: {'' if good else 'NOT SO: '}{what}", flush=True)
+
+
+def formed(tried, bed, within, what):
+    bed.start()
+    took = bed.run(bed.now + 60_000, lambda: bed.is_one(list(range(bed.nodes))))
+    tried.mark(took is not None and took <= within, f"{what}: one group after {took} ms, {within} allowed")
+    return took
+
+
+def try_replaced(tried):
+    """A coordinator dies at a time that is drawn, and is replaced."""
+    for unit, way, within in ((20, 9, 1500), (20, 0.1, 1400), (100, 45, 6500)):
+        times = []
+        for seed in range(10):
+            bed = tried.bed(3, unit, way, seed=seed)
+            bed.start()
+            bed.run(bed.now + 60_000, lambda: bed.is_one([0, 1, 2]))
+            bed.run(bed.now + bed.random.randrange(70 * unit, 120 * unit))
+            dead = int(bed.node[0].group[1])
+            bed.node[dead].kill()
+            times.append(bed.run(bed.now + 60_000, lambda: bed.is_one([own for own in range(3) if own != dead])))
+            bed.end()
+        tried.mark(None not in times and max(times) <= within, f"round trip {2 * way} of {unit} ms: a dead coordinator is replaced after {sorted(times, key=lambda t: t or 10**9)} ms, {within} allowed")
+
+
+def try_stalls(tried):
+    """The coordinator, or a member, is stopped for a second every three."""
+    for who, most in (("coordinator", 2), ("member", 2)):
+        for seed in range(3):
+            bed = tried.bed(3, 20, 9, seed=seed)
+            bed.start()
+            bed.run(bed.now + 60_000, lambda: bed.is_one([0, 1, 2]))
+            bed.run(bed.now + 3000)
+            groups = len(bed.groups)
+            for _ in range(80):
+                first = bed.node[0].group
+                lead = int(first[1]) if first and first[0] == "Normal" else 2
+                bed.stop(lead if who == "coordinator" else (lead + 1) % 3, 1000)
+                bed.run(bed.now + 3000)
+            made = len(bed.groups) - groups
+            tried.mark(made <= most, f"a {who} that is stopped for 1 s of 3, 240 s: {made} groups made, {most} allowed")
+            bed.end()
+
+
+def try_storm(tried):
+    """Forty nodes whose answers take fifteen times as long as was said, and so no group is made meanwhile: what is sent."""
+    bed = tried.bed(40, 20, 300)
+    bed.start()
+    bed.run(bed.now + 3000)
+    tried.mark(bed.sent <= 40 * 39 * 12, f"40 nodes, answers after 600 to 900 ms: {bed.sent} messages in 3 s")
+    bed.end()
+
+
+SCENES = {"replaced": try_replaced, "stalls": try_stalls, "storm": try_storm}
+
+
+def main():
+    program = os.path.abspath(sys.argv[1])
+    if shutil.which("cc") is None:
+        print("pacing.py: there is no C compiler cc, so no cluster was tried\n0 passed, 0 failed")
+        return 0
+    with tempfile.TemporaryDirectory() as folder:
+        tried = Tried(program, folder)
+        for name in sys.argv[2:] or SCENES:
+            SCENES[name](tried)
+    print(f"{tried.passed} passed, {tried.failed} failed")
+    return 0 if tried.failed == 0 and tried.passed > 0 else 1
+
+
+if __name__ == "__main__":
+    sys.exit(main())
