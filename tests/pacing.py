@@ -9,6 +9,8 @@ bounds are those of docs/TIMERS.md. The last line counts the checks."""
 import heapq, os, random, shutil, subprocess, sys, tempfile
 
 HERE = os.path.dirname(os.path.abspath(__file__))
+# in round trips: until a coordinator that died is replaced, of three nodes, no message lost
+LONGEST = 100
 
 
 class Node:
@@ -143,9 +145,9 @@ def formed(tried, bed, within, what):
 
 
 def try_replaced(tried):
-    """A coordinator dies at a time that is drawn, and is replaced."""
-    for unit, way, within in ((20, 9, 1500), (20, 0.1, 1400), (100, 45, 6500)):
-        times = []
+    """A coordinator dies at a time that is drawn, and is replaced: within the longest time of docs/TIMERS.md, and what 250 ms are longer than 10 round trips."""
+    for unit, way in ((20, 9), (20, 0.1), (100, 45)):
+        times, within = [], LONGEST * unit + max(0, 250 - 10 * unit)
         for seed in range(10):
             bed = tried.bed(3, unit, way, seed=seed)
             bed.start()
