@@ -180,11 +180,10 @@ def try_stalls(tried):
 
 
 def try_storm(tried):
-    """Forty nodes whose answers take fifteen times as long as was said, and so no group is made meanwhile: what is sent."""
-    bed = tried.bed(40, 20, 300)
-    bed.start()
-    bed.run(bed.now + 3000)
-    tried.mark(bed.sent <= 40 * 39 * 12, f"40 nodes, answers after 600 to 900 ms: {bed.sent} messages in 3 s")
+    """Twenty nodes whose answers take ten times as long as was said: they learn that, and become one group."""
+    bed = tried.bed(20, 20, 200)
+    took = formed(tried, bed, 20_000, "20 nodes, answers after 400 to 600 ms")
+    tried.mark(took is not None, f"they sent {bed.sent} messages until then")
     bed.end()
 
 

@@ -90,9 +90,9 @@ is_of_others wait = true
 abbrev pub is_late : TimerSettings → ℕ → Option ℕ → Deadline → Bool
 is_late s raise merge_wait d = not d.had_grace && (is_of_others d.wait && nat_lt (lasts s raise merge_wait d + 2 * s.unit) d.waited)
 
--- for how many milliseconds it has been over
+-- for how many milliseconds it has been over; what came at once wasn't waited for
 abbrev pub lateness : TimerSettings → ℕ → Option ℕ → Deadline → ℕ
-lateness s raise merge_wait d = d.waited - lasts s raise merge_wait d
+lateness s raise merge_wait d = if d.had_grace then 0 else d.waited - lasts s raise merge_wait d
 
 -- a round trip of it is left, once
 abbrev pub graced : TimerSettings → ℕ → Option ℕ → Deadline → Deadline

@@ -89,10 +89,13 @@ impl Deadline {
         !self.had_grace && self.wait.is_of_others() && late
     }
 
-    /// For how many milliseconds it has been over.
+    /// For how many milliseconds it has been over; 0 where it had its grace, or came at once.
     pub fn lateness(&self, setting: &TimerSettings, raise: u32, merge_wait: Option<u64>) -> u64
         ensures { result ≡ lateness setting.now raise merge_wait self.now }
     {
+        if self.had_grace {
+            return 0;
+        }
         let lasts = self.lasts(setting, raise, merge_wait);
         self.waited.saturating_sub(lasts)
     }

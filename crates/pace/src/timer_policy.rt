@@ -129,7 +129,7 @@ impl TimerPolicy {
         // Promise: Others are waited for as long as the slowest answer took, or as the node itself was held up, up to 1 s, and a coordinator's answer
         // three times as long, and 250 ms at least. That counts a 128th less with each question.
         // Also: TimerPolicy::delivered, TimerPolicy::tick.
-        // Refuses: slow_answer_forgotten, own_hold_up_forgotten, slow_answers_for_ever, slow_answer_waited_for_once.
+        // Refuses: slow_answer_forgotten, own_hold_up_forgotten, late_where_it_came_at_once, slow_answers_for_ever, slow_answer_waited_for_once.
         ensures { self.new ≡ answer_came self.old }
     {
         let Some(asked) = self.asked else {
