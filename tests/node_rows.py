@@ -84,10 +84,10 @@ TIMERS = [
                                               (800_000, True), (900_000, True), (1_000_000, True), (1_100_000, True), (1_200_000, True), (1_300_000, True), (1_400_000, True),
                                               (1_500_000, True), (1_600_000, True), (1_700_000, True), (1_800_000, True), (1_900_000, True), (2_000_000, True),
                                               (2_005_999, False), (2_006_000, True), (2_011_999, False), (2_012_000, True)]),
-    # each check is counted, and a member that was silent in three of them is given up at the end of the third
+    # each check is counted, and a member that was silent in three of them is given up at the end of the third; an answer that comes late lengthens the waits for others by at most 1 s
     (0, 2, IN_STEP, "check", [(0, False), (300, BY), (500, NONE), (1500, BY), (1700, NONE), (2180, NONE)]),
     (0, 2, IN_STEP, "recover", [(0, False), (2280, NONE), (2900, BY), (2900, False)]),
-    (0, 2, IN_STEP, "recover", [(0, False), (2100, NONE), ("deliver 01020100000100", None), (4280, NONE), (5300, BY)]),
+    (0, 2, IN_STEP, "recover", [(0, False), (2100, NONE), ("deliver 01020100000100", None), (4280, NONE), (8000, BY)]),
     # a jump of an hour, and of 2^63 ms: what waits is due once
     (0, 1, "recover", "check", [(0, False), (3_600_000, True), (3_600_000, False), (3_600_399, False), (3_600_899, False), (3_601_399, True)]),
     (0, 1, "recover", "check", [(0, False), (2**63, True), (2**63, False), (2**63 + 399, False), (2**63 + 899, False), (2**63 + 1399, True)]),

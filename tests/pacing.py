@@ -162,7 +162,7 @@ def try_replaced(tried):
 
 def try_stalls(tried):
     """The coordinator, or a member, is stopped for a second every three."""
-    for who, most in (("coordinator", 2), ("member", 2)):
+    for who, most in (("coordinator", 3), ("member", 0)):
         for seed in range(3):
             bed = tried.bed(3, 20, 9, seed=seed)
             bed.start()
