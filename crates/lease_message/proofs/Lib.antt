@@ -1,0 +1,4 @@
+mod Bytes
+mod Fields
+mod Messages
+mod Joined
