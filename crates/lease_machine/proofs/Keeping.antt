@@ -1,0 +1,251 @@
+-- What a call leaves of each name.
+use Rattle.std.proofs.Common.{◌≡◌, ◌≢◌, ℕ, ◌≤◌, ◌<◌, Bool, true, false, cond, List, [], ◌∷◌, ◌++◌, length, get_or, refl, sym, ap, subst, ◌∙◌, inl, inr, arith}
+use Rattle.std.specs.Prelude.{◌&&◌, All, is_none, Option, Some, None, option_map, map, set}
+use Rattle.std.proofs.lemmas.List.{length-append, length-map, length-set}
+use Rattle.std.proofs.lemmas.List.Elements.{All-get_or, All-head, All-map, All-push, All-set, All-tail, All-weaker}
+use Rattle.lease_runs.specs.declared.client_id.ClientId.{ClientId}
+use Rattle.lease_runs.specs.declared.voter.LeaseVoter.{LeaseVoter}
+use Rattle.lease_runs.specs.Voter.{Client, Voter, VoterEvent, grants, raises, releases}
+use Rattle.lease_runs.specs.Code.{IsStep, ask_of, client_of, view}
+use Rattle.lease_machine.specs.declared.name_entry.TheConstants.{NAMES}
+use Rattle.lease_machine.specs.declared.name_entry.Claim.{Claim}
+use Rattle.lease_machine.specs.declared.name_entry.NameEntry.{NameEntry}
+use Rattle.lease_machine.specs.declared.terms.LeaseTerms.{LeaseTerms}
+use Rattle.lease_machine.specs.Names.{are_apart, is_same, is_free, is_dead, entry_of, place_from, dead_from, raised}
+use Rattle.lease_machine.specs.Kept.{IsEntry, AreKept}
+use Rattle.lease_machine.specs.Machine.{IsForgotten, Stays, claim_in, voter_in}
+use Rattle.lease_machine.proofs.Names.{IsFound, placed, dead_placed, same_name, self_same, set_found, unlike, AreApart, apart_from, apart_to, IsAt, at_get, found, set_other, set_gone, IsFitting, set_apart, push_apart, map_of, map_apart}
+
+-- ---- voters by what is shown of them
+
+some_client : (a b : Client) → Some a ≡ Some b → a ≡ b
+some_client a b e = cc
+
+same_client : (a b : ClientId) → client_of a ≡ client_of b → a ≡ b
+same_client a b e = λ i. record { machine = (e i).machine; boot = (e i).boot; number = (e i).number }
+
+same_holder : (a b : Option ClientId) → option_map client_of a ≡ option_map client_of b → a ≡ b
+same_holder None None e = refl
+same_holder None (Some b) e = absurd cc
+same_holder (Some a) None e = absurd cc
+same_holder (Some a) (Some b) e = ap (λ (c : ClientId). Some c) (same_client a b (some_client (client_of a) (client_of b) e))
+
+pub voter_same : (v w : LeaseVoter) → v.keeps ≡ w.keeps → view 0 v ≡ view 0 w → v ≡ w
+voter_same v w keeps e =
+    let holder = same_holder v.holder w.holder (ap (λ (x : Voter). x.holder) e) in
+    λ i. record { keeps = keeps i; bound = (e i).bound; began = (e i).began; last = (e i).last; holder = holder i; ends = (e i).ends }
+
+-- a raise changes the bound alone
+pub raised_is : (v w : LeaseVoter) (bound : ℕ) → IsStep v w 0 (raises bound) → w ≡ record v { bound = bound }
+raised_is v w bound step =
+    let h = step (λ boot at. 0) 0 0 refl in
+    voter_same w (record v { bound = bound }) h.2 h.1
+
+-- ---- one name more
+
+pub kept_pushed : (terms : LeaseTerms) (process claims began bound floor : ℕ) (es after : List NameEntry) (x : NameEntry) → AreKept terms process claims began bound floor es
+    → IsEntry terms process claims began bound x → entry_of x.name es ≡ None → length es < NAMES → after ≡ es ++ x ∷ [] → AreKept terms process claims began bound floor after
+kept_pushed terms process claims began bound floor es after x kept fits none less is = subst (AreKept terms process claims began bound floor) (sym is) (record {
+  entries = All-push (IsEntry terms process claims began bound) es x kept.entries fits;
+  apart = apart_to (es ++ x ∷ []) (push_apart x es (apart_from es kept.apart) none);
+  few = omega (arith, less, length-append es (x ∷ []));
+  floor_allowed = kept.floor_allowed;
+})
+
+pub kept_set : (terms : LeaseTerms) (process claims began bound floor raised : ℕ) (es : List NameEntry) (k : ℕ) (d x : NameEntry) → AreKept terms process claims began bound floor es
+    → IsAt k d es → IsEntry terms process claims began bound x → IsFitting d x es → raised ≤ bound → AreKept terms process claims began bound raised (set es k x)
+kept_set terms process claims began bound floor raised es k d x kept at fits fitting allowed = record {
+  entries = All-set (IsEntry terms process claims began bound) es k x fits kept.entries;
+  apart = apart_to (set es k x) (set_apart k d x es at (apart_from es kept.apart) fitting);
+  few = omega (arith, kept.few, length-set es k x);
+  floor_allowed = allowed;
+}
+
+pub entry_at : (terms : LeaseTerms) (process claims began bound floor : ℕ) (es : List NameEntry) (k : ℕ) (d : NameEntry) → AreKept terms process claims began bound floor es
+    → IsAt k d es → IsEntry terms process claims began bound d
+entry_at terms process claims began bound floor es k d kept at =
+    let h = at_get k d es d at in
+    subst (IsEntry terms process claims began bound) h.1 (All-get_or (IsEntry terms process claims began bound) es k d h.0 kept.entries)
+
+-- ---- in place of a name that may be forgotten
+
+dead_parts : (now : ℕ) (d : NameEntry) → is_dead now d ≡ true → (d.claim ≡ None) × (is_free now d.voter ≡ true)
+dead_parts now d h = parts d.claim (is_free now d.voter) h
+  where
+    parts : (o : Option Claim) (b : Bool) → (is_none o && b) ≡ true → (o ≡ None) × (b ≡ true)
+    parts None b g = (refl, g)
+    parts (Some c) b g = absurd cc
+
+abbrev pub IsLeft : ℕ → LeaseVoter → LeaseVoter → Option NameEntry → Option NameEntry → Type 0
+IsLeft now none none' old new = Stays now (voter_in none old) (voter_in none' new) × (claim_in new ≡ claim_in old)
+
+pub same_left : (now : ℕ) (none none' : LeaseVoter) (old new : Option NameEntry) → Stays now none none' → new ≡ old → IsLeft now none none' old new
+same_left now none none' old new stays same = subst (λ (e : Option NameEntry). IsLeft now none none' old e) (sym same) (by_entry old)
+  where
+    by_entry : (e : Option NameEntry) → IsLeft now none none' e e
+    by_entry None = (stays, refl)
+    by_entry (Some e) = (inl refl, refl)
+
+pub replaced_left : (now : ℕ) (none none' : LeaseVoter) (es : List NameEntry) (k : ℕ) (d x : NameEntry) (other : List ℕ) → IsAt k d es → AreApart es → entry_of x.name es ≡ None → is_dead now d ≡ true
+    → other ≢ x.name → Stays now none none' → (is_free now d.voter ≡ true → IsForgotten now d.voter none') → IsLeft now none none' (entry_of other es) (entry_of other (set es k x))
+replaced_left now none none' es k d x other at apart new dead differ stays forgot = by_test (is_same d.name other) refl
+  where
+    gone : other ≡ d.name → IsLeft now none none' (entry_of other es) (entry_of other (set es k x))
+    gone is =
+        let parts = dead_parts now d dead in
+        subst (λ (n : List ℕ). IsLeft now none none' (entry_of n es) (entry_of n (set es k x))) (sym is)
+        (subst (λ (e : Option NameEntry). IsLeft now none none' e (entry_of d.name (set es k x))) (sym (found k d es at apart))
+        (subst (λ (e : Option NameEntry). IsLeft now none none' (Some d) e) (sym (set_gone k d x es at apart new))
+        (inr (forgot parts.1), sym parts.0)))
+
+    by_test : (b : Bool) → is_same d.name other ≡ b → IsLeft now none none' (entry_of other es) (entry_of other (set es k x))
+    by_test false away = same_left now none none' (entry_of other es) (entry_of other (set es k x)) stays (set_other k d x other es at away (unlike x.name other (λ s. differ (sym s))))
+    by_test true same = gone (sym (same_name d.name other same))
+
+-- a place that was found
+pub record IsPlace (place : ℕ) (es : List NameEntry) (test : NameEntry → Bool) : Type 0 where
+  pub d : NameEntry
+  pub at : IsAt place d es
+  pub passes : test d ≡ true
+  pub within : place < length es
+
+pub place_found : (place : ℕ) (es : List NameEntry) (test : NameEntry → Bool) → IsFound 0 place es test → IsPlace place es test
+place_found place es test f =
+    let is : f.k ≡ place = omega (arith, f.place-is) in
+    let at = subst (λ (n : ℕ). IsAt n f.d es) is f.at in
+    record { d = f.d; at = at; passes = f.passes; within = (at_get place f.d es f.d at).0 }
+
+pub dead_found : (now place : ℕ) (seen es : List NameEntry) (r : Option ℕ) → seen ≡ es → r ≡ dead_from 0 now seen → r ≡ Some place → IsPlace place es (is_dead now)
+dead_found now place seen es r same is some = place_found place es (is_dead now) (dead_placed 0 now es place (ap (dead_from 0 now) (sym same) ∙ sym is ∙ some))
+
+pub name_found : (name : List ℕ) (place : ℕ) (seen es : List NameEntry) (r : Option ℕ) → seen ≡ es → r ≡ place_from 0 name seen → r ≡ Some place → IsPlace place es (λ e. is_same e.name name)
+name_found name place seen es r same is some = place_found place es (λ e. is_same e.name name) (placed 0 name es place (ap (place_from 0 name) (sym same) ∙ sym is ∙ some))
+
+-- an entry that was read there, and what is found once another one of its name is written in its place
+pub record IsRead (name : List ℕ) (es : List NameEntry) (place : ℕ) (e x : NameEntry) : Type 0 where
+  pub at : IsAt place e es
+  pub old : entry_of name es ≡ Some e
+  pub new : entry_of name (set es place x) ≡ Some x
+  pub others : (other : List ℕ) → other ≢ name → entry_of other (set es place x) ≡ entry_of other es
+
+pub is_read : (name : List ℕ) (es : List NameEntry) (place : ℕ) (e x : NameEntry) → IsPlace place es (λ y. is_same y.name name) → are_apart es ≡ true → e ≡ get_or es place e → x.name ≡ e.name
+    → IsRead name es place e x
+is_read name es place e x p apart read same =
+    let is : e ≡ p.d = read ∙ (at_get place p.d es e p.at).1 in
+    let at : IsAt place e es = subst (λ (y : NameEntry). IsAt place y es) (sym is) p.at in
+    let named : e.name ≡ name = same_name e.name name (subst (λ (y : NameEntry). is_same y.name name ≡ true) (sym is) p.passes) in
+    let all = apart_from es apart in
+    record {
+      at = at;
+      old = subst (λ (n : List ℕ). entry_of n es ≡ Some e) named (found place e es at all);
+      new = subst (λ (n : List ℕ). entry_of n (set es place x) ≡ Some x) named (set_found place e x es at all same);
+      others = λ other differ. set_other place e x other es at (unlike e.name other (λ s. differ (sym s ∙ named))) (unlike x.name other (λ s. differ (sym s ∙ same ∙ named)));
+    }
+
+pub step_of : (v w v' w' : LeaseVoter) (now : ℕ) (what : VoterEvent) → v' ≡ v → w' ≡ w → IsStep v w now what → IsStep v' w' now what
+step_of v w v' w' now what p q step = subst (λ (x : LeaseVoter). IsStep x w' now what) (sym p) (subst (λ (x : LeaseVoter). IsStep v x now what) (sym q) step)
+
+-- one name's voter is another one
+pub entry_with : (terms : LeaseTerms) (process claims began bound : ℕ) (e : NameEntry) (w : LeaseVoter) → IsEntry terms process claims began bound e → w.keeps ≡ e.voter.keeps → w.began ≡ e.voter.began
+    → w.bound ≡ e.voter.bound → w.last ≤ bound → IsEntry terms process claims began bound (record e { voter = w })
+entry_with terms process claims began bound e w fits keeps since allowed last =
+    record { keeps = keeps ∙ fits.keeps; since = since ∙ fits.since; allowed = allowed ∙ fits.allowed; last = last; claim = fits.claim }
+
+-- what no answer changes, and the epoch is allowed
+pub record IsLike (v w : LeaseVoter) : Type 0 where
+  pub keeps : w.keeps ≡ v.keeps
+  pub began : w.began ≡ v.began
+  pub bound : w.bound ≡ v.bound
+  pub last : v.last ≤ v.bound → w.last ≤ v.bound
+
+like_same : (v w : LeaseVoter) → w ≡ v → IsLike v w
+like_same v w is = subst (λ (x : LeaseVoter). IsLike v x) (sym is) (record { keeps = refl; began = refl; bound = refl; last = λ h. h })
+
+pub asked_like : (v w : LeaseVoter) (now : ℕ) (client : ClientId) (epoch : ℕ) (b : Bool) → (b ≡ true → (number sent : ℕ) → IsStep v w now (grants (ask_of client number epoch sent))) → (b ≡ false → w ≡ v) → IsLike v w
+asked_like v w now client epoch false granted same = like_same v w (same refl)
+asked_like v w now client epoch true granted same =
+    let h = granted refl 0 0 (λ boot at. now) 0 0 refl in
+    record { keeps = h.2; began = ap (λ (x : Voter). x.began) h.1; bound = ap (λ (x : Voter). x.bound) h.1; last = λ _. omega (arith, h.0.1, ap (λ (x : Voter). x.last) h.1) }
+
+pub released_like : (v w : LeaseVoter) (client : ClientId) (epoch : ℕ) (b : Bool) → (b ≡ true → (now : ℕ) → IsStep v w now (releases (client_of client) epoch)) → (b ≡ false → w ≡ v) → IsLike v w
+released_like v w client epoch false freed same = like_same v w (same refl)
+released_like v w client epoch true freed same =
+    let h = freed refl 0 (λ boot at. 0) 0 0 refl in
+    record { keeps = h.2; began = ap (λ (x : Voter). x.began) h.1; bound = ap (λ (x : Voter). x.bound) h.1; last = λ less. omega (arith, less, ap (λ (x : Voter). x.last) h.1) }
+
+pub kept_like : (terms : LeaseTerms) (process claims began bound floor : ℕ) (es : List NameEntry) (place : ℕ) (e : NameEntry) (w : LeaseVoter) → AreKept terms process claims began bound floor es → IsAt place e es
+    → IsLike e.voter w → AreKept terms process claims began bound floor (set es place (record e { voter = w }))
+kept_like terms process claims began bound floor es place e w kept at like =
+    let fits = entry_at terms process claims began bound floor es place e kept at in
+    kept_set terms process claims began bound floor floor es place e (record e { voter = w }) kept at
+    (entry_with terms process claims began bound e w fits like.keeps like.began like.bound (omega (arith, fits.allowed, like.last (omega (arith, fits.allowed, fits.last))))) (inl refl) kept.floor_allowed
+
+-- where the voter that is written is as it was
+pub unwritten : (name : List ℕ) (es : List NameEntry) (place : ℕ) (e : NameEntry) (w u : LeaseVoter) → IsRead name es place e (record e { voter = w }) → w ≡ e.voter → (other : List ℕ)
+    → (voter_in u (entry_of other (set es place (record e { voter = w }))) ≡ voter_in u (entry_of other es)) × (claim_in (entry_of other (set es place (record e { voter = w }))) ≡ claim_in (entry_of other es))
+unwritten name es place e w u r same other = by_test (is_same other name) refl
+  where
+    not_both : (b : Bool) → b ≡ false → b ≡ true → ⊥
+    not_both b p q = cc
+
+    here : other ≡ name → entry_of other (set es place (record e { voter = w })) ≡ entry_of other es
+    here is = subst (λ (n : List ℕ). entry_of n (set es place (record e { voter = w })) ≡ entry_of n es) (sym is) (r.new ∙ ap (λ (v : LeaseVoter). Some (record e { voter = v })) same ∙ sym r.old)
+
+    both : entry_of other (set es place (record e { voter = w })) ≡ entry_of other es
+        → (voter_in u (entry_of other (set es place (record e { voter = w }))) ≡ voter_in u (entry_of other es)) × (claim_in (entry_of other (set es place (record e { voter = w }))) ≡ claim_in (entry_of other es))
+    both h = (ap (voter_in u) h, ap claim_in h)
+
+    by_test : (b : Bool) → is_same other name ≡ b
+        → (voter_in u (entry_of other (set es place (record e { voter = w }))) ≡ voter_in u (entry_of other es)) × (claim_in (entry_of other (set es place (record e { voter = w }))) ≡ claim_in (entry_of other es))
+    by_test true is = both (here (same_name other name is))
+    by_test false away = both (r.others other (λ s. absurd (not_both (is_same other name) away (self_same other name s))))
+
+-- ---- all voters are raised
+
+pub allowed_before : (terms : LeaseTerms) (process claims began bound floor higher : ℕ) (es : List NameEntry) → AreKept terms process claims began bound floor es → bound ≤ higher → All (λ e. e.voter.bound ≤ higher) es
+allowed_before terms process claims began bound floor higher es kept less =
+    All-weaker (IsEntry terms process claims began bound) (λ e. e.voter.bound ≤ higher) (λ e fits. omega (arith, fits.allowed, less)) es kept.entries
+
+pub kept_raised : (terms : LeaseTerms) (process claims began bound floor higher : ℕ) (es after : List NameEntry) → AreKept terms process claims began bound floor es → bound ≤ higher → after ≡ map (raised higher) es
+    → AreKept terms process claims began higher floor after
+kept_raised terms process claims began bound floor higher es after kept less is = subst (AreKept terms process claims began higher floor) (sym is) (record {
+  entries = All-map (IsEntry terms process claims began higher) (raised higher) es (All-weaker (IsEntry terms process claims began bound) (λ e. IsEntry terms process claims began higher (raised higher e))
+      (λ e fits. record { keeps = fits.keeps; since = fits.since; allowed = refl; last = omega (arith, fits.last, less); claim = fits.claim }) es kept.entries);
+  apart = apart_to (map (raised higher) es) (map_apart (raised higher) (λ e. refl) es (apart_from es kept.apart));
+  few = omega (arith, kept.few, length-map es (raised higher));
+  floor_allowed = omega (arith, kept.floor_allowed, less);
+})
+
+pub raised_entry : (name : List ℕ) (es after : List NameEntry) (higher : ℕ) → after ≡ map (raised higher) es → entry_of name after ≡ option_map (raised higher) (entry_of name es)
+raised_entry name es after higher is = ap (entry_of name) is ∙ map_of (raised higher) (λ e. refl) name es
+
+pub raised_claim : (name : List ℕ) (es after : List NameEntry) (higher : ℕ) → after ≡ map (raised higher) es → claim_in (entry_of name after) ≡ claim_in (entry_of name es)
+raised_claim name es after higher is = ap claim_in (raised_entry name es after higher is) ∙ by_entry (entry_of name es)
+  where
+    by_entry : (o : Option NameEntry) → claim_in (option_map (raised higher) o) ≡ claim_in o
+    by_entry None = refl
+    by_entry (Some e) = refl
+
+the_entry : (a b : NameEntry) → Some a ≡ Some b → a ≡ b
+the_entry a b e = cc
+
+-- what is true of all is true of the one that is found
+pub of_found : (P : NameEntry → Type 0) (name : List ℕ) (es : List NameEntry) (d : NameEntry) → All P es → entry_of name es ≡ Some d → P d
+of_found P name [] d all h = absurd cc
+of_found P name (e ∷ es) d all h = by_test (is_same e.name name) (All-head P e es all) (λ g. of_found P name es d (All-tail P e es all) g) h
+  where
+    by_test : (b : Bool) → P e → (entry_of name es ≡ Some d → P d) → cond b (Some e) (entry_of name es) ≡ Some d → P d
+    by_test true mine rest g = subst P (the_entry e d g) mine
+    by_test false mine rest g = rest g
+
+raises_from : (v : LeaseVoter) (higher now : ℕ) → v.bound ≤ higher → IsStep v (record v { bound = higher }) now (raises higher)
+raises_from v higher now less clock boot at shows = (less, refl, refl)
+
+pub raises_step : (name : List ℕ) (u : LeaseVoter) (es : List NameEntry) (o : Option NameEntry) (now bound higher : ℕ) → All (λ e. e.voter.bound ≡ bound) es → u.bound ≡ bound → bound ≤ higher
+    → o ≡ option_map (raised higher) (entry_of name es) → IsStep (voter_in u (entry_of name es)) (voter_in (record u { bound = higher }) o) now (raises higher)
+raises_step name u es o now bound higher all mine less is =
+    subst (λ (x : Option NameEntry). IsStep (voter_in u (entry_of name es)) (voter_in (record u { bound = higher }) x) now (raises higher)) (sym is) (by_entry (entry_of name es) refl)
+  where
+    by_entry : (x : Option NameEntry) → entry_of name es ≡ x → IsStep (voter_in u x) (voter_in (record u { bound = higher }) (option_map (raised higher) x)) now (raises higher)
+    by_entry None e = raises_from u higher now (omega (arith, mine, less))
+    by_entry (Some e) found = raises_from e.voter higher now (omega (arith, of_found (λ x. x.voter.bound ≡ bound) name es e all found, less))

@@ -1,0 +1,91 @@
+use Rattle.std.proofs.Common.{List, length, refl, sym, ap, subst, ◌∙◌, inl, arith}
+use Rattle.lease_runs.specs.declared.voter.LeaseVoter.{LeaseVoter}
+use Rattle.lease_runs.specs.Code.{CanGrant, ask_of}
+use Rattle.lease_runs.specs.Voter.{grants}
+use Rattle.lease_machine.specs.declared.name_entry.NameEntry.{NameEntry}
+use Rattle.lease_machine.specs.Names.{entry_of, place_from}
+use Rattle.lease_machine.specs.Machine.{claim_in, unknown, voter_in}
+use Rattle.lease_machine.proofs.Names.{unplaced}
+use Rattle.lease_machine.proofs.Keeping.{asked_like, entry_at, is_read, kept_like, name_found, same_left, step_of, unwritten}
+use Rattle.lease_machine.proofs.state.LeaseMachine.vote.Goals as goal
+
+pub vote_anew-requires-clause-new : goal.vote_anew-requires-clause-new
+vote_anew-requires-clause-new c =
+    unplaced 0 c.args.name.now c.args.self.now.names.items (ap (place_from 0 c.args.name.now) (sym c.deref.ensures.value) ∙ sym c.place_of.ensures ∙ c.in_default.is)
+
+pub index_mut-requires : goal.index_mut-requires
+index_mut-requires c =
+    let p = name_found c.args.name.now c.in-Some.place _ c.args.self.now.names.items _ c.deref.ensures.value c.place_of.ensures c.in-Some.is in
+    omega (arith, p.within, c.deref.ensures.len, ap (λ (es : List NameEntry). length es) c.deref.ensures.value)
+
+pub ask-requires : goal.ask-requires
+ask-requires c =
+    let m = c.args.self.now in
+    let e = c.index_mut.result.now in
+    let p = name_found c.args.name.now c.in-Some.place _ m.names.items _ c.deref.ensures.value c.place_of.ensures c.in-Some.is in
+    let r = is_read c.args.name.now m.names.items c.in-Some.place e e p m.kept.apart c.index_mut.ensures.value refl in
+    let fits = entry_at m.terms m.process m.claims m.began m.bound m.floor m.names.items c.in-Some.place e m.kept r.at in
+    omega (arith, c.requires, fits.keeps, m.terms.fits)
+
+pub invariant_of-self : goal.invariant_of-self
+invariant_of-self c =
+    let m = c.args.self.now in
+    let e = c.index_mut.result.now in
+    let p = name_found c.args.name.now c.in-Some.place _ m.names.items _ c.deref.ensures.value c.place_of.ensures c.in-Some.is in
+    let r = is_read c.args.name.now m.names.items c.in-Some.place e (record e { voter = c.ask.new.self }) p m.kept.apart c.index_mut.ensures.value refl in
+    record {
+      kept = kept_like m.terms m.process m.claims m.began m.bound m.floor m.names.items c.in-Some.place e c.ask.new.self m.kept r.at
+          (asked_like e.voter c.ask.new.self c.args.now c.args.client c.args.epoch c.ask.result c.ask.ensures.grants c.ask.ensures.same);
+      room = m.room;
+    }
+
+pub returns-then-ask-clause-granted : goal.returns-then-ask-clause-granted
+returns-then-ask-clause-granted c = λ _ number sent.
+    let m = c.args.self.now in
+    let e = c.index_mut.result.now in
+    let p = name_found c.args.name.now c.in-Some.place _ m.names.items _ c.deref.ensures.value c.place_of.ensures c.in-Some.is in
+    let r = is_read c.args.name.now m.names.items c.in-Some.place e (record e { voter = c.ask.new.self }) p m.kept.apart c.index_mut.ensures.value refl in
+    step_of e.voter c.ask.new.self (voter_in (unknown m) (entry_of c.args.name.now m.names.items)) _ c.args.now (grants (ask_of c.args.client number c.args.epoch sent))
+    (ap (voter_in (unknown m)) r.old) (ap (voter_in (unknown m)) r.new) (c.ask.ensures.grants c.if-ask.true number sent)
+
+pub returns-then-ask-clause-others : goal.returns-then-ask-clause-others
+returns-then-ask-clause-others c = λ other differ.
+    let m = c.args.self.now in
+    let e = c.index_mut.result.now in
+    let p = name_found c.args.name.now c.in-Some.place _ m.names.items _ c.deref.ensures.value c.place_of.ensures c.in-Some.is in
+    let r = is_read c.args.name.now m.names.items c.in-Some.place e (record e { voter = c.ask.new.self }) p m.kept.apart c.index_mut.ensures.value refl in
+    same_left c.args.now (unknown m) (unknown m) (entry_of other m.names.items) _ (inl refl) (r.others other differ)
+
+pub returns-then-ask-clause-claim : goal.returns-then-ask-clause-claim
+returns-then-ask-clause-claim c =
+    let m = c.args.self.now in
+    let e = c.index_mut.result.now in
+    let p = name_found c.args.name.now c.in-Some.place _ m.names.items _ c.deref.ensures.value c.place_of.ensures c.in-Some.is in
+    let r = is_read c.args.name.now m.names.items c.in-Some.place e (record e { voter = c.ask.new.self }) p m.kept.apart c.index_mut.ensures.value refl in
+    ap claim_in r.new ∙ sym (ap claim_in r.old)
+
+pub returns-else-ask-clause-refused : goal.returns-else-ask-clause-refused
+returns-else-ask-clause-refused c = λ _.
+    let m = c.args.self.now in
+    let e = c.index_mut.result.now in
+    let p = name_found c.args.name.now c.in-Some.place _ m.names.items _ c.deref.ensures.value c.place_of.ensures c.in-Some.is in
+    let r = is_read c.args.name.now m.names.items c.in-Some.place e (record e { voter = c.ask.new.self }) p m.kept.apart c.index_mut.ensures.value refl in (
+      unwritten c.args.name.now m.names.items c.in-Some.place e c.ask.new.self (unknown m) r (c.ask.ensures.same c.if-ask.false),
+      λ can. c.ask.ensures.refuses c.if-ask.false (subst (λ (v : LeaseVoter). CanGrant v c.args.now c.args.client c.args.epoch) (ap (voter_in (unknown m)) r.old) can),
+    )
+
+pub returns-else-ask-clause-others : goal.returns-else-ask-clause-others
+returns-else-ask-clause-others c = λ other differ.
+    let m = c.args.self.now in
+    let e = c.index_mut.result.now in
+    let p = name_found c.args.name.now c.in-Some.place _ m.names.items _ c.deref.ensures.value c.place_of.ensures c.in-Some.is in
+    let r = is_read c.args.name.now m.names.items c.in-Some.place e (record e { voter = c.ask.new.self }) p m.kept.apart c.index_mut.ensures.value refl in
+    same_left c.args.now (unknown m) (unknown m) (entry_of other m.names.items) _ (inl refl) (r.others other differ)
+
+pub returns-else-ask-clause-claim : goal.returns-else-ask-clause-claim
+returns-else-ask-clause-claim c =
+    let m = c.args.self.now in
+    let e = c.index_mut.result.now in
+    let p = name_found c.args.name.now c.in-Some.place _ m.names.items _ c.deref.ensures.value c.place_of.ensures c.in-Some.is in
+    let r = is_read c.args.name.now m.names.items c.in-Some.place e (record e { voter = c.ask.new.self }) p m.kept.apart c.index_mut.ensures.value refl in
+    ap claim_in r.new ∙ sym (ap claim_in r.old)

@@ -1,0 +1,4 @@
+pub mod Names
+pub mod Kept
+pub mod Machine
+pub mod Standing
