@@ -1,8 +1,13 @@
 -- What a call leaves of each name.
-use Rattle.std.proofs.Common.{◌≡◌, ◌≢◌, ℕ, ◌≤◌, ◌<◌, Bool, true, false, cond, List, [], ◌∷◌, ◌++◌, length, get_or, refl, sym, ap, subst, ◌∙◌, inl, inr, arith}
-use Rattle.std.specs.Prelude.{◌&&◌, All, is_none, Option, Some, None, option_map, map, set}
+use Rattle.std.proofs.Common.{◌≡◌, ◌≢◌, ℕ, ◌+◌, ◌≤◌, ◌<◌, Bool, true, false, cond, List, [], ◌∷◌, ◌++◌, length, get_or, refl, sym, ap, subst, ◌∙◌, inl, inr, arith}
+use Rattle.std.specs.Prelude.{◌&&◌, All, IfSome, IsNone, is_none, Option, Some, None, option_map, map, set}
 use Rattle.std.proofs.lemmas.List.{length-append, length-map, length-set}
 use Rattle.std.proofs.lemmas.List.Elements.{All-get_or, All-head, All-map, All-push, All-set, All-tail, All-weaker}
+use Rattle.std.specs.Option.{ForSome}
+use Rattle.lease_runs.specs.declared.candidate.LeaseCandidate.{LeaseCandidate}
+use Rattle.lease_runs.specs.CandidateCode.{HasTerms, IsActed}
+use Rattle.lease_runs.specs.declared.candidate.Request.{Request}
+use Rattle.lease_runs.specs.Run.{asks}
 use Rattle.lease_runs.specs.declared.client_id.ClientId.{ClientId}
 use Rattle.lease_runs.specs.declared.voter.LeaseVoter.{LeaseVoter}
 use Rattle.lease_runs.specs.Voter.{Client, Voter, VoterEvent, grants, raises, releases}
@@ -12,8 +17,10 @@ use Rattle.lease_machine.specs.declared.name_entry.Claim.{Claim}
 use Rattle.lease_machine.specs.declared.name_entry.NameEntry.{NameEntry}
 use Rattle.lease_machine.specs.declared.terms.LeaseTerms.{LeaseTerms}
 use Rattle.lease_machine.specs.Names.{are_apart, is_same, is_free, is_dead, entry_of, place_from, dead_from, raised}
-use Rattle.lease_machine.specs.Kept.{IsEntry, AreKept}
-use Rattle.lease_machine.specs.Machine.{IsForgotten, Stays, claim_in, voter_in}
+use Rattle.lease_machine.specs.Kept.{IsEntry, IsOwn, AreKept}
+use Rattle.lease_machine.specs.Claims.{Acts, IsSameClaim, Relies}
+use Rattle.lease_machine.specs.Machine.{AllStay, IsForgotten, Stays, claim_in, unknown, voter_at, voter_in}
+use Rattle.lease_machine.specs.declared.state.LeaseMachine.{LeaseMachine}
 use Rattle.lease_machine.proofs.Names.{IsFound, placed, dead_placed, same_name, self_same, set_found, unlike, AreApart, apart_from, apart_to, IsAt, at_get, found, set_other, set_gone, IsFitting, set_apart, push_apart, map_of, map_apart}
 
 -- ---- voters by what is shown of them
@@ -180,26 +187,6 @@ kept_like terms process claims began bound floor es place e w kept at like =
     kept_set terms process claims began bound floor floor es place e (record e { voter = w }) kept at
     (entry_with terms process claims began bound e w fits like.keeps like.began like.bound (omega (arith, fits.allowed, like.last (omega (arith, fits.allowed, fits.last))))) (inl refl) kept.floor_allowed
 
--- where the voter that is written is as it was
-pub unwritten : (name : List ℕ) (es : List NameEntry) (place : ℕ) (e : NameEntry) (w u : LeaseVoter) → IsRead name es place e (record e { voter = w }) → w ≡ e.voter → (other : List ℕ)
-    → (voter_in u (entry_of other (set es place (record e { voter = w }))) ≡ voter_in u (entry_of other es)) × (claim_in (entry_of other (set es place (record e { voter = w }))) ≡ claim_in (entry_of other es))
-unwritten name es place e w u r same other = by_test (is_same other name) refl
-  where
-    not_both : (b : Bool) → b ≡ false → b ≡ true → ⊥
-    not_both b p q = cc
-
-    here : other ≡ name → entry_of other (set es place (record e { voter = w })) ≡ entry_of other es
-    here is = subst (λ (n : List ℕ). entry_of n (set es place (record e { voter = w })) ≡ entry_of n es) (sym is) (r.new ∙ ap (λ (v : LeaseVoter). Some (record e { voter = v })) same ∙ sym r.old)
-
-    both : entry_of other (set es place (record e { voter = w })) ≡ entry_of other es
-        → (voter_in u (entry_of other (set es place (record e { voter = w }))) ≡ voter_in u (entry_of other es)) × (claim_in (entry_of other (set es place (record e { voter = w }))) ≡ claim_in (entry_of other es))
-    both h = (ap (voter_in u) h, ap claim_in h)
-
-    by_test : (b : Bool) → is_same other name ≡ b
-        → (voter_in u (entry_of other (set es place (record e { voter = w }))) ≡ voter_in u (entry_of other es)) × (claim_in (entry_of other (set es place (record e { voter = w }))) ≡ claim_in (entry_of other es))
-    by_test true is = both (here (same_name other name is))
-    by_test false away = both (r.others other (λ s. absurd (not_both (is_same other name) away (self_same other name s))))
-
 -- ---- all voters are raised
 
 pub allowed_before : (terms : LeaseTerms) (process claims began bound floor higher : ℕ) (es : List NameEntry) → AreKept terms process claims began bound floor es → bound ≤ higher → All (λ e. e.voter.bound ≤ higher) es
@@ -249,3 +236,92 @@ raises_step name u es o now bound higher all mine less is =
     by_entry : (x : Option NameEntry) → entry_of name es ≡ x → IsStep (voter_in u x) (voter_in (record u { bound = higher }) (option_map (raised higher) x)) now (raises higher)
     by_entry None e = raises_from u higher now (omega (arith, mine, less))
     by_entry (Some e) found = raises_from e.voter higher now (omega (arith, of_found (λ x. x.voter.bound ≡ bound) name es e all found, less))
+
+-- ---- who asks
+
+pub same_own : (terms : LeaseTerms) (process claims : ℕ) (c d : LeaseCandidate) → IsOwn terms process claims c → HasTerms c.client c.voters c.relies_for d → IsOwn terms process claims d
+same_own terms process claims c d own same =
+    let client = same.same_client in
+    record {
+      of_machine = ap (λ (k : ClientId). k.machine) client ∙ own.of_machine;
+      of_process = ap (λ (k : ClientId). k.boot) client ∙ own.of_process;
+      numbered = omega (arith, own.numbered, ap (λ (k : ClientId). k.number) client);
+      voters = same.same_voters ∙ own.voters;
+      time = same.same_time ∙ own.time;
+    }
+
+pub the_claim : (a b : Claim) → Some a ≡ Some b → a ≡ b
+the_claim a b e = cc
+
+pub acted_own : (terms : LeaseTerms) (process claims : ℕ) (old new : Option Claim) → ForSome old (λ c. IsOwn terms process claims c.candidate)
+    → (c d : Claim) → old ≡ Some c → new ≡ Some d → IsSameClaim c d → ForSome new (λ c. IsOwn terms process claims c.candidate)
+acted_own terms process claims old new own c d was is same x found =
+    subst (λ (y : Claim). IsOwn terms process claims y.candidate) (the_claim d x (sym is ∙ found)) (same_own terms process claims c.candidate d.candidate (own c was) same.terms)
+
+pub kept_asked : (terms : LeaseTerms) (process claims began bound floor : ℕ) (es : List NameEntry) (place : ℕ) (e x : NameEntry) → AreKept terms process claims began bound floor es → IsAt place e es
+    → x.name ≡ e.name → x.voter ≡ e.voter → ForSome x.claim (λ c. IsOwn terms process claims c.candidate) → AreKept terms process claims began bound floor (set es place x)
+kept_asked terms process claims began bound floor es place e x kept at named voted own =
+    let fits = entry_at terms process claims began bound floor es place e kept at in
+    kept_set terms process claims began bound floor floor es place e x kept at (record {
+      keeps = ap (λ (v : LeaseVoter). v.keeps) voted ∙ fits.keeps;
+      since = ap (λ (v : LeaseVoter). v.began) voted ∙ fits.since;
+      allowed = ap (λ (v : LeaseVoter). v.bound) voted ∙ fits.allowed;
+      last = omega (arith, fits.last, ap (λ (v : LeaseVoter). v.last) voted);
+      claim = own;
+    }) (inl named) kept.floor_allowed
+
+-- where the entry that is written is as it was
+pub unchanged : (name : List ℕ) (es : List NameEntry) (place : ℕ) (e x : NameEntry) (u : LeaseVoter) → IsRead name es place e x → x ≡ e → (other : List ℕ)
+    → (voter_in u (entry_of other (set es place x)) ≡ voter_in u (entry_of other es)) × (claim_in (entry_of other (set es place x)) ≡ claim_in (entry_of other es))
+unchanged name es place e x u r same other = by_test (is_same other name) refl
+  where
+    not_both : (b : Bool) → b ≡ false → b ≡ true → ⊥
+    not_both b p q = cc
+
+    here : other ≡ name → entry_of other (set es place x) ≡ entry_of other es
+    here is = subst (λ (n : List ℕ). entry_of n (set es place x) ≡ entry_of n es) (sym is) (r.new ∙ ap (λ (y : NameEntry). Some y) same ∙ sym r.old)
+
+    both : entry_of other (set es place x) ≡ entry_of other es
+        → (voter_in u (entry_of other (set es place x)) ≡ voter_in u (entry_of other es)) × (claim_in (entry_of other (set es place x)) ≡ claim_in (entry_of other es))
+    both h = (ap (voter_in u) h, ap claim_in h)
+
+    by_test : (b : Bool) → is_same other name ≡ b
+        → (voter_in u (entry_of other (set es place x)) ≡ voter_in u (entry_of other es)) × (claim_in (entry_of other (set es place x)) ≡ claim_in (entry_of other es))
+    by_test true is = both (here (same_name other name is))
+    by_test false away = both (r.others other (λ s. absurd (not_both (is_same other name) away (self_same other name s))))
+
+pub at_claims : (P : Option Claim → Option Claim → Type 0) (o n o' n' : Option Claim) → o' ≡ o → n' ≡ n → P o n → P o' n'
+at_claims P o n o' n' p q h = subst (λ (x : Option Claim). P x n') (sym p) (subst (λ (x : Option Claim). P o x) (sym q) h)
+
+pub same_entry_own : (terms : LeaseTerms) (process claims : ℕ) (e x : NameEntry) → ForSome e.claim (λ c. IsOwn terms process claims c.candidate) → x ≡ e → ForSome x.claim (λ c. IsOwn terms process claims c.candidate)
+same_entry_own terms process claims e x own same = subst (λ (y : NameEntry). ForSome y.claim (λ c. IsOwn terms process claims c.candidate)) (sym same) own
+
+-- by an answer that says whether anything changed
+pub own_by : (terms : LeaseTerms) (process claims : ℕ) (e x : NameEntry) (b : Bool) → ForSome e.claim (λ c. IsOwn terms process claims c.candidate)
+    → (b ≡ true → (c : Claim) × (d : Claim) × (e.claim ≡ Some c) × (x.claim ≡ Some d) × IsSameClaim c d) → (b ≡ false → x ≡ e) → ForSome x.claim (λ c. IsOwn terms process claims c.candidate)
+own_by terms process claims e x false own changed same = same_entry_own terms process claims e x own (same refl)
+own_by terms process claims e x true own changed same = let h = changed refl in acted_own terms process claims e.claim x.claim own h.0 h.1 h.2 h.3 h.4
+
+pub own_asked : {A : Type 0} (terms : LeaseTerms) (process claims : ℕ) (e x : NameEntry) (r : Option A) (P : A → Type 0) → ForSome e.claim (λ c. IsOwn terms process claims c.candidate)
+    → IfSome r P → ((y : A) → P y → (c : Claim) × (d : Claim) × (e.claim ≡ Some c) × (x.claim ≡ Some d) × IsSameClaim c d) → (IsNone r → x ≡ e) → ForSome x.claim (λ c. IsOwn terms process claims c.candidate)
+own_asked terms process claims e x None P own h changed same = same_entry_own terms process claims e x own (same refl)
+own_asked terms process claims e x (Some y) P own h changed same = let g = changed y h in acted_own terms process claims e.claim x.claim own g.0 g.1 g.2 g.3 g.4
+
+pub asked_made : (o n : Option Claim) (c d : Claim) (now epoch : ℕ) (r : Option Request) → o ≡ Some c → n ≡ Some d → IsSameClaim c d
+    → IfSome r (λ q. (q.epoch ≡ epoch) × (q.sent ≡ now) × IsActed c.candidate d.candidate now (λ at. asks (ask_of c.candidate.client q.number epoch at)))
+    → IfSome r (λ q. (q.epoch ≡ epoch) × (q.sent ≡ now) × Acts o n now (λ client at. asks (ask_of client q.number epoch at)))
+asked_made o n c d now epoch None was is same h = tt
+asked_made o n c d now epoch (Some q) was is same h = (h.0, h.1, record { c = c; d = d; was = was; is = is; same = same; acted = h.2 })
+
+pub held_made : (o : Option Claim) (c : Claim) (now : ℕ) (r : Option Request) → o ≡ Some c → IfSome r (λ q. (c.candidate.lease ≡ Some q) × (now < q.sent + c.candidate.relies_for)) → IfSome r (λ q. Relies o now q)
+held_made o c now None is h = tt
+held_made o c now (Some q) is h = record { c = c; is = is; lease = h.0; in_time = h.1 }
+
+-- a name of which nothing was kept, once an entry was added, or not
+pub added_voter : (b : Bool) (old new : LeaseMachine) (name : List ℕ) (x : NameEntry) → (b ≡ true → entry_of name new.names.items ≡ Some x) → (b ≡ false → new ≡ old) → entry_of name old.names.items ≡ None
+    → x.voter ≡ unknown old → voter_at new name ≡ voter_at old name
+added_voter true old new name x added same none voted = ap (voter_in (unknown new)) (added refl) ∙ voted ∙ sym (ap (voter_in (unknown old)) none)
+added_voter false old new name x added same none voted = ap (λ (m : LeaseMachine). voter_at m name) (same refl)
+
+pub all_stay : (old new : LeaseMachine) → new ≡ old → AllStay old new
+all_stay old new same = subst (λ (m : LeaseMachine). AllStay old m) (sym same) (λ name. (refl, refl))

@@ -45,7 +45,11 @@ pub record IsForgotten (now : ℕ) (old new : LeaseVoter) : Type 0 where
 abbrev pub Stays : ℕ → LeaseVoter → LeaseVoter → Type 0
 Stays now old new = (new ≡ old) ⊎ IsForgotten now old new
 
--- every other name
+-- every other name, where nothing is forgotten
+abbrev pub OthersSame : List ℕ → LeaseMachine → LeaseMachine → Type 0
+OthersSame name old new = (other : List ℕ) → other ≢ name → (voter_at new other ≡ voter_at old other) × (claim_at new other ≡ claim_at old other)
+
+-- every other name, where another one may be given room
 abbrev pub OthersStay : ℕ → List ℕ → LeaseMachine → LeaseMachine → Type 0
 OthersStay now name old new = (other : List ℕ) → other ≢ name → Stays now (voter_at old other) (voter_at new other) × (claim_at new other ≡ claim_at old other)
 

@@ -9,6 +9,7 @@
 //! ```
 #![tactic(auto)]
 
+mod claiming;
 mod entries;
 mod laws;
 mod machine;
@@ -17,6 +18,7 @@ mod state;
 mod terms;
 mod voting;
 
+pub use claiming::ClaimRefusal;
 pub use laws::names_stand;
 pub use name_entry::{Claim, NAMES, NameEntry};
 pub use state::LeaseMachine;

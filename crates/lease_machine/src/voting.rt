@@ -2,7 +2,7 @@ ghost use Rattle.std.specs.Prelude.{◌≡◌, ◌<◌, ◌≤◌, ◌^◌, ℕ,
 ghost use Rattle.lease_runs.specs.Code.{CanGrant, IsStep, ask_of, client_of};
 ghost use Rattle.lease_runs.specs.Voter.{grants, raises, releases};
 ghost use Rattle.lease_machine.specs.Names.{entry_of};
-ghost use Rattle.lease_machine.specs.Machine.{AllStay, IsFull, OthersStay, claim_at, voter_at};
+ghost use Rattle.lease_machine.specs.Machine.{AllStay, IsFull, OthersSame, OthersStay, claim_at, voter_at};
 
 use crate::entries::place_of;
 use crate::name_entry::NameEntry;
@@ -79,7 +79,7 @@ impl LeaseMachine {
         // Refuses: another_name_asked.
         ensures frees { result ≡ true → (now : ℕ) → IsStep (voter_at self.old name.now) (voter_at self.new name.now) now (releases (client_of client) epoch) }
         ensures passes { result ≡ false → AllStay self.old self.new × ((voter_at self.old name.now).holder ≡ Some client → (voter_at self.old name.now).last ≡ epoch → ⊥) }
-        ensures others { OthersStay 0 name.now self.old self.new }
+        ensures others { OthersSame name.now self.old self.new }
         ensures claim { claim_at self.new name.now ≡ claim_at self.old name.now }
         ensures terms { (self.new.terms ≡ self.old.terms) × (self.new.process ≡ self.old.process) × (self.new.bound ≡ self.old.bound) }
     {

@@ -1,4 +1,4 @@
-use Rattle.std.proofs.Common.{◌≡◌, List, length, refl, sym, ap, ◌∙◌, inl, arith}
+use Rattle.std.proofs.Common.{◌≡◌, List, length, refl, sym, ap, ◌∙◌, arith}
 use Rattle.std.specs.Prelude.{Some, None}
 use Rattle.lease_runs.specs.declared.voter.LeaseVoter.{LeaseVoter}
 use Rattle.lease_runs.specs.Code.{client_of}
@@ -7,7 +7,7 @@ use Rattle.lease_machine.specs.declared.name_entry.NameEntry.{NameEntry}
 use Rattle.lease_machine.specs.Names.{entry_of, place_from}
 use Rattle.lease_machine.specs.Machine.{claim_in, unknown, voter_in}
 use Rattle.lease_machine.proofs.Names.{unplaced}
-use Rattle.lease_machine.proofs.Keeping.{is_read, kept_like, name_found, released_like, same_left, step_of, unwritten}
+use Rattle.lease_machine.proofs.Keeping.{is_read, kept_like, name_found, released_like, step_of, unchanged}
 use Rattle.lease_machine.proofs.state.LeaseMachine.release.Goals as goal
 
 pub index_mut-requires : goal.index_mut-requires
@@ -43,7 +43,7 @@ returns-in-Some-clause-passes c = λ passed.
     let p = name_found c.args.name.now c.in-Some.place _ m.names.items _ c.deref.ensures.value c.place_of.ensures c.in-Some.is in
     let r = is_read c.args.name.now m.names.items c.in-Some.place e (record e { voter = c.release.new.self }) p m.kept.apart c.index_mut.ensures.value refl in
     let is = ap (voter_in (unknown m)) r.old in (
-      unwritten c.args.name.now m.names.items c.in-Some.place e c.release.new.self (unknown m) r (c.release.ensures.same passed),
+      unchanged c.args.name.now m.names.items c.in-Some.place e (record e { voter = c.release.new.self }) (unknown m) r (ap (λ (v : LeaseVoter). record e { voter = v }) (c.release.ensures.same passed)),
       λ held last. c.release.ensures.passes passed (sym (ap (λ (v : LeaseVoter). v.holder) is) ∙ held) (sym (ap (λ (v : LeaseVoter). v.last) is) ∙ last),
     )
 
@@ -53,7 +53,7 @@ returns-in-Some-clause-others c = λ other differ.
     let e = c.index_mut.result.now in
     let p = name_found c.args.name.now c.in-Some.place _ m.names.items _ c.deref.ensures.value c.place_of.ensures c.in-Some.is in
     let r = is_read c.args.name.now m.names.items c.in-Some.place e (record e { voter = c.release.new.self }) p m.kept.apart c.index_mut.ensures.value refl in
-    same_left 0 (unknown m) (unknown m) (entry_of other m.names.items) _ (inl refl) (r.others other differ)
+    (ap (voter_in (unknown m)) (r.others other differ), ap claim_in (r.others other differ))
 
 pub returns-in-Some-clause-claim : goal.returns-in-Some-clause-claim
 returns-in-Some-clause-claim c =

@@ -6,7 +6,7 @@ use Rattle.lease_machine.specs.declared.name_entry.NameEntry.{NameEntry}
 use Rattle.lease_machine.specs.Names.{entry_of, place_from}
 use Rattle.lease_machine.specs.Machine.{claim_in, unknown, voter_in}
 use Rattle.lease_machine.proofs.Names.{unplaced}
-use Rattle.lease_machine.proofs.Keeping.{asked_like, entry_at, is_read, kept_like, name_found, same_left, step_of, unwritten}
+use Rattle.lease_machine.proofs.Keeping.{asked_like, entry_at, is_read, kept_like, name_found, same_left, step_of, unchanged}
 use Rattle.lease_machine.proofs.state.LeaseMachine.vote.Goals as goal
 
 pub vote_anew-requires-clause-new : goal.vote_anew-requires-clause-new
@@ -70,7 +70,7 @@ returns-else-ask-clause-refused c = λ _.
     let e = c.index_mut.result.now in
     let p = name_found c.args.name.now c.in-Some.place _ m.names.items _ c.deref.ensures.value c.place_of.ensures c.in-Some.is in
     let r = is_read c.args.name.now m.names.items c.in-Some.place e (record e { voter = c.ask.new.self }) p m.kept.apart c.index_mut.ensures.value refl in (
-      unwritten c.args.name.now m.names.items c.in-Some.place e c.ask.new.self (unknown m) r (c.ask.ensures.same c.if-ask.false),
+      unchanged c.args.name.now m.names.items c.in-Some.place e (record e { voter = c.ask.new.self }) (unknown m) r (ap (λ (v : LeaseVoter). record e { voter = v }) (c.ask.ensures.same c.if-ask.false)),
       λ can. c.ask.ensures.refuses c.if-ask.false (subst (λ (v : LeaseVoter). CanGrant v c.args.now c.args.client c.args.epoch) (ap (voter_in (unknown m)) r.old) can),
     )
 
