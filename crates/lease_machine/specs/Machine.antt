@@ -53,6 +53,13 @@ OthersSame name old new = (other : List ℕ) → other ≢ name → (voter_at ne
 abbrev pub OthersStay : ℕ → List ℕ → LeaseMachine → LeaseMachine → Type 0
 OthersStay now name old new = (other : List ℕ) → other ≢ name → Stays now (voter_at old other) (voter_at new other) × (claim_at new other ≡ claim_at old other)
 
+-- the same process, which has counted no fewer clients, with the same bound
+pub record GoesOn (old new : LeaseMachine) : Type 0 where
+  pub terms : new.terms ≡ old.terms
+  pub process : new.process ≡ old.process
+  pub claims : old.claims ≤ new.claims
+  pub bound : new.bound ≡ old.bound
+
 -- every name
 abbrev pub AllStay : LeaseMachine → LeaseMachine → Type 0
 AllStay old new = (name : List ℕ) → (voter_at new name ≡ voter_at old name) × (claim_at new name ≡ claim_at old name)

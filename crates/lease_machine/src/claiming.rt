@@ -2,7 +2,7 @@ ghost use Rattle.std.specs.Prelude.{◌≡◌, ◌<◌, ◌+◌, ◌-◌, ◌^�
 ghost use Rattle.lease_runs.specs.Code.{ask_of};
 ghost use Rattle.lease_runs.specs.Run.{asks, stops};
 ghost use Rattle.lease_machine.specs.Kept.{IsOwn};
-ghost use Rattle.lease_machine.specs.Machine.{AllStay, IsFull, OthersSame, OthersStay, claim_at, voter_at};
+ghost use Rattle.lease_machine.specs.Machine.{AllStay, GoesOn, IsFull, OthersSame, OthersStay, claim_at, voter_at};
 ghost use Rattle.lease_machine.specs.Claims.{Acts, Hears, IsNew, Relies, ReliesNot};
 
 use crate::entries::place_of;
@@ -39,6 +39,7 @@ impl LeaseMachine {
         ensures refused { OnErr result (AllStay self.old self.new) }
         ensures voter { voter_at self.new name.now ≡ voter_at self.old name.now }
         ensures others { OthersStay now name.now self.old self.new }
+        ensures goes_on { GoesOn self.old self.new }
     {
         if self.is_claimed(name) {
             return Err(ClaimRefusal::Claimed);
@@ -92,7 +93,7 @@ impl LeaseMachine {
         requires { IsOwn self.old.terms self.old.process self.old.claims claim.candidate }
         ensures placed { result ≡ true → claim_at self.new name.now ≡ Some claim }
         ensures full { result ≡ false → AllStay self.old self.new × IsFull now self.old }
-        ensures counts { self.new.claims ≡ self.old.claims }
+        ensures terms { (self.new.terms ≡ self.old.terms) × (self.new.process ≡ self.old.process) × (self.new.bound ≡ self.old.bound) × (self.new.claims ≡ self.old.claims) }
         ensures voter { voter_at self.new name.now ≡ voter_at self.old name.now }
         ensures others { OthersStay now name.now self.old self.new }
     {
@@ -115,6 +116,7 @@ impl LeaseMachine {
         ensures nobody { claim_at self.new name.now ≡ None }
         ensures voter { voter_at self.new name.now ≡ voter_at self.old name.now }
         ensures others { OthersSame name.now self.old self.new }
+        ensures goes_on { GoesOn self.old self.new }
     {
         if let Some(place) = place_of(&self.names, name) {
             self.names[place].claim = None;
@@ -132,7 +134,7 @@ impl LeaseMachine {
         ensures none { IsNone result → AllStay self.old self.new }
         ensures voter { voter_at self.new name.now ≡ voter_at self.old name.now }
         ensures others { OthersSame name.now self.old self.new }
-        ensures terms { (self.new.terms ≡ self.old.terms) × (self.new.process ≡ self.old.process) × (self.new.bound ≡ self.old.bound) }
+        ensures goes_on { GoesOn self.old self.new }
     {
         match place_of(&self.names, name) {
             Some(place) => self.names[place].ask(now, epoch),
@@ -154,7 +156,7 @@ impl LeaseMachine {
         ensures passes { result ≡ false → AllStay self.old self.new }
         ensures voter { voter_at self.new name.now ≡ voter_at self.old name.now }
         ensures others { OthersSame name.now self.old self.new }
-        ensures terms { (self.new.terms ≡ self.old.terms) × (self.new.process ≡ self.old.process) × (self.new.bound ≡ self.old.bound) }
+        ensures goes_on { GoesOn self.old self.new }
     {
         if voter.number() >= self.terms.machines() {
             return false;
@@ -172,7 +174,7 @@ impl LeaseMachine {
         ensures passes { result ≡ false → AllStay self.old self.new }
         ensures voter { voter_at self.new name.now ≡ voter_at self.old name.now }
         ensures others { OthersSame name.now self.old self.new }
-        ensures terms { (self.new.terms ≡ self.old.terms) × (self.new.process ≡ self.old.process) × (self.new.bound ≡ self.old.bound) }
+        ensures goes_on { GoesOn self.old self.new }
     {
         match place_of(&self.names, name) {
             Some(place) => self.names[place].give_up(epoch),

@@ -31,7 +31,7 @@ impl LeaseMachine {
         ensures begins { IfOk result (λ m. (name : List ℕ) (old : Voter) (clock : ℕ → ℕ → ℕ) (boot at : ℕ) → clock boot at ≡ began
             → view boot (voter_at m name) ≡ after terms.keeps clock (after terms.keeps clock old at (restarts boot floor)) at (raises bound)) }
         ensures nobody { IfOk result (λ m. (name : List ℕ) → claim_at m name ≡ None) }
-        ensures terms { IfOk result (λ m. (m.terms ≡ terms) × (m.process ≡ process) × (m.bound ≡ bound)) }
+        ensures terms { IfOk result (λ m. (m.terms ≡ terms) × (m.process ≡ process) × (m.bound ≡ bound) × (m.claims ≡ 0)) }
     {
         Ok(LeaseMachine {
             terms,
@@ -51,7 +51,7 @@ impl LeaseMachine {
         // Refuses: raised_for_some_names_only.
         ensures raises { (name : List ℕ) (now : ℕ) → IsStep (voter_at self.old name) (voter_at self.new name) now (raises bound) }
         ensures claims { (name : List ℕ) → claim_at self.new name ≡ claim_at self.old name }
-        ensures terms { (self.new.terms ≡ self.old.terms) × (self.new.process ≡ self.old.process) × (self.new.bound ≡ bound) }
+        ensures terms { (self.new.terms ≡ self.old.terms) × (self.new.process ≡ self.old.process) × (self.new.bound ≡ bound) × (self.new.claims ≡ self.old.claims) }
     {
         raise_all(&mut self.names, bound);
         self.bound = bound;

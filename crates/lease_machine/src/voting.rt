@@ -2,7 +2,7 @@ ghost use Rattle.std.specs.Prelude.{◌≡◌, ◌<◌, ◌≤◌, ◌^◌, ℕ,
 ghost use Rattle.lease_runs.specs.Code.{CanGrant, IsStep, ask_of, client_of};
 ghost use Rattle.lease_runs.specs.Voter.{grants, raises, releases};
 ghost use Rattle.lease_machine.specs.Names.{entry_of};
-ghost use Rattle.lease_machine.specs.Machine.{AllStay, IsFull, OthersSame, OthersStay, claim_at, voter_at};
+ghost use Rattle.lease_machine.specs.Machine.{AllStay, GoesOn, IsFull, OthersSame, OthersStay, claim_at, voter_at};
 
 use crate::entries::place_of;
 use crate::name_entry::NameEntry;
@@ -33,7 +33,7 @@ impl LeaseMachine {
         ensures full { result ≡ Vote.Full → AllStay self.old self.new × IsFull now self.old × CanGrant (voter_at self.old name.now) now client epoch }
         ensures others { OthersStay now name.now self.old self.new }
         ensures claim { claim_at self.new name.now ≡ claim_at self.old name.now }
-        ensures terms { (self.new.terms ≡ self.old.terms) × (self.new.process ≡ self.old.process) × (self.new.bound ≡ self.old.bound) }
+        ensures goes_on { GoesOn self.old self.new }
     {
         let Some(place) = place_of(&self.names, name) else {
             return self.vote_anew(now, name, client, epoch);
@@ -54,7 +54,7 @@ impl LeaseMachine {
         ensures full { result ≡ Vote.Full → AllStay self.old self.new × IsFull now self.old × CanGrant (voter_at self.old name.now) now client epoch }
         ensures others { OthersStay now name.now self.old self.new }
         ensures claim { claim_at self.new name.now ≡ claim_at self.old name.now }
-        ensures terms { (self.new.terms ≡ self.old.terms) × (self.new.process ≡ self.old.process) × (self.new.bound ≡ self.old.bound) }
+        ensures goes_on { GoesOn self.old self.new }
     {
         let mut voter = self.unknown();
         if !voter.ask(now, client, epoch) {
@@ -81,7 +81,7 @@ impl LeaseMachine {
         ensures passes { result ≡ false → AllStay self.old self.new × ((voter_at self.old name.now).holder ≡ Some client → (voter_at self.old name.now).last ≡ epoch → ⊥) }
         ensures others { OthersSame name.now self.old self.new }
         ensures claim { claim_at self.new name.now ≡ claim_at self.old name.now }
-        ensures terms { (self.new.terms ≡ self.old.terms) × (self.new.process ≡ self.old.process) × (self.new.bound ≡ self.old.bound) }
+        ensures goes_on { GoesOn self.old self.new }
     {
         match place_of(&self.names, name) {
             Some(place) => self.names[place].voter.release(client, epoch),
