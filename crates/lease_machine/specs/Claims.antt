@@ -16,6 +16,12 @@ pub record IsNew (terms : LeaseTerms) (process number user : ℕ) (c : Claim) : 
   pub time : c.candidate.relies_for ≡ terms.relies_for
   pub begins : (clock : ℕ → ℕ) → Shows clock c.candidate beginning
 
+-- somebody asks, and is new
+pub record IsBegun (terms : LeaseTerms) (process number user : ℕ) (claim : Option Claim) : Type 0 where
+  pub c : Claim
+  pub is : claim ≡ Some c
+  pub new : IsNew terms process number user c
+
 -- it is the same one, with the same client
 pub record IsSameClaim (c d : Claim) : Type 0 where
   pub user : d.user ≡ c.user

@@ -3,7 +3,7 @@ ghost use Rattle.lease_runs.specs.Code.{ask_of};
 ghost use Rattle.lease_runs.specs.Run.{asks, stops};
 ghost use Rattle.lease_machine.specs.Kept.{IsOwn};
 ghost use Rattle.lease_machine.specs.Machine.{AllStay, GoesOn, IsFull, OthersSame, OthersStay, claim_at, voter_at};
-ghost use Rattle.lease_machine.specs.Claims.{Acts, Hears, IsNew, Relies, ReliesNot};
+ghost use Rattle.lease_machine.specs.Claims.{Acts, Hears, IsBegun, IsNew, Relies, ReliesNot};
 
 use crate::entries::place_of;
 use crate::name_entry::{Claim, NameEntry};
@@ -30,7 +30,7 @@ impl LeaseMachine {
         // for a name that somebody here asks for, or where no number is left, or each name is in use; then nothing changes. How the
         // machine votes doesn't change.
         // Refuses: client_numbered_as_the_last, name_claimed_twice, claimed_without_room.
-        ensures claimed { IsOk result → IfSome (claim_at self.new name.now) (IsNew self.old.terms self.old.process (self.old.claims + 1) user) }
+        ensures claimed { IsOk result → IsBegun self.old.terms self.old.process (self.old.claims + 1) user (claim_at self.new name.now) }
         ensures counts { IsOk result → self.new.claims ≡ self.old.claims + 1 }
         ensures taken { result ≡ Err ClaimRefusal.Claimed → is_some (claim_at self.old name.now) ≡ true }
         ensures free { (result ≡ Err ClaimRefusal.Claimed → ⊥) → is_some (claim_at self.old name.now) ≡ false }
