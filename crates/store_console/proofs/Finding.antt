@@ -1,5 +1,5 @@
 -- What a mounting answers of the parts of a store, as what is found there.
-use Rattle.std.proofs.Common.{◌≡◌, ◌+◌, ◌≤◌, ◌⊎◌, ⊎_elim, ℕ, zero, suc, length, List, ◌∷◌, Option, Some, None, Result, Ok, Err, IfOk, IsErrOf, is_none, nat_lt, true, false, if◌then◌else◌}
+use Rattle.std.proofs.Common.{◌≡◌, ◌+◌, ◌<◌, ◌≤◌, ◌⊎◌, ⊎_elim, ℕ, zero, suc, length, List, ◌∷◌, Option, Some, None, Result, Ok, Err, IfOk, IsErrOf, is_none, nat_lt, true, false, if◌then◌else◌}
 use Rattle.std.proofs.Common.{sym, ◌∙◌, ap, refl, arith}
 use Rattle.std.proofs.lemmas.Bool.Decides.{nat_tests}
 use Rattle.std.specs.declared.alloc.AllocError.{AllocError}
@@ -120,3 +120,11 @@ shown_held shown bytes image (Err e) held large is = tt
 shown_held shown bytes image (Ok p) held large is =
     let enough : nat_lt (length image) 24 ≡ false = grind (arith, nat_tests, large) in
     record { image = image; held = held; printed = is ∙ sym (ap (λ b. if b then too_small (length image) else held_text shown (owner_of bytes) image) enough) }
+
+-- of one that isn't
+pub shown_small : (shown : Shown) (bytes : List ℕ) (image : Image) (result : Result Output AllocError) → IsHeldBy bytes image → length image < 24
+    → IfOk result (λ p. printout_of p ≡ too_small (length image)) → IfOk result (λ p. IsShown shown bytes (printout_of p))
+shown_small shown bytes image (Err e) held few is = tt
+shown_small shown bytes image (Ok p) held few is =
+    let small : nat_lt (length image) 24 ≡ true = grind (arith, nat_tests, few) in
+    record { image = image; held = held; printed = is ∙ sym (ap (λ b. if b then too_small (length image) else held_text shown (owner_of bytes) image) small) }

@@ -1,7 +1,12 @@
+mod Across
 mod Aparts
 mod Barrings
 mod Behind
 mod Counts
 mod Finding
+mod Places
 mod Queues
+mod Salvages
 mod Sessions
+mod Silence
+mod SlotRows

@@ -1,5 +1,9 @@
 -- What the bytes of a file hold.
-use Rattle.std.specs.Prelude.{◌≡◌, ◌<◌, ℕ, ◌*◌, ◌/◌, ◌==◌, ◌||◌, Bool, List, ◌∷◌, ◌++◌, length, take, drop, get_or, replicate, bytes_eq, codes, Option, Some, None, Result, Ok, Err, if◌then◌else◌}
+use Rattle.std.specs.Prelude.{◌≡◌, ◌↔◌, ◌<◌, ℕ, ◌*◌, ◌/◌, ◌%◌, ◌==◌, ◌||◌, Bool, List, ◌∷◌, ◌++◌, length, take, drop, get_or, replicate, bytes_eq, codes, Option, Some, None, Result, Ok, Err, if◌then◌else◌}
+use Rattle.file_disk.specs.File.{bytes_of}
+use Rattle.file_disk.specs.Label.{IsSpaced}
+use Rattle.file_disk.specs.declared.stride.Stride.{Stride}
+use Rattle.file_disk.specs.declared.stride.Stride.TheVariants.{Spaced}
 use Rattle.sector_disk.specs.Disk.{Image, sector_at}
 use Rattle.safe_cell.specs.Cell.{cell_at}
 use Rattle.job_journal.specs.Areas.{area_of, sealed_prefix, slots_from}
@@ -12,16 +16,32 @@ use Rattle.store_console.specs.declared.found.Counter.TheVariants.{Missing, Valu
 use Rattle.store_console.specs.declared.found.Owner.{Owner}
 use Rattle.store_console.specs.declared.found.Owner.TheVariants.{Store, Node, Unknown}
 
--- The sectors of these bytes: each is the 512 bytes at its place, and what is left at the end belongs to none.
-pub record IsHeldBy (bytes : List ℕ) (image : Image) : Type 0 where
-  pub size : length image ≡ length bytes / 512
-  pub each : (at : ℕ) → at < length bytes / 512 → sector_at image at ≡ take 512 (drop (512 * at) bytes)
+-- ---- its sectors
 
--- ---- whose it is
-
--- what stands behind the last sector
+-- what stands behind the last 512 bytes that are whole
 abbrev pub tail_of : List ℕ → List ℕ
 tail_of bytes = drop (512 * (length bytes / 512)) bytes
+
+-- these are its label, where they are as many bytes as one has
+abbrev pub label_by : List ℕ → Option (List ℕ)
+label_by tail = if length tail == 16 then Some tail else None
+
+abbrev pub label_in : List ℕ → Option (List ℕ)
+label_in bytes = label_by (tail_of bytes)
+
+-- each sector has a block of 4,096 bytes of its own: so says the label behind the last block
+abbrev pub IsSpacedFile : List ℕ → Type 0
+IsSpacedFile bytes = (length bytes % 4096 ≡ 16) × IsSpaced (label_in bytes)
+
+-- The sectors of these bytes: each is the first 512 bytes at its place, and what is left at the end belongs to none.
+pub record IsHeldBy (bytes : List ℕ) (image : Image) : Type 0 where
+  -- how far apart they lie
+  pub stride : Stride
+  pub spaced : (stride ≡ Spaced) ↔ IsSpacedFile bytes
+  pub size : length image ≡ length bytes / bytes_of stride
+  pub each : (at : ℕ) → at < length bytes / bytes_of stride → sector_at image at ≡ take 512 (drop (bytes_of stride * at) bytes)
+
+-- ---- whose it is
 
 -- the label of node `id` of so many; `apart` is 1 where each sector has a block of its own in the file, else 0
 abbrev pub label_for : ℕ → ℕ → ℕ → List ℕ
@@ -35,11 +55,12 @@ abbrev pub labelled : List ℕ → Owner
 labelled label = if is_label label (get_or label 9 0) (get_or label 10 0) then Node (get_or label 9 0) (get_or label 10 0) else Unknown
 
 -- a file without a label is a store's
-abbrev pub owner_by : List ℕ → Owner
-owner_by tail = if length tail == 16 then labelled tail else Store
+abbrev pub owner_by : Option (List ℕ) → Owner
+owner_by None = Store
+owner_by (Some label) = labelled label
 
 abbrev pub owner_of : List ℕ → Owner
-owner_of bytes = owner_by (tail_of bytes)
+owner_of bytes = owner_by (label_in bytes)
 
 -- ---- the counter
 

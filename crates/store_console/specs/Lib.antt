@@ -5,5 +5,7 @@ pub mod Explained
 pub mod Session
 pub mod Reasons
 pub mod Held
+pub mod Findings
 pub mod Printed
 pub mod Restored
+pub mod Salvaged

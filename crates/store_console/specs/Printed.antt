@@ -1,6 +1,6 @@
 -- What is printed of a file.
-use Rattle.std.specs.Prelude.{◌≡◌, ℕ, ◌==◌, ◌&&◌, nat_lt, List, [], ◌++◌, length, flat_map, count_by, Bool, true, false, codes, decimal, Result, Ok, Err, if◌then◌else◌}
-use Rattle.std.specs.List.{range_with_len}
+use Rattle.std.specs.Prelude.{◌≡◌, ℕ, ◌==◌, ◌&&◌, nat_lt, not, List, [], ◌++◌, length, flat_map, count_by, Bool, true, false, codes, decimal, Result, Ok, Err, if◌then◌else◌}
+use Rattle.std.specs.List.{list_any, range_with_len}
 use Rattle.job_model.specs.declared.job.Job.{Job}
 use Rattle.job_model.specs.declared.queue.TheConstants.{QUEUES}
 use Rattle.sector_disk.specs.Disk.{Image}
@@ -13,7 +13,10 @@ use Rattle.store_console.specs.declared.found.Counter.TheVariants.{Missing, Valu
 use Rattle.store_console.specs.declared.found.Owner.{Owner}
 use Rattle.store_console.specs.declared.found.Owner.TheVariants.{Store, Node, Unknown}
 use Rattle.store_console.specs.declared.inspecting.Shown.{Shown}
-use Rattle.store_console.specs.declared.inspecting.Shown.TheVariants.{All, Jobs as Listed}
+use Rattle.store_console.specs.declared.inspecting.Shown.TheVariants.{All, Verified, Jobs as Listed}
+use Rattle.store_console.specs.declared.findings.Finding.{Finding}
+use Rattle.store_console.specs.declared.findings.Finding.TheVariants.{CounterSlots, AreaSlots, SealedBehind, OtherAreaNextId, JobDiffers}
+use Rattle.store_console.specs.Findings.{findings_in, is_broken}
 use Rattle.store_console.specs.Held.{IsHeldBy, owner_of, counter_of, journal_of, used_in}
 
 -- a line of a name and its value
@@ -71,6 +74,25 @@ found_text owner slots used counter journal = record {
   good = has_value counter && has_jobs journal;
 }
 
+-- ---- what no crash leaves, and hints
+
+abbrev pub of_two : List ℕ → ℕ → ℕ → List ℕ
+of_two name a b = line (name ++ codes " " ++ decimal a ++ codes " " ++ decimal b)
+
+abbrev pub finding_text : Finding → List ℕ
+finding_text (CounterSlots a b) = of_two (codes "broken counter_slots") a b
+finding_text (AreaSlots a b) = of_two (codes "broken area_slots") a b
+finding_text (SealedBehind sector) = named (codes "broken sealed_behind") sector
+finding_text (OtherAreaNextId other here) = of_two (codes "hint other_area_next_id") other here
+finding_text (JobDiffers id) = named (codes "hint job_differs") id
+
+-- a line for each of these behind what is printed without them; it ends well where none of them is broken
+abbrev pub with_findings : List Finding → Printout → Printout
+with_findings findings printout = record {
+  text = printout.text ++ flat_map finding_text findings;
+  good = printout.good && not (list_any is_broken findings);
+}
+
 -- fewer sectors than a store has
 abbrev pub too_small : ℕ → Printout
 too_small sectors = refused (codes "too_small " ++ decimal sectors)
@@ -81,9 +103,14 @@ abbrev pub export_text : Result Jobs ℕ → Printout
 export_text (Ok jobs) = record { text = flat_map (λ job. line (job_text job)) jobs.pending; good = true }
 export_text (Err sector) = refused (codes "damaged_journal " ++ decimal sector)
 
--- what is printed of a disk with as many sectors as a store has
+-- all that a disk holds with as many sectors as a store has
+abbrev pub all_text : Owner → Image → Printout
+all_text owner image = found_text owner (slots_for (length image)) (used_in (slots_for (length image)) image) (counter_of image) (journal_of (slots_for (length image)) image)
+
+-- what is printed of such a disk
 abbrev pub held_text : Shown → Owner → Image → Printout
-held_text All owner image = found_text owner (slots_for (length image)) (used_in (slots_for (length image)) image) (counter_of image) (journal_of (slots_for (length image)) image)
+held_text All owner image = all_text owner image
+held_text Verified owner image = with_findings (findings_in (slots_for (length image)) image) (all_text owner image)
 held_text Listed owner image = export_text (journal_of (slots_for (length image)) image)
 
 abbrev pub shown_text : Shown → Owner → Image → Printout

@@ -49,7 +49,7 @@ fn push_said(
 
 /// Adds what stands between a reason and those before it.
 #[tactic(auto, using(crate::proofs::Aparts::first_reason, crate::proofs::Aparts::later_reason))]
-fn push_apart(why: &mut Vec<u8>) -> Result<(), AllocError>
+pub fn push_apart(why: &mut Vec<u8>) -> Result<(), AllocError>
     ensures { OnOk result (why.new.items ≡ why.old.items ++ apart why.old.items) }
 {
     if why.is_empty() {

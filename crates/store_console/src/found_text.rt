@@ -79,7 +79,7 @@ fn has_jobs(journal: &Result<JobJournal, u64>) -> bool
 }
 
 /// Adds a line of a name and its value.
-fn push_named(text: &mut Vec<u8>, name: &str, value: u64) -> Result<(), AllocError>
+pub fn push_named(text: &mut Vec<u8>, name: &str, value: u64) -> Result<(), AllocError>
     ensures { OnOk result (text.new.items ≡ text.old.items ++ named name.now value) }
 {
     push_text(text, name)?;

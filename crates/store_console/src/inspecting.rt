@@ -4,13 +4,15 @@ ghost use Rattle.std.specs.Prelude.{◌≡◌, ◌≤◌, ◌+◌, IfOk, length}
 ghost use Rattle.console_text.specs.Ends.{Prints, printout_of};
 ghost use Rattle.node_store.specs.Store.{slots_for};
 ghost use Rattle.store_console.specs.Held.{journal_of};
-ghost use Rattle.store_console.specs.declared.inspecting.Shown.TheVariants.{All};
+ghost use Rattle.store_console.specs.declared.inspecting.Shown.TheVariants.{All, Verified};
 ghost use Rattle.store_console.specs.Printed.{IsShown, export_text, held_text};
 
 use crate::copying::disk_of;
+use crate::finding_text::with_findings;
 use crate::found::Owner;
 use crate::found_text::{described, jobs_alone, too_small};
 use crate::looking::{counter, journal, owner_of, used};
+use crate::verifying::findings;
 use console_text::{ExitKind, IoTrouble, Output, Source, print, read_source};
 use node_store::slots_of;
 use sector_disk::{MemDisk, SectorDisk};
@@ -22,6 +24,8 @@ use std::io::{Read, Write};
 pub enum Shown {
     /// Whose it is, the count of groups, the next id, the jobs by queue and the slots that are used, or what is damaged, and where.
     All,
+    /// All that, and then what no crash leaves, and what may tell of an older state.
+    Verified,
     /// Its jobs, a line each.
     Jobs,
 }
@@ -41,6 +45,13 @@ pub fn inspect<R: Read, W: Write>(
     // Promise: What `export` prints is a line for each job that the bytes of a file hold, or what is damaged.
     // Also: reads.
     // Refuses: damage_exported_as_no_jobs.
+    // Promise: What `inspect --verify` prints behind that is a line for each finding of its definitions, and no other: numbers in the slots of
+    // a cell that no raise leaves, the first sealed slot behind the journal's end, a greater next id of the other area, a job that stands
+    // differently there. It ends badly where one of them is broken, and not for a hint.
+    // Also: sound_is_silent.
+    // Refuses: slots_compared_by_order, last_gate_not_looked_at, hint_told_as_broken, other_area_is_the_present_one.
+    // Promise: The sectors of a file are read where its label says that they lie.
+    // Refuses: spaced_file_read_as_packed.
     ensures prints { Prints (IsShown shown) (R.remaining file.old.reader) (W.contents output.old) (W.contents output.new) result }
     ensures reads { file.old.left ≤ file.new.left + 16777216 }
 {
@@ -62,6 +73,7 @@ fn shown_of(alloc: Global, shown: Shown, bytes: &[u8]) -> Result<Output, AllocEr
     }
     match shown {
         Shown::All => inspection(alloc, owner_of(bytes), &mut disk),
+        Shown::Verified => verification(alloc, owner_of(bytes), &mut disk),
         Shown::Jobs => exported(alloc, &mut disk),
     }
 }
@@ -69,13 +81,25 @@ fn shown_of(alloc: Global, shown: Shown, bytes: &[u8]) -> Result<Output, AllocEr
 /// Whose a disk is, and what it holds.
 fn inspection(alloc: Global, owner: Owner, disk: &mut MemDisk) -> Result<Output, AllocError>
     requires { 24 ≤ length disk.old.contents }
-    ensures { IfOk result (λ printout. printout_of printout ≡ held_text All owner disk.old.contents) }
+    ensures found { IfOk result (λ printout. printout_of printout ≡ held_text All owner disk.old.contents) }
+    ensures kept { disk.new.contents ≡ disk.old.contents }
 {
     let slots = slots_of(disk.sectors());
     let used = used(disk, slots)?;
     let counter = counter(disk)?;
     let journal = journal(alloc, disk, slots)?;
     described(alloc, owner, slots, used, counter, &journal)
+}
+
+/// The same, and what its bytes show of rot.
+fn verification(alloc: Global, owner: Owner, disk: &mut MemDisk) -> Result<Output, AllocError>
+    requires { 24 ≤ length disk.old.contents }
+    ensures { IfOk result (λ printout. printout_of printout ≡ held_text Verified owner disk.old.contents) }
+{
+    let slots = slots_of(disk.sectors());
+    let printout = inspection(alloc, owner, disk)?;
+    let findings = findings(alloc, disk, slots)?;
+    with_findings(printout, &findings)
 }
 
 /// The jobs of a disk.

@@ -5,6 +5,7 @@
 //! ```
 //! let ended = store(rt, alloc, path, &mut input, &mut output);     // mount, put 3 6869, list ..; each is answered
 //! let ending = inspect(alloc, Shown::Jobs, &mut file, &mut output);
+//! let ended = salvage(alloc, &mut file, &mut output);              // the jobs of a file that is damaged, and what can't be read of it
 //! let table = read_jobs(alloc, slots, next, &bytes)?;              // the lines that were printed, for a file that is made with them
 //! ```
 #![tactic(auto)]
@@ -13,12 +14,16 @@ mod acting;
 mod barring;
 mod copying;
 mod explaining;
+mod finding_text;
+mod findings;
 mod flaw;
 mod found;
 mod found_text;
 mod inspecting;
+mod laws;
 mod looking;
 mod making;
+mod near_record;
 mod parsing;
 mod reading;
 mod reasons;
@@ -26,9 +31,15 @@ mod reply;
 mod request;
 mod restoring;
 mod running;
+mod salvage_reading;
+mod salvaging;
+mod slot_content;
 mod text;
+mod verifying;
 
 pub use flaw::{JobFlaw, job_flaw};
 pub use inspecting::{Shown, inspect};
+pub use laws::sound_is_silent;
 pub use restoring::{no_jobs, read_jobs};
 pub use running::store;
+pub use salvaging::salvage;

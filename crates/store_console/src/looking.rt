@@ -3,11 +3,14 @@
 ghost use Rattle.std.specs.Prelude.{◌≡◌, ◌<◌, ◌≤◌, ◌+◌, ◌*◌, ◌^◌, length, IfOk};
 ghost use Rattle.disk_sector.specs.Layout.{sectors_for};
 ghost use Rattle.disk_sector.specs.declared.layout.TheConstants.{LEAST_SLOTS, MOST_SLOTS};
+ghost use Rattle.slot_gate.specs.Slot.{slot_at};
 ghost use Rattle.safe_cell.specs.Cell.{cell_at};
 ghost use Rattle.job_journal.specs.Areas.{first_of, sealed_prefix, slots_from};
 ghost use Rattle.store_console.specs.Held.{counter_of, found_in, is_label, journal_of, label_for, labelled, owner_of, used_in};
 
+use crate::copying::label_in;
 use crate::found::{Counter, Owner};
+use disk_sector::Sector;
 use job_journal::{JobJournal, JournalFault};
 use safe_cell::CellFault;
 use sector_disk::MemDisk;
@@ -18,10 +21,9 @@ use std::alloc::{AllocError, Global};
 pub fn owner_of(bytes: &[u8]) -> Owner
     ensures { result ≡ owner_of bytes.now }
 {
-    let (_, tail) = bytes.split_at(512 * (bytes.len() / 512));
-    match <[u8; 16]>::try_from(tail) {
-        Ok(label) => labelled(label),
-        Err(_) => Owner::Store,
+    match label_in(bytes) {
+        Some(label) => labelled(label),
+        None => Owner::Store,
     }
 }
 
@@ -79,7 +81,8 @@ pub fn journal(
     requires on_disk { sectors_for slots ≤ length disk.old.contents }
     requires least { LEAST_SLOTS ≤ slots }
     requires most { slots ≤ MOST_SLOTS }
-    ensures { IfOk result (λ journal. found_in journal ≡ journal_of slots disk.old.contents) }
+    ensures found { IfOk result (λ journal. found_in journal ≡ journal_of slots disk.old.contents) }
+    ensures kept { disk.new.contents ≡ disk.old.contents }
 {
     match job_journal::mount(alloc, disk, slots) {
         Ok(journal) => Ok(Ok(journal)),
@@ -102,7 +105,7 @@ pub fn used(disk: &mut MemDisk, slots: u64) -> Result<u64, AllocError>
 }
 
 /// The value of the area cell, if it has one.
-fn area(disk: &mut MemDisk) -> Result<Option<u64>, AllocError>
+pub fn area(disk: &mut MemDisk) -> Result<Option<u64>, AllocError>
     requires { 8 ≤ length disk.old.contents }
     ensures found { IfOk result (λ area. area ≡ cell_at disk.old.contents 4) }
     ensures kept { disk.new.contents ≡ disk.old.contents }
@@ -116,15 +119,28 @@ fn area(disk: &mut MemDisk) -> Result<Option<u64>, AllocError>
 }
 
 /// The first sector of the area that is present under this value of the area cell.
-fn first_of(slots: u64, area: u64) -> u64
+pub fn first_of(slots: u64, area: u64) -> u64
     requires { slots ≤ MOST_SLOTS }
     ensures { result ≡ first_of slots area }
 {
     if area % 2 == 1 { 8 } else { 8 + 2 * slots }
 }
 
+/// The body of the slot in this sector, if it is sealed.
+pub fn seen(disk: &mut MemDisk, slot: u64) -> Result<Option<Sector>, AllocError>
+    requires on_disk { slot + 2 ≤ length disk.old.contents }
+    requires fits { slot + 2 < 2 ^ 64 }
+    ensures found { IfOk result (λ body. body ≡ slot_at disk.old.contents slot) }
+    ensures kept { disk.new.contents ≡ disk.old.contents }
+{
+    match look(disk, slot) {
+        Ok(body) => Ok(body),
+        Err(_) => Err(AllocError),
+    }
+}
+
 /// How many slots from this sector on are sealed, up to the first that isn't.
-fn sealed_from(disk: &mut MemDisk, first: u64, slots: u64) -> Result<u64, AllocError>
+pub fn sealed_from(disk: &mut MemDisk, first: u64, slots: u64) -> Result<u64, AllocError>
     requires on_disk { first + 2 * slots ≤ length disk.old.contents }
     requires fits { first + 2 * slots < 2 ^ 64 }
     ensures found { IfOk result (λ sealed. sealed ≡ length (sealed_prefix (slots_from disk.old.contents first slots))) }
