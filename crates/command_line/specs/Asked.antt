@@ -11,6 +11,8 @@ use Rattle.trace_draw.specs.declared.judging.Stage.{Stage}
 use Rattle.trace_draw.specs.declared.judging.Stage.TheVariants.{Over, Ongoing}
 use Rattle.trace_draw.specs.declared.drawing.OutputFormat.{OutputFormat}
 use Rattle.trace_draw.specs.declared.drawing.OutputFormat.TheVariants as format
+use Rattle.store_console.specs.declared.inspecting.Shown.{Shown}
+use Rattle.store_console.specs.declared.inspecting.Shown.TheVariants as show
 use Rattle.threads_console.specs.declared.kind.TraceKind.{TraceKind}
 use Rattle.threads_console.specs.declared.kind.TraceKind.TheVariants.{Plain, Ordered}
 use Rattle.command_line.specs.declared.invocation.TheConstants.{MOST_ROUND_TRIP, ROUND_TRIP}
@@ -49,8 +51,10 @@ pub data Asked : Type 0 where
   draws : Bool → Asked
   makes : List ℕ → Made → Option (List ℕ) → Asked
   serves : List ℕ → ℕ × ℕ → ℕ → Option Sealed → Asked
-  inspects : List ℕ → Asked
-  exports : List ℕ → Asked
+  -- whether it is verified, too
+  inspects : Bool → List ℕ → Asked
+  -- whether the jobs are salvaged
+  exports : Bool → List ℕ → Asked
 
 abbrev pub placed : NodePlace → ℕ × ℕ
 placed place = (place.id, place.nodes)
@@ -86,12 +90,17 @@ asked_batch Record = records
 asked_batch (Threads kind) = runs_threads (is_ordered kind)
 asked_batch (Draw format) = draws (is_page format)
 
+abbrev pub looks : Shown → List ℕ → Asked
+looks show.All path = inspects false path
+looks show.Verified path = inspects true path
+looks show.Jobs path = exports false path
+
 abbrev pub asked : Invocation → Asked
 asked (invocation.Batch batch) = asked_batch batch
 asked (invocation.Format path making jobs) = makes (string_bytes path) (made making) (option_map string_bytes jobs)
 asked (invocation.Node path place round_trip sealing) = serves (string_bytes path) (placed place) round_trip (option_map sealed sealing)
-asked (invocation.Inspect path) = inspects (string_bytes path)
-asked (invocation.Export path) = exports (string_bytes path)
+asked (invocation.Look path shown) = looks shown (string_bytes path)
+asked (invocation.Salvage path) = exports true (string_bytes path)
 asked (invocation.Trace stage files) = traces (is_ongoing stage) (map string_bytes files.items)
 
 -- ---- arguments, by their names
@@ -200,5 +209,5 @@ asked_by name arguments lists =
     if bytes_eq name (codes "draw") then Some (draws (is_set (arguments (codes "html")))) else
     if bytes_eq name (codes "format") then format_of arguments else
     if bytes_eq name (codes "node") then node_of arguments else
-    if bytes_eq name (codes "inspect") then option_map inspects (arguments (codes "FILE")) else
-    if bytes_eq name (codes "export") then option_map exports (arguments (codes "FILE")) else None
+    if bytes_eq name (codes "inspect") then option_map (inspects (is_set (arguments (codes "verify")))) (arguments (codes "FILE")) else
+    if bytes_eq name (codes "export") then option_map (exports (is_set (arguments (codes "salvage")))) (arguments (codes "FILE")) else None

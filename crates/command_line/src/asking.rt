@@ -13,6 +13,7 @@ use group_task::{NODES, NodeId};
 use invite_console::Details;
 use line_words::number;
 use std::alloc::{AllocError, Global};
+use store_console::Shown;
 use threads_console::TraceKind;
 use trace_draw::{OutputFormat, Stage};
 
@@ -25,7 +26,7 @@ pub fn invocation(
     // Promise: The command that is run is the one that was named, with its arguments as numbers, and the exit status is that of its
     // ending.
     // Also: perform.
-    // Refuses: one_command_for_another, sim_shows, every_status_zero, picture_for_a_page, files_passed_over.
+    // Refuses: one_command_for_another, sim_shows, every_status_zero, picture_for_a_page, files_passed_over, inspected_without_verifying.
     ensures { IfOk result (λ invocation. option_map asked invocation ≡ asked_by name.now (λ id. first_value (found_of words.now) id) (λ id. values_of (found_of words.now) id)) }
 {
     if is(name, "answer") {
@@ -215,21 +216,31 @@ pub(crate) fn round_trip(words: &ArgMatches<'_>) -> Option<u16>
 }
 
 fn inspect(alloc: Global, words: &ArgMatches<'_>) -> Result<Option<Invocation>, AllocError>
-    ensures { IfOk result (λ invocation. option_map asked invocation ≡ option_map inspects (first_value (found_of words.now) (codes "FILE"))) }
+    ensures { IfOk result (λ invocation. option_map asked invocation
+        ≡ option_map (inspects (is_set (first_value (found_of words.now) (codes "verify")))) (first_value (found_of words.now) (codes "FILE"))) }
 {
     let Some(path) = words.get_str("FILE") else {
         return Ok(None);
     };
-    Ok(Some(Invocation::Inspect(String::from_str(alloc, path)?)))
+    let path = String::from_str(alloc, path)?;
+    if is_set(words, "verify") {
+        return Ok(Some(Invocation::Look(path, Shown::Verified)));
+    }
+    Ok(Some(Invocation::Look(path, Shown::All)))
 }
 
 fn export(alloc: Global, words: &ArgMatches<'_>) -> Result<Option<Invocation>, AllocError>
-    ensures { IfOk result (λ invocation. option_map asked invocation ≡ option_map exports (first_value (found_of words.now) (codes "FILE"))) }
+    ensures { IfOk result (λ invocation. option_map asked invocation
+        ≡ option_map (exports (is_set (first_value (found_of words.now) (codes "salvage")))) (first_value (found_of words.now) (codes "FILE"))) }
 {
     let Some(path) = words.get_str("FILE") else {
         return Ok(None);
     };
-    Ok(Some(Invocation::Export(String::from_str(alloc, path)?)))
+    let path = String::from_str(alloc, path)?;
+    if is_set(words, "salvage") {
+        return Ok(Some(Invocation::Salvage(path)));
+    }
+    Ok(Some(Invocation::Look(path, Shown::Jobs)))
 }
 
 /// What FILE is made for, by SLOTS, SELF, NODES, FIRST and its stride.

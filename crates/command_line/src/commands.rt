@@ -111,6 +111,18 @@ const CLUSTER: Argument = Argument {
     help: "The name of the cluster, which the key is bound to",
 };
 
+const VERIFY: Argument = Argument {
+    name: "verify",
+    kind: ArgumentKind::Flag,
+    help: "Prints, too, what no crash leaves in a file, as broken, and what may tell of an older state, as a hint",
+};
+
+const SALVAGE: Argument = Argument {
+    name: "salvage",
+    kind: ArgumentKind::Flag,
+    help: "Prints each job that can still be read, in front of what is damaged and behind it; standard error says what is",
+};
+
 const ROUND_TRIP_MS: Argument = Argument {
     name: "ROUND_TRIP_MS",
     kind: ArgumentKind::MayBeLeftOut,
@@ -188,14 +200,14 @@ const COMMANDS: [Described; 12] = [
     Described {
         name: "inspect",
         about: "Prints what the file of a node or of a store holds",
-        more: "A line for each name and its value: whose file it is, the slots, the count of groups, the next id, the jobs by queue, or what is damaged and where (docs/FORMATS.md). It takes no lock and writes nothing.\n\nExit status: 0 all was printed; 1 something is damaged or missing, reading or writing failed, or there was no memory; 2 the command line can't be read, or asks for help; 3 the device failed; 7 the file can't be opened.\n\nExample: invite inspect /tmp/node0",
-        arguments: &[LOOKED_AT],
+        more: "A line for each name and its value: whose file it is, the slots, the count of groups, the next id, the jobs by queue, or what is damaged and where (docs/FORMATS.md). It takes no lock and writes nothing.\n\nExit status: 0 all was printed; 1 something is damaged, missing or broken, reading or writing failed, or there was no memory; 2 the command line can't be read, or asks for help; 3 the device failed; 7 the file can't be opened.\n\nExample: invite inspect /tmp/node0",
+        arguments: &[LOOKED_AT, VERIFY],
     },
     Described {
         name: "export",
         about: "Prints the jobs of the file of a node or of a store",
         more: "A line for each job: job ID QUEUE HEX P, as list of invite store prints it. It takes no lock and writes nothing.\n\nExit status: 0 the jobs were printed; 1 something is damaged or missing, reading or writing failed, or there was no memory; 2 the command line can't be read, or asks for help; 3 the device failed; 7 the file can't be opened.\n\nExample: invite export /tmp/node0 > /tmp/jobs",
-        arguments: &[LOOKED_AT],
+        arguments: &[LOOKED_AT, SALVAGE],
     },
     Described {
         name: "trace",

@@ -6,6 +6,7 @@ ghost use Rattle.disk_sector.specs.declared.layout.TheConstants.{LEAST_SLOTS, MO
 use file_disk::Stride;
 use group_task::NodeId;
 use invite_console::Details;
+use store_console::Shown;
 use threads_console::TraceKind;
 use trace_draw::{OutputFormat, Stage};
 
@@ -24,10 +25,10 @@ pub enum Invocation {
     /// A node is to be served, over the file of this path, where a round trip takes so many milliseconds, with its messages sealed where
     /// there are keys.
     Node(String, NodePlace, u16, Option<Sealing>),
-    /// What the file of this path holds is to be printed.
-    Inspect(String),
-    /// The jobs of the file of this path are to be printed.
-    Export(String),
+    /// What the file of this path holds is to be printed, all of it or its jobs.
+    Look(String, Shown),
+    /// The jobs of the file of this path are to be printed that can still be read.
+    Salvage(String),
     /// A run whose records stand in the files of these paths is to be judged.
     Trace(Stage, Vec<String>),
 }

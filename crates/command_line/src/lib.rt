@@ -31,7 +31,7 @@ use line_words::LineFault;
 use making::format_file;
 use mistake::mistake_in;
 use performing::perform;
-use reading::{file_to_read, image_of, owner_at};
+use reading::{file_to_read, owner_at};
 use reasons::{Reason, explain, reason_of};
 use serving::serve_file;
 use status::Status;
@@ -83,8 +83,8 @@ fn obey<T: Threads + Wait + Sync>(rt: &HostRuntime, threads: &T) -> io::Result<u
             round_trip,
             &sealing,
         ),
-        Ok(Invocation::Inspect(path)) => look(rt, path.as_str(), Shown::All),
-        Ok(Invocation::Export(path)) => look(rt, path.as_str(), Shown::Jobs),
+        Ok(Invocation::Look(path, shown)) => look(rt, path.as_str(), shown),
+        Ok(Invocation::Salvage(path)) => salvage(rt, path.as_str()),
         Ok(Invocation::Trace(stage, paths)) => judge(rt, stage, &paths),
         Err(status) => Ok(status),
     }
@@ -287,41 +287,50 @@ fn bytes_of<R: Read + Drop>(rt: &HostRuntime, mut input: Source<R>) -> io::Resul
     }
 }
 
-/// Reads a file and prints what it holds, and answers the exit status.
+/// Reads a file and prints what it holds, and answers the exit status. Where something of it is damaged or missing, standard error says whose it
+/// is.
 fn look(rt: &HostRuntime, path: &str, shown: Shown) -> io::Result<u8> {
-    let file = match file_to_read(rt, path) {
-        Ok(file) => file,
+    let mut input = match file_to_read(rt, path) {
+        Ok(file) => Source::new(file),
         Err(status) => return explain_status(rt, path, status),
     };
-    match image_of(rt.alloc(), &file) {
-        Ok(None) => shown_of(rt, path, Source::new(file), shown),
-        Ok(Some(bytes)) => shown_of(rt, path, Source::new(bytes.as_slice()), shown),
-        Err(error) if error.kind() == ErrorKind::OutOfMemory => Err(error),
-        Err(error) => {
-            explain(rt, Reason::Unread(Some(error)))?;
-            Ok(1)
-        }
-    }
-}
-
-/// Prints what the bytes of the file of this path hold, and answers the exit status. Where something of it is damaged or missing, standard
-/// error says whose it is.
-fn shown_of<R: Read + Drop>(
-    rt: &HostRuntime,
-    path: &str,
-    mut input: Source<R>,
-    shown: Shown,
-) -> io::Result<u8> {
     let mut output = Sink::new(rt.stdout());
     let ending = store_console::inspect(rt.alloc(), shown, &mut input, &mut output);
-    if ending == ExitKind::Refused {
+    let why = Vec::new(rt.alloc());
+    tell_of_file(
+        rt,
+        path,
+        Ended { ending, why },
+        input.fault(),
+        output.fault(),
+    )
+}
+
+/// Reads a file and prints the jobs that can still be read, and answers the exit status. Standard error says what can't be.
+fn salvage(rt: &HostRuntime, path: &str) -> io::Result<u8> {
+    let mut input = match file_to_read(rt, path) {
+        Ok(file) => Source::new(file),
+        Err(status) => return explain_status(rt, path, status),
+    };
+    let mut output = Sink::new(rt.stdout());
+    let ended = store_console::salvage(rt.alloc(), &mut input, &mut output);
+    tell_of_file(rt, path, ended, input.fault(), output.fault())
+}
+
+/// As `tell`, of a command that read the file of this path: where all that is wrong was printed, standard error says whose it is.
+fn tell_of_file(
+    rt: &HostRuntime,
+    path: &str,
+    ended: Ended,
+    unread: Option<io::Error>,
+    unwritten: Option<io::Error>,
+) -> io::Result<u8> {
+    if ended.ending == ExitKind::Refused && ended.why.is_empty() {
         if let Some(owner) = owner_at(rt, path) {
             eprintln!(rt; "invite: {path}: something is damaged or missing: {owner}")?;
         }
-        return Ok(ending.status());
     }
-    let why = Vec::new(rt.alloc());
-    tell(rt, Ended { ending, why }, input.fault(), output.fault())
+    tell(rt, ended, unread, unwritten)
 }
 
 /// Where a command of a node didn't end well, says why on standard error, in one line. Answers the exit status.
