@@ -24,4 +24,5 @@ pub mod record;
 pub mod resolver;
 pub mod say;
 pub mod service;
+pub mod verify;
 pub mod view;

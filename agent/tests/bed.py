@@ -93,6 +93,10 @@ class Relay:
             self.carried += 1
             heapq.heappush(self.later, (time.monotonic() + self.chance.uniform(*self.delay), self.carried, pair[1], datagram))
 
+    def head(self, j):
+        """What stands in front of a message that node j takes without a key."""
+        return next(datagram[:10] for to, datagram in list(self.kept) if to == j and datagram[:2] == b"\xd6\2")
+
     def send(self, j, datagram):
         self.out.sendto(datagram, self.real[j])
 

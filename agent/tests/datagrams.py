@@ -36,8 +36,9 @@ def rubbish(bed):
     agents.one_group()
     counted = lambda: metric(agents, 0, "refused_total") + metric(agents, 0, "dropped_total")
     before, sent = counted(), [b""]
+    head = agents.relay.head(0)
     for _ in range(400):
-        sent += [random_bytes(chance, 1, 1500), b"\xd6\x01" + random_bytes(chance, 0, 300)]
+        sent += [random_bytes(chance, 1, 1500), head + random_bytes(chance, 0, 300), head + b"\1\1\1" + random_bytes(chance, 0, 300), b"\xd6\x01" + random_bytes(chance, 0, 300)]
     agents.send_all(0, sent)
     agents.until(lambda: counted() - before >= len(sent))
     check("bytes that are no message are refused and counted", agents.status(0)["alive"])
@@ -80,8 +81,9 @@ def busy(bed, agents):
 
 def send_long(agents, many):
     """Datagrams as long as a long job, from where agent 0 knows the other node to be."""
+    message = agents.relay.head(0) + b"\1" * 490
     for _ in range(many):
-        agents.relay.links[0, 1].sendto(b"\1" * 500, agents.relay.real[0])
+        agents.relay.links[0, 1].sendto(message, agents.relay.real[0])
 
 
 def counted_since(agents):

@@ -1,8 +1,8 @@
 """What an agent bears: half lines, a folder of its socket that goes, a flood while it is stopped, signals and name servers at its begin, odd requests for its
-pages, a node whose numbers begin too low."""
+pages, a node of which old messages come."""
 import json, os, re, shutil, signal, socket, subprocess, time
 
-from bed import PATIENCE, free_port
+from bed import AT_ONCE, PATIENCE, free_port
 from cluster import metric, page
 
 # A line may have 16 KiB: so much of one is the most that costs nothing to keep.
@@ -143,11 +143,11 @@ def odd_pages(bed):
     agents.stop()
 
 
-def too_low(bed):
-    """Under a key a node whose new file begins too low is told by the others; keys have names; a version of agents that isn't known is counted; so is a list of
-    keys that changed."""
+def old_messages(bed):
+    """Under a key a node of which nothing but old messages come is told; keys have names; a version of agents that isn't known is counted; a list of keys that
+    changed is told."""
     key = bed.key("ab")
-    agents, check = bed.agents("too_low", count=2, record=None, key=key, first=1000), bed.tally.check
+    agents, check = bed.agents("old_messages", count=2, record=None, key=key, first=1000), bed.tally.check
     agents.start_all()
     agents.one_group()
     told = agents.status(0)["keys"]
@@ -155,14 +155,17 @@ def too_low(bed):
     check("dumgerokctl shows it", re.search("^keys +%s$" % told[0], agents.ctl(0, "status").stdout, re.M))
     check("so do the metrics, and each has its cluster", 'dumgerok_key{name="%s",cluster="bed"} 1\n' % told[0] in page(agents, 0, "/metrics")[1] and metric(agents, 0, "sealed") == 1)
     for i in range(2):
-        agents.relay.send(i, b"\xd6\x02{}")
+        agents.relay.send(i, b"\xd6\x03{}")
         agents.until(lambda: metric(agents, i, 'dropped_total{reason="Version"}') == 1)
     agents.kill(1)
-    os.remove(agents.path(1, "node"))
-    subprocess.run([agents.program, "format", agents.path(1, "node"), "64", "1", "2", "5"], check=True)
-    agents.start(1)
-    agents.until(lambda: logged(agents, 0, "node 1: all that comes in its name from 127.0.0.1:"))
-    check("a node whose numbers begin too low is told by the others", len(logged(agents, 0, "is older than what it said before")) == 1)
+    old = [message for j, message in list(agents.relay.kept) if j == 0 and message[0] in (1, 2)][-AT_ONCE:]
+
+    def is_told():
+        agents.send_all(0, old)
+        return logged(agents, 0, "node 1: all that comes in its name from 127.0.0.1:")
+
+    agents.until(is_told)
+    check("a node of which nothing but old messages come is told", len(logged(agents, 0, "is older than what it said before")) == 1)
     with open(key, "a") as file:
         file.write("cd" * 32 + "\n")
     agents.processes[0].send_signal(signal.SIGHUP)

@@ -53,7 +53,7 @@ def ended_in_time(bed, agents, name):
 
 def stopped_node(bed):
     """SIGSTOP and SIGKILL of a node, seen by its agent."""
-    agents, check = bed.agents("stopped", count=1), bed.tally.check
+    agents, check = bed.agents("stopped", key=bed.key("ab"), count=1), bed.tally.check
     notices = Notices(agents.folder)
     agents.start(0, NOTIFY_SOCKET=notices.path, WATCHDOG_USEC="1000000")
     check("systemd is told that it is ready", notices.comes("READY=1"))
@@ -72,7 +72,7 @@ def stopped_node(bed):
     os.kill(node, signal.SIGKILL)
     check("a killed node ends its agent with 1", agents.processes[0].wait(PATIENCE) == 1)
     check("and the socket is gone", not os.path.exists(agents.path(0, "sock")))
-    judged(bed, agents, "a stopped node")
+    judged(bed, agents, "a stopped node", are_sealed=True)
 
 
 def without_answer(agents, check):

@@ -12,6 +12,7 @@ use dumgerok_agent::names;
 use dumgerok_agent::node_file::drop_cache;
 use dumgerok_agent::own_session::become_command;
 use dumgerok_agent::say::say;
+use dumgerok_agent::verify::is_whole;
 use log::{error, info, LevelFilter};
 use rustix::fs::fstat;
 use rustix::process::geteuid;
@@ -25,13 +26,15 @@ const CONFIG: u8 = 2;
 const DEVICE: u8 = 3;
 const KEY: u8 = 6;
 const UNUSABLE: u8 = 7;
+const BROKEN: u8 = 10;
 
 /// Runs the node of a Dumgerok cluster on this machine.
 ///
 /// Exit statuses, which are the node's: 0 by SIGTERM or SIGINT, 1 an address is in use or missing, another agent runs, the program can't be run, the node was
 /// killed or ended by itself, reading or writing failed, or there was no memory; 2 the configuration can't be read; 3 the device failed; 4 another process has
 /// the file open; 5 the file is another node's, no node's, or damaged; 6 the key can't be read, or others than its owner may read it; 7 the file isn't there,
-/// may not be opened, is no regular file, or was removed or cut off while the node ran.
+/// may not be opened, is no regular file, or was removed, cut off, written over or replaced while the node ran; 8 there was no room for a write; 9 the file was put back from a copy, or
+/// made with numbers that are too low; 10 the file holds what no crash leaves there.
 #[derive(Parser)]
 #[command(name = "dumgerokd", version, after_help = "Example: dumgerokd /etc/dumgerok/node.toml")]
 struct Arguments {
@@ -115,6 +118,9 @@ fn run(config: Config, path: PathBuf, beginning: &Beginning) -> anyhow::Result<u
     // A device may have failed under the node before: nothing is read but what it holds.
     if let Some(file) = file {
         drop_cache(&file).with_context(|| format!("{}: the system doesn't let go of it", config.file.display()))?;
+        if !is_whole(&config.program, &config.file) {
+            return Ok(BROKEN);
+        }
     }
     info!("node {} of cluster {}, {} nodes, at {}", config.id, config.cluster, config.nodes.len(), config.listens_at());
     let file = config.file.clone();

@@ -150,10 +150,22 @@ pub enum Command {
     },
     /// What a file holds: whose it is, its counts, its jobs by queue, or what is damaged and where
     #[command(after_help = "Example: dumgerokctl inspect")]
-    Inspect(Look),
+    Inspect {
+        #[command(flatten)]
+        look: Look,
+        /// Prints, too, what no crash leaves in a file, as broken, and what may tell of an older state, as a hint
+        #[arg(long)]
+        verify: bool,
+    },
     /// The jobs of a file, a line each
     #[command(after_help = "Example: dumgerokctl export > jobs")]
-    Export(Look),
+    Export {
+        #[command(flatten)]
+        look: Look,
+        /// Prints each job that can still be read, in front of what is damaged and behind it
+        #[arg(long)]
+        salvage: bool,
+    },
     /// Has the records of all nodes judged: whether a cluster can have done what stands there
     #[command(after_help = "Example: dumgerokctl judge node*/record.*")]
     Judge {

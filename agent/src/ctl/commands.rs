@@ -39,8 +39,8 @@ pub fn run(arguments: Arguments) -> Result<(), Failure> {
             print(&format.make(&program::read(config)?)?)
         }
         Command::Key { file } => print(&key::make(file)?),
-        Command::Inspect(look) => shown(program::look(look, "inspect")?, look.json || before.json, file::inspected),
-        Command::Export(look) => shown(program::look(look, "export")?, look.json || before.json, file::exported),
+        Command::Inspect { look, verify } => shown(program::look(look, "inspect", verify.then_some("--verify"))?, look.json || before.json, file::inspected),
+        Command::Export { look, salvage } => shown(program::look(look, "export", salvage.then_some("--salvage"))?, look.json || before.json, file::exported),
         Command::Judge { files, program: _, trace: true } => print(&format!("{}\n", program::trace_of(files)?)),
         Command::Judge { files, program, trace: false } => program::judge(files, program),
         Command::Completions { shell } => {

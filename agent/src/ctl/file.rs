@@ -2,18 +2,26 @@
 
 use serde_json::{json, Map, Value};
 
+/// Names of which there may be more lines than one.
+const LISTED: [&str; 2] = ["broken", "hint"];
+
 fn value(word: &str) -> Value {
     word.parse::<u64>().map_or_else(|_| Value::from(word), Value::from)
 }
 
-/// Lines of a name and its value, as one object; the jobs of each queue that has some stand in `queues`.
+/// Lines of a name and its value, as one object; the jobs of each queue that has some stand in `queues`, and what is broken or hints at something in lists.
 pub fn inspected(text: &str) -> String {
     let mut found = Map::new();
     let mut queues = Map::new();
     for (name, word) in text.lines().filter_map(|line| line.split_once(' ')) {
         match name.strip_prefix("queue_") {
-            Some(queue) => queues.insert(queue.to_string(), value(word)),
-            None => found.insert(name.to_string(), value(word)),
+            Some(queue) => drop(queues.insert(queue.to_string(), value(word))),
+            None if LISTED.contains(&name) => {
+                if let Value::Array(all) = found.entry(name).or_insert_with(|| json!([])) {
+                    all.push(Value::from(word));
+                }
+            }
+            None => drop(found.insert(name.to_string(), value(word))),
         };
     }
     if found.contains_key("jobs") {
@@ -52,6 +60,8 @@ mod tests {
         assert_eq!(read, wanted);
         let damaged: Value = serde_json::from_str(&inspected("kind store\ncount none\ndamaged_journal 5\n")).unwrap();
         assert_eq!(damaged, json!({"kind": "store", "count": "none", "damaged_journal": 5}));
+        let broken: Value = serde_json::from_str(&inspected("broken counter_slots 4 9\nbroken sealed_behind 12\nhint job_differs 3\n")).unwrap();
+        assert_eq!(broken, json!({"broken": ["counter_slots 4 9", "sealed_behind 12"], "hint": ["job_differs 3"]}));
     }
 
     #[test]

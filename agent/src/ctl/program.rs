@@ -13,13 +13,13 @@ pub fn read(path: &Path) -> Result<Config, Failure> {
 }
 
 /// What `inspect` or `export` prints of a file, and how it ends. What is wrong with the file itself it says on standard error.
-pub fn look(look: &Look, word: &str) -> Result<(String, ExitStatus), Failure> {
+pub fn look(look: &Look, word: &str, option: Option<&str>) -> Result<(String, ExitStatus), Failure> {
     let (program, file) = match &look.file {
         Some(file) => (look.program.clone(), file.clone()),
         None => read(&look.config).map(|config| (config.program, config.file))?,
     };
     let named = |why| Failure::Usage(format!("{}: {why}", program.display()));
-    let done = Command::new(&program).arg(word).arg(file).stderr(Stdio::inherit()).output().map_err(named)?;
+    let done = Command::new(&program).arg(word).args(option).arg(file).stderr(Stdio::inherit()).output().map_err(named)?;
     Ok((String::from_utf8_lossy(&done.stdout).into_owned(), done.status))
 }
 

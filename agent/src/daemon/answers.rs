@@ -1,7 +1,7 @@
 //! What the node answers.
 
-use super::{Asker, Daemon, FILE_DAMAGED, NO_MEMORY};
-use crate::forward::{Given, Outcome};
+use super::{Asker, Daemon, FILE_DAMAGED, FILE_IS_COPY, NO_MEMORY};
+use crate::forward::{Given, Numbers, Outcome};
 use crate::metrics::{kind_of, ANSWERS};
 use crate::node::{Answer, Closing, Group, Job, JobKey, Line, Refusal};
 use crate::protocol::Reply;
@@ -30,7 +30,8 @@ impl Daemon {
         if let Closing::Refused(refusal) = &answer.closing {
             self.metrics.refused.with_label_values(&[name_of(refusal)]).inc();
         }
-        if let Closing::Ok(Some(_)) = answer.closing {
+        if let Closing::Ok(Some(id)) = answer.closing {
+            self.numbers.kept_job(id);
             self.metrics.jobs.with_label_values(&["kept"]).inc();
             self.metrics.durable.with_label_values(&["put"]).inc();
             self.count_pending(self.fill.pending() + 1);
@@ -56,9 +57,21 @@ impl Daemon {
             Line::Keeps { count, next, pending } => {
                 info!("mounted: count {count}, next id {next}, {pending} jobs");
                 self.count_pending(*pending);
+                self.numbers.mounted(Numbers { count: *count, next: *next });
+                self.look_for_copy();
             }
             Line::Fired(timer) => self.metrics.fired.with_label_values(&[timer]).inc(),
             Line::Next { .. } | Line::Pending(_) | Line::InHand(_) => {}
+        }
+    }
+
+    /// Ends a node that gave greater numbers before than its file holds: it would give them again.
+    pub(super) fn look_for_copy(&mut self) {
+        if let (Some(Numbers { count, next }), None) = (self.numbers.given_before(), self.unusable) {
+            let (file, least) = (self.config.file.display(), count.max(next));
+            error!("{file}: this file was put back from a copy, or made with numbers that are too low: the other machines know of group {}:{count} and of {next} as the next id, and it is behind that: format a new one with --first above {least}", self.config.id);
+            self.notify.status("the file was put back from a copy".to_string());
+            self.unusable = Some(FILE_IS_COPY);
         }
     }
 
@@ -71,6 +84,9 @@ impl Daemon {
 
     fn enter(&mut self, group: Group, now: Instant) {
         self.metrics.groups.inc();
+        if group.is_any() && group.number.creator == self.config.id {
+            self.numbers.made_group(group.number.count);
+        }
         for node in self.view.lost_in(&group) {
             let heard = self.peers.silence(node, now).unwrap_or_default().as_secs_f64();
             let why = if self.peers.has_left(node) { ", and said that it ends" } else { "" };
@@ -164,7 +180,7 @@ impl Daemon {
             Closing::Refused(refusal) if name_of(refusal) == "Forged" => self.doubt(sender, from, now),
             Closing::Refused(refusal) if name_of(refusal) == "Stale" => {
                 if self.peers.is_stale(sender, now) {
-                    warn!("node {sender}: all that comes in its name from {from} is older than what it said before: was its file made or put back with lower numbers, or is this recorded?");
+                    warn!("node {sender}: all that comes in its name from {from} is older than what it said before: is this recorded, or was its file put back from a copy?");
                 }
             }
             Closing::Refused(_) | Closing::Fault => {}
@@ -172,7 +188,7 @@ impl Daemon {
     }
 
     /// The node can't read what came in the name of this one.
-    fn doubt(&mut self, sender: u8, from: SocketAddr, now: Instant) {
+    pub(super) fn doubt(&mut self, sender: u8, from: SocketAddr, now: Instant) {
         if sender != self.config.id && self.peers.refuse(sender, now) {
             let own = if self.config.key.is_some() { "another key or none there" } else { "a key there and none here" };
             warn!("node {sender}: what comes in its name from {from} is refused: {own}, or another cluster?");
@@ -180,6 +196,9 @@ impl Daemon {
     }
 
     fn started(&mut self, closing: &Closing) {
+        if self.unusable.is_some() {
+            return;
+        }
         if let Closing::Ok(_) = closing {
             self.view.is_ready = true;
             self.notify.ready();

@@ -2,14 +2,17 @@
 
 use super::{Asker, Daemon};
 use crate::config::Config;
-use crate::forward::{is_of_agents, Datagram, Seal};
+use crate::forward::{is_of_agents, marked, About, Datagram, Seal};
 use crate::metrics::{kind_of, QUESTIONS};
-use crate::net::MAX_DATAGRAM;
+use crate::net::{GroupBytes, Leaves, MAX_DATAGRAM};
 use crate::node::Lane;
 use log::{info, warn};
 use std::io::ErrorKind;
 use std::net::SocketAddr;
 use std::time::Instant;
+
+/// The body of a message begins behind so many bytes.
+const HEAD_OF_BODY: usize = 6;
 
 /// So many datagrams are taken at a time.
 const MAX_AT_A_TIME: usize = 256;
@@ -18,6 +21,16 @@ const MAX_AT_A_TIME: usize = 256;
 pub(super) enum Waiting {
     Message(Vec<u8>, SocketAddr),
     OfAgent(Datagram),
+}
+
+/// The node that a message says to be of.
+fn sender_of(message: &[u8]) -> u8 {
+    message.get(2).copied().unwrap_or(u8::MAX)
+}
+
+/// The group that a message of Work names, at the begin of its body.
+fn group_of(message: &[u8]) -> Option<GroupBytes> {
+    message.get(HEAD_OF_BODY..)?.get(..9)?.try_into().ok()
 }
 
 impl Daemon {
@@ -38,22 +51,54 @@ impl Daemon {
         let mut bytes = [0; MAX_DATAGRAM];
         for _ in 0..MAX_AT_A_TIME {
             match self.link.receive(&mut bytes) {
-                Some((datagram, _)) if is_of_agents(datagram) => {
+                Some((datagram, from)) if is_of_agents(datagram) => {
                     let datagram = datagram.to_vec();
-                    self.take_of_agent(&datagram, now);
+                    self.take_of_agent(&datagram, from, now);
                 }
                 Some((message, from)) => {
                     let message = message.to_vec();
-                    self.take_message(message, from);
+                    self.take_sealed(message, from, now);
                 }
                 None => return,
             }
         }
     }
 
+    /// A message without a mark: under a key its seal says of which cluster it is, and without one nothing does.
+    fn take_sealed(&mut self, message: Vec<u8>, from: SocketAddr, now: Instant) {
+        let sender = sender_of(&message);
+        if message.is_empty() {
+            return self.metrics.dropped.with_label_values(&["Empty"]).inc();
+        }
+        if self.config.key.is_none() {
+            self.metrics.dropped.with_label_values(&["Version"]).inc();
+            if kind_of(&message) != kind_of(&[]) {
+                self.doubt(sender, from, now);
+            }
+            return;
+        }
+        if self.introductions.is_stranger(sender) {
+            return self.metrics.dropped.with_label_values(&["Stranger"]).inc();
+        }
+        self.take_message(message, from);
+    }
+
+    /// A message without a seal. One by a mark that isn't known is of another cluster, or of one whose list is another one for a while.
+    pub(super) fn take_marked(&mut self, mark: [u8; 8], message: &[u8], from: SocketAddr, now: Instant) {
+        let sender = sender_of(message);
+        if self.config.key.is_none() && !self.introductions.is_known(sender, mark) {
+            self.metrics.dropped.with_label_values(&["Stranger"]).inc();
+            return self.ask_stranger(from, sender, now);
+        }
+        self.take_message(message.to_vec(), from);
+    }
+
     /// Half of the node's room is for those who are where the other nodes are, and they alone may wait: a flood from elsewhere keeps none of them from the
     /// node.
     fn take_message(&mut self, message: Vec<u8>, from: SocketAddr) {
+        if self.opening.is_some() {
+            return self.metrics.dropped.with_label_values(&["Down"]).inc();
+        }
         let peer = self.peers.at(from);
         if self.node.has_half_its_room(Lane::Network) || (peer.is_some() && self.node.has_room(Lane::Network)) {
             return self.deliver(&message, from);
@@ -73,12 +118,11 @@ impl Daemon {
         if message.is_empty() {
             return self.metrics.dropped.with_label_values(&["Empty"]).inc();
         }
-        let sender = message.get(2).copied().unwrap_or(u8::MAX);
-        let asker = Asker::Datagram { sender, from, kind: kind_of(message) };
+        let asker = Asker::Datagram { sender: sender_of(message), from, kind: kind_of(message) };
         self.ask(asker, format!("deliver {}", hex::encode(message)));
     }
 
-    /// Carries a message of the node. Work, of which the node may send as much at once as its journal holds, leaves a part at a time, and all else before it.
+    /// Carries a message of the node. Work, of which the node may send as much at once as its journal holds, leaves a part at a time.
     pub(super) fn carry(&mut self, to: u8, digits: &str, now: Instant) {
         let message = hex::decode(digits).unwrap_or_default();
         let kind = kind_of(&message);
@@ -86,9 +130,14 @@ impl Daemon {
         if QUESTIONS.contains(&kind) {
             self.peers.asked(to, now);
         }
-        let at_once = if kind == "Work" { self.pace.put(to, message) } else { Some((to, message)) };
-        if let Some((to, message)) = at_once {
-            self.send(to, &message, now);
+        let group = if kind == "Work" { group_of(&message) } else { None };
+        let message = if self.config.key.is_some() { message } else { marked(&message, self.introductions.mark()) };
+        let (leaves, dropped) = self.pace.put(to, &message, group, now);
+        self.metrics.dropped.with_label_values(&["Obsolete"]).inc_by(dropped);
+        match leaves {
+            Leaves::Now => self.send(to, &message, now),
+            Leaves::Later => {}
+            Leaves::Never => self.metrics.dropped.with_label_values(&["NoRoom"]).inc(),
         }
         self.send_on(now);
     }
@@ -162,6 +211,7 @@ impl Daemon {
             .and_then(|changed| Ok((own.addresses_of(&changed)?, own.differs_elsewhere(&changed))));
         match read {
             Ok((names, has_more)) => {
+                self.introductions.rename(About::new(&self.config.cluster, &names));
                 self.peers.rename(&names);
                 info!("the addresses were read again");
                 if has_more {

@@ -1,11 +1,12 @@
 //! Submissions on their way between agents.
 
 use super::datagrams::Waiting;
-use super::{Asker, Daemon};
-use crate::forward::{is_of_another_version, Client, Datagram, Due, Given, Outcome, Submission, Token, Verdict, What};
+use super::{Asker, Daemon, FILE_IS_COPY};
+use crate::forward::{is_of_another_version, unmarked, Client, Datagram, Due, Given, News, Outcome, Submission, Told, Token, Verdict, What};
 use crate::node::Lane;
 use crate::protocol::Reply;
-use log::info;
+use log::{info, warn};
+use std::net::SocketAddr;
 use std::time::Instant;
 
 fn line_of(job: &Submission) -> String {
@@ -66,13 +67,19 @@ impl Daemon {
     }
 
     /// A datagram of another agent came.
-    pub(super) fn take_of_agent(&mut self, bytes: &[u8], now: Instant) {
+    pub(super) fn take_of_agent(&mut self, bytes: &[u8], from: SocketAddr, now: Instant) {
+        if let Some((mark, message)) = unmarked(bytes) {
+            return self.take_marked(mark, message, from, now);
+        }
         if is_of_another_version(bytes) {
             return self.metrics.dropped.with_label_values(&["Version"]).inc();
         }
-        let datagram = match Datagram::decode(bytes, &self.seal).filter(|datagram| datagram.to == self.config.id) {
-            Some(datagram) => datagram,
-            None => return self.metrics.dropped.with_label_values(&["Forged"]).inc(),
+        let datagram = match Datagram::decode(bytes, &self.seal) {
+            Some(datagram) if self.is_of_stranger(&datagram, from, now) => {
+                return self.metrics.dropped.with_label_values(&["Stranger"]).inc();
+            }
+            Some(datagram) if datagram.to == self.config.id => datagram,
+            _ => return self.metrics.dropped.with_label_values(&["Forged"]).inc(),
         };
         let is_submission = matches!(datagram.what, What::Submit { .. });
         if is_submission && !self.node.has_room(Lane::Network) {
@@ -89,15 +96,17 @@ impl Daemon {
             self.greet(from, now);
         }
         match datagram.what {
-            What::Hello {} => {
-                if let Some(stamps) = self.inbox.stamps_for(from) {
-                    self.send_to_agent(from, token, What::Reply(stamps), now);
+            What::Hello { news, .. } => self.take_hello(from, token, news, now),
+            What::Reply(Outcome::Stale { life, last, told, .. }) if token.serial == 0 => {
+                if self.outbox.greeted(from, token, life, last) {
+                    self.numbers.answered(from, &told);
+                    self.look_for_copy();
                 }
             }
-            What::Leaving { life, number } => self.take_farewell(from, life, number, now),
-            What::Reply(Outcome::Stale { life, last }) if token.serial == 0 => {
-                self.outbox.greeted(from, token, life, last)
-            }
+            What::Stranger { .. } => {}
+            // the node doesn't answer yet: whoever wants something of it asks again
+            _ if self.opening.is_some() => {}
+            What::Leaving { life, number, is_copy } => self.take_farewell(from, (life, number), is_copy, now),
             What::Submit { life, number, job } => self.take_forwarded((from, token), (life, number), &job, now),
             What::Reply(outcome) => {
                 if let Some((serial, given)) = self.outbox.replied(from, token, outcome) {
@@ -107,32 +116,103 @@ impl Daemon {
         }
     }
 
+    /// Another agent asks for the stamps by which it is taken, and says what its node gave. It is told what it said of that in each of its lives.
+    fn take_hello(&mut self, from: u8, token: Token, news: Option<News>, now: Instant) {
+        if let Some(News { numbers, .. }) = news.filter(|news| self.inbox.is_new(from, news.life, news.number)) {
+            self.ledger.note(from, Told { life: token.life, numbers });
+        }
+        if let Some(Outcome::Stale { life, last, .. }) = self.inbox.stamps_for(from) {
+            let (told, about) = (self.ledger.of(from), Some(self.introductions.about().clone()));
+            let stamps = Outcome::Stale { life, last, told, about };
+            self.send_to_agent(from, token, What::Reply(stamps), now);
+        }
+    }
+
     /// Asks the agent of a node that is heard for its stamps, where they aren't known.
     pub(super) fn greet(&mut self, node: u8, now: Instant) {
-        if let Some(token) = self.outbox.hello(node, now) {
-            self.send_to_agent(node, token, What::Hello {}, now);
+        if self.outbox.asks(node, now) {
+            self.say_hello(node, None, now);
+        }
+    }
+
+    pub(super) fn say_hello(&mut self, to: u8, news: Option<News>, now: Instant) {
+        let token = self.outbox.token();
+        let about = Some(self.introductions.about().clone());
+        self.send_to_agent(to, token, What::Hello { about, news }, now);
+    }
+
+    /// Whether an agent that introduces itself isn't of this one's cluster. It is told of which one this is, where it asks.
+    fn is_of_stranger(&mut self, datagram: &Datagram, at: SocketAddr, now: Instant) -> bool {
+        let stranger = match datagram.about().and_then(|about| self.introductions.meet(datagram.from, about)) {
+            Some(stranger) => stranger,
+            None => return false,
+        };
+        if self.introductions.tells_of(at, now) {
+            warn!("{at}: {stranger}: they don't hear each other");
+        }
+        if matches!(datagram.what, What::Hello { .. }) {
+            let what = What::Stranger { about: self.introductions.about().clone() };
+            self.send_to(at, datagram.from, datagram.token, what);
+        }
+        true
+    }
+
+    /// Asks whoever is at this address, and the node in whose name it speaks, of which cluster it is.
+    pub(super) fn ask_stranger(&mut self, at: SocketAddr, node: u8, now: Instant) {
+        if self.introductions.asks(now) {
+            let what = What::Hello { about: Some(self.introductions.about().clone()), news: None };
+            let known = self.peers.address(node).filter(|address| *address != at && node != self.config.id);
+            for address in known.into_iter().chain([at]) {
+                self.send_to(address, node, self.outbox.token(), what.clone());
+            }
+        }
+    }
+
+    /// Sends an agent something at the address from which it wrote: one that isn't of the cluster may be at none that is known.
+    fn send_to(&self, at: SocketAddr, to: u8, token: Token, what: What) {
+        let datagram = Datagram { from: self.config.id, to, token, what };
+        if self.link.send(&datagram.encode(&self.seal), at).is_err() {
+            self.metrics.dropped.with_label_values(&["NotSent"]).inc();
+        }
+    }
+
+    /// Tells the agents of nodes that are heard what the own node gave, where they don't have it yet.
+    pub(super) fn tell_numbers(&mut self, now: Instant) {
+        let own = self.config.id;
+        let is_wanted = |node: &u8| *node != own && self.peers.is_heard(*node, now) && self.outbox.is_known(*node);
+        let others: Vec<u8> = (0..).zip(self.peers.all()).map(|(node, _)| node).filter(is_wanted).collect();
+        for node in others {
+            if let Some(numbers) = self.numbers.news_for(node, now) {
+                let news = self.outbox.stamps_for(node).map(|(life, number)| News { life, number, numbers });
+                self.say_hello(node, news, now);
+            }
         }
     }
 
     /// Tells the other agents that the node ended: twice, for a datagram may be lost.
     pub(super) fn say_goodbye(&mut self) {
-        let (now, own, count) = (Instant::now(), self.config.id, self.peers.all().len());
+        let (now, own, count, token) = (Instant::now(), self.config.id, self.peers.all().len(), self.outbox.token());
+        let is_copy = self.unusable == Some(FILE_IS_COPY);
         let others = (0..).zip(0..count).map(|(node, _)| node).filter(|node| *node != own);
-        let farewells: Vec<_> = others.filter_map(|to| self.outbox.goodbye(to).map(|(token, what)| (to, token, what))).collect();
-        for (to, token, what) in farewells.iter().chain(&farewells) {
-            self.send_to_agent(*to, *token, what.clone(), now);
+        let farewells: Vec<_> = others.filter_map(|to| self.outbox.goodbye(to, is_copy).map(|what| (to, what))).collect();
+        for (to, what) in farewells.iter().chain(&farewells) {
+            self.send_to_agent(*to, token, what.clone(), now);
         }
     }
 
     /// Another agent says that its node ends. A coordinator drops it from its group by that; a member whose coordinator it was asks for it first, and by the
     /// second word leaves.
-    fn take_farewell(&mut self, from: u8, life: u64, number: u64, now: Instant) {
+    fn take_farewell(&mut self, from: u8, (life, number): (u64, u64), is_copy: bool, now: Instant) {
         if !self.inbox.is_new(from, life, number) {
             return self.metrics.farewells.with_label_values(&["refused"]).inc();
         }
-        self.metrics.farewells.with_label_values(&["taken"]).inc();
+        self.metrics.farewells.with_label_values(&[if is_copy { "copy" } else { "taken" }]).inc();
         self.peers.leave(from, now);
-        info!("node {from} ends: it said so");
+        if is_copy {
+            warn!("node {from} ends: its file was put back from a copy, or made with numbers that are too low");
+        } else {
+            info!("node {from} ends: it said so");
+        }
         for _ in 0..2 {
             self.ask(Asker::Lost, format!("lost {from}"));
         }

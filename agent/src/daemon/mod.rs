@@ -6,6 +6,7 @@ mod datagrams;
 mod forwarding;
 mod guard;
 mod looks;
+mod opening;
 mod pages;
 mod requests;
 mod signals;
@@ -16,12 +17,12 @@ pub use signals::Beginning;
 use crate::clock::Clock;
 use crate::config::Config;
 use crate::fill::Fill;
-use crate::forward::{self, Inbox, Outbox, Seal};
+use crate::forward::{self, About, Inbox, Introductions, Ledger, Outbox, OwnNumbers, Seal};
 use crate::http::Server;
 use crate::metrics::Metrics;
 use crate::net::{Backlog, Link, News, Pace, Peers};
 use crate::node::{Answer, Lane, NodeProcess};
-use crate::node_file;
+use crate::node_file::{self, NodeFile};
 use crate::notify::Notify;
 use crate::protocol::Reply;
 use crate::record::Record;
@@ -35,6 +36,7 @@ use log::{debug, error, info, warn};
 use looks::Looks;
 use mio::event::Event;
 use mio::{Events, Poll, Registry, Token, Waker};
+use opening::Opening;
 use pages::PendingJobs;
 use signals::Signals;
 use std::io::ErrorKind;
@@ -65,6 +67,9 @@ const NO_MEMORY: u8 = 1;
 /// The status of an agent whose node's file is gone.
 const FILE_GONE: u8 = 7;
 
+/// The status of an agent whose node's file is older than what its node gave.
+const FILE_IS_COPY: u8 = 9;
+
 /// A node whose input ended may take so long to end: SIGTERM ends the agent within a second.
 const PATIENCE_AT_END: Duration = Duration::from_millis(700);
 
@@ -77,6 +82,8 @@ pub struct Daemon {
     poll: Poll,
     node: NodeProcess<Asker>,
     guard: Guard,
+    /// None where it can't be opened: then the node says why.
+    file: Option<NodeFile>,
     socket_guard: Guard,
     /// Whether the socket couldn't be made again.
     is_socket_gone: bool,
@@ -96,6 +103,13 @@ pub struct Daemon {
     seal: Seal,
     inbox: Inbox,
     outbox: Outbox,
+    /// What the agents of all nodes said that these gave, and the own node's numbers.
+    ledger: Ledger,
+    numbers: OwnNumbers,
+    /// Of which cluster this agent is, and the others.
+    introductions: Introductions,
+    /// None once the node was asked to begin.
+    opening: Option<Opening>,
     view: View,
     fill: Fill,
     metrics: Metrics,
@@ -127,13 +141,14 @@ impl Daemon {
         let http = http_of(&config, &waker)?;
         Ok(Daemon {
             guard: Guard::start(&config.file, Arc::clone(&waker))?,
+            file: NodeFile::open(&config.file).ok(),
             socket_guard: Guard::start(&config.socket, Arc::clone(&waker))?,
             node: node_of(&config, registry, begin)?,
             clock: Clock::new(config.round_trip_ms, now),
             peers: Peers::new(config.id, &config.nodes, link.is_ipv6(), round_trip),
             link,
             backlog: Backlog::new(nodes),
-            pace: Pace::new(nodes, now),
+            pace: Pace::new(nodes, config.key.is_some(), round_trip, now),
             resolver: Resolver::start(Arc::clone(&waker))?,
             waker,
             clients,
@@ -142,6 +157,10 @@ impl Daemon {
             wants_record: config.record.is_some(),
             inbox: Inbox::new(life, nodes),
             outbox: Outbox::new(life, nodes, round_trip),
+            ledger: Ledger::new(nodes),
+            introductions: Introductions::new(config.id, About::new(&config.cluster, &config.nodes)),
+            numbers: OwnNumbers::new(life, nodes),
+            opening: Some(Opening::new(round_trip, now)),
             view: View::new(&config, now),
             fill: Fill::of(node_file::slots(&config.file)),
             metrics: Metrics::new(&config.cluster, &seal.fingerprints)?,
@@ -166,7 +185,6 @@ impl Daemon {
         let mut events = Events::with_capacity(256);
         self.warn_of_addresses();
         self.warn_of_network();
-        self.ask(Asker::Start, "recover".to_string());
         loop {
             self.node.flush();
             self.wait(&mut events)?;
@@ -239,10 +257,24 @@ impl Daemon {
     fn hear(&mut self) -> bool {
         let mut answers: Vec<Answer<Asker>> = Vec::new();
         let goes_on = self.node.read_answers(&mut answers);
+        self.look_at_file(&answers);
         for answer in answers {
-            self.take_answer(answer);
+            // a node that isn't to go on acknowledges nothing
+            if self.unusable.is_none() {
+                self.take_answer(answer);
+            }
         }
         goes_on
+    }
+
+    /// Looks, before something is acknowledged, whether the file is still the one that the node wrote it to.
+    fn look_at_file(&mut self, answers: &[Answer<Asker>]) {
+        let is_durable = |answer: &Answer<Asker>| answer.is_durable() || matches!(answer.asker, Asker::Compact { .. });
+        let file = self.file.as_ref().filter(|_| answers.iter().any(is_durable));
+        if let Some(why) = file.and_then(|file| file.changed(self.numbers.count())) {
+            error!("{}: {why}: what the node kept since isn't acknowledged", self.config.file.display());
+            self.unusable = Some(FILE_GONE);
+        }
     }
 
     /// All that may be to be done, each kind by a bounded number at a time.
@@ -251,8 +283,12 @@ impl Daemon {
             self.reload();
         }
         self.keep_socket();
+        if self.opening.is_some() {
+            return self.open(now);
+        }
         self.receive(now);
         self.send_on(now);
+        self.tell_numbers(now);
         self.clients.accept(self.poll.registry(), now, || self.hand.holders());
         self.obey(now);
         self.give_up_gone(now);
@@ -273,6 +309,9 @@ impl Daemon {
 
     /// How long to wait for something to come. Where the node has no room its answer is waited for.
     fn sleep(&self, now: Instant) -> Duration {
+        if let Some(opening) = &self.opening {
+            return if self.link.is_readable() { Duration::ZERO } else { opening.sleep(now) };
+        }
         let is_behind = self.node.is_readable() || self.link.is_readable() || self.clients.has_more_to_take();
         if is_behind || self.clients.have_input(self.takes_requests(now)) {
             return Duration::ZERO;

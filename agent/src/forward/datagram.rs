@@ -1,11 +1,15 @@
 //! What agents send each other.
 
-use super::Seal;
+use super::about::Mark;
+use super::{About, Numbers, Seal, Told};
 use crate::node::Payload;
 use serde::{Deserialize, Serialize};
 
 /// A datagram of agents begins so; a message of nodes begins with 1 or 2.
 const HEAD: [u8; 2] = [0xd6, 1];
+
+/// A message of nodes without a seal travels behind this and the mark of its sender's cluster.
+const HEAD_OF_MESSAGE: [u8; 2] = [0xd6, 2];
 
 /// Names a submission over all lives of all agents.
 #[derive(Clone, Copy, Debug, PartialEq, Eq, PartialOrd, Ord, Hash, Serialize, Deserialize)]
@@ -34,7 +38,20 @@ pub enum Outcome {
     Stale {
         life: u64,
         last: u64,
+        /// Of an agent that asked for stamps: what it told of its node, in this life and before.
+        #[serde(default, skip_serializing_if = "Vec::is_empty")]
+        told: Vec<Told>,
+        #[serde(default, skip_serializing_if = "Option::is_none")]
+        about: Option<About>,
     },
+}
+
+/// Numbers of a node, with the stamps by which they are taken.
+#[derive(Clone, Copy, Debug, PartialEq, Eq, Serialize, Deserialize)]
+pub struct News {
+    pub life: u64,
+    pub number: u64,
+    pub numbers: Numbers,
 }
 
 #[derive(Clone, Debug, PartialEq, Eq, Serialize, Deserialize)]
@@ -43,9 +60,23 @@ pub enum What {
     Submit { life: u64, number: u64, job: Submission },
     Reply(Outcome),
     /// Asks for the stamps by which its receiver takes a request: they are replied as those of one that is stale.
-    Hello {},
+    Hello {
+        #[serde(default, skip_serializing_if = "Option::is_none")]
+        about: Option<About>,
+        /// What the sender's node gave until now, by stamps that are known.
+        #[serde(default, skip_serializing_if = "Option::is_none")]
+        news: Option<News>,
+    },
     /// The node of the sender ends now, by these stamps.
-    Leaving { life: u64, number: u64 },
+    Leaving {
+        life: u64,
+        number: u64,
+        /// Whether it began from a copy of its file.
+        #[serde(default, skip_serializing_if = "std::ops::Not::not")]
+        is_copy: bool,
+    },
+    /// To one that isn't of the sender's cluster: of which one the sender is.
+    Stranger { about: About },
 }
 
 #[derive(Clone, Debug, PartialEq, Eq, Serialize, Deserialize)]
@@ -61,9 +92,21 @@ pub fn is_of_agents(bytes: &[u8]) -> bool {
     bytes.first() == Some(&HEAD[0])
 }
 
+/// A message of nodes without a seal, as it travels.
+pub fn marked(message: &[u8], mark: Mark) -> Vec<u8> {
+    [&HEAD_OF_MESSAGE[..], &mark, message].concat()
+}
+
+/// The mark and the message of a datagram that is one without a seal.
+pub fn unmarked(bytes: &[u8]) -> Option<(Mark, &[u8])> {
+    let (mark, behind) = (Mark::default(), bytes.strip_prefix(&HEAD_OF_MESSAGE)?);
+    let (front, message) = behind.split_at(mark.len().min(behind.len()));
+    Some((front.try_into().ok()?, message))
+}
+
 /// Whether it is one of agents of another version than this one.
 pub fn is_of_another_version(bytes: &[u8]) -> bool {
-    is_of_agents(bytes) && bytes.get(1).map_or(false, |version| *version != HEAD[1])
+    is_of_agents(bytes) && bytes.get(1).map_or(false, |version| ![HEAD[1], HEAD_OF_MESSAGE[1]].contains(version))
 }
 
 impl Datagram {
@@ -71,6 +114,15 @@ impl Datagram {
         let mut bytes = HEAD.to_vec();
         bytes.extend(serde_json::to_vec(self).unwrap_or_default());
         seal.seal(bytes)
+    }
+
+    /// Of which cluster the sender says to be.
+    pub fn about(&self) -> Option<&About> {
+        match &self.what {
+            What::Hello { about, .. } | What::Reply(Outcome::Stale { about, .. }) => about.as_ref(),
+            What::Stranger { about } => Some(about),
+            What::Submit { .. } | What::Reply(_) | What::Leaving { .. } => None,
+        }
     }
 
     pub fn decode(bytes: &[u8], seal: &Seal) -> Option<Datagram> {
@@ -94,8 +146,30 @@ mod tests {
         assert!(is_of_agents(&bytes) && bytes.len() + 32 < MAX_DATAGRAM.min(1400), "{}", bytes.len());
         assert_eq!(Datagram::decode(&bytes, &Seal::default()), Some(datagram));
         assert_eq!(Datagram::decode(&bytes[1..], &Seal::default()), None);
-        let versions = [&bytes[..], &[0xd6, 2], &[0xd6], &[1, 2]].map(is_of_another_version);
-        assert_eq!(versions, [false, true, false, false]);
+        let versions = [&bytes[..], &[0xd6, 2], &[0xd6, 3], &[0xd6], &[1, 2]].map(is_of_another_version);
+        assert_eq!(versions, [false, false, true, false, false]);
+    }
+
+    #[test]
+    fn the_longest_list_is_read_back() {
+        let names: Vec<String> = (0..128).map(|node| format!("node-{node}.example.org:7000")).collect();
+        let news = Some(News { life: u64::MAX, number: u64::MAX, numbers: Numbers { count: u64::MAX, next: u64::MAX } });
+        let token = Token { life: u64::MAX, serial: 0 };
+        let what = What::Hello { about: Some(About::new(&"\"".repeat(64), &names)), news };
+        let datagram = Datagram { from: 127, to: 126, token, what };
+        let bytes = datagram.encode(&Seal::default());
+        assert!(bytes.len() + 32 <= MAX_DATAGRAM, "{}", bytes.len());
+        assert_eq!(Datagram::decode(&bytes, &Seal::default()), Some(datagram));
+        let old = br#"{"from":1,"to":0,"token":{"life":1,"serial":0},"what":{"hello":{}}}"#;
+        let old = Datagram::decode(&[&HEAD[..], old].concat(), &Seal::default()).map(|datagram| datagram.what);
+        assert_eq!(old, Some(What::Hello { about: None, news: None }));
+    }
+
+    #[test]
+    fn a_message_travels_behind_its_mark() {
+        let (mark, bytes) = ([7; 8], marked(b"message", [7; 8]));
+        assert_eq!((unmarked(&bytes), unmarked(&bytes[..10]), is_of_agents(&bytes)), (Some((mark, &b"message"[..])), Some((mark, &b""[..])), true));
+        assert!([&bytes[..9], &bytes[1..], &[0xd6, 1, 0, 0, 0, 0, 0, 0, 0, 0, 0]].iter().all(|other| unmarked(other).is_none()));
     }
 
     #[test]

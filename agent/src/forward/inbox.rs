@@ -45,7 +45,7 @@ impl Inbox {
 
     /// The stamps above which a node's requests are taken, as they are told.
     pub fn stamps_for(&self, from: u8) -> Option<Outcome> {
-        self.last.get(usize::from(from)).map(|last| Outcome::Stale { life: self.life, last: *last })
+        self.last.get(usize::from(from)).map(|last| Outcome::Stale { life: self.life, last: *last, told: Vec::new(), about: None })
     }
 
     /// Whether stamps of a node are new, and none that were recorded: by that they are used.
@@ -91,7 +91,7 @@ mod tests {
     fn each_request_once_and_none_that_was_recorded() {
         let mut inbox = Inbox::new(7, 3);
         let token = Token { life: 1, serial: 1 };
-        let stale = |last| Some(Verdict::Answer(Outcome::Stale { life: 7, last }));
+        let stale = |last| Some(Verdict::Answer(Outcome::Stale { life: 7, last, told: vec![], about: None }));
         assert_eq!(inbox.judge(1, token, 0, 1), stale(0), "it doesn't know this life yet");
         assert_eq!(inbox.judge(1, token, 7, 1), Some(Verdict::Ask));
         inbox.asked(token);
@@ -105,7 +105,7 @@ mod tests {
             "numbers are each sender's own"
         );
         assert_eq!(inbox.judge(3, token, 7, 9), None);
-        assert_eq!(Inbox::new(8, 3).judge(1, token, 7, 3), Some(Verdict::Answer(Outcome::Stale { life: 8, last: 0 })));
+        assert_eq!(Inbox::new(8, 3).judge(1, token, 7, 3), Some(Verdict::Answer(Outcome::Stale { life: 8, last: 0, told: vec![], about: None })));
     }
 
     #[test]
@@ -113,7 +113,7 @@ mod tests {
         let mut inbox = Inbox::new(7, 3);
         assert!(inbox.is_new(1, 7, 5) && !inbox.is_new(1, 7, 5) && !inbox.is_new(1, 7, 4));
         assert!(!inbox.is_new(1, 6, 9) && !inbox.is_new(1, 0, 9) && !inbox.is_new(3, 7, 9));
-        assert_eq!((inbox.stamps_for(1), inbox.stamps_for(3)), (Some(Outcome::Stale { life: 7, last: 5 }), None));
+        assert_eq!((inbox.stamps_for(1), inbox.stamps_for(3)), (Some(Outcome::Stale { life: 7, last: 5, told: vec![], about: None }), None));
     }
 
     #[test]

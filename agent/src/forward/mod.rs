@@ -2,16 +2,20 @@
 //! back. Their datagrams are sealed where there is a key, and none is taken that was recorded: each names the life of its receiver and a
 //! number that rises in it.
 
+mod about;
 mod datagram;
 mod inbox;
 mod key_file;
+mod numbers;
 mod outbox;
 mod seal;
 mod stamps;
 
-pub use datagram::{is_of_agents, is_of_another_version, Datagram, Outcome, Submission, Token, What};
+pub use about::{About, Introductions};
+pub use datagram::{is_of_agents, is_of_another_version, marked, unmarked, Datagram, News, Outcome, Submission, Token, What};
 pub use inbox::{Inbox, Verdict};
 pub use key_file::{read_keys, KeyError};
+pub use numbers::{Ledger, Numbers, OwnNumbers, Told};
 pub use outbox::{Client, Due, Given, Outbox};
 pub use seal::Seal;
 

@@ -150,16 +150,33 @@ impl Outbox {
         Some((Token { life: self.life, serial }, what))
     }
 
-    /// The token of a question for an agent's stamps, where they aren't known and it is to be asked now.
-    pub fn hello(&mut self, to: u8, now: Instant) -> Option<Token> {
-        self.stamps.asks(to, now).then_some(Token { life: self.life, serial: NO_SUBMISSION })
+    /// The token of what is no submission.
+    pub fn token(&self) -> Token {
+        Token { life: self.life, serial: NO_SUBMISSION }
     }
 
-    /// An agent answered that question.
-    pub fn greeted(&mut self, from: u8, token: Token, life: u64, last: u64) {
-        if token == (Token { life: self.life, serial: NO_SUBMISSION }) {
+    /// Whether an agent's stamps aren't known and are to be asked for now.
+    pub fn asks(&mut self, to: u8, now: Instant) -> bool {
+        self.stamps.asks(to, now)
+    }
+
+    /// An agent answered that question; whether it was asked in this life.
+    pub fn greeted(&mut self, from: u8, token: Token, life: u64, last: u64) -> bool {
+        let is_asked = token == self.token();
+        if is_asked {
             self.stamps.learn(from, life, last);
         }
+        is_asked
+    }
+
+    /// The stamps by which an agent takes the next thing that is told it; None where they aren't known.
+    pub fn stamps_for(&mut self, to: u8) -> Option<(u64, u64)> {
+        self.stamps.next(to).filter(|_| self.stamps.is_known(to))
+    }
+
+    /// Whether it is known how to have an agent take what it is told.
+    pub fn is_known(&self, node: u8) -> bool {
+        self.stamps.is_known(node)
     }
 
     /// An agent asked something in this life.
@@ -168,9 +185,8 @@ impl Outbox {
     }
 
     /// What tells an agent that the node of this one ends; None where it isn't known how to have it believe that.
-    pub fn goodbye(&mut self, to: u8) -> Option<(Token, What)> {
-        let (life, number) = self.stamps.next(to).filter(|_| self.stamps.is_known(to))?;
-        Some((Token { life: self.life, serial: NO_SUBMISSION }, What::Leaving { life, number }))
+    pub fn goodbye(&mut self, to: u8, is_copy: bool) -> Option<What> {
+        self.stamps_for(to).map(|(life, number)| What::Leaving { life, number, is_copy })
     }
 
     /// An agent answered; what its answer says of one of the submissions. Where it asks for other stamps, the request goes there again.
@@ -183,7 +199,7 @@ impl Outbox {
                 Given::Refused { error }
             }
             Outcome::Stale { .. } if open.stale == MAX_STALE => return None,
-            Outcome::Stale { life, last } => {
+            Outcome::Stale { life, last, .. } => {
                 open.stale += 1;
                 self.stamps.learn(from, life, last);
                 Given::Elsewhere { coordinator: from }
@@ -247,6 +263,10 @@ mod tests {
         (outbox, serial)
     }
 
+    fn stale(life: u64, last: u64) -> Outcome {
+        Outcome::Stale { life, last, told: Vec::new(), about: None }
+    }
+
     fn stamps(asked: Option<(Token, What)>) -> (u64, u64) {
         match asked.unwrap().1 {
             What::Submit { life, number, .. } => (life, number),
@@ -260,10 +280,10 @@ mod tests {
         let (mut outbox, serial) = outbox(now);
         let token = Token { life: 9, serial };
         assert_eq!(stamps(outbox.datagram(serial, 2)), (0, 1));
-        let given = outbox.replied(2, token, Outcome::Stale { life: 77, last: 40 });
+        let given = outbox.replied(2, token, stale(77, 40));
         assert_eq!(given, Some((serial, Given::Elsewhere { coordinator: 2 })));
         assert_eq!(stamps(outbox.datagram(serial, 2)), (77, 41));
-        assert!(outbox.replied(2, token, Outcome::Stale { life: 77, last: 40 }).is_some());
+        assert!(outbox.replied(2, token, stale(77, 40)).is_some());
         assert_eq!(stamps(outbox.datagram(serial, 2)), (77, 42), "numbers rise");
         assert_eq!(outbox.replied(2, Token { life: 8, serial }, Outcome::Kept { id: 1 }), None);
         let (_, given) = outbox.replied(2, token, Outcome::Kept { id: 1 }).unwrap();
@@ -311,7 +331,7 @@ mod tests {
             let (mut outbox, serial) = outbox(now);
             let token = Token { life: 9, serial };
             outbox.datagram(serial, 2);
-            outbox.replied(2, token, Outcome::Stale { life: 77, last: 0 });
+            outbox.replied(2, token, stale(77, 0));
             (0..requests).for_each(|_| drop(outbox.datagram(serial, 2)));
             let (_, given) = outbox.replied(2, token, full()).unwrap();
             let (_, said) = outbox.settle(serial, given, now).unwrap();
@@ -328,7 +348,7 @@ mod tests {
         let (mut other, there) = outbox(now);
         let token = Token { life: 9, serial: there };
         other.datagram(there, 2);
-        other.replied(2, token, Outcome::Stale { life: 77, last: 0 });
+        other.replied(2, token, stale(77, 0));
         other.datagram(there, 2);
         let (_, given) = other.replied(2, token, Outcome::Refused { error: device() }).unwrap();
         for said in [own.settle(serial, Given::Refused { error: device() }, now), other.settle(there, given, now)] {
@@ -344,7 +364,7 @@ mod tests {
         let token = Token { life: 9, serial };
         for to in [1, 2] {
             outbox.datagram(serial, to);
-            outbox.replied(to, token, Outcome::Stale { life: 77, last: 0 });
+            outbox.replied(to, token, stale(77, 0));
             outbox.datagram(serial, to);
         }
         let (_, given) = outbox.replied(2, token, Outcome::Refused { error: "Full".to_string() }).unwrap();
@@ -356,8 +376,8 @@ mod tests {
     fn agents_that_do_not_agree_on_stamps_pause() {
         let now = Instant::now();
         let (mut outbox, serial) = outbox(now);
-        let (token, stale) = (Token { life: 9, serial }, || Outcome::Stale { life: 77, last: u64::MAX });
-        let times = (0..100).take_while(|_| outbox.replied(2, token, stale()).is_some()).count();
+        let token = Token { life: 9, serial };
+        let times = (0..100).take_while(|_| outbox.replied(2, token, stale(77, u64::MAX)).is_some()).count();
         assert_eq!(times, MAX_STALE as usize);
         assert_eq!(stamps(outbox.datagram(serial, 2)), (77, u64::MAX));
     }

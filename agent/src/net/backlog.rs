@@ -36,6 +36,22 @@ impl<T> Backlog<T> {
         self.sizes.iter().all(|size| *size == 0)
     }
 
+    pub fn is_empty_of(&self, peer: usize) -> bool {
+        self.sizes.get(peer).map_or(true, |size| *size == 0)
+    }
+
+    /// Drops what of a peer isn't to stay, and answers how many there were.
+    pub fn retain(&mut self, peer: usize, stays: impl Fn(&T) -> bool) -> u64 {
+        let waiting = match self.of.get_mut(peer) {
+            Some(waiting) => waiting,
+            None => return 0,
+        };
+        let before = waiting.len();
+        waiting.retain(|(one, _)| stays(one));
+        self.sizes[peer] = waiting.iter().map(|(_, size)| size).sum();
+        (before - waiting.len()) as u64
+    }
+
     /// The oldest one of the peer whose turn it is.
     pub fn take(&mut self) -> Option<T> {
         let count = self.of.len();
@@ -83,5 +99,9 @@ mod tests {
         assert_eq!(taken, ["a", "e", "d", "b", "f", "c"]);
         assert!(backlog.is_empty() && backlog.put(0, "g", 1).is_none() && !backlog.is_empty());
         assert_eq!((backlog.take(), backlog.take()), (Some("g"), None));
+        assert!(["h", "i", "j"].iter().all(|one| backlog.put(2, *one, 1).is_none()));
+        assert_eq!((backlog.retain(2, |one| *one == "i"), backlog.retain(4, |_| true)), (2, 0));
+        assert_eq!((backlog.is_empty_of(2), backlog.is_empty_of(1), backlog.is_empty_of(4)), (false, true, true));
+        assert_eq!((backlog.take(), backlog.is_empty()), (Some("i"), true));
     }
 }

@@ -8,5 +8,5 @@ mod peers;
 
 pub use backlog::Backlog;
 pub use link::{Link, MAX_DATAGRAM};
-pub use pace::Pace;
+pub use pace::{GroupBytes, Leaves, Pace};
 pub use peers::{News, Peer, Peers};

@@ -169,6 +169,11 @@ impl Peers {
         self.peers.get(usize::from(node)).map_or(false, |peer| peer.left.is_some() && peer.left >= peer.heard)
     }
 
+    /// Whether a node was heard lately.
+    pub fn is_heard(&self, node: u8, now: Instant) -> bool {
+        self.silence(node, now).map_or(false, |silence| silence < SILENCE)
+    }
+
     /// How long ago a node was heard.
     pub fn silence(&self, node: u8, now: Instant) -> Option<Duration> {
         let heard = self.peers.get(usize::from(node)).and_then(|peer| peer.heard);

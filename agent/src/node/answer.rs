@@ -51,6 +51,13 @@ pub struct Answer<A> {
 }
 
 impl<A> Answer<A> {
+    /// Whether it says that something is in the node's file now: a job that is kept or done, a count, an area.
+    pub fn is_durable(&self) -> bool {
+        let is_kept = matches!(self.closing, Closing::Ok(Some(_)));
+        let is_other = |line: &Line| matches!(line, Line::Group(_) | Line::Gone { .. });
+        is_kept || self.lines.iter().any(is_other)
+    }
+
     /// Lines that can't be read are left out: no later line of the answer depends on them.
     pub fn of(own: u8, asker: A, texts: &[String], closing: Closing) -> (Answer<A>, Vec<LineError>) {
         let (mut lines, mut faults) = (Vec::with_capacity(texts.len()), Vec::new());

@@ -1,0 +1,44 @@
+"""The node's file is verified before the node opens it, by a stand-in for the program that says what it is told to."""
+import os, subprocess
+
+from bed import PATIENCE
+from enemies import logged
+from machine import ends
+
+BROKEN = 10
+
+
+def stand_in(agents, status, text):
+    """A program that says this of each file that it is to verify, and else is the program."""
+    path = os.path.join(agents.folder, "stand-in")
+    with open(path, "w") as file:
+        file.write('''#!/bin/sh
+if [ "$2" = --verify ] || [ "$2" = --salvage ]; then printf '%s' "$3" >> "$0.asked"; printf '%%s' '%s'; exit %d; fi
+exec "%s" "$@"
+''' % ("%s", text, status, agents.program))
+    os.chmod(path, 0o755)
+    return path
+
+
+def verified(bed):
+    agents, check = bed.agents("verified", count=1, record=None, http=None), bed.tally.check
+    broken = "kind node\nbroken counter_slots 4 9\nhint job_differs 3\nbroken sealed_behind 12\n"
+    agents.write(0, program=stand_in(agents, 1, broken), record=None)
+    status, told = ends(agents)
+    check("a broken file: a status of its own", status == BROKEN, (status, told))
+    check("what is broken, and what to do", all(one in told for one in ("broken counter_slots 4 9: no crash leaves this", "broken sealed_behind 12: ", "`dumgerokctl export --salvage` prints")), told)
+    with open(os.path.join(agents.folder, "stand-in.asked")) as file:
+        check("the file of the configuration was verified", file.read() == agents.path(0, "node"))
+    for status, text, said in ((0, "hint job_differs 3\n", "hint job_differs 3: this may be an older state"), (2, "", "it isn't verified: "), (1, "kind node\n", None)):
+        agents.write(0, program=stand_in(agents, status, text), record=None)
+        if os.path.exists(agents.path(0, "log")):
+            os.remove(agents.path(0, "log"))
+        agents.start(0)
+        check("status %d and %r: the node begins" % (status, text), agents.one_group([0]) >= 0)
+        check("status %d and %r: it is told" % (status, text), said is None and not logged(agents, 0, "verified") or said and logged(agents, 0, said))
+        agents.kill(0)
+    done = subprocess.run([agents.ctl_path, "inspect", "--verify", agents.path(0, "node"), "--program", stand_in(agents, 1, broken), "--json"], stdout=subprocess.PIPE, text=True, timeout=PATIENCE)
+    check("dumgerokctl inspect passes --verify on", done.returncode == 1 and '"broken":["counter_slots 4 9","sealed_behind 12"]' in done.stdout, done)
+    done = subprocess.run([agents.ctl_path, "export", "--salvage", agents.path(0, "node"), "--program", stand_in(agents, 1, "job 7 3 -\n")], stdout=subprocess.PIPE, text=True, timeout=PATIENCE)
+    check("dumgerokctl export passes --salvage on", (done.returncode, done.stdout) == (1, "job 7 3 -\n"), done)
+    agents.stop()
