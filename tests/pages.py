@@ -11,7 +11,7 @@ sys.path.append(os.path.join(TOP, "agent/tests"))
 import promises
 from schema import Schema
 
-GENERATED = "docs/PROMISES.md"
+GENERATED = ["docs/PROMISES.md", "docs/TRUSTED.md"]
 MEASURED = ("docs/PERFORMANCE.md", "docs/COMPARISON.md")
 WORDS, LINE, CELL = 35500, 160, 40
 MONTHS = "January|February|March|April|May|June|July|August|September|October|November|December"
@@ -170,13 +170,13 @@ def differing(what, said, there):
 
 
 def look():
-    hand = [page for page in found("README.md", "CONTRIBUTING.md", "docs/*.md") if page != GENERATED]
+    hand = [page for page in found("README.md", "CONTRIBUTING.md", "docs/*.md") if page not in GENERATED]
     others = found("CHANGELOG.md", "SECURITY.md", "crates/*/README.md", "schedules/README.md", "examples/*/README.md", "measures/README.md")
     edits = {os.path.basename(path)[:-5] for path in found("crates/*/must-fail/*.edit", "tests/more_edits/*/*.edit")}
     schedules = {os.path.basename(path)[:-4] for path in found("schedules/*.txt")}
     calls = functions()
     problems, passed = [], 0
-    for page in hand + others + [GENERATED]:
+    for page in hand + others + GENERATED:
         text = text_of(page)
         more = list(links(page, text)) + list(tables(page, text, edits, schedules, calls))
         if page != "CHANGELOG.md":
