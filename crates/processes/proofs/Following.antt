@@ -1,6 +1,6 @@
 -- The processes of a node are one history of it: each message that it takes was to be delivered, and each that is handed out was sent.
-use Rattle.std.proofs.Common.{◌≡◌, ◌⊎◌, ℕ, Bool, true, false, ◌||◌, List, [], ◌∷◌, ◌++◌, refl, sym, subst, inl, inr, Option, Some, None, filter}
-use Rattle.std.specs.Prelude.{if◌then◌else◌, min, ◌+◌, ◌-◌, ◌^◌}
+use Rattle.std.proofs.Common.{◌≡◌, ◌⊎◌, ℕ, zero, suc, Bool, true, false, ◌||◌, List, [], ◌∷◌, ◌++◌, refl, sym, subst, inl, inr, Option, Some, None, filter}
+use Rattle.std.specs.Prelude.{if◌then◌else◌, min, ◌+◌, ◌-◌, ◌^◌, map, take, drop}
 use Rattle.wire_msg.specs.Envelope.{Envelope}
 use Rattle.node_core.specs.declared.event.Event.{Event}
 use Rattle.node_core.specs.declared.event.Event.TheVariants as on
@@ -14,7 +14,9 @@ use Rattle.histories.specs.After.{after, sent_at}
 use Rattle.histories.specs.Possible.{IsSettling}
 use Rattle.histories.specs.History.{Follows, replay, sent_in}
 use Rattle.histories.proofs.PublicLaws.{among_either, among_left, among_right}
-use Rattle.pace.specs.Retransmission.{Waits, answerer, is_waited, waits_behind, has_come}
+use Rattle.pace.specs.declared.repeat.Repeat.{Repeat}
+use Rattle.pace.specs.declared.retransmission.TheConstants.{MOST_AT_ONCE}
+use Rattle.pace.specs.Retransmission.{Waits, answerer, first, has_come, is_due, is_resting, is_waited, is_waited_still, message_of, nearer, overdue, rested, waits_behind}
 use Rattle.node_session.specs.declared.asked.Asked.{Asked}
 use Rattle.node_session.specs.declared.asked.Asked.TheVariants as ask
 use Rattle.node_session.specs.Turns.{Turn, Goes, Unmounted, Begins, after_turn, cause, IsFired, MayCompact}
@@ -217,7 +219,10 @@ taken_delivered self nodes slots s ps m are i = taken_from self nodes slots fals
 
 -- the messages that are waited for
 abbrev waited : Waits → List Envelope
-waited w = w.again ++ w.fresh
+waited w = map message_of w.repeats
+
+abbrev said : List Repeat → List Envelope
+said rs = map message_of rs
 
 among_filtered : (test : Envelope → Bool) (ms : List Envelope) (m : Envelope) → IsAmong m (filter test ms) → IsAmong m ms
 among_filtered test [] m i = absurd i
@@ -226,16 +231,53 @@ among_filtered test (x ∷ ms) m i = by_test (test x) i (λ j. among_filtered te
   by_test true j rest = elim j [ inl e ↦ inl e | inr k ↦ inr (rest k) ]
   by_test false j rest = inr (rest j)
 
+said_append : (rs more : List Repeat) (m : Envelope) → IsAmong m (said (rs ++ more)) → IsAmong m (said rs) ⊎ IsAmong m (said more)
+said_append [] more m i = inr i
+said_append (r ∷ rs) more m i = elim i [
+  | inl e ↦ inl (inl e)
+  | inr j ↦ elim (said_append rs more m j) [ inl l ↦ inl (inr l) | inr k ↦ inr k ]
+]
+
+said_filtered : (test : Repeat → Bool) (rs : List Repeat) (m : Envelope) → IsAmong m (said (filter test rs)) → IsAmong m (said rs)
+said_filtered test [] m i = absurd i
+said_filtered test (r ∷ rs) m i = by_test (test r) i (λ j. said_filtered test rs m j) where
+  by_test : (b : Bool) → IsAmong m (said (if b then r ∷ filter test rs else filter test rs)) → (IsAmong m (said (filter test rs)) → IsAmong m (said rs)) → IsAmong m (said (r ∷ rs))
+  by_test true j rest = elim j [ inl e ↦ inl e | inr k ↦ inr (rest k) ]
+  by_test false j rest = inr (rest j)
+
+said_taken : (n : ℕ) (rs : List Repeat) (m : Envelope) → IsAmong m (said (take n rs)) → IsAmong m (said rs)
+said_taken zero [] m i = absurd i
+said_taken zero (r ∷ rs) m i = absurd i
+said_taken (suc n) [] m i = absurd i
+said_taken (suc n) (r ∷ rs) m i = elim i [ inl e ↦ inl e | inr j ↦ inr (said_taken n rs m j) ]
+
+said_dropped : (n : ℕ) (rs : List Repeat) (m : Envelope) → IsAmong m (said (drop n rs)) → IsAmong m (said rs)
+said_dropped zero [] m i = absurd i
+said_dropped zero (r ∷ rs) m i = i
+said_dropped (suc n) [] m i = absurd i
+said_dropped (suc n) (r ∷ rs) m i = inr (said_dropped n rs m i)
+
+-- resting changes no message
+said_nearer : (rs : List Repeat) (m : Envelope) → IsAmong m (said (map nearer rs)) → IsAmong m (said rs)
+said_nearer [] m i = absurd i
+said_nearer (r ∷ rs) m i = elim i [ inl e ↦ inl e | inr j ↦ inr (said_nearer rs m j) ]
+
+said_rested : (rs : List Repeat) (m : Envelope) → IsAmong m (said (map rested rs)) → IsAmong m (said rs)
+said_rested [] m i = absurd i
+said_rested (r ∷ rs) m i = elim i [ inl e ↦ inl e | inr j ↦ inr (said_rested rs m j) ]
+
+said_first : (ms : List Envelope) (m : Envelope) → IsAmong m (said (map first ms)) → IsAmong m ms
+said_first [] m i = absurd i
+said_first (x ∷ ms) m i = elim i [ inl e ↦ inl e | inr j ↦ inr (said_first ms m j) ]
+
 -- a call adds to them what it sends
 turn_waits : (event : Option Event) (sent : List Envelope) (v : State) (w : Waits) (m : Envelope) → IsAmong m (waited (waits_behind event sent v w)) → IsAmong m (waited w) ⊎ IsAmong m sent
 turn_waits event sent v w m i =
     let test = is_waited (answerer event) v in
-    elim (among_either m (filter test w.again) (filter test w.fresh ++ filter test sent) i) [
-      | inl l ↦ inl (among_left m w.again w.fresh (among_filtered test w.again m l))
-      | inr r ↦ elim (among_either m (filter test w.fresh) (filter test sent) r) [
-        | inl l ↦ inl (among_right m w.again w.fresh (among_filtered test w.fresh m l))
-        | inr k ↦ inr (among_filtered test sent m k)
-      ]
+    let still = is_waited_still (answerer event) v in
+    elim (said_append (filter still w.repeats) (map first (filter test sent)) m i) [
+      | inl l ↦ inl (said_filtered still w.repeats m l)
+      | inr k ↦ inr (among_filtered test sent m (said_first (filter test sent) m k))
     ]
 
 turns_wait : (self nodes : ℕ) (s : NodeState) (ts : List Turn) (w : Waits) (m : Envelope) → IsAmong m (waited (waits_turns self nodes s ts w)) → IsAmong m (waited w) ⊎ IsAmong m (sent_turns self nodes s ts)
@@ -248,18 +290,40 @@ turns_wait self nodes s (t ∷ ts) w m i = elim (turns_wait self nodes (after_tu
   | inr r ↦ inr (among_right m (turns.sent_in self nodes s t) (sent_turns self nodes (after_turn self nodes s t) ts) r)
 ]
 
+-- behind a time at which messages are sent again: those that are left for the next, those that rest, and those that were sent
+abbrev left_due : Waits → List Repeat
+left_due w = map nearer (drop MOST_AT_ONCE (overdue w.repeats))
+
+abbrev resting : Waits → List Repeat
+resting w = map nearer (filter is_resting w.repeats)
+
+abbrev sent_now : Waits → List Repeat
+sent_now w = map rested (take MOST_AT_ONCE (overdue w.repeats))
+
+was_due : (w : Waits) (m : Envelope) → IsAmong m (said (overdue w.repeats)) → IsAmong m (waited w)
+was_due w m i = said_filtered is_due w.repeats m i
+
+come_waits : (w : Waits) (m : Envelope) → IsAmong m (said (left_due w ++ resting w ++ sent_now w)) → IsAmong m (waited w)
+come_waits w m i = elim (said_append (left_due w ++ resting w) (sent_now w) m i) [
+  | inl l ↦ elim (said_append (left_due w) (resting w) m l) [
+    | inl k ↦ was_due w m (said_dropped MOST_AT_ONCE (overdue w.repeats) m (said_nearer (drop MOST_AT_ONCE (overdue w.repeats)) m k))
+    | inr k ↦ said_filtered is_resting w.repeats m (said_nearer (filter is_resting w.repeats) m k)
+  ]
+  | inr r ↦ was_due w m (said_taken MOST_AT_ONCE (overdue w.repeats) m (said_rested (take MOST_AT_ONCE (overdue w.repeats)) m r))
+]
+
 begun_waits : (a : Asked) (w : Waits) (m : Envelope) → IsAmong m (waited (waits_begun a w)) → IsAmong m (waited w)
 begun_waits (ask.Tick now) w m i = by_time (has_come now w) i where
-  by_time : (b : Bool) → IsAmong m (waited (if b then record { unit = w.unit; next = min (now + w.unit) (2 ^ 64 - 1); again = w.again ++ w.fresh; fresh = [] } else w)) → IsAmong m (waited w)
-  by_time true j = elim (among_either m (w.again ++ w.fresh) [] j) [ inl l ↦ l | inr none ↦ absurd none ]
+  by_time : (b : Bool) → IsAmong m (waited (if b then record { unit = w.unit; next = min (now + w.unit) (2 ^ 64 - 1); repeats = left_due w ++ resting w ++ sent_now w } else w)) → IsAmong m (waited w)
+  by_time true j = come_waits w m j
   by_time false j = j
 begun_waits a w m i = i
 
 -- what is sent again was waited for
 again_waited : (a : Asked) (w : Waits) (m : Envelope) → IsAmong m (again a w) → IsAmong m (waited w)
 again_waited (ask.Tick now) w m i = by_time (has_come now w) i where
-  by_time : (b : Bool) → IsAmong m (if b then w.again else []) → IsAmong m (waited w)
-  by_time true j = among_left m w.again w.fresh j
+  by_time : (b : Bool) → IsAmong m (if b then said (take MOST_AT_ONCE (overdue w.repeats)) else []) → IsAmong m (waited w)
+  by_time true j = said_filtered is_due w.repeats m (said_taken MOST_AT_ONCE (overdue w.repeats) m j)
   by_time false j = absurd j
 again_waited a w m i = absurd i
 
