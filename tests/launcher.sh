@@ -94,6 +94,15 @@ call() {
     has "$*: nothing is left" <(ls -A "$room/tmp")
 }
 
+# provers: how many processes of the command rt there are
+provers() {
+    local line found=0
+    for line in /proc/[0-9]*/cmdline; do
+        ! tr '\0' ' ' 2>/dev/null <"$line" | grep -qF "$room/bin/rt" || found=$((found + 1))
+    done 2>/dev/null
+    echo "$found"
+}
+
 # anew: the program isn't built
 anew() {
     rm -rf "$room/repo/crates/invite/out"
@@ -190,10 +199,10 @@ NAP=600 call bash -c './invite show & until [ -s "$ROOM/log" ]; do sleep 0.1; do
 expect 'an interrupted call' 130
 has 'no proof went on' <(grep -c end "$room/log") 0
 for _ in {1..600}; do
-    pgrep -f "$room/bin/rt" >/dev/null || break
+    [ "$(provers)" -gt 0 ] || break
     sleep 0.1
 done
-has 'no proof goes on' <(pgrep -cf "$room/bin/rt") 0
+has 'no proof goes on' <(provers) 0
 
 # Without a proof: the program that rt runs is kept, and is run from there, until a source that it is built from changes.
 anew
@@ -250,10 +259,10 @@ has 'what rt says of it' <(tail -n 2 "$room/err") 'src/main.rt: not a word of th
 NAP=600 call bash -c './invite --unproved answer & until [ -s "$ROOM/log" ]; do sleep 0.1; done; kill $!; wait $!'
 expect 'without a proof, interrupted' 130
 for _ in {1..600}; do
-    pgrep -f "$room/bin/rt" >/dev/null || break
+    [ "$(provers)" -gt 0 ] || break
     sleep 0.1
 done
-has 'no build goes on' <(pgrep -cf "$room/bin/rt") 0
+has 'no build goes on' <(provers) 0
 
 # There is no kit: each call says where one is from, and that a package needs none. One that names no work prints what the program would.
 for words in show '--unproved show' '' --unproved; do
