@@ -8,7 +8,8 @@ PAGE = os.path.join(os.path.dirname(os.path.abspath(__file__)), "../../docs/FORM
 def table():
     """The rows of the page's table of kinds: number, name, fields and length of the body."""
     with open(PAGE) as file:
-        return [(int(row[0], 16), *row[1:]) for row in re.findall(r"^\| ([0-9a-f]{2}) \| (\w+) \| ([^|]+) \| ([^|]+) \|", file.read(), re.M)]
+        section = file.read().split("\n## Messages\n")[1].split("\n### ")[0]
+    return [(int(row[0], 16), *row[1:]) for row in re.findall(r"^\| ([0-9a-f]{2}) \| (\w+) \| ([^|]+) \| ([^|]+) \|", section, re.M)]
 
 
 KINDS = table()
