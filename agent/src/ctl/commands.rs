@@ -55,7 +55,11 @@ pub fn run(arguments: Arguments) -> Result<(), Failure> {
 
 /// Prints what the program said of a file; how the program ended is how the command ends.
 fn shown((text, status): (String, ExitStatus), is_json: bool, as_json: fn(&str) -> String) -> Result<(), Failure> {
-    print(&if is_json { as_json(&text) } else { text.clone() })?;
+    if is_json {
+        print(&as_json(&text))?;
+    } else {
+        print(&text)?;
+    }
     match Failure::of_status(status) {
         Err(Failure::Program { status, why: None }) if text.starts_with("too_small ") => {
             let why = Some("this is no node's file: it is shorter than the least one".to_string());

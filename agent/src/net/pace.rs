@@ -78,7 +78,9 @@ impl Pace {
     fn count_other(&mut self, group: Option<GroupBytes>, now: Instant) {
         if group.is_none() {
             self.others += 1;
-            self.until = self.until.or(Some(now + self.patience));
+            if self.until.is_none() {
+                self.until = Some(now + self.patience);
+            }
         }
     }
 
