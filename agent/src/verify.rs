@@ -1,6 +1,9 @@
 //! What the program finds in the node's file before the node opens it: what no crash leaves there was lost, or is of another time.
 
 use log::{error, info, warn};
+use rustix::fs::{flock, FlockOperation};
+use rustix::io::Errno;
+use std::fs::File;
 use std::path::Path;
 use std::process::{Command, ExitStatus, Output, Stdio};
 
@@ -14,6 +17,8 @@ const MAX_TOLD: usize = 8;
 enum Found {
     /// The program can't verify a file.
     NotLooked,
+    /// Another node may have written to it meanwhile.
+    InUse,
     /// Nothing that keeps the node from its file; what may tell of an older state.
     Hints(Vec<String>),
     /// What no crash leaves.
@@ -31,18 +36,37 @@ fn found(status: ExitStatus, text: &str) -> Found {
     }
 }
 
-/// Has the program verify a file, and tells the log what it found. Whether the node may open it: what else is wrong with it the node says itself.
-pub fn is_whole(program: &Path, file: &Path) -> bool {
+/// Whether another process has the file open as a node. Where none has, none gets it until this one is closed.
+fn is_in_use(file: &File) -> bool {
+    flock(file, FlockOperation::NonBlockingLockShared) == Err(Errno::WOULDBLOCK)
+}
+
+fn look(program: &Path, file: &Path) -> Found {
     let inspect = Command::new(program).args(["inspect", "--verify"]).arg(file).stdin(Stdio::null()).stderr(Stdio::null()).output();
     // one that can't be run doesn't run the node, either
-    let found = match inspect {
+    match inspect {
         Ok(Output { status, stdout, .. }) => found(status, &String::from_utf8_lossy(&stdout)),
         Err(_) => Found::NotLooked,
+    }
+}
+
+/// Has the program verify a file, which is open here, and tells the log what it found. Whether the node may open it: what else is wrong with it the node says
+/// itself. It looks without a lock, so that agents that begin at the same time don't keep each other's nodes from the file. Half of a change of another node may
+/// look broken then: so it looks again where none has the file, and else concludes nothing.
+pub fn is_whole(program: &Path, path: &Path, file: &File) -> bool {
+    let found = match look(program, path) {
+        Found::Broken(_) if is_in_use(file) => Found::InUse,
+        Found::Broken(_) => look(program, path),
+        found => found,
     };
-    let file = file.display();
+    let file = path.display();
     match found {
         Found::NotLooked => {
             info!("{file}: it isn't verified: {} doesn't know `inspect --verify`", program.display());
+            true
+        }
+        Found::InUse => {
+            info!("{file}: it isn't verified: another process has it open");
             true
         }
         Found::Hints(hints) => {

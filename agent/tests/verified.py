@@ -1,10 +1,11 @@
 """The node's file is verified before the node opens it, by a stand-in for the program that says what it is told to."""
-import os, subprocess
+import fcntl, os, subprocess
 
 from bed import PATIENCE
 from enemies import logged
 from machine import ends
 
+LOCKED = 4
 BROKEN = 10
 
 
@@ -13,7 +14,7 @@ def stand_in(agents, status, text):
     path = os.path.join(agents.folder, "stand-in")
     with open(path, "w") as file:
         file.write('''#!/bin/sh
-if [ "$2" = --verify ] || [ "$2" = --salvage ]; then printf '%s' "$3" >> "$0.asked"; printf '%%s' '%s'; exit %d; fi
+if [ "$2" = --verify ] || [ "$2" = --salvage ]; then printf '%s\\n' "$3" >> "$0.asked"; printf '%%s' '%s'; exit %d; fi
 exec "%s" "$@"
 ''' % ("%s", text, status, agents.program))
     os.chmod(path, 0o755)
@@ -28,7 +29,11 @@ def verified(bed):
     check("a broken file: a status of its own", status == BROKEN, (status, told))
     check("what is broken, and what to do", all(one in told for one in ("broken counter_slots 4 9: no crash leaves this", "broken sealed_behind 12: ", "`dumgerokctl export --salvage` prints")), told)
     with open(os.path.join(agents.folder, "stand-in.asked")) as file:
-        check("the file of the configuration was verified", file.read() == agents.path(0, "node"))
+        check("the file of the configuration was verified", set(file.read().splitlines()) == {agents.path(0, "node")})
+    with open(agents.path(0, "node"), "rb") as file:
+        fcntl.flock(file, fcntl.LOCK_EX)
+        status, told = ends(agents)
+        check("a file that another node writes to: nothing is concluded", status == LOCKED and "another process has it open" in told and "no crash leaves" not in told, (status, told))
     for status, text, said in ((0, "hint job_differs 3\n", "hint job_differs 3: this may be an older state"), (2, "", "it isn't verified: "), (1, "kind node\n", None)):
         agents.write(0, program=stand_in(agents, status, text), record=None)
         if os.path.exists(agents.path(0, "log")):

@@ -118,7 +118,7 @@ fn run(config: Config, path: PathBuf, beginning: &Beginning) -> anyhow::Result<u
     // A device may have failed under the node before: nothing is read but what it holds.
     if let Some(file) = file {
         drop_cache(&file).with_context(|| format!("{}: the system doesn't let go of it", config.file.display()))?;
-        if !is_whole(&config.program, &config.file) {
+        if !is_whole(&config.program, &config.file, &file) {
             return Ok(BROKEN);
         }
     }
