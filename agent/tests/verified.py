@@ -1,4 +1,4 @@
-"""The node's file is verified before the node opens it, by a stand-in for the program that says what it is told to."""
+"""The node's file is verified before the node opens it: by a stand-in for the program that says what it is told to, and by the program itself."""
 import fcntl, os, subprocess
 
 from bed import PATIENCE
@@ -46,4 +46,25 @@ def verified(bed):
     check("dumgerokctl inspect passes --verify on", done.returncode == 1 and '"broken":["counter_slots 4 9","sealed_behind 12"]' in done.stdout, done)
     done = subprocess.run([agents.ctl_path, "export", "--salvage", agents.path(0, "node"), "--program", stand_in(agents, 1, "job 7 3 -\n")], stdout=subprocess.PIPE, text=True, timeout=PATIENCE)
     check("dumgerokctl export passes --salvage on", (done.returncode, done.stdout) == (1, "job 7 3 -\n"), done)
+    by_the_program(agents, check)
     agents.stop()
+
+
+def by_the_program(agents, check):
+    """A number of the counter in which a bit flipped: both slots of the cell are sealed (docs/FORMATS.md), and differ by more than one."""
+    agents.write(0, record=None)
+    agents.start(0)
+    agents.one_group([0])
+    kept = agents.ask(0, do="submit", queue=3, text="kept")
+    agents.kill(0)
+    with open(agents.path(0, "node"), "r+b") as file:
+        cell = file.read(4 * 512)
+        numbers = [int.from_bytes(cell[at:at + 8], "big") for at in (0, 1024)]
+        check("both slots of the counter are sealed", [cell[at] for at in (512, 1536)] == [0xa5] * 2 and abs(numbers[0] - numbers[1]) == 1, numbers)
+        numbers[0] ^= 1 << 20
+        file.seek(0)
+        file.write(numbers[0].to_bytes(8, "big"))
+    status, told = ends(agents)
+    check("a bit that flipped: what is broken", status == BROKEN and "broken counter_slots %d %d: no crash leaves this" % tuple(numbers) in told, (status, told))
+    done = subprocess.run([agents.ctl_path, "export", "--salvage", agents.path(0, "node"), "--program", agents.program], stdout=subprocess.PIPE, text=True, timeout=PATIENCE)
+    check("its jobs can still be read", "job %d 3 %s" % (kept["id"], b"kept".hex()) in done.stdout.splitlines(), done)
