@@ -112,9 +112,19 @@ class File:
         a, b = self.numbers(first)
         return [] if None in (a, b) or "damaged" in (a, b) or abs(a - b) == 1 else [(a, b)]
 
+    def unsealed(self):
+        """The number that comes next, where it stands in the counter's slot that isn't sealed."""
+        try:
+            count = self.cell(0)
+        except Refused:
+            return []
+        spare = [self.at(body) for body in (0, 2) if count is not None and not self.sealed(body)]
+        return [count + 1 for body in spare if number(body[:8]) == count + 1 and not any(body[8:])]
+
     def findings(self):
         """The lines that `inspect --verify` prints behind those of `inspect`."""
         lines = [f"broken counter_slots {a} {b}" for a, b in self.unraised(0)] + [f"broken area_slots {a} {b}" for a, b in self.unraised(4)]
+        lines += [f"hint counter_unsealed {number}" for number in self.unsealed()]
         try:
             here, there = self.areas()
         except Refused:

@@ -9,7 +9,7 @@ Then the calls of a node on its file are recorded by strace, and files made of w
 the old bytes, the new or any. None of them is broken. Where there is no strace that is left out, and a line says so. With --long there are 300,000 of these
 files. The last line counts the checks."""
 import concurrent.futures, os, random, re, shutil, subprocess, sys, tempfile
-from file_model import BLOCK, SECTOR, File, Refused, flipped, session
+from file_model import BLOCK, SECTOR, File, Refused, flipped, number, session
 
 # The slots of a file, its stride, and how long its payloads are.
 FILES = [(16, 512, 60), (16, 4096, 60), (24, 512, 300), (32, 512, 40)]
@@ -75,6 +75,13 @@ def silent(data):
                 yield image
 
 
+def uncounted(data):
+    """The flips of the gate's first byte by which the counter's present slot isn't sealed any more, and the number that was given there."""
+    file = File(data)
+    count, present = max((number(file.at(body)[:8]), body) for body in (0, 2) if file.sealed(body))
+    return count, [flipped(data, (present + 1) * file.stride, bit) for bit in range(8)]
+
+
 def flips(tried, chance):
     changed = named = 0
     for slots, stride, longest in FILES:
@@ -85,6 +92,9 @@ def flips(tried, chance):
         changed, named = changed + len(images), named + sum(1 for image in images if File(image).findings())
         wrong = tried.told(images)
         tried.check(images and not wrong, f"{name}: {wrong} of {len(images)} flips that change what is kept are told otherwise")
+        count, spoiled = uncounted(data)
+        told = [tried.verified(image, "spoiled") for image in spoiled]
+        tried.check(told == [([f"hint counter_unsealed {count}"], 0, [])] * 8, f"{name}: a number that was given isn't told: {told}")
         others = [flipped(data, chance.randrange(len(data) - 16), chance.randrange(8)) for _ in range(200)]
         wrong = tried.told(others)
         tried.check(not wrong, f"{name}: {wrong} of {len(others)} flips are told otherwise")

@@ -3,16 +3,18 @@ use Rattle.std.specs.Prelude.{ℕ, ◌+◌, ◌-◌, ◌*◌, ◌==◌, ◌&&◌
 use Rattle.std.specs.List.{list_any}
 use Rattle.job_model.specs.declared.job.Job.{Job}
 use Rattle.job_model.specs.declared.work.Work.{Work}
-use Rattle.sector_disk.specs.Disk.{Image}
+use Rattle.sector_disk.specs.Disk.{Image, sector_at}
 use Rattle.slot_gate.specs.Slot.{slot_at}
 use Rattle.safe_cell.specs.Body.{body_value}
 use Rattle.safe_cell.specs.Cell.{cell_at}
 use Rattle.job_journal.specs.Areas.{area_of, sealed_prefix, slots_from}
 use Rattle.job_journal.specs.Jobs.{Jobs}
 use Rattle.job_journal.specs.Journal.{replay_from}
-use Rattle.store_console.specs.Held.{journal_of, jobs_or_damage}
+use Rattle.store_console.specs.declared.found.Counter.{Counter}
+use Rattle.store_console.specs.declared.found.Counter.TheVariants.{Missing, Value, Damaged}
+use Rattle.store_console.specs.Held.{counter_of, journal_of, jobs_or_damage}
 use Rattle.store_console.specs.declared.findings.Finding.{Finding}
-use Rattle.store_console.specs.declared.findings.Finding.TheVariants.{CounterSlots, AreaSlots, SealedBehind, OtherAreaNextId, JobDiffers}
+use Rattle.store_console.specs.declared.findings.Finding.TheVariants.{CounterSlots, AreaSlots, CounterUnsealed, SealedBehind, OtherAreaNextId, JobDiffers}
 
 -- ---- cells
 
@@ -33,6 +35,14 @@ unraised (Some a) (Some b) = if is_raised a b then None else Some (a, b)
 
 abbrev pub unraised_at : Image → ℕ → Option (ℕ × ℕ)
 unraised_at image at = unraised (number_at (slot_at image at)) (number_at (slot_at image (at + 2)))
+
+-- the number in a slot's body, where it isn't sealed
+abbrev pub unsealed_by : Option (List ℕ) → List ℕ → Option ℕ
+unsealed_by None body = body_value body
+unsealed_by (Some sealed) body = None
+
+abbrev pub unsealed_at : Image → ℕ → Option ℕ
+unsealed_at image slot = unsealed_by (slot_at image slot) (sector_at image slot)
 
 -- ---- the journal's end
 
@@ -89,6 +99,18 @@ abbrev pub area_finding : Option (ℕ × ℕ) → Option Finding
 area_finding None = None
 area_finding (Some numbers) = Some (AreaSlots numbers.0 numbers.1)
 
+-- the number in a slot that isn't sealed is the one that comes next
+abbrev pub unsealed_finding : Counter → Option ℕ → Option Finding
+unsealed_finding counter None = None
+unsealed_finding Missing (Some number) = None
+unsealed_finding (Damaged sector) (Some number) = None
+unsealed_finding (Value count) (Some number) = if number == count + 1 then Some (CounterUnsealed number) else None
+
+-- where a counter has a value one of its slots is sealed, so of the other alone
+abbrev pub unsealed_findings : Image → List Finding
+unsealed_findings image =
+    listed (unsealed_finding (counter_of image) (unsealed_at image 0)) ++ listed (unsealed_finding (counter_of image) (unsealed_at image 2))
+
 abbrev pub behind_finding : Option ℕ → Option Finding
 behind_finding None = None
 behind_finding (Some sector) = Some (SealedBehind sector)
@@ -117,7 +139,8 @@ area_findings slots image (Some first) =
 
 abbrev pub findings_in : ℕ → Image → List Finding
 findings_in slots image =
-    listed (counter_finding (unraised_at image 0)) ++ listed (area_finding (unraised_at image 4)) ++ area_findings slots image (area_of slots (cell_at image 4))
+    listed (counter_finding (unraised_at image 0)) ++ listed (area_finding (unraised_at image 4)) ++ unsealed_findings image
+    ++ area_findings slots image (area_of slots (cell_at image 4))
 
 -- ---- how each is told
 
@@ -125,6 +148,7 @@ findings_in slots image =
 abbrev pub is_broken : Finding → Bool
 is_broken (CounterSlots a b) = true
 is_broken (AreaSlots a b) = true
+is_broken (CounterUnsealed number) = false
 is_broken (SealedBehind sector) = true
 is_broken (OtherAreaNextId other here) = false
 is_broken (JobDiffers id) = false

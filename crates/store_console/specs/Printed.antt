@@ -15,7 +15,7 @@ use Rattle.store_console.specs.declared.found.Owner.TheVariants.{Store, Node, Un
 use Rattle.store_console.specs.declared.inspecting.Shown.{Shown}
 use Rattle.store_console.specs.declared.inspecting.Shown.TheVariants.{All, Verified, Jobs as Listed}
 use Rattle.store_console.specs.declared.findings.Finding.{Finding}
-use Rattle.store_console.specs.declared.findings.Finding.TheVariants.{CounterSlots, AreaSlots, SealedBehind, OtherAreaNextId, JobDiffers}
+use Rattle.store_console.specs.declared.findings.Finding.TheVariants.{CounterSlots, AreaSlots, CounterUnsealed, SealedBehind, OtherAreaNextId, JobDiffers}
 use Rattle.store_console.specs.Findings.{findings_in, is_broken}
 use Rattle.store_console.specs.Held.{IsHeldBy, owner_of, counter_of, journal_of, used_in}
 
@@ -82,6 +82,7 @@ of_two name a b = line (name ++ codes " " ++ decimal a ++ codes " " ++ decimal b
 abbrev pub finding_text : Finding → List ℕ
 finding_text (CounterSlots a b) = of_two (codes "broken counter_slots") a b
 finding_text (AreaSlots a b) = of_two (codes "broken area_slots") a b
+finding_text (CounterUnsealed number) = named (codes "hint counter_unsealed") number
 finding_text (SealedBehind sector) = named (codes "broken sealed_behind") sector
 finding_text (OtherAreaNextId other here) = of_two (codes "hint other_area_next_id") other here
 finding_text (JobDiffers id) = named (codes "hint job_differs") id

@@ -41,7 +41,8 @@ fn is_broken(finding: Finding) -> bool
 {
     match finding {
         Finding::CounterSlots(_, _) | Finding::AreaSlots(_, _) | Finding::SealedBehind(_) => true,
-        Finding::OtherAreaNextId(_, _) | Finding::JobDiffers(_) => false,
+        Finding::CounterUnsealed(_) | Finding::OtherAreaNextId(_, _) | Finding::JobDiffers(_) =>
+            false,
     }
 }
 
@@ -51,6 +52,7 @@ fn push_finding(text: &mut Vec<u8>, finding: Finding) -> Result<(), AllocError>
     match finding {
         Finding::CounterSlots(a, b) => push_two(text, "broken counter_slots", a, b),
         Finding::AreaSlots(a, b) => push_two(text, "broken area_slots", a, b),
+        Finding::CounterUnsealed(number) => push_named(text, "hint counter_unsealed", number),
         Finding::SealedBehind(sector) => push_named(text, "broken sealed_behind", sector),
         Finding::OtherAreaNextId(other, here) => {
             push_two(text, "hint other_area_next_id", other, here)

@@ -7,6 +7,8 @@ pub enum Finding {
     CounterSlots(u64, u64),
     /// The same of the area cell.
     AreaSlots(u64, u64),
+    /// The number that comes next stands in a slot of the counter that isn't sealed.
+    CounterUnsealed(u64),
     /// The first slot behind the journal's end that is sealed, by its body's sector.
     SealedBehind(u64),
     /// The next id of the other area, and that of the present one, which is smaller.

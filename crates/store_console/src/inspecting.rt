@@ -46,10 +46,12 @@ pub fn inspect<R: Read, W: Write>(
     // Also: reads.
     // Refuses: damage_exported_as_no_jobs.
     // Promise: What `inspect --verify` prints behind that is a line for each finding of its definitions, and no other: numbers in the slots of
-    // a cell that no raise leaves, the first sealed slot behind the journal's end, a greater next id of the other area, a job that stands
-    // differently there. It ends badly where one of them is broken, and not for a hint.
+    // a cell that no raise leaves, the next number in a slot of the counter that isn't sealed, the first sealed slot behind the journal's
+    // end, a greater next id of the other area, a job that stands differently there. It ends badly where one of them is broken, and not for
+    // a hint.
     // Also: sound_is_silent.
-    // Refuses: slots_compared_by_order, last_gate_not_looked_at, hint_told_as_broken, other_area_is_the_present_one.
+    // Refuses: slots_compared_by_order, last_gate_not_looked_at, hint_told_as_broken, other_area_is_the_present_one,
+    // number_not_skipped, sealed_slot_told_as_unsealed, any_greater_number_told.
     // Promise: The sectors of a file are read where its label says that they lie.
     // Refuses: spaced_file_read_as_packed.
     ensures prints { Prints (IsShown shown) (R.remaining file.old.reader) (W.contents output.old) (W.contents output.new) result }

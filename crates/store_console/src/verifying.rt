@@ -7,15 +7,16 @@ ghost use Rattle.slot_gate.specs.Slot.{slot_at};
 ghost use Rattle.safe_cell.specs.Body.{body_value};
 ghost use Rattle.safe_cell.specs.Cell.{cell_at};
 ghost use Rattle.job_journal.specs.Areas.{area_of};
-ghost use Rattle.store_console.specs.Findings.{across, area_finding, area_findings, behind_finding, counter_finding, differs, findings_in, is_other_work, is_raised, job_finding, job_findings, journal_findings, journal_from, listed, next_finding, number_at, sealed_behind, unraised_at, value_across};
-ghost use Rattle.store_console.specs.Held.{found_in};
+ghost use Rattle.store_console.specs.Findings.{across, area_finding, area_findings, behind_finding, counter_finding, differs, findings_in, is_other_work, is_raised, job_finding, job_findings, journal_findings, journal_from, listed, next_finding, number_at, sealed_behind, unraised_at, unsealed_at, unsealed_finding, unsealed_findings, value_across};
+ghost use Rattle.store_console.specs.Held.{counter_of, found_in};
 
 use crate::findings::Finding;
-use crate::looking::{area, first_of, journal, sealed_from, seen};
+use crate::found::Counter;
+use crate::looking::{area, counter, first_of, journal, sealed_from, seen};
 use disk_sector::{Sector, is_blank};
 use job_journal::JobJournal;
 use job_model::{JobRef, PendingJobs};
-use sector_disk::MemDisk;
+use sector_disk::{MemDisk, SectorDisk};
 use slot_gate::look;
 use std::alloc::{AllocError, Global};
 
@@ -32,6 +33,7 @@ pub fn findings(alloc: Global, disk: &mut MemDisk, slots: u64) -> Result<Vec<Fin
     let mut findings = Vec::new(alloc);
     push_found(&mut findings, counter)?;
     push_found(&mut findings, area)?;
+    push_unsealed(&mut findings, disk)?;
     push_of_areas(alloc, &mut findings, disk, slots, first)?;
     Ok(findings)
 }
@@ -111,6 +113,47 @@ fn number_in(body: &Sector) -> Option<u64>
     Some(u64::from_be_bytes([
         body[0], body[1], body[2], body[3], body[4], body[5], body[6], body[7],
     ]))
+}
+
+/// Adds the counter's slot that isn't sealed, where it has the number that comes next.
+fn push_unsealed(findings: &mut Vec<Finding>, disk: &mut MemDisk) -> Result<(), AllocError>
+    requires on_disk { 8 ≤ length disk.old.contents }
+    ensures added { OnOk result (findings.new.items ≡ findings.old.items ++ unsealed_findings disk.old.contents) }
+    ensures kept { disk.new.contents ≡ disk.old.contents }
+{
+    let counter = counter(disk)?;
+    let first = unsealed_at(disk, 0)?;
+    let second = unsealed_at(disk, 2)?;
+    push_found(findings, unsealed_finding(counter, first))?;
+    push_found(findings, unsealed_finding(counter, second))
+}
+
+fn unsealed_finding(counter: Counter, number: Option<u64>) -> Option<Finding>
+    ensures { result ≡ unsealed_finding counter number }
+{
+    match (counter, number?) {
+        (Counter::Value(count), number) if number > count && number - count == 1 => {
+            Some(Finding::CounterUnsealed(number))
+        }
+        _ => None,
+    }
+}
+
+/// The number in a slot's body, where it isn't sealed.
+fn unsealed_at(disk: &mut MemDisk, slot: u64) -> Result<Option<u64>, AllocError>
+    requires on_disk { slot + 2 ≤ length disk.old.contents }
+    requires fits { slot + 2 < 2 ^ 64 }
+    ensures found { IfOk result (λ number. number ≡ unsealed_at disk.old.contents slot) }
+    ensures kept { disk.new.contents ≡ disk.old.contents }
+{
+    if seen(disk, slot)?.is_some() {
+        return Ok(None);
+    }
+    let mut body = [0; 512];
+    match disk.read(slot, &mut body) {
+        Ok(()) => Ok(number_in(&body)),
+        Err(_) => Err(AllocError),
+    }
 }
 
 /// Where the present area begins, if the area cell names one.
