@@ -24,5 +24,6 @@ pub mod record;
 pub mod resolver;
 pub mod say;
 pub mod service;
+pub mod skip;
 pub mod verify;
 pub mod view;

@@ -41,6 +41,22 @@ fn is_in_use(file: &File) -> bool {
     flock(file, FlockOperation::NonBlockingLockShared) == Err(Errno::WOULDBLOCK)
 }
 
+/// The number that may have been given though the file doesn't count it, where a hint says so.
+fn skipped_of(hint: &str) -> Option<u64> {
+    hint.strip_prefix("hint counter_unsealed ")?.parse().ok()
+}
+
+/// What is to be done with a file. What else is wrong with it the node says itself.
+#[derive(Debug, PartialEq, Eq)]
+pub enum Verdict {
+    /// The node may open it.
+    Whole,
+    /// It may, once this number is skipped.
+    Skip(u64),
+    /// It may not.
+    Broken,
+}
+
 fn look(program: &Path, file: &Path) -> Found {
     let inspect = Command::new(program).args(["inspect", "--verify"]).arg(file).stdin(Stdio::null()).stderr(Stdio::null()).output();
     // one that can't be run doesn't run the node, either
@@ -50,10 +66,10 @@ fn look(program: &Path, file: &Path) -> Found {
     }
 }
 
-/// Has the program verify a file, which is open here, and tells the log what it found. Whether the node may open it: what else is wrong with it the node says
-/// itself. It looks without a lock, so that agents that begin at the same time don't keep each other's nodes from the file. Half of a change of another node may
-/// look broken then: so it looks again where none has the file, and else concludes nothing.
-pub fn is_whole(program: &Path, path: &Path, file: &File) -> bool {
+/// Has the program verify a file, which is open here, and tells the log what it found. It looks without a lock, so that agents that begin at the same time don't
+/// keep each other's nodes from the file. Half of a change of another node may look broken then: so it looks again where none has the file, and else concludes
+/// nothing.
+pub fn verified(program: &Path, path: &Path, file: &File) -> Verdict {
     let found = match look(program, path) {
         Found::Broken(_) if is_in_use(file) => Found::InUse,
         Found::Broken(_) => look(program, path),
@@ -63,20 +79,21 @@ pub fn is_whole(program: &Path, path: &Path, file: &File) -> bool {
     match found {
         Found::NotLooked => {
             info!("{file}: it isn't verified: {} doesn't know `inspect --verify`", program.display());
-            true
+            Verdict::Whole
         }
         Found::InUse => {
             info!("{file}: it isn't verified: another process has it open");
-            true
+            Verdict::Whole
         }
         Found::Hints(hints) => {
-            hints.iter().for_each(|hint| warn!("{file}: {hint}: this may be an older state than the node left"));
-            true
+            let (skipped, older): (Vec<_>, Vec<_>) = hints.iter().partition(|hint| skipped_of(hint).is_some());
+            older.iter().for_each(|hint| warn!("{file}: {hint}: this may be an older state than the node left"));
+            skipped.first().and_then(|hint| skipped_of(hint)).map_or(Verdict::Whole, Verdict::Skip)
         }
         Found::Broken(broken) => {
             broken.iter().for_each(|one| error!("{file}: {one}: no crash leaves this: a write was lost, or the file was changed"));
             error!("{file}: `dumgerokctl export --salvage` prints the jobs that can still be read: put the file aside, and make a new one with `dumgerokctl format --jobs`");
-            false
+            Verdict::Broken
         }
     }
 }
@@ -96,6 +113,7 @@ mod tests {
         for (code, text) in [(0, whole), (1, "kind node\ncount none\ndamaged_journal 5\n"), (5, ""), (7, ""), (0, "brokenness 1\n")] {
             assert_eq!(read(code, text), Found::Hints(vec![]), "{code}");
         }
+        assert_eq!(["hint counter_unsealed 18446744073709551615", "hint job_differs 3", "broken counter_unsealed 3"].map(skipped_of), [Some(u64::MAX), None, None]);
         assert_eq!((read(2, ""), read(2, "broken counter_slots 4 9\n")), (Found::NotLooked, Found::NotLooked));
         assert_eq!(read(1, &"broken sealed_behind 12\n".repeat(100)), Found::Broken(vec!["broken sealed_behind 12".to_string(); MAX_TOLD]));
     }

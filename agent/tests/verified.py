@@ -1,4 +1,5 @@
-"""The node's file is verified before the node opens it: by a stand-in for the program that says what it is told to, and by the program itself."""
+"""The node's file is verified before the node opens it: by a stand-in for the program that says what it is told to, and by the program itself; and a number
+that may have been given is skipped."""
 import fcntl, os, subprocess
 
 from bed import PATIENCE
@@ -9,14 +10,14 @@ LOCKED = 4
 BROKEN = 10
 
 
-def stand_in(agents, status, text):
-    """A program that says this of each file that it is to verify, and else is the program."""
+def stand_in(agents, status, text, command=None):
+    """A program that says this of each file that it is to verify, and else is the program, or does this."""
     path = os.path.join(agents.folder, "stand-in")
     with open(path, "w") as file:
         file.write('''#!/bin/sh
 if [ "$2" = --verify ] || [ "$2" = --salvage ]; then printf '%s\\n' "$3" >> "$0.asked"; printf '%%s' '%s'; exit %d; fi
-exec "%s" "$@"
-''' % ("%s", text, status, agents.program))
+%s
+''' % ("%s", text, status, command or 'exec "%s" "$@"' % agents.program))
     os.chmod(path, 0o755)
     return path
 
@@ -68,3 +69,37 @@ def by_the_program(agents, check):
     check("a bit that flipped: what is broken", status == BROKEN and "broken counter_slots %d %d: no crash leaves this" % tuple(numbers) in told, (status, told))
     done = subprocess.run([agents.ctl_path, "export", "--salvage", agents.path(0, "node"), "--program", agents.program], stdout=subprocess.PIPE, text=True, timeout=PATIENCE)
     check("its jobs can still be read", "job %d 3 %s" % (kept["id"], b"kept".hex()) in done.stdout.splitlines(), done)
+
+
+def spoil(path):
+    """Spoils the gate of the counter's present slot; the number there."""
+    with open(path, "r+b") as file:
+        data = file.read()
+        stride = 4096 if data[-5] == 1 else 512
+        count, present = max((data[body * stride:body * stride + 8], body) for body in (0, 2))
+        file.seek((present + 1) * stride)
+        file.write(b"\xa4")
+    return int.from_bytes(count, "big")
+
+
+def skipped(bed):
+    """A count whose gate is spoiled behind each start: no number is given twice."""
+    check, told = bed.tally.check, "may have been given before: it is skipped"
+    for word, key in (("open", None), ("sealed", bed.key("ab"))):
+        agents, numbers = bed.agents("skipped_%s" % word, count=1, record=None, http=None, key=key), []
+        for _ in range(4):
+            agents.start(0)
+            agents.one_group()
+            numbers.append(int(agents.status(0)["group"].split(":")[1]))
+            agents.kill(0)
+            check("%s: the count that is spoiled is the number that was given" % word, spoil(agents.path(0, "node")) == numbers[-1], numbers)
+        check("%s: no number is given twice" % word, numbers == list(range(numbers[0], numbers[0] + 4)), numbers)
+        lines = [line for number in numbers[:-1] for line in logged(agents, 0, "group number 0:%d %s" % (number, told))]
+        check("%s: it is told once at each start but the first" % word, len(lines) == 3 == len(logged(agents, 0, told)), (numbers, lines))
+        agents.stop()
+    agents = bed.agents("not_skipped", count=1, record=None, http=None)
+    for command, status in (("exit 3", 3), ("echo refused 1 Damaged 14", 5)):
+        agents.write(0, program=stand_in(agents, 0, "hint counter_unsealed 7\n", command), record=None)
+        found, said = ends(agents)
+        check("%s where it can't be skipped the node isn't started" % command, found == status and told not in said, (found, said))
+    agents.stop()

@@ -12,7 +12,8 @@ use dumgerok_agent::names;
 use dumgerok_agent::node_file::drop_cache;
 use dumgerok_agent::own_session::become_command;
 use dumgerok_agent::say::say;
-use dumgerok_agent::verify::is_whole;
+use dumgerok_agent::skip::skip;
+use dumgerok_agent::verify::{verified, Verdict};
 use log::{error, info, LevelFilter};
 use rustix::fs::fstat;
 use rustix::process::geteuid;
@@ -118,8 +119,13 @@ fn run(config: Config, path: PathBuf, beginning: &Beginning) -> anyhow::Result<u
     // A device may have failed under the node before: nothing is read but what it holds.
     if let Some(file) = file {
         drop_cache(&file).with_context(|| format!("{}: the system doesn't let go of it", config.file.display()))?;
-        if !is_whole(&config.program, &config.file, &file) {
-            return Ok(BROKEN);
+        let over = match verified(&config.program, &config.file, &file) {
+            Verdict::Whole => None,
+            Verdict::Skip(number) => skip(&config, number).with_context(|| config.program.display().to_string())?,
+            Verdict::Broken => Some(BROKEN),
+        };
+        if let Some(status) = over {
+            return Ok(status);
         }
     }
     info!("node {} of cluster {}, {} nodes, at {}", config.id, config.cluster, config.nodes.len(), config.listens_at());

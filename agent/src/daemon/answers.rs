@@ -9,6 +9,7 @@ use crate::service::Given as GivenJob;
 use log::{error, info, warn};
 use serde::Serialize;
 use std::net::SocketAddr;
+use std::path::Path;
 use std::time::Instant;
 
 /// A job, as `jobs` has it.
@@ -203,11 +204,7 @@ impl Daemon {
             self.view.is_ready = true;
             self.notify.ready();
         } else {
-            let why = match closing {
-                Closing::Refused(Refusal::Damaged(sector)) => format!("Damaged, sector {sector}"),
-                other => error_of(other),
-            };
-            error!("{} can't be mounted: {why}: `dumgerokctl inspect` says what it holds", self.config.file.display());
+            let why = tell_unmounted(&self.config.file, closing);
             self.notify.status(format!("the file can't be mounted: {why}"));
             self.unusable = unmounted(closing);
         }
@@ -239,8 +236,18 @@ fn outcome_of(closing: Closing) -> Outcome {
     }
 }
 
+/// Tells the log why the file can't be mounted, where the node answered so to its start; and answers it.
+pub(crate) fn tell_unmounted(file: &Path, closing: &Closing) -> String {
+    let why = match closing {
+        Closing::Refused(Refusal::Damaged(sector)) => format!("Damaged, sector {sector}"),
+        other => error_of(other),
+    };
+    error!("{} can't be mounted: {why}: `dumgerokctl inspect` says what it holds", file.display());
+    why
+}
+
 /// The status to end with, where the node answered so to its start; None where it ends by itself.
-fn unmounted(closing: &Closing) -> Option<u8> {
+pub(crate) fn unmounted(closing: &Closing) -> Option<u8> {
     match closing {
         Closing::Ok(_) | Closing::Fault => None,
         Closing::Refused(refusal) if name_of(refusal) == "NoMemory" => Some(NO_MEMORY),

@@ -11,6 +11,7 @@ mod pages;
 mod requests;
 mod signals;
 
+pub(crate) use answers::{tell_unmounted, unmounted};
 pub use asker::Asker;
 pub use signals::Beginning;
 
@@ -375,7 +376,7 @@ impl Daemon {
 }
 
 /// The status of the agent, where its node ended with this one though nobody ended it: that is no success, whatever the node says.
-fn ended(status: ExitStatus) -> u8 {
+pub(crate) fn ended(status: ExitStatus) -> u8 {
     match (status.code(), status.signal()) {
         (Some(code), _) => error!("the node ended with status {code}"),
         (_, signal) => error!("the node was ended by signal {}", signal.unwrap_or(0)),

@@ -10,4 +10,4 @@ pub use answer::{Answer, Closing, Refusal};
 pub use group::{Group, GroupNumber, Phase};
 pub use job::{Job, JobKey, Payload, PayloadError};
 pub use line::{Line, LineError};
-pub use process::{Lane, NodeProcess};
+pub use process::{node_command, Lane, NodeProcess};

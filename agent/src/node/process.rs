@@ -9,7 +9,7 @@ use mio::unix::pipe;
 use mio::{Interest, Registry, Token};
 use std::collections::VecDeque;
 use std::io::{self, ErrorKind, Read, Write};
-use std::process::{Child, ExitStatus, Stdio};
+use std::process::{Child, Command, ExitStatus, Stdio};
 use std::thread;
 use std::time::{Duration, Instant};
 
@@ -63,20 +63,24 @@ pub struct NodeProcess<A> {
     texts: Vec<String>,
 }
 
+/// The program as the node, in a session of its own: a signal to the agent's terminal or process group is the agent's to answer.
+pub fn node_command(config: &Config) -> Command {
+    let mut command = own_session::command([&config.program]);
+    command.arg("node").arg(&config.file).arg(config.id.to_string()).arg(config.nodes.len().to_string());
+    command.arg(config.round_trip_ms.to_string());
+    if let Some(key) = &config.key {
+        command.arg("--key").arg(key).arg("--cluster").arg(&config.cluster);
+    }
+    command
+}
+
 impl<A> NodeProcess<A> {
     /// Starts the node; its output wakes `output`, its input, once it was full, `input`.
     pub fn start(config: &Config, registry: &Registry, input: Token, output: Token) -> io::Result<NodeProcess<A>> {
         if let Some(why) = own_session::why_not(config.program.as_os_str()) {
             return Err(io::Error::new(ErrorKind::NotFound, why));
         }
-        // a session of its own: a signal to the agent's terminal or process group is the agent's to answer
-        let mut command = own_session::command([&config.program]);
-        command.arg("node").arg(&config.file).arg(config.id.to_string()).arg(config.nodes.len().to_string());
-        command.arg(config.round_trip_ms.to_string());
-        if let Some(key) = &config.key {
-            command.arg("--key").arg(key).arg("--cluster").arg(&config.cluster);
-        }
-        let mut child = command.stdin(Stdio::piped()).stdout(Stdio::piped()).spawn()?;
+        let mut child = node_command(config).stdin(Stdio::piped()).stdout(Stdio::piped()).spawn()?;
         let pipes = child.stdin.take().zip(child.stdout.take());
         let (stdin, stdout) = pipes.ok_or_else(|| io::Error::new(ErrorKind::Other, "the node has no pipes"))?;
         let (to, mut from) = (pipe::Sender::from(stdin), pipe::Receiver::from(stdout));
