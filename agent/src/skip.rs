@@ -10,7 +10,7 @@ use std::process::{ExitStatus, Stdio};
 /// Has the node give this number, and end: it is told nothing but to recover, and what it says is dropped. The status to end with, where that can't be.
 pub fn skip(config: &Config, number: u64) -> io::Result<Option<u8>> {
     let (status, answer) = recover(config)?;
-    let closing = answer.lines().filter_map(Closing::read).last().filter(|_| status.success());
+    let closing = answer.lines().filter_map(Closing::read).next_back().filter(|_| status.success());
     Ok(match closing {
         Some(Closing::Ok(_)) => {
             let (file, id) = (config.file.display(), config.id);
