@@ -41,6 +41,15 @@ fn is_in_use(file: &File) -> bool {
     flock(file, FlockOperation::NonBlockingLockShared) == Err(Errno::WOULDBLOCK)
 }
 
+/// The same, and nobody is kept from it.
+fn is_in_use_now(file: &File) -> bool {
+    let is_in_use = is_in_use(file);
+    if !is_in_use {
+        let _released = flock(file, FlockOperation::Unlock);
+    }
+    is_in_use
+}
+
 /// The number that may have been given though the file doesn't count it, where a hint says so.
 fn skipped_of(hint: &str) -> Option<u64> {
     hint.strip_prefix("hint counter_unsealed ")?.parse().ok()
@@ -73,6 +82,8 @@ pub fn verified(program: &Path, path: &Path, file: &File) -> Verdict {
     let found = match look(program, path) {
         Found::Broken(_) if is_in_use(file) => Found::InUse,
         Found::Broken(_) => look(program, path),
+        // in the middle of a raise it looks so, too
+        Found::Hints(hints) if hints.iter().any(|hint| skipped_of(hint).is_some()) && is_in_use_now(file) => Found::InUse,
         found => found,
     };
     let file = path.display();
