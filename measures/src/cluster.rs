@@ -11,8 +11,8 @@ use rand_pcg::Pcg32;
 use std::alloc::Global;
 use wire_msg::Message;
 
-/// How far the clock goes at a time. It is less than any message takes, so answers come in their order.
-const STEP: u64 = 100;
+/// How many milliseconds the clock goes at a time: less than any message takes, so answers come in their order.
+const STEP: u64 = 2;
 /// Each node's timers are looked at in one of so many steps: twice a round trip.
 const STEPS: u64 = 5;
 /// The nodes come up within so many round trips of each other.

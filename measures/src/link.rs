@@ -5,6 +5,11 @@ use std::alloc::Global;
 use std::collections::BTreeMap;
 use wire_msg::Message;
 
+/// How many milliseconds a message takes at least, and up to how many it takes in all: from 0.2 to 0.5 round trips.
+const LEAST: u64 = 4;
+
+const MOST: u64 = 10;
+
 /// The network between all nodes: it loses messages, and sends each again until it is acknowledged. Of two messages that arrive
 /// at one time the one that was sent first comes first.
 #[derive(Drop)]
@@ -77,9 +82,8 @@ impl Link {
         self.random.next_word() % 100 < self.loss
     }
 
-    /// From 0.2 to 0.5 round trips.
     fn delay(&mut self) -> u64 {
-        let delay = 200 + u64::from(self.random.next_word() % 300);
+        let delay = LEAST + u64::from(self.random.next_word()) % (MOST - LEAST);
         delay.saturating_mul(self.slow)
     }
 }

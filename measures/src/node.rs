@@ -5,7 +5,7 @@ ghost use Rattle.job_model.specs.declared.node_command.NodeCommand.TheVariants.{
 ghost use Rattle.node_core.specs.Planned.{wanted_by};
 
 use group_task::{NODES, NodeId};
-use job_model::{Command, Job, JobTable};
+use job_model::{Command, JobTable, PendingJobs};
 use node_core::{Event, NodeCore, Wanted};
 use std::alloc::Global;
 use std::mem;
@@ -62,7 +62,7 @@ impl Node {
     }
 
     /// The jobs that it keeps.
-    pub fn pending(&self) -> &[Job] {
+    pub fn pending(&self) -> PendingJobs<'_> {
         self.table.pending()
     }
 

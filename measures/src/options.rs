@@ -1,9 +1,7 @@
-use pace::Setting;
+use pace::TimerSettings;
 
-/// A round trip, in ticks of the simulated clock.
-pub const UNIT: u16 = 1_000;
-/// How many milliseconds a round trip takes, where a time is given in milliseconds.
-const ROUND_TRIP: u64 = 20;
+/// A round trip, in milliseconds: that of a node by default.
+pub const UNIT: u16 = 20;
 
 /// What the command line asks for.
 #[derive(Drop)]
@@ -19,14 +17,14 @@ pub struct Options {
     pub repeats: u16,
     /// `slow`: the link takes so many times longer than the setting says.
     pub slow: u16,
-    /// `sync`: how many milliseconds a sync of a disk takes, where a round trip takes 20.
+    /// `sync`: how many milliseconds a sync of a disk takes.
     pub sync: u16,
     /// `jobs`: how many jobs come while a group is watched, over all that time; each is finished as soon as it is in hand.
     pub jobs: u16,
     /// `quiet`: how many round trips a group is watched with no fault but loss.
     pub quiet: u16,
     /// `check`, `check_jitter`, and so on: the fields of a setting but its unit.
-    pub setting: Setting,
+    pub setting: TimerSettings,
 }
 
 impl Options {
@@ -41,13 +39,8 @@ impl Options {
             sync: 0,
             jobs: 0,
             quiet: 1_000,
-            setting: Setting::measured(UNIT),
+            setting: TimerSettings::measured(UNIT),
         }
-    }
-
-    /// How long a sync takes, in ticks of the simulated clock.
-    pub fn sync(&self) -> u64 {
-        u64::from(self.sync) * u64::from(UNIT) / ROUND_TRIP
     }
 
     /// Whether this row was asked for.
@@ -104,6 +97,8 @@ impl Options {
                 Ok(checks) => self.setting.silent_checks = checks,
                 Err(_) => return Err("no number"),
             },
+            "answer_least" => self.setting.answer_least = units,
+            "slowest_most" => self.setting.slowest_most = units,
             _ => return Err("no such option"),
         }
         Ok(())

@@ -6,10 +6,13 @@ use crate::options::Options;
 use group_task::{GroupNo, Members, NodeId};
 use job_model::Work;
 use node_core::{Event, Phase};
-use pace::{TimerPolicy, NodeSnapshot, Retransmission};
+use pace::{NodeSnapshot, Retransmission, TimerPolicy};
 use std::alloc::Global;
 use std::collections::{BTreeMap, VecDeque};
-use wire_msg::{Body, Message};
+use wire_msg::Message;
+
+/// So many events a node makes at one time at most.
+const MOST_FIRED: u32 = 16;
 
 /// What a node is told.
 #[derive(Clone, Copy)]
@@ -78,7 +81,7 @@ impl Timed {
             pace: TimerPolicy::new(setting, id, seed),
             waiting: Retransmission::new(alloc, setting.unit),
             group: None,
-            sync: options.sync(),
+            sync: u64::from(options.sync),
             free: 0,
             held: Vec::new(alloc),
             told: VecDeque::new(alloc),
@@ -226,10 +229,10 @@ impl Timed {
     /// Each job in hand is worked on, and finished at once.
     fn finish(&mut self, now: u64) -> Result<(), &'static str> {
         for _job in 0..u64::MAX {
-            let (origin, id) = match self.node.core.vector().hand.jobs() {
-                [] => break,
-                [first, ..] => (first.origin, first.id),
+            let Some(first) = self.node.core.vector().hand.jobs().get(0) else {
+                break;
             };
+            let (origin, id) = (first.origin(), first.id());
             self.jobs.worked = self.jobs.worked.saturating_add(1);
             self.step(&Event::Finish(origin, id))?;
             self.note(now)?;
@@ -243,10 +246,7 @@ impl Timed {
             Told::Time(now) => self.pass(now),
             Told::Job(work) => self.keep(work),
             Told::Message(message) => {
-                self.pace.heard(message.sender());
-                if matches!(message.body(), Body::AreYouCoordinator) {
-                    self.pace.asked(message.sender());
-                }
+                self.pace.delivered(&message);
                 self.step(&Event::Deliver(message))
             }
         }
@@ -262,8 +262,9 @@ impl Timed {
         }
     }
 
-    /// Sends again what is due at this time, and makes the event of the timer that is.
+    /// Sends again what is due at this time, and makes the events of the timers that are, as `node_session` does.
     fn pass(&mut self, now: u64) -> Result<(), &'static str> {
+        self.pace.pass(now);
         if self.repeats {
             let again = put_again(&mut self.held, &self.waiting, now)?;
             self.jobs.again = self.jobs.again.max(again);
@@ -271,19 +272,28 @@ impl Timed {
                 return Err("no memory");
             }
         }
+        for _fired in 0..MOST_FIRED {
+            let Some(event) = self.due() else {
+                break;
+            };
+            self.step(&event)?;
+        }
+        Ok(())
+    }
+
+    /// The event that is due.
+    fn due(&mut self) -> Option<Event> {
         let snapshot = snapshot_of(&self.node);
         if self.group != Some(snapshot.group) {
             self.group = Some(snapshot.group);
             self.pace.regrouped();
         }
-        self.pace.pass(now);
-        if self.repeats && self.waiting.is_answered(&snapshot) {
-            self.pace.answered();
+        let due = self.pace.tick(&snapshot);
+        if due.is_some() || !self.repeats || !self.waiting.is_answered(&snapshot) {
+            return due;
         }
-        match self.pace.tick(&snapshot) {
-            Some(event) => self.step(&event),
-            None => Ok(()),
-        }
+        self.pace.answered();
+        self.pace.tick(&snapshot)
     }
 
     fn step(&mut self, event: &Event) -> Result<(), &'static str> {
@@ -299,7 +309,7 @@ impl Timed {
 /// What is seen of a node.
 fn snapshot_of(node: &Node) -> NodeSnapshot {
     let core = &node.core;
-    NodeSnapshot::of(core.id(), core.vector(), core.merge_wait(), node.pending())
+    NodeSnapshot::of(core.id(), core.vector(), core.merge_wait(), &node.pending())
 }
 
 /// Keeps what a node waits for, or answers false.
@@ -308,7 +318,11 @@ fn keep(waiting: &mut Retransmission, event: &Event, node: &Node) -> bool {
 }
 
 /// What is sent again at this time is put behind the others; it answers how many messages these are.
-fn put_again(held: &mut Vec<Message>, waiting: &Retransmission, now: u64) -> Result<u64, &'static str> {
+fn put_again(
+    held: &mut Vec<Message>,
+    waiting: &Retransmission,
+    now: u64,
+) -> Result<u64, &'static str> {
     let again = waiting.due(now).ok().ok_or("no memory")?;
     put_all(held, &again)?;
     Ok(again.len() as u64)
