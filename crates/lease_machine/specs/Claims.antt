@@ -1,5 +1,5 @@
 -- What the one who asks here for a name does.
-use Rattle.std.specs.Prelude.{◌≡◌, ℕ, ◌+◌, ◌<◌, ◌≤◌, Option, Some}
+use Rattle.std.specs.Prelude.{◌≡◌, ◌⊎◌, ℕ, ◌+◌, ◌-◌, ◌^◌, ◌<◌, ◌≤◌, Option, Some}
 use Rattle.lease_runs.specs.declared.client_id.ClientId.{ClientId}
 use Rattle.lease_runs.specs.declared.candidate.Request.{Request}
 use Rattle.lease_runs.specs.Run.{ClientEvent}
@@ -45,6 +45,14 @@ pub record Hears (old new : Option Claim) (client : ClientId) (now voter number 
   pub same : IsSameClaim c d
   pub own : c.candidate.client ≡ client
   pub heard : IsHeard c.candidate d.candidate now voter number
+
+-- nobody asks, or the client may not ask under this epoch: it is given up, or no number is left
+abbrev pub MayNotAsk : ℕ → Option Claim → Type 0
+MayNotAsk epoch claim = (c : Claim) → claim ≡ Some c → (epoch ≤ c.candidate.given_up) ⊎ (c.candidate.number ≡ 2 ^ 64 - 1)
+
+-- nobody asks as this client
+abbrev pub IsNotOf : ClientId → Option Claim → Type 0
+IsNotOf client claim = (c : Claim) → claim ≡ Some c → c.candidate.client ≡ client → ⊥
 
 -- its client relies by this request at this time of its clock
 pub record Relies (claim : Option Claim) (now : ℕ) (request : Request) : Type 0 where

@@ -1,9 +1,9 @@
-ghost use Rattle.std.specs.Prelude.{◌≡◌, ◌<◌, ◌+◌, ◌-◌, ◌^◌, ℕ, IfSome, IsNone, IsOk, OnErr, Err, None, Some, is_some, true, false};
+ghost use Rattle.std.specs.Prelude.{◌≡◌, ◌⊎◌, ◌<◌, ◌≤◌, ◌+◌, ◌-◌, ◌^◌, ℕ, IfSome, IsNone, IsOk, OnErr, Err, None, Some, is_some, true, false};
 ghost use Rattle.lease_runs.specs.Code.{ask_of};
 ghost use Rattle.lease_runs.specs.Run.{asks, stops};
 ghost use Rattle.lease_machine.specs.Kept.{IsOwn};
 ghost use Rattle.lease_machine.specs.Machine.{AllStay, GoesOn, IsFull, OthersSame, OthersStay, claim_at, voter_at};
-ghost use Rattle.lease_machine.specs.Claims.{Acts, Hears, IsBegun, IsNew, Relies, ReliesNot};
+ghost use Rattle.lease_machine.specs.Claims.{Acts, Hears, IsBegun, IsNew, IsNotOf, MayNotAsk, Relies, ReliesNot};
 
 use crate::entries::place_of;
 use crate::name_entry::{Claim, NameEntry};
@@ -126,12 +126,14 @@ impl LeaseMachine {
     /// The one who asks here for a name sends a request under an epoch. None where nobody does, or its client may not ask.
     pub fn ask(&mut self, now: u64, name: &LeaseName, epoch: u64) -> Option<Request>
         // Promise: A request, a grant that is heard and a giving up are possible steps of the client that asks here for that name, and
-        // change nothing else; else nothing changes.
-        // Also: LeaseMachine::hear, LeaseMachine::give_up.
-        // Refuses: another_name_asked, grant_of_another_client_heard, no_such_voter_heard.
+        // change nothing else. A request is refused only where nobody asks, its epoch is given up or no number is left; a grant, where
+        // that client doesn't ask here or there is no such voter; a giving up, where nobody asks. Then nothing changes.
+        // Also: refused, LeaseMachine::hear, LeaseMachine::give_up.
+        // Refuses: another_name_asked, grant_of_another_client_heard, no_such_voter_heard, first_grant_never_heard.
         ensures asks { IfSome result (λ request. (request.epoch ≡ epoch) × (request.sent ≡ now)
             × Acts (claim_at self.old name.now) (claim_at self.new name.now) now (λ client at. asks (ask_of client request.number epoch at))) }
         ensures none { IsNone result → AllStay self.old self.new }
+        ensures refused { IsNone result → MayNotAsk epoch (claim_at self.old name.now) }
         ensures voter { voter_at self.new name.now ≡ voter_at self.old name.now }
         ensures others { OthersSame name.now self.old self.new }
         ensures goes_on { GoesOn self.old self.new }
@@ -154,6 +156,7 @@ impl LeaseMachine {
     ) -> bool
         ensures hears { result ≡ true → Hears (claim_at self.old name.now) (claim_at self.new name.now) client now voter number }
         ensures passes { result ≡ false → AllStay self.old self.new }
+        ensures unheard { result ≡ false → (self.old.terms.machines ≤ voter) ⊎ IsNotOf client (claim_at self.old name.now) }
         ensures voter { voter_at self.new name.now ≡ voter_at self.old name.now }
         ensures others { OthersSame name.now self.old self.new }
         ensures goes_on { GoesOn self.old self.new }
@@ -172,6 +175,7 @@ impl LeaseMachine {
     pub fn give_up(&mut self, name: &LeaseName, epoch: u64) -> bool
         ensures stops { result ≡ true → (now : ℕ) → Acts (claim_at self.old name.now) (claim_at self.new name.now) now (λ client at. stops epoch) }
         ensures passes { result ≡ false → AllStay self.old self.new }
+        ensures nobody { result ≡ false → claim_at self.old name.now ≡ None }
         ensures voter { voter_at self.new name.now ≡ voter_at self.old name.now }
         ensures others { OthersSame name.now self.old self.new }
         ensures goes_on { GoesOn self.old self.new }

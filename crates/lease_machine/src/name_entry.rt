@@ -1,8 +1,8 @@
-ghost use Rattle.std.specs.Prelude.{◌≡◌, ◌<◌, ℕ, IfSome, IsNone, true, false};
+ghost use Rattle.std.specs.Prelude.{◌≡◌, ◌<◌, ℕ, None, IfSome, IsNone, true, false};
 ghost use Rattle.std.specs.Option.{ForSome};
 ghost use Rattle.lease_runs.specs.Code.{ask_of};
 ghost use Rattle.lease_runs.specs.Run.{asks, stops};
-ghost use Rattle.lease_machine.specs.Claims.{Acts, Hears, Relies, ReliesNot};
+ghost use Rattle.lease_machine.specs.Claims.{Acts, Hears, IsNotOf, MayNotAsk, Relies, ReliesNot};
 ghost use Rattle.lease_machine.specs.Names.{is_dead, is_free};
 
 use lease_message::LeaseName;
@@ -40,6 +40,7 @@ impl NameEntry {
         ensures same { (self.new.name ≡ self.old.name) × (self.new.voter ≡ self.old.voter) }
         ensures asks { IfSome result (λ request. (request.epoch ≡ epoch) × (request.sent ≡ now) × Acts self.old.claim self.new.claim now (λ client at. asks (ask_of client request.number epoch at))) }
         ensures none { IsNone result → self.new ≡ self.old }
+        ensures refused { IsNone result → MayNotAsk epoch self.old.claim }
     {
         match &mut self.claim {
             Some(claim) => claim.candidate.ask(now, epoch),
@@ -53,6 +54,7 @@ impl NameEntry {
         ensures same { (self.new.name ≡ self.old.name) × (self.new.voter ≡ self.old.voter) }
         ensures hears { result ≡ true → Hears self.old.claim self.new.claim client now voter number }
         ensures passes { result ≡ false → self.new ≡ self.old }
+        ensures unheard { result ≡ false → IsNotOf client self.old.claim }
     {
         match &mut self.claim {
             Some(claim) if claim.candidate.client() == client => {
@@ -68,6 +70,7 @@ impl NameEntry {
         ensures same { (self.new.name ≡ self.old.name) × (self.new.voter ≡ self.old.voter) }
         ensures stops { result ≡ true → (now : ℕ) → Acts self.old.claim self.new.claim now (λ client at. stops epoch) }
         ensures passes { result ≡ false → self.new ≡ self.old }
+        ensures nobody { result ≡ false → self.old.claim ≡ None }
     {
         match &mut self.claim {
             Some(claim) => {

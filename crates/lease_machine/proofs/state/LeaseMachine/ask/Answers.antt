@@ -1,11 +1,14 @@
-use Rattle.std.proofs.Common.{◌≡◌, List, length, sym, ap, ◌∙◌, arith}
+use Rattle.std.proofs.Common.{◌≡◌, Option, subst, List, length, sym, ap, ◌∙◌, arith}
 use Rattle.std.specs.Prelude.{IfSome}
 use Rattle.lease_runs.specs.declared.candidate.Request.{Request}
 use Rattle.lease_runs.specs.Code.{ask_of}
 use Rattle.lease_runs.specs.Run.{asks}
+use Rattle.lease_machine.specs.declared.name_entry.Claim.{Claim}
 use Rattle.lease_machine.specs.declared.name_entry.NameEntry.{NameEntry}
-use Rattle.lease_machine.specs.Claims.{Acts}
+use Rattle.lease_machine.specs.Claims.{Acts, MayNotAsk}
 use Rattle.lease_machine.specs.Machine.{claim_in, unknown, voter_in}
+use Rattle.lease_machine.specs.Names.{place_from}
+use Rattle.lease_machine.proofs.Names.{unplaced}
 use Rattle.lease_machine.proofs.Keeping.{at_claims, entry_at, is_read, kept_asked, name_found, own_asked, unchanged}
 use Rattle.lease_machine.proofs.state.LeaseMachine.ask.Goals as goal
 
@@ -60,3 +63,16 @@ returns-in-Some-clause-none c = λ none.
     let p = name_found c.args.name.now c.in-Some.place _ m.names.items _ c.deref.ensures.value c.place_of.ensures c.in-Some.is in
     let r = is_read c.args.name.now m.names.items c.in-Some.place e c.ask.new.self p m.kept.apart c.index_mut.ensures.value c.ask.ensures.same.0 in
     unchanged c.args.name.now m.names.items c.in-Some.place e c.ask.new.self (unknown m) r (c.ask.ensures.none none)
+
+pub returns-in-Some-clause-refused : goal.returns-in-Some-clause-refused
+returns-in-Some-clause-refused c = λ none.
+    let m = c.args.self.now in
+    let e = c.index_mut.result.now in
+    let p = name_found c.args.name.now c.in-Some.place _ m.names.items _ c.deref.ensures.value c.place_of.ensures c.in-Some.is in
+    let r = is_read c.args.name.now m.names.items c.in-Some.place e c.ask.new.self p m.kept.apart c.index_mut.ensures.value c.ask.ensures.same.0 in
+    at_claims (λ o n. MayNotAsk c.args.epoch o) e.claim c.ask.new.self.claim _ _ (ap claim_in r.old) (ap claim_in r.new) (c.ask.ensures.refused none)
+
+pub returns-in-None-clause-refused : goal.returns-in-None-clause-refused
+returns-in-None-clause-refused c =
+    let gone = unplaced 0 c.args.name.now c.args.self.now.names.items (ap (place_from 0 c.args.name.now) (sym c.deref.ensures.value) ∙ sym c.place_of.ensures ∙ c.in-None.is) in
+    λ none. subst (λ (o : Option Claim). MayNotAsk c.args.epoch o) (sym (ap claim_in gone)) (λ x is. absurd cc)

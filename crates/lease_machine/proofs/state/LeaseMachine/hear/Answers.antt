@@ -1,7 +1,10 @@
-use Rattle.std.proofs.Common.{ℕ, List, length, refl, sym, ap, subst, ◌∙◌, arith}
+use Rattle.std.proofs.Common.{ℕ, inr, Option, List, length, refl, sym, ap, subst, ◌∙◌, arith}
+use Rattle.lease_machine.specs.declared.name_entry.Claim.{Claim}
 use Rattle.lease_machine.specs.declared.name_entry.NameEntry.{NameEntry}
-use Rattle.lease_machine.specs.Claims.{Hears}
+use Rattle.lease_machine.specs.Claims.{Hears, IsNotOf}
 use Rattle.lease_machine.specs.Machine.{claim_in, unknown, voter_in}
+use Rattle.lease_machine.specs.Names.{place_from}
+use Rattle.lease_machine.proofs.Names.{unplaced}
 use Rattle.lease_machine.proofs.Keeping.{at_claims, entry_at, is_read, kept_asked, name_found, own_by, unchanged}
 use Rattle.lease_machine.proofs.state.LeaseMachine.hear.Goals as goal
 
@@ -66,3 +69,16 @@ hear-requires c = λ x found.
     let fits = entry_at m.terms m.process m.claims m.began m.bound m.floor m.names.items c.in-Some.place e m.kept r.at in
     let own = fits.claim x found in
     omega (arith, own.voters, c.number-in-Some.ensures.value, c.number.ensures.value, c.if-number-machines.false, c.machines.ensures)
+
+pub returns-in-Some-clause-unheard : goal.returns-in-Some-clause-unheard
+returns-in-Some-clause-unheard c = λ no.
+    let m = c.args.self.now in
+    let e = c.index_mut.result.now in
+    let p = name_found c.args.name.now c.in-Some.place _ m.names.items _ c.deref.ensures.value c.place_of.ensures c.in-Some.is in
+    let r = is_read c.args.name.now m.names.items c.in-Some.place e c.hear.new.self p m.kept.apart c.index_mut.ensures.value c.hear.ensures.same.0 in
+    inr (at_claims (λ o n. IsNotOf c.args.client o) e.claim c.hear.new.self.claim _ _ (ap claim_in r.old) (ap claim_in r.new) (c.hear.ensures.unheard no))
+
+pub returns-in-None-clause-unheard : goal.returns-in-None-clause-unheard
+returns-in-None-clause-unheard c =
+    let gone = unplaced 0 c.args.name.now c.args.self.now.names.items (ap (place_from 0 c.args.name.now) (sym c.deref.ensures.value) ∙ sym c.place_of.ensures ∙ c.in-None.is) in
+    λ no. inr (subst (λ (o : Option Claim). IsNotOf c.args.client o) (sym (ap claim_in gone)) (λ x is own. absurd cc))
