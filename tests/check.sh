@@ -140,8 +140,8 @@ has 'the gate without a kit: what is said' <(sed 's/, which.*//' "$room/out") 'c
 # Parts by name, over the built program, a named one, or one without proofs.
 BUILT=invite call "$check" agent
 expect 'a part' 0
-has 'a part: what it runs' <(grep -v ^apt-get "$room/log") 'agent/tests/units' "agent/tests/run $program"
-has 'a part: its last line' <(tail -n 1 "$room/out") '6 passed, 0 failed'
+has 'a part: what it runs' <(grep -v ^apt-get "$room/log") 'agent/tests/units' "tests/pictures.py $program" "agent/tests/run $program"
+has 'a part: its last line' <(tail -n 1 "$room/out") '9 passed, 0 failed'
 has 'a part: no word for the package' <(ls "$room/repo/crates/invite/out") invite
 BUILT=invite call "$check" package pages
 has 'two parts, in their order' <(grep -v ^apt-get "$room/log" | sed 's/ .*//') tests/crates_used.sh tests/more_edits.sh tests/promises.py tests/trusted.py tests/pages.py packaging/test
@@ -154,7 +154,7 @@ ONLY=$room/alone call "$check" agent tests
 expect 'no program, and no kit' 0
 has 'no program, and no kit: what is run' <(grep -v ^apt-get "$room/log") agent/tests/units
 has 'no program, and no kit: what is left out' <(grep '^left out of agent' "$room/out") \
-    'left out of agent: agent/tests/run: no program is built of these sources, and there is no kit to build one: name one, such as /usr/lib/dumgerok/invite of a package'
+    'left out of agent: python3 tests/pictures.py, agent/tests/run: no program is built of these sources, and there is no kit to build one: name one, such as /usr/lib/dumgerok/invite of a package'
 has 'no program, and no kit: a line a part' <(grep -c '^left out' "$room/out") 2
 ONLY=$room/alone call "$check" tests
 expect 'nothing was tried' 1
@@ -167,7 +167,7 @@ has 'no program: it is built without proofs' <(head -n 1 "$room/log") '--unprove
 has 'no program: it is said' <(grep '^the program: ' "$room/out") 'the program: crates/invite/out/unproved, which is not proved: checks at run time stand in place of the proofs'
 has 'no program: what has bounds is left out' <(grep '^left out' "$room/out" | cut -d : -f 1-3) \
     'left out of tests: python3 tests/endless.py, python3 tests/slow_disks.py, bash tests/traces.sh, python3 tests/trace_growth.py: no proved program is built of these sources'
-has 'no program: all else is run' <(grep -c '^tests/.*crates/invite/out/unproved' "$room/log") "$(grep '^tests/.* PROGRAM' "$room/gate" | grep -vcE 'hostile|endless|slow_disks|traces|growth')"
+has 'no program: all else is run' <(grep -c '^tests/.*crates/invite/out/unproved' "$room/log") "$(grep '^tests/.* PROGRAM' "$room/gate" | grep -vcE 'hostile|endless|slow_disks|traces|growth|pictures')"
 call "$check" agent
 has 'no program, for none that takes one without proofs' <(grep -c unproved "$room/log") 0
 OPEN=yes call "$check" tests
@@ -176,17 +176,17 @@ has 'the program can'"'"'t be built: what is said' <(grep -E '^it was|^left|pass
 
 # What is quick, side by side.
 quick=$(BUILT=invite call "$check" --quick && tail -n 1 "$room/out")
-has 'quick: what it runs' <(sed 's,.*/,,; s/ .*//' <(cut -d ' ' -f 1 "$room/log") | sort) command_lines.sh crates_used.sh examples.sh files.py help.sh more_edits.sh pages.py promises.py \
+has 'quick: what it runs' <(sed 's,.*/,,; s/ .*//' <(cut -d ' ' -f 1 "$room/log") | sort) command_lines.sh crates_used.sh examples.sh files.py help.sh lease_lines.py more_edits.sh pages.py promises.py \
     schedules.sh texts.py trace_rows.py trusted.py
-has 'quick: its last line' <(echo "$quick") '36 passed, 0 failed'
+has 'quick: its last line' <(echo "$quick") '39 passed, 0 failed'
 BUILT=invite WAITS=tests/crates_used.sh call "$check" --quick
 if [ "$(nproc)" -gt 1 ]; then has 'quick: side by side' <(grep -E -m 2 'crates_used|pages' "$room/log") tests/pages.py tests/crates_used.sh; fi
 has 'quick: in order' <(grep -m 1 ': 3 passed' "$room/out") 'bash tests/crates_used.sh: 3 passed, 0 failed'
 BUILT=invite BAD='tests/texts.py counts' call "$check" --quick
 expect 'quick: one that counts' 1
-has 'quick: one that counts: what is said' <(grep -E 'wrong|1 failed' "$room/out") 'what went wrong' "python3 tests/texts.py $program: 2 passed, 1 failed" '35 passed, 1 failed'
+has 'quick: one that counts: what is said' <(grep -E 'wrong|1 failed' "$room/out") 'what went wrong' "python3 tests/texts.py $program: 2 passed, 1 failed" '38 passed, 1 failed'
 BUILT=invite BAD='tests/texts.py ends' call "$check" --quick
-has 'quick: one that ends' <(tail -n 1 "$room/out") '36 passed, 1 failed'
+has 'quick: one that ends' <(tail -n 1 "$room/out") '39 passed, 1 failed'
 ONLY=$room/alone call "$check" --quick
 expect 'quick: no program, and no kit' 0
 has 'quick: no program, and no kit: what is run' <(tail -n 1 "$room/out") '15 passed, 0 failed'
@@ -214,6 +214,6 @@ done
 call "$check" --help
 expect '--help' 0
 has '--help: nothing is run' "$room/log"
-has '--help: the parts' <(sed '1,/^$/d' "$room/out" | grep -oE '^[a-z]+ ' | tr -d ' ') proofs pages scripts tests hostile agent package long figures
+has '--help: the parts' <(sed '1,/^$/d' "$room/out" | grep -oE '^[a-z]+ ' | tr -d ' ') proofs pages scripts tests hostile agent package disk long figures
 has 'nothing is left behind' <(ls -A "$room" | grep -c '^tmp\.') 0
 tally

@@ -120,7 +120,10 @@ refused trace --ongoing=1
 refused record 1
 refused threads 1
 refused threads --order=1
-refused draw 1
+refused trace --turns=1
+refused trace --turns --ongoing
+refused trace --turns a
+refused draw
 refused inspect
 refused inspect a b
 refused export
@@ -134,7 +137,8 @@ for word in --version -V; do
     cmp -s "$room/in" "$room/left" || problem='it read its input'
     mark "$problem" invite "$word"
 done
-for command in answer show sim store format node inspect export trace record threads draw; do
+"$program" format --lease "$room/leases0" 0
+for command in answer show sim store format node lease inspect export trace record threads; do
     problem=''
     start '' "$room/out" --help
     grep -q "^  $command " "$room/out" || problem="the help doesn't name $command"
@@ -312,7 +316,7 @@ prints 1 '' '' trace "$room"
 prints 0 'cluster 2 8\ncheck 0\ndeliver 0\n' '{"histories":[[{"do":"check","sent":["010100010000"]}],[{"do":"deliver","msg":"010100010000","sent":["01020100000101"]}]],"nodes":2,"order":"0 - 1 0"}\n' record
 says 'line 2: no such act: chek'
 prints 1 'cluster 2 8\nchek 0\n' 'bad line 2\n' record
-prints 1 '{"nodes":1,"histories":[[{"do":"none","sent":[]},{"do":"none"}]]}\n' 'bad trace 0 1\n' draw
+prints 1 '{"nodes":1,"histories":[[{"do":"none","sent":[]},{"do":"none"}]]}\n' 'bad trace 0 1\n' trace --turns
 prints 0 'cluster 1 4\nlinks 1\n0 clock check\n0 clock merge\n' '{"histories":[[{"do":"check","sent":[]},{"do":"merge","sent":[]}]],"nodes":1}\n' threads
 prints 0 'cluster 1 4\nlinks 1\n0 clock check\n0 clock merge\n' '{"histories":[[{"do":"check","sent":[]},{"do":"merge","sent":[]}]],"nodes":1,"order":"0 - 0 -"}\n' threads --order
 
@@ -373,7 +377,7 @@ full 'cluster 1 4\n' sim
 full '' trace
 full 'cluster 1 4\n' record
 full 'cluster 1 4\nlinks 1\n' threads
-full '' draw
+full '' trace --turns
 full 'mount\n' store "$file"
 
 folder answer 0 3
@@ -381,7 +385,7 @@ folder show
 folder sim
 folder trace
 folder threads
-folder draw
+folder trace --turns
 folder store "$file"
 
 tally

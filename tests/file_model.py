@@ -2,7 +2,9 @@
 damage files. Jobs are kept by their ids, each as its queue, payload and priority."""
 import collections
 
-SECTOR, BLOCK, LABEL = 512, 4096, 16
+SECTOR, BLOCK = 512, 4096
+# How many bytes a label has, and one of version 1.
+LABEL, OLDER_LABEL = 32, 16
 SEALED = b"\xa5"
 
 State = collections.namedtuple("State", "count next jobs")
@@ -41,8 +43,9 @@ def record_in(body, spoiled=0):
 
 class File:
     def __init__(self, data):
-        self.data, self.label = data, data[-LABEL:] if len(data) % SECTOR == LABEL else b""
-        spaced = len(data) % BLOCK == LABEL and self.label[:8] == b"dumgerok" and self.label[11] == 1
+        behind = len(data) % SECTOR
+        self.data, self.label = data, data[-behind:].ljust(LABEL, b"\0") if behind in (LABEL, OLDER_LABEL) else b""
+        spaced = len(data) % BLOCK < SECTOR and self.label[:8] == b"dumgerok" and self.label[11] == 1
         self.stride = BLOCK if spaced else SECTOR
         self.sectors = len(data) // self.stride
         self.slots = min(4096, (self.sectors - 8) // 4)

@@ -5,7 +5,7 @@ are refused, what is left of them, and who else may have them meanwhile.
     files.py PROGRAM
 
 What is expected was worked out from docs/FORMATS.md. The last line counts the checks."""
-import errno, fcntl, os, re, resource, select, shutil, signal, subprocess, sys, tempfile
+import errno, fcntl, hmac, os, re, resource, select, shutil, signal, subprocess, sys, tempfile
 
 HERE = os.path.dirname(os.path.abspath(__file__))
 SECTOR = 512
@@ -41,13 +41,24 @@ STORES = [
      "count 0 next 1\njob 0 0 62\n"),
 ]
 
+def label_of(node, nodes, slots, mark="00000000"):
+    """The label of a packed file."""
+    return f"64756d6765726f6b 02 {node:02x} {nodes:02x} 00 {mark} {slots:04x}" + "00" * 14
+
+
+# One of version 1, and the cluster `orders` as a label has it: HMAC-SHA256 under this key, of `dumgerok cluster 2`.
+OLDER = "64756d6765726f6b 01 00 03 0000000000"
+ORDERS = hmac.new(b"orders", b"dumgerok cluster 2", "sha256").hexdigest()[:8]
+
 # The files of a node: SLOTS SELF NODES FIRST, what is asked of it, its sectors, and the label behind the last one.
 NODES = [
-    ("4 0 3", "", {**EMPTY, 8: "03", 9: SEAL}, "64756d6765726f6b 01 00 03 0000000000"),
-    ("8 127 128", "", {**EMPTY, 8: "03", 9: SEAL}, "64756d6765726f6b 01 7f 80 0000000000"),
-    ("4 0 1 258", "", {**EMPTY, 0: "0000000000000102", 8: "03 0000000000000102", 9: SEAL}, "64756d6765726f6b 01 00 01 0000000000"),
-    ("4 0 1 18446744073709551615", "", {**EMPTY, 0: "ff" * 8, 8: "03" + "ff" * 8, 9: SEAL}, "64756d6765726f6b 01 00 01 0000000000"),
-    ("4 2 3", "recover\nsubmit 3 6869 7\n", {**EMPTY, 2: "0000000000000001", 3: SEAL, 6: "0000000000000002", 7: SEAL, 8: "03", 9: SEAL, 16: "03", 17: SEAL, 18: "05 0000000000000000 03 07 0002 6869", 19: SEAL}, "64756d6765726f6b 01 02 03 0000000000"),
+    ("4 0 3", "", {**EMPTY, 8: "03", 9: SEAL}, label_of(0, 3, 4)),
+    ("8 127 128", "", {**EMPTY, 8: "03", 9: SEAL}, label_of(127, 128, 8)),
+    ("4 0 1 258", "", {**EMPTY, 0: "0000000000000102", 8: "03 0000000000000102", 9: SEAL}, label_of(0, 1, 4)),
+    ("4 0 1 18446744073709551615", "", {**EMPTY, 0: "ff" * 8, 8: "03" + "ff" * 8, 9: SEAL}, label_of(0, 1, 4)),
+    ("4 2 3", "recover\nsubmit 3 6869 7\n", {**EMPTY, 2: "0000000000000001", 3: SEAL, 6: "0000000000000002", 7: SEAL, 8: "03", 9: SEAL, 16: "03", 17: SEAL, 18: "05 0000000000000000 03 07 0002 6869", 19: SEAL}, label_of(2, 3, 4)),
+    ("4 2 3 --cluster orders", "", {**EMPTY, 8: "03", 9: SEAL}, label_of(2, 3, 4, ORDERS)),
+    ("300 2 3 --cluster=orders", "", {**EMPTY, 8: "03", 9: SEAL}, label_of(2, 3, 300, ORDERS)),
 ]
 
 # Files that a store is made in place of: how long, of bytes 55, and with how many slots.
@@ -93,17 +104,31 @@ LABELS = [
     ("64756d6765726f6b 01 01 03 0000000000", "it is the file of node 1 of 3"),
     ("64756d6765726f6b 01 00 04 0000000000", "it is the file of node 0 of 4"),
     ("64756d6765726f6b 01 7f 80 0000000000", "it is the file of node 127 of 128"),
-    ("64756d6765726f6b 02 00 03 0000000000", "its format is of version 2, which isn't read here"),
+    (label_of(1, 3, 4), "it is the file of node 1 of 3"),
+    (label_of(0, 4, 4), "it is the file of node 0 of 4"),
+    (label_of(1, 3, 4, ORDERS), "it is the file of node 1 of 3"),
+    (label_of(0, 3, 5), "it was made with 5 slots, and isn't as long as that: bytes of it are missing, or were put in"),
+    (label_of(0, 3, 3, ORDERS), "it was made with 3 slots, and isn't as long as that: bytes of it are missing, or were put in"),
+    ("64756d6765726f6b 03 00 03 0000000000", "its format is of version 3, which isn't read here"),
     ("64756d6765726f6b ff 00 00 0000000001", "its format is of version 255, which isn't read here"),
     ("64756d6765726f6b 01 00 03 0000000001", NOBODYS),
+    # of version 2 with what isn't zero behind it, with a stride that there isn't, and without its second half
+    (label_of(0, 3, 4)[:-2] + "01", NOBODYS),
+    (label_of(0, 3, 4).replace("03 00", "03 02", 1), NOBODYS),
+    (label_of(0, 3, 4, ORDERS)[:-32], NOBODYS),
     ("64756d6765726f6c 01 00 03 0000000000", NOBODYS),
     ("64756d6765726f6b 01 00 03 00000000", NOBODYS),
 ]
 
 # The lengths that a node's file of 24 sectors and its label is cut to, once the node has opened it.
-CUT = [0, 1, 512, 1024, 2047, 4096, 4608, 4609, 5120, 12_287, 12_288, 12_303]
+CUT = [0, 1, 512, 1024, 2047, 4096, 4608, 4609, 5120, 12_287, 12_288, 12_304, 12_319]
 
 UP = b"group Normal 0 0:1 0\nkeeps 1 0 0\nok 1\n"
+
+# What is said of a file that isn't the one that was opened any more.
+DISPLACED = "the file was removed or another file took its name while it was open"
+WRITTEN_OVER = "the file was cut off or written over while it was open"
+OLDER_COUNT = "the file was written over, and its counter isn't what the node gave while it was open"
 
 
 def reason(line, word, error):
@@ -186,6 +211,11 @@ class Tried:
         out, _ = child.communicate(timeout=600)
         self.same((child.returncode, out), (status, text), name)
 
+    def lost(self, child, fed, path, said, name):
+        """A node that is fed this acknowledges nothing, and says what became of its file."""
+        out, errors = child.communicate(fed, timeout=600)
+        self.same((child.returncode, out, errors.decode()), (7, b"", f"invite: {path}: {said}\n"), name)
+
     def formatted(self, path, words="4 0 1"):
         if os.path.lexists(path):
             os.remove(path)
@@ -208,7 +238,7 @@ def try_bytes(tried, path):
         tried.same(read(path), bytes_of(slots, sectors), ("mounted alone", requests))
     for words, requests, sectors, label in NODES:
         tried.formatted(path, words)
-        _, out = tried.run(["node", path, *words.split()[1:3]], requests)
+        _, out = tried.run(["node", path, *words.split()[1:3], *words.split()[3:] * ("--cluster" in words)], requests)
         tried.mark("" if out.count(b"ok ") == requests.count("\n") else f"it answers {out!r}", (words, requests))
         tried.same(read(path), bytes_of(int(words.split()[0]), sectors, label), (words, requests))
         tried.mark("" if os.stat(path).st_mode & 0o777 == 0o600 else "others may read it", (words, requests))
@@ -256,7 +286,8 @@ def try_lengths(tried, path):
         tried.expect(["store", path], "mount\n" + "put 0 61\n" * 5, "ok\n" + "".join(f"ok {at}\n" for at in range(jobs)) + "refused Full\n" * (5 - jobs))
         tried.same(read(path)[12_288:], behind, (more, "bytes behind"))
     # a node's file has just its label there
-    for behind, status in ((b"", 5), (bytes.fromhex(NODES[0][3]), 0), (bytes.fromhex(NODES[0][3])[:15], 5), (bytes.fromhex(NODES[0][3]) + b"\0", 5)):
+    label, older = bytes.fromhex(NODES[0][3]), bytes.fromhex(OLDER)
+    for behind, status in ((b"", 5), (label, 0), (label[:31], 5), (label[:16], 5), (label[:15], 5), (label + b"\0", 5), (older, 0), (older[:15], 5), (older + b"\0", 5), (older + bytes(16), 0)):
         write(path, bytes_of(4, EMPTY) + behind)
         tried.expect(["node", path, "0", "3"], "", "", status)
         tried.same(read(path), bytes_of(4, EMPTY) + behind, (behind, "a label"))
@@ -363,7 +394,7 @@ def try_locked(tried, path):
             tried.expect(["store", path], "mount\nformat 4\nraise\n", "refused Locked\nrefused Locked\nrefused Broken\n")
             tried.expect(["node", path, "0", "1"], "recover\n", "", 4)
             tried.same(read(path), before, ("locked by another process", how))
-        write(path + ".copy", read(path)[:-16])
+        write(path + ".copy", read(path)[:-32])
         tried.expect(["store", path + ".copy"], "mount\nlist\n", "ok\ncount 1 next 1\njob 0 3 6869\n")
         os.remove(path + ".copy")
     os.truncate(path, 12_288)
@@ -392,12 +423,11 @@ def try_changed(tried, path):
         # put back it is fit for use
         write(path, before)
         tried.expect(["node", path, "0", "1"], "recover\n", "group Normal 0 0:2 0\nkeeps 2 0 0\nok 1\n")
-    for length in (12_305, 20_000):
+    for length in (12_321, 20_000):
         tried.formatted(path)
         child = tried.node(path)
         os.truncate(path, length)
-        tried.ask(child, b"recover\n", UP.replace(b"ok 1", b"ok 2"))
-        tried.end(child, 0, b"", ("another length, with all sectors", length))
+        tried.lost(child, b"recover\n", path, WRITTEN_OVER, ("another length, with all sectors", length))
         tried.same(os.path.getsize(path), length, ("another length, with all sectors", length))
         tried.expect(["node", path, "0", "1"], "", "", 5)
         os.truncate(path, 12_288)
@@ -405,7 +435,7 @@ def try_changed(tried, path):
 
 
 def try_removed(tried, path):
-    """A file that is removed, or that another one takes the name of, while a node has it open: noticed at the next recovery and compaction."""
+    """A file that is removed while a node has it open, or whose name another one takes: of a file without a name the system says so itself."""
     for how in (os.remove, lambda path: os.rename(path + ".other", path)):
         for lines, asked, text in (
             (b"", b"recover\n", b"fault 2 Device\n"),
@@ -423,20 +453,142 @@ def try_removed(tried, path):
             tried.same(said.decode(), f"invite: {path}: the file was removed while it was open\n", (lines, asked))
             tried.end(child, 7, b"", (lines, asked))
             os.remove(path + ".other") if os.path.exists(path + ".other") else None
-        # and so by the next compaction that a job asks for: a Base stands in the first of four slots, and each job takes two
+        # and so by the next job
         write(path + ".other", b"")
         tried.formatted(path)
         child = tried.node(path)
         tried.ask(child, b"recover\n", UP.replace(b"ok 1", b"ok 2"))
         how(path)
         out, _ = child.communicate(b"".join(b"submit 0 -\nfinish 0 %d\n" % at for at in range(8)), timeout=600)
-        tried.mark("" if child.returncode == 7 and b"fault 6 Device" in out else f"status {child.returncode}, it answers {out[-200:]!r}", "removed before jobs")
+        tried.mark("" if (child.returncode, out) == (7, b"") else f"status {child.returncode}, it answers {out[-200:]!r}", "removed before jobs")
         os.remove(path + ".other") if os.path.exists(path + ".other") else None
+
+
+def emptied(path, begun, foreign):
+    length = os.path.getsize(path)
+    os.truncate(path, 0)
+    os.truncate(path, length)
+
+
+def over(data):
+    def overwritten(path, begun, foreign):
+        with open(path, "r+b") as file:
+            file.write(data(begun, foreign))
+    return overwritten
+
+
+def try_displaced(tried, path):
+    """A file whose name is gone or leads to another one, which was cut to nothing and grew again, or was written over, while a node has it open: what it is
+    asked next isn't acknowledged. A second name of it doesn't hide that."""
+    begun, foreign, second = path + ".begun", path + ".foreign", path + ".second"
+    for name, change, said in (
+        ("removed", lambda path, begun, foreign: os.remove(path), DISPLACED),
+        ("replaced", lambda path, begun, foreign: os.rename(begun, path), DISPLACED),
+        ("emptied", emptied, WRITTEN_OVER),
+        ("another node's", over(lambda begun, foreign: read(foreign)), WRITTEN_OVER),
+        ("its own of before", over(lambda begun, foreign: read(begun)), OLDER_COUNT),
+    ):
+        for asked in (b"submit 0 61\n", b"finish 0 1000\n", b"compact\n", b"state\nsubmit 0 61\nstate\n"):
+            tried.formatted(path, "4 0 1 1000 --cluster orders")
+            tried.formatted(foreign, "4 1 2 9000 --cluster orders")
+            shutil.copy(path, begun)
+            os.link(path, second)
+            child = tried.node(path)
+            tried.ask(child, b"recover\nsubmit 0 62\n", b"group Normal 0 0:1001 0\nkeeps 1001 1000 0\nok 2\ntake 0 1000 0 62\nok 3 id 1000\n")
+            change(path, begun, foreign)
+            tried.lost(child, asked, path, said, (name, asked))
+            for one in (path, begun, foreign, second):
+                os.remove(one) if os.path.exists(one) else None
+    # before it is mounted, too
+    for change in (lambda path: os.rename(begun, path), os.remove):
+        tried.formatted(path)
+        shutil.copy(path, begun)
+        os.link(path, second)
+        child = tried.node(path)
+        change(path)
+        tried.lost(child, b"recover\n", path, DISPLACED, "replaced before it is mounted")
+        for one in (path, begun, second):
+            os.remove(one) if os.path.exists(one) else None
+    # another name of the file is as good, and so is what nobody wrote: a link to it, and its times
+    tried.formatted(path)
+    os.rename(path, begun)
+    os.symlink(begun, path)
+    child = tried.node(path)
+    os.utime(path)
+    os.chmod(path, 0o640)
+    tried.ask(child, b"recover\nsubmit 0 61\n", UP.replace(b"ok 1", b"ok 2") + b"take 0 0 0 61\nok 3 id 0\n")
+    tried.end(child, 0, b"", "a link to the file")
+    os.remove(path)
+    os.remove(begun)
+
+
+def try_clusters(tried, path):
+    """A file that says its cluster, and one that doesn't, to a node that says one and to one that doesn't; and bytes that are cut out in front of a label."""
+    other = f"{path}: it is the file of node 0 of 3 of another cluster"
+    for made, asked, taken in (
+        ("", [], True), ("", ["--cluster", "orders"], True), (" --cluster orders", [], True), (" --cluster orders", ["--cluster", "orders"], True),
+        (" --cluster orders", ["--cluster", "bills"], False), (" --cluster orders", ["--cluster", ""], False), (" --cluster orders", ["--cluster", "orders2"], False),
+    ):
+        for stride in ("512", "4096"):
+            tried.formatted(path, f"4 0 3 --stride {stride}{made}")
+            before = read(path)
+            if taken:
+                tried.expect(["node", path, "0", "3", *asked], "", "")
+            else:
+                tried.says(["node", path, "0", "3", *asked], "recover\n", 5, other)
+            tried.same(read(path), before, (made, asked))
+    for slots, stride, sectors in ((64, 512, 1), (64, 512, 8), (64, 4096, 1), (300, 512, 4)):
+        tried.formatted(path, f"{slots} 0 3 --stride {stride} --cluster orders")
+        data = read(path)
+        for more in (data[:-32 - sectors * stride] + data[-32:], data[:-32] + bytes(sectors * stride) + data[-32:]):
+            write(path, more)
+            tried.says(["node", path, "0", "3"], "recover\n", 5, f"{path}: it was made with {slots} slots, and isn't as long as that: bytes of it are missing, or were put in")
+            tried.same(read(path), more, (slots, stride, sectors))
+    # a file of version 1 is served on, and stays one; its cluster and its slots aren't said
+    write(path, bytes_of(4, EMPTY, OLDER))
+    tried.expect(["node", path, "0", "3", "--cluster", "orders"], "recover\nsubmit 3 6869 7\n", UP + b"take 0 0 3 6869 7\nok 2 id 0\n")
+    tried.same(read(path)[-16:], bytes.fromhex(OLDER), "a label of version 1")
+    write(path, read(path)[:-16 - 512] + read(path)[-16:])
+    tried.expect(["node", path, "0", "3"], "", "", 5)
+    tried.formatted(path, "4 0 3")
+
+
+def try_skipped(tried, path):
+    """The number that comes next, in a slot of the counter that isn't sealed: the node skips it before it is served. Nothing else is skipped."""
+    based, number = {**EMPTY, 8: "03", 9: SEAL}, lambda count: f"{count:016x}"
+    for sectors, count, skipped in (
+        ({2: number(1)}, 0, 1),
+        ({0: number(5), 2: number(6), 3: "a4"}, 5, 6),
+        ({0: number(8), 1: "00", 2: number(7), 3: SEAL}, 7, 8),
+        ({0: number(255), 2: number(256)}, 255, 256),
+        ({2: number(2)}, 0, None),
+        ({0: number(1), 2: number(1)}, 1, None),
+        ({2: number(1) + "00" * 503 + "01"}, 0, None),
+        ({2: number(1), 3: SEAL}, 1, None),
+        ({0: "ff" * 8}, 2 ** 64 - 1, None),
+    ):
+        for stride in (SECTOR, 4096):
+            for fed in (b"", b"recover\n"):
+                packed = bytes_of(4, {**based, **sectors}, label_of(0, 1, 4))
+                spread = b"".join(packed[at:at + SECTOR] + bytes(stride - SECTOR) for at in range(0, len(packed) - 32, SECTOR))
+                write(path, spread + packed[-32:-21] + bytes([stride > SECTOR]) + packed[-20:])
+                ended = subprocess.run([tried.program, "node", path, "0", "1"], input=fed, capture_output=True, timeout=600)
+                last = (skipped or count) + 1
+                text = "refused 1 Exhausted\n" if last >> 64 else f"group Normal 0 0:{last} 0\nkeeps {last} 0 0\nok 1\n"
+                said = f"invite: {path}: group number 0:{skipped} may have been given before: it is skipped\n" if skipped else ""
+                tried.same((ended.returncode, ended.stdout.decode(), ended.stderr.decode()), (0, text if fed else "", said), (sectors, stride, fed))
+                found = tried.run(["inspect", "--verify", path], "")[1].decode()
+                tried.mark("" if f"\ncount {min(last, 2 ** 64 - 1) if fed else skipped or count}\n" in found else f"then there is {found!r}", (sectors, stride, fed))
+    # of a file that can't be mounted the node says why, and nothing is skipped
+    for sectors, why in (({2: number(1), 10: "07", 11: SEAL}, "Damaged 10"), ({1: "00", 2: number(1)}, "NotFormatted"), ({0: number(0) + "01", 2: number(1)}, "Damaged 0")):
+        write(path, bytes_of(4, {**based, **sectors}, label_of(0, 1, 4)))
+        tried.expect(["node", path, "0", "1"], "recover\n", f"refused 1 {why}\n")
+        tried.same(read(path), bytes_of(4, {**based, **sectors}, label_of(0, 1, 4)), why)
 
 
 def try_foreign(tried, path):
     """No store is made or mounted of a node's file, whatever the version of its format."""
-    for label in (NODES[0][3], "64756d6765726f6b 02 00 03 0000000000", "64756d6765726f6b ff ff ff ffffffffff"):
+    for label in (NODES[0][3], OLDER, "64756d6765726f6b 03 00 03 0000000000", "64756d6765726f6b ff ff ff ffffffffff"):
         write(path, bytes_of(4, EMPTY, label))
         tried.expect(["store", path], "format 4\nmount\nlist\n", "refused Foreign\nrefused Foreign\nrefused Broken\n")
         tried.same(read(path), bytes_of(4, EMPTY, label), ("a node's file", label))
@@ -463,14 +615,14 @@ def try_too_long(tried, path):
     tried.expect(["store", path], "format 73\n", "ok\n", preexec_fn=limited(153_600))
     os.remove(path)
     # the label is written last; what was made of a file that isn't whole is removed
-    for most in (12_287, 12_288, 12_303):
+    for most in (12_287, 12_288, 12_319):
         tried.says(["format", path, "4", "0", "1"], "", 8, f"{path}: there is no room for it: File too large (os error 27)", preexec_fn=limited(most))
         tried.mark("it is there" if os.path.exists(path) else "", ("format", most))
         tried.answers(path, "format 4\n", *(("refused Device\n", reason(1, "NoRoom", errno.EFBIG)) if most == 12_287 else ("ok\n", "")), preexec_fn=limited(most))
         tried.same(os.path.exists(path), most > 12_287, ("store", most))
         if most > 12_287:
             os.remove(path)
-    tried.expect(["format", path, "4", "0", "1"], "", "", preexec_fn=limited(12_304))
+    tried.expect(["format", path, "4", "0", "1"], "", "", preexec_fn=limited(12_320))
     tried.expect(["node", path, "0", "1"], "", "")
 
 
@@ -515,11 +667,12 @@ def try_refused_calls(tried, folder, path):
                 break
             tried.same((ended.returncode, ended.stderr.decode(), os.path.exists(path)), (status, f"invite: {path}: {said}\n", False), ("format", at, read(noted)))
         tried.mark("" if 40 < at < 199 else f"{at} calls", "a format's calls")
-    # a device that fails while a node runs, which opened its file with seven calls
-    for at in range(8, 30):
+    # a device that fails before a node is served, which has opened its file with seven calls and looks at its counter with 17, and while it runs
+    for at in range(8, 48):
         tried.formatted(path)
         ended = subprocess.run([tried.program, "node", path, "0", "1"], input=b"recover\n", capture_output=True, timeout=600, check=False, **failing(at, errno.EIO))
-        tried.same((ended.returncode, ended.stderr.decode()), (3, f"invite: {path}: the device failed: Input/output error (os error 5)\n") if b"fault 1 Device" in ended.stdout else (0, ""), at)
+        has_failed = at <= 24 and ended.stdout == b"" or b"fault 1 Device" in ended.stdout
+        tried.same((ended.returncode, ended.stderr.decode()), (3, f"invite: {path}: the device failed: Input/output error (os error 5)\n") if has_failed else (0, ""), at)
 
     # Calls of a mounting: it opens the file, asks what it is, locks it and asks for its length, and once more for its label; a sync; eight reads, one
     # less before the first raise, and before all but the last a look whether the file has its name. Of a raise: such a look before the number, a look at
@@ -588,6 +741,9 @@ def main():
         try_locked(tried, path)
         try_changed(tried, path)
         try_removed(tried, path)
+        try_displaced(tried, path)
+        try_clusters(tried, path)
+        try_skipped(tried, path)
         try_foreign(tried, path)
         try_too_long(tried, path)
         for run in (try_made, try_places, try_denied):

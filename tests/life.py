@@ -16,7 +16,13 @@ SEAL = "a5"
 
 # A store of four slots: the area cell has the value 1, and the counter 0.
 EMPTY = {0: "00", 1: SEAL, 4: "0000000000000001", 5: SEAL}
-LABEL = "64756d6765726f6b 01 02 03 0000000000"
+
+def label_of(node, nodes, slots, mark="00000000"):
+    """The label of a packed file."""
+    return f"64756d6765726f6b 02 {node:02x} {nodes:02x} 00 {mark} {slots:04x}" + "00" * 14
+
+
+LABEL, OLDER_LABEL = label_of(2, 3, 4), "64756d6765726f6b 01 02 03 0000000000"
 FULL = {**EMPTY, 8: "05 0000000000000000 03 00 0001 61", 9: SEAL, 10: "05 0000000000000001 0f 07 0002 6869", 11: SEAL, 12: "02 0000000000000000", 13: SEAL}
 KEPT = {**EMPTY, 0: "0000000000000005", 2: "0000000000000006", 3: SEAL, 6: "0000000000000002", 7: SEAL, 16: "03 0000000000000009", 17: SEAL,
         18: "06 0000000000000004 03 00 0000", 19: SEAL, 20: "06 0000000000000007 03 ff 0001 62", 21: SEAL}
@@ -25,6 +31,9 @@ KEPT = {**EMPTY, 0: "0000000000000005", 2: "0000000000000006", 3: SEAL, 6: "0000
 FILES = [
     ("a store", 24, EMPTY, "", "kind store\nslots 4\nused 0\ncount 0\nnext 0\njobs 0\n", 0),
     ("a node", 24, EMPTY, LABEL, "kind node\nnode 2\nnodes 3\nslots 4\nused 0\ncount 0\nnext 0\njobs 0\n", 0),
+    ("a node, by an older label", 24, EMPTY, OLDER_LABEL, "kind node\nnode 2\nnodes 3\nslots 4\nused 0\ncount 0\nnext 0\njobs 0\n", 0),
+    ("a node of a cluster", 24, EMPTY, label_of(127, 128, 4, "a1b2c3d4"), "kind node\nnode 127\nnodes 128\nslots 4\nused 0\ncount 0\nnext 0\njobs 0\n", 0),
+    ("more than a label", 24, EMPTY, LABEL[:-2] + "01", "kind unknown\nslots 4\nused 0\ncount 0\nnext 0\njobs 0\n", 0),
     ("jobs of a node", 24, FULL, LABEL, "kind node\nnode 2\nnodes 3\nslots 4\nused 3\ncount 0\nnext 2\njobs 1\nqueue_15 1\n", 0),
     ("the other area", 24, KEPT, "", "kind store\nslots 4\nused 3\ncount 6\nnext 9\njobs 2\nqueue_3 2\n", 0),
     ("more sectors", 8 + 4 * 100, EMPTY, "", "kind store\nslots 100\nused 0\ncount 0\nnext 0\njobs 0\n", 0),
@@ -151,7 +160,7 @@ def spaced(tally, program, room):
     """Files with a block for each sector: the bytes are those of a packed file, spread; they are read and served without a word about it."""
     path = os.path.join(room, "spaced")
     for name, sectors, parts, behind, text, status in FILES:
-        if behind != LABEL:
+        if behind not in (LABEL, OLDER_LABEL):
             continue
         held = spread(image(sectors, parts, behind))
         with open(path, "wb") as file:
@@ -162,7 +171,7 @@ def spaced(tally, program, room):
         os.unlink(path)
     for words, jobs, parts, exported in MADE:
         slots, node, nodes = [int(word) for word in words.split()[:3]]
-        packed = image(8 + 4 * slots, parts, "64756d6765726f6b 01" + "%02x%02x" % (node, nodes) + "00" * 5)
+        packed = image(8 + 4 * slots, parts, label_of(node, nodes, slots))
         for stride, held in (("512", packed), ("4096", spread(packed))):
             out = run(program, "format", path, *words.split(), "--stride", stride, *(["--jobs", "-"] if jobs is not None else []), text=jobs or "")
             with open(path, "rb") as file:
@@ -191,8 +200,8 @@ def served(tally, program, path):
     judge(tally, "export behind a kill, spaced", run(program, "export", path), ("job 0 3 6869 7\njob 1 0 61\n", 0))
     with open(path, "rb") as file:
         held = file.read()
-    between = [at for at in range((len(held) - 16) // BLOCK) if any(held[BLOCK * at + SECTOR:BLOCK * (at + 1)])]
-    tally.mark("nothing stands between sectors", "" if not between and len(held) == BLOCK * 40 + 16 else f"{len(held)} bytes, {between}")
+    between = [at for at in range((len(held) - 32) // BLOCK) if any(held[BLOCK * at + SECTOR:BLOCK * (at + 1)])]
+    tally.mark("nothing stands between sectors", "" if not between and len(held) == BLOCK * 40 + 32 else f"{len(held)} bytes, {between}")
     out, status, said = run(program, "node", path, "1", "3")
     tally.mark("another node's file, spaced", "" if status == 5 and "the file of node 0 of 3" in said else f"{status}: {said}")
     judge(tally, "a store isn't made over it", run(program, "store", path, text="mount\nformat 4\n"), ("refused Foreign\nrefused Foreign\n", 0))
@@ -243,7 +252,7 @@ def made(tally, program, room):
     path, lines = os.path.join(room, "made"), os.path.join(room, "lines")
     for words, jobs, parts, exported in MADE:
         slots, node, nodes = [int(word) for word in words.split()[:3]]
-        held = image(8 + 4 * slots, parts, "64756d6765726f6b 01" + "%02x%02x" % (node, nodes) + "00" * 5)
+        held = image(8 + 4 * slots, parts, label_of(node, nodes, slots))
         for given in ("-", lines) if jobs is not None else (None,):
             with open(lines, "w") as file:
                 file.write(jobs or "")

@@ -13,7 +13,7 @@ from schema import Schema
 
 GENERATED = ["docs/PROMISES.md", "docs/TRUSTED.md"]
 MEASURED = ("docs/PERFORMANCE.md", "docs/COMPARISON.md")
-WORDS, LINE, CELL = 35700, 160, 40
+WORDS, LINE, CELL = 39400, 160, 40
 MONTHS = "January|February|March|April|May|June|July|August|September|October|November|December"
 ROOTS = r"(?:tests|crates|docs|schedules|plans|examples|packaging|agent|clients|measures)"
 
@@ -158,7 +158,7 @@ def socket_page():
         for error in schema.defs["refusal." + name]["properties"]["error"]["enum"]:
             of[error].add("no request" if name == "unreadable" else name)
     # a job may be kept whatever refused a later try, but where it can't be read or the device surely was asked
-    are_in_doubt = {error for error in of if "submit" in of[error]} - {"BadPayload", "Device"}
+    are_in_doubt = {error for error in of if "submit" in of[error]} - {"BadPayload", "BadKey", "Device"}
     yield from differing("error", {name: (set(cells[0].replace("`", "").split(", ")), "`may_be_kept`" in cells[2]) for name, cells in said["Error"].items()},
                          {error: (names, error in are_in_doubt) for error, names in of.items()})
 

@@ -1,20 +1,57 @@
 #!/usr/bin/env python3
-"""What `draw` draws of the records of schedules, against a small model: which turn takes which entry, in which order, and from which turn each
-message came.
+"""What `dumgerokctl draw` draws of the records of schedules, against a small model: which turn takes which entry, in which order, and from which turn each
+message came; and of traces by chance, against that and a model of the nodes: how each stands, and what is left.
 
     pictures.py PROGRAM [SCHEDULE..]
 
-Traces that are written here are drawn first. Without schedules, of all that stand in the folder schedules. Each is recorded, and the record is drawn as it is, without the numbers of its
-messages, without its order, and with an order in which its entries can't be taken. The last line counts the checks."""
-import glob, html, json, os, re, shutil, subprocess, sys, tempfile
+The agent is built first (agent/build), unless $DUMGEROK_AGENT names the folder of its programs. Traces that are written here are drawn first, then those of
+picture_rows.py, to the byte. Without schedules, of all that stand in the folder schedules. Each is recorded, and the record is drawn as it is, without the numbers
+of its messages, without its order, and with an order in which its entries can't be taken. The last line counts the checks."""
+import glob, html, json, os, random, re, shutil, subprocess, sys, tempfile
+from xml.etree import ElementTree
 
+HERE = os.path.dirname(os.path.abspath(__file__))
+TOP = os.path.join(HERE, "..")
+sys.dont_write_bytecode = True
+sys.path.append(os.path.join(HERE, "hostile"))
+import picture_rows, traces
+from inputs import Inputs
+from turns import Watched, first_other
+
+# So many traces by chance are drawn, those of this seed.
+TRACES, SEED = 150, 1982
+
+SVG = "{http://www.w3.org/2000/svg}"
+POINT = r"(\d+) (\d+)"
 MARK = re.compile(r'<g transform="translate\((\d+) (\d+)\)"><title>turn (\d+): node (\d+), entry (\d+): ([a-z]+)</title>')
 ARROW = re.compile(r'<path class="(message|unsure)" d="M(\d+) (\d+)L(\d+) (\d+)">')
 STUB = re.compile(r'<g class="untaken"><title>no turn was brought what it sent to ([0-9, and]+)</title>')
 
 
-def run(program, command, text):
-    return subprocess.run([program, command], input=text, capture_output=True, text=True)
+class Programs:
+    """The program, and what draws by it."""
+
+    def __init__(self, program, folder):
+        self.program, self.drawing = program, [os.path.join(folder, "dumgerokctl"), "draw", "--program", program]
+
+    def run(self, command, text):
+        return subprocess.run([self.program, command], input=text, capture_output=True, text=True)
+
+    def draw(self, text, *words):
+        return subprocess.run([*self.drawing, *words], input=text, capture_output=True, text=True)
+
+
+def agent():
+    """The folder of the agent's programs; None where they can't be built here, which is said."""
+    if os.environ.get("DUMGEROK_AGENT"):
+        return os.environ["DUMGEROK_AGENT"]
+    done = subprocess.run([os.path.join(TOP, "agent/build"), "build", "--release", "--bin", "dumgerokctl"], stderr=subprocess.PIPE, text=True)
+    missing = [line for line in done.stderr.splitlines() if line.startswith("build: ")]
+    if done.returncode != 0 and not missing:
+        sys.exit(f"FAILED: the agent can't be built: {done.stderr[-2000:]}\n0 passed, 1 failed")
+    if done.returncode != 0:
+        print(f"left out: pictures, which the agent draws: {missing[0]}\n0 passed, 0 failed")
+    return None if done.returncode != 0 else os.path.join(TOP, "agent/target/release")
 
 
 def order_of(trace):
@@ -77,22 +114,22 @@ def check_picture(text, model):
     return ""
 
 
-def check(program, schedule):
+def check(programs, schedule):
     """The problems with the pictures of a schedule's record, each with what was drawn."""
-    record = run(program, "record", open(schedule).read())
+    record = programs.run("record", open(schedule).read())
     if record.returncode != 0:
         return
     trace = json.loads(record.stdout)
     bare = {key: value for key, value in trace.items() if key != "order"}
-    verdict = run(program, "trace", json.dumps(bare)).stdout.split()
+    verdict = programs.run("trace", json.dumps(bare)).stdout.split()
     if "order" in trace:
         nodes, numbers = order_of(trace)
-        drawn = run(program, "draw", record.stdout)
+        drawn = programs.draw(record.stdout)
         yield "the record", drawn, Model(trace, nodes, numbers), 0, True
-        yield "without its numbers", run(program, "draw", json.dumps(dict(trace, order=" ".join(f"{node} -" for node in nodes)))), Model(trace, nodes, []), 0, True
-        other = run(program, "draw", json.dumps(dict(trace, order=trace["order"] + " 0 -")))
+        yield "without its numbers", programs.draw(json.dumps(dict(trace, order=" ".join(f"{node} -" for node in nodes)))), Model(trace, nodes, []), 0, True
+        other = programs.draw(json.dumps(dict(trace, order=trace["order"] + " 0 -")))
         yield "an order of too many", other, Model(trace, [int(word) for word in verdict[1:]], []), 0, False
-    yield "without its order", run(program, "draw", json.dumps(bare)), Model(trace, [int(word) for word in verdict[1:]], []), 0, False
+    yield "without its order", programs.draw(json.dumps(bare)), Model(trace, [int(word) for word in verdict[1:]], []), 0, False
 
 
 QUESTION, ANSWER, OTHER = "010100010000", "01020100000101", "01020100000100"
@@ -112,11 +149,11 @@ WRITTEN = [
 ]
 
 
-def written(program):
+def written(programs):
     """What is drawn of written traces."""
     for name, histories, order, nodes, numbers, status in WRITTEN:
         trace = {"nodes": len(histories), "histories": histories, **({"order": order} if order else {})}
-        yield name, run(program, "draw", json.dumps(trace)), Model(trace, nodes, numbers), status, bool(order)
+        yield name, programs.draw(json.dumps(trace)), Model(trace, nodes, numbers), status, bool(order)
 
 
 # What is done on the page of a trace, and what has to stand in the text under it then.
@@ -153,9 +190,9 @@ def told_by_page(browser, page, acts):
     return json.loads(html.unescape(title[1])) if title else [None, [], ["no page"]]
 
 
-def check_page(browser, program, trace, sight, acts):
+def check_page(browser, programs, trace, sight, acts):
     """What is wrong with the page of a trace in a browser, or nothing."""
-    page = subprocess.run([program, "draw", "--html"], input=json.dumps(trace), capture_output=True, text=True).stdout
+    page = programs.draw(json.dumps(trace), "--to", "html").stdout
     try:
         seen, told, wrong = told_by_page(browser, page, [act for act, _ in acts])
     except (subprocess.SubprocessError, ValueError) as error:
@@ -165,32 +202,126 @@ def check_page(browser, program, trace, sight, acts):
     return next((f"{act}: {text!r}" for (act, part), text in zip(acts, told) if part not in text), "")
 
 
-def pages(program):
+def pages(programs):
     """The problem with each page that is tried in a browser, if there is one to try them in."""
     browser = shutil.which("chromium") or shutil.which("chromium-browser") or shutil.which("google-chrome")
     if not browser:
         print("pictures.py: there is no chromium, so pages are not tried in it")
         return
-    yield "a page", check_page(browser, program, PAGED, "turns 0 to 3 of 4", ON_PAGES)
-    yield "a page of no turns", check_page(browser, program, {"nodes": 2, "histories": [[], []]}, "no turns", [("find('0')", "nothing is found for 0"), ("KEYS['n']()", ""), ("KEYS['0']()", "")])
+    yield "a page", check_page(browser, programs, PAGED, "turns 0 to 3 of 4", ON_PAGES)
+    yield "a page of no turns", check_page(browser, programs, {"nodes": 2, "histories": [[], []]}, "no turns", [("find('0')", "nothing is found for 0"), ("KEYS['n']()", ""), ("KEYS['0']()", "")])
 
 
-def main():
-    program = os.path.abspath(sys.argv[1])
-    os.chdir(os.path.join(os.path.dirname(os.path.abspath(__file__)), ".."))
-    schedules = sys.argv[2:] or sorted(glob.glob("schedules/*.txt"))
-    passed = failed = 0
+class Picture:
+    """What stands in an SVG: names, bands, arrows, marks, and what is left."""
+
+    def __init__(self, out):
+        self.names, self.bands, self.arrows, self.marks, self.left = [], [], [], [], []
+        root = ElementTree.fromstring(out)
+        self.size = int(root.get("width")), int(root.get("height"))
+        for part in root:
+            kind = part.get("class")
+            if kind == "name":
+                self.names.append((part.text, int(part.get("y"))))
+            elif kind in ("message", "unsure"):
+                self.arrows.append((*points(f"M{POINT}L{POINT}", part.get("d")), kind == "message"))
+            elif part.tag == SVG + "svg":
+                self.bands.append(band(part))
+            elif part.tag == SVG + "g" and part.get("transform"):
+                (self.left if kind == "left" else self.marks).append((points(rf"translate\({POINT}\)", part.get("transform")), part))
+
+
+def band(part):
+    told = re.fullmatch(r"node (\d+), from turn (\d+) until turn (\d+): .*", part.find(SVG + "title").text)
+    group, members = (text.text for text in part.findall(SVG + "text"))
+    return (*map(int, told.groups()), part.find(SVG + "line").get("class"), group, members)
+
+
+def mark(part):
+    """Turn, node, index, name and look of a mark, and for whom it sent what came to none."""
+    told = re.fullmatch(r"turn (\d+): node (\d+), entry (\d+): ([a-z]+)", part.find(SVG + "title").text)
+    stub = part.find(f"{SVG}g/{SVG}title")
+    untaken = [] if stub is None else [int(word) for word in stub.text.rpartition(" ")[2].split(",")]
+    return (*map(int, told.groups()[:3]), told[4], part.find(SVG + "circle").get("class"), untaken)
+
+
+def points(form, text):
+    return tuple(map(int, re.fullmatch(form, text).groups()))
+
+
+def problem_in_picture(out, nodes, search):
+    """What is wrong with the picture of the turns of a search, which came to its end."""
+    try:
+        found = Picture(out)
+        marks = [mark(part) for _, part in found.marks]
+    except (ElementTree.ParseError, AttributeError, KeyError, TypeError, ValueError) as error:
+        return f"it is no such picture: {error!r}"
+    places = [at for at, _ in found.marks]
+    lines = [down for _, down in found.names]
+    rights = [right for right, _ in places]
+    if rights != sorted(set(rights)) or any(right > found.size[0] or down > found.size[1] for right, down in places):
+        return f"the marks stand at {places}"
+    if [down for _, down in places] != [lines[own] for own, *_ in search.turns]:
+        return "marks stand on other lines than their nodes"
+    arrows = [(*places[came[0]], *places[turn], came[1]) for turn, came in enumerate(search.sources) if came]
+    return (
+        first_other("names", [name for name, _ in found.names], [f"node {node}" for node in range(nodes)])
+        or first_other("marks", marks, [(turn, *told, search.untaken(turn)) for turn, told in enumerate(search.turns)])
+        or first_other("arrows", found.arrows, arrows)
+        or first_other("bands", sorted(found.bands), sorted(search.bands()))
+        or first_other("left", sorted(at[1] for at, _ in found.left), [lines[own] for own, place in enumerate(search.places) if place < len(search.histories[own])])
+    )
+
+
+def by_chance(programs):
+    """What is wrong with the pictures of traces by chance, of which some are runs, some none, and some no traces."""
+    inputs = Inputs(random.Random(SEED))
+    for number in range(TRACES):
+        text = inputs.trace()
+        drawn = subprocess.run(programs.drawing, input=text, capture_output=True)
+        try:
+            nodes, histories = traces.read(text)
+        except traces.Bad as bad:
+            yield f"trace {number}", "" if (drawn.returncode, drawn.stdout) == (1, f"{bad}\n".encode()) else f"{drawn.stdout[:200]!r} in place of {bad}"
+            continue
+        search = Watched(nodes, histories)
+        status, _ = search.verdict()
+        yield f"trace {number}", f"status {drawn.returncode}" if drawn.returncode != status else problem_in_picture(drawn.stdout, nodes, search)
+
+
+def to_the_byte(programs):
+    """What is wrong with the pictures of rows, and with the one in docs/."""
+    for name, trace, status, picture, said in picture_rows.all_rows():
+        drawn = programs.draw(trace)
+        found = (drawn.returncode, drawn.stderr, *drawn.stdout.split("\n"))
+        yield name, first_other("lines", found, (status, said, *picture.split("\n")))
+    drawn = programs.draw(programs.run("record", open("schedules/partition_heals.txt").read()).stdout)
+    yield "docs/partition_heals.svg", "" if drawn.stdout == open("docs/partition_heals.svg").read() else "another picture"
+
+
+def of_schedules(programs, schedules):
+    """What is wrong with each picture of written traces, and of the records of schedules."""
     for schedule in ["written here", *schedules]:
-        for what, drawn, model, status, recorded in written(program) if schedule == "written here" else check(program, schedule):
+        for what, drawn, model, status, recorded in written(programs) if schedule == "written here" else check(programs, schedule):
             problem = check_picture(drawn.stdout, model)
             if drawn.returncode != status:
                 problem = f"status {drawn.returncode}"
             if ("in the order that was recorded" in drawn.stdout) != recorded:
                 problem = "says the wrong thing of its order"
-            passed, failed = passed + (not problem), failed + bool(problem)
-            if problem:
-                print(f"{schedule}, {what}: {problem}")
-    for what, problem in pages(program):
+            yield f"{schedule}, {what}", problem
+
+
+def main():
+    program = os.path.abspath(sys.argv[1])
+    schedules = list(map(os.path.abspath, sys.argv[2:]))
+    folder = agent()
+    if folder is None:
+        return 0
+    programs = Programs(program, os.path.abspath(folder))
+    os.chdir(TOP)
+    passed = failed = 0
+    parts = [of_schedules(programs, schedules or sorted(glob.glob("schedules/*.txt"))), to_the_byte(programs), by_chance(programs), pages(programs)]
+    for what, problem in (pair for part in parts for pair in part):
         passed, failed = passed + (not problem), failed + bool(problem)
         if problem:
             print(f"{what}: {problem}")

@@ -6,15 +6,16 @@
     // Refuses: wrong_body, crate::wrong_body.                   (must-fail edits that turn it)
 
 or above a type or an invariant, where that carries it. `promises.py` looks whether each clause, function and edit that is named is
-there, and whether docs/PROMISES.md is the page that the comments give; `promises.py --write` writes that page. The last line counts."""
+there, and whether docs/PROMISES.md is the page that the comments give; `promises.py --write` writes that page. Each claim of README names a
+wrong body that the gate tries, in `must-fail/` of the crate whose contract it is. The last line counts."""
 import glob, os, re, sys
 
 TOP = os.path.dirname(os.path.dirname(os.path.abspath(__file__)))
 PAGE = os.path.join(TOP, "docs", "PROMISES.md")
 # From what a user of a cluster takes down to bytes and texts.
 ORDER = """processes runs cluster_sim durable_node node_core histories node_store job_journal safe_cell slot_gate sector_disk disk_sector file_disk
-job_model group_task wire_msg sealed_msg message_list sim_net link_ring node_lock node_threads pace node_session trace_check
-trace_text trace_draw threads_console invite_console store_console console_text schedule line_words
+job_model group_task wire_msg sealed_msg message_list sim_net link_ring node_lock node_threads pace node_session node_server trace_check
+trace_text trace_console threads_console invite_console store_console console_text schedule line_words
 command_line""".split()
 KEYS = re.compile(r"\s*// (Promise|Also|Refuses): (.*)")
 CLAUSE = re.compile(r"\s*(?:ensures|requires)\b\s*(\w*)")
@@ -163,6 +164,14 @@ def page_of(crates):
     return "".join(text), problems
 
 
+def claims():
+    """README's claims, each with its function and its wrong body; and those of which none such stands in the gate."""
+    with open(os.path.join(TOP, "README.md")) as file:
+        rows = re.findall(r"^\| ([^|]+) \| `([\w:]+)` \| `(\w+)` \|", file.read(), re.M)
+    return rows, ["README: '%s': %s isn't in must-fail" % (claim, edit) for claim, _, edit in rows
+                  if not glob.glob(os.path.join(TOP, "crates", "*", "must-fail", edit + ".edit"))]
+
+
 def main():
     crates = {}
     for folder in sorted(glob.glob(os.path.join(TOP, "crates", "*"))):
@@ -174,9 +183,11 @@ def main():
             file.write(page)
     elif not os.path.exists(PAGE) or open(PAGE).read() != page:
         problems.append("docs/PROMISES.md isn't what the sources give: tests/promises.py --write")
+    claimed, unclaimed = claims()
+    problems += unclaimed if claimed else ["README has no claims"]
     for problem in problems:
         print("FAILED: " + problem)
-    promises = sum(len(crate.promises) for crate in crates.values())
+    promises = sum(len(crate.promises) for crate in crates.values()) + len(claimed)
     print("%d passed, %d failed" % (promises, len(problems)))
     return 1 if problems or not promises else 0
 

@@ -8,7 +8,7 @@ jobs and no other, by a model of docs/FORMATS.md; of some of them the program ha
 of files of which whole sectors are lost. A file that is whole gives what `export` gives, and `format --jobs` takes what is salvaged. With --long there are ten
 times as many. The last line counts the checks."""
 import concurrent.futures, os, random, subprocess, sys, tempfile
-from file_model import SECTOR, File, Refused, flipped, job_lines
+from file_model import LABEL, SECTOR, File, Refused, flipped, job_lines
 from verify import Tried, node_file
 
 # The slots of a file, its stride, and how long its payloads are.
@@ -48,7 +48,7 @@ def mounts(image):
 def refused(data, chance, count):
     """So many files that no mounting takes, each with one bit flipped."""
     while count:
-        image = flipped(data, chance.randrange(len(data) - 16), chance.randrange(8))
+        image = flipped(data, chance.randrange(len(data) - LABEL), chance.randrange(8))
         if not mounts(image):
             count -= 1
             yield image

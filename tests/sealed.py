@@ -266,8 +266,9 @@ def try_files(tried):
             tried.that("a key file of another user", status(tried, [*place, "--key", tried.key_file(good), "--cluster", "c"], program, 65534)[0] == 6)
         except (OSError, subprocess.SubprocessError):
             print("sealed.py: the program can't be run as another user, so no key file was denied")
-    for words in (["--key", tried.key_file(good)], ["--cluster", "c"], ["--key"], ["--key", "a", "--cluster"]):
-        tried.that("a key and a cluster's name belong together", status(tried, [*place, *words])[0] == 2, words)
+    for words in (["--key", tried.key_file(good)], ["--cluster"], ["--key"], ["--key", "a", "--cluster"]):
+        tried.that("a key is given with a cluster's name", status(tried, [*place, *words])[0] == 2, words)
+    tried.that("a cluster's name may stand alone", status(tried, [*place, "--cluster", "c"]) == (0, ""))
     tried.that("options may stand in front", status(tried, ["--cluster", "c", "--key", tried.key_file(good), *place]) == (0, ""))
 
 

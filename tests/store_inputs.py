@@ -11,7 +11,7 @@ import errno, fcntl, os, random, re, resource, shutil, signal, socket, subproces
 SECTOR, PAGE, ROOM = 512, 4096, 4 * 4096
 OTHERS = 65534
 SEAL = b"\xa5"
-LABEL = b"dumgerok" + bytes([1, 0, 3]) + bytes(5)
+LABELS = [b"dumgerok" + bytes([1, 0, 3]) + bytes(5), b"dumgerok" + bytes([2, 0, 3]) + bytes(21)]
 
 # The words of standard error, by what a line is refused for.
 SAYS = {
@@ -249,7 +249,7 @@ class Places:
             self.write(path, bytes(chance.choice((12_288, 20_000))))
             return Place(path, bar="blank", word="NotFormatted")
         if kind == "node":
-            self.write(path, store.bytes() + LABEL)
+            self.write(path, store.bytes() + chance.choice(LABELS))
             return Place(path, bar="node", word="Foreign")
         if kind == "locked":
             it = open(path, "rb")

@@ -47,8 +47,8 @@ done
 # there, that of an equal one that was sent before, and what came over one link has rising numbers.
 ordered() {
     local problem=''
-    "$program" draw <"$room/threads-$1.json" | grep -q 'in the order that was recorded' || problem='draw takes another order'
-    mark "$problem" "draw the order of $1"
+    [ "$("$program" trace --turns <"$room/threads-$1.json" | head -n 1)" = recorded ] || problem='its entries can not be taken in its order'
+    mark "$problem" "take the order of $1"
     command -v python3 >/dev/null || return 0
     problem=$(python3 tests/thread_order.py <"$room/threads-$1.json" 2>&1)
     mark "$problem" "the order of $1"
@@ -135,20 +135,5 @@ for _ in {1..300}; do
 done
 mark "$problem" 'a slot that was emptied'
 [ ! -e "$room/threads-again.json" ] || ordered again
-
-# The picture in docs/ is the one that is drawn of its schedule; each picture of a schedule is well-formed, with a dot for each entry beside those of its legend.
-problem=''
-"$program" draw <"$room/record-partition_heals.json" | cmp -s - docs/partition_heals.svg || problem='docs/partition_heals.svg is another picture'
-mark "$problem" 'the picture in docs'
-if command -v python3 >/dev/null; then
-    for schedule in schedules/*.txt; do
-        name=$(basename "$schedule" .txt)
-        problem=''
-        "$program" draw <"$room/record-$name.json" >"$room/picture" || problem='it is not drawn'
-        dots=$(python3 -c 'import sys, xml.etree.ElementTree as tree; print(sum(e.tag.endswith("circle") and e.get("cx") is None for e in tree.parse(sys.argv[1]).iter()))' "$room/picture")
-        [ "$dots" = "$(grep -o '"do":' "$room/record-$name.json" | wc -l)" ] || problem="$dots dots"
-        mark "$problem" "picture of $name"
-    done
-fi
 
 tally

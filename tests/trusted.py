@@ -37,14 +37,13 @@ COMMANDS = [
     ("sim", ["invite_console::sim"], ""),
     ("record", ["invite_console::record"], ""),
     ("threads", ["threads_console::threads", "node_threads::run_threads"], ""),
-    ("trace", ["trace_draw::trace"], "of several files: that they are read in the order in which they are named"),
-    ("draw", ["trace_draw::draw"], ""),
+    ("trace", ["trace_console::trace", "trace_console::turns"], "of several files: that they are read in the order in which they are named"),
     ("store", ["store_console::store"], "what a file does"),
     ("inspect", ["store_console::inspect"], "that it is this file which is opened"),
     ("export", ["store_console::inspect", "store_console::salvage"], "that it is this file which is opened"),
-    ("node", ["node_session::Session::feed", "processes::processes_are_a_cluster", "processes::sessions_are_processes"],
-     "the loop that reads lines and writes answers; the key file; which timers fire"),
-    ("format", ["job_journal::JobJournal::compact"], "all but that it is safe and ends, and which line of jobs is bad"),
+    ("node", ["node_session::Session::feed", "node_server::serve_node", "processes::processes_are_a_cluster", "processes::sessions_are_processes"],
+     "that it is this node's file, the look at its path, the life that skips a number, and the key file that was named; how much jitter timers have"),
+    ("format", ["node_server::format_node"], "what a file does; which line of jobs is bad"),
 ]
 # What is assumed beside the toolchain: in which words, where it is a premise, and what breaks it.
 PREMISES = [
@@ -59,12 +58,12 @@ PREMISES = [
 SCRIPTS = [
     ("that a call succeeds while memory is left", "tests/hostile.sh"),
     ("how many calls of the device are made", "tests/syncs.py"),
-    ("where each byte lies in a file; locks, short and interrupted calls", "tests/files.py"),
+    ("where each byte lies in a file; locks, short and interrupted calls; that the path is looked at, and that a number is skipped", "tests/files.py"),
     ("that a sync reaches the system, and in which order", "tests/node.sh"),
     ("what a file keeps where a device fails or a process is killed at any moment", "tests/stops.py"),
     ("the same, of the program `store`", "tests/store_faults.sh"),
     ("that what was written before a failed write is written anew", "tests/failed_device.py"),
-    ("which timers a tick fires, and when", "tests/node_rows.py"),
+    ("worked times of timers, and how much jitter they have", "tests/node_rows.py"),
     ("that a node writes the answers of its session, each once, and seals them", "tests/sealed.py"),
     ("lives of a process over one file", "tests/life.py"),
     ("usage texts, standard error, and the exit status", "tests/command_lines.sh"),

@@ -9,7 +9,7 @@ Then the calls of a node on its file are recorded by strace, and files made of w
 the old bytes, the new or any. None of them is broken. Where there is no strace that is left out, and a line says so. With --long there are 300,000 of these
 files. The last line counts the checks."""
 import concurrent.futures, os, random, re, shutil, subprocess, sys, tempfile
-from file_model import BLOCK, SECTOR, File, Refused, flipped, number, session
+from file_model import LABEL, SECTOR, File, Refused, flipped, number, session
 
 # The slots of a file, its stride, and how long its payloads are.
 FILES = [(16, 512, 60), (16, 4096, 60), (24, 512, 300), (32, 512, 40)]
@@ -95,7 +95,7 @@ def flips(tried, chance):
         count, spoiled = uncounted(data)
         told = [tried.verified(image, "spoiled") for image in spoiled]
         tried.check(told == [([f"hint counter_unsealed {count}"], 0, [])] * 8, f"{name}: a number that was given isn't told: {told}")
-        others = [flipped(data, chance.randrange(len(data) - 16), chance.randrange(8)) for _ in range(200)]
+        others = [flipped(data, chance.randrange(len(data) - LABEL), chance.randrange(8)) for _ in range(200)]
         wrong = tried.told(others)
         tried.check(not wrong, f"{name}: {wrong} of {len(others)} flips are told otherwise")
     print(f"verify.py: of {changed} flips that change what is kept {named} are told")

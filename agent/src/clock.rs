@@ -26,7 +26,7 @@ impl Clock {
     }
 
     /// The node's time, in milliseconds.
-    fn node_ms(&self, now: Instant) -> u64 {
+    pub fn node_ms(&self, now: Instant) -> u64 {
         now.saturating_duration_since(self.began).as_millis() as u64
     }
 

@@ -1,20 +1,31 @@
 //! The configuration: a file of TOML, one node of a cluster.
 
-use serde::Deserialize;
+use serde::{Deserialize, Deserializer};
+use std::collections::BTreeMap;
 use std::fs;
 use std::net::SocketAddr;
 use std::os::unix::ffi::OsStrExt;
 use std::path::{Path, PathBuf};
 use thiserror::Error;
 
+/// Tags of a machine have so many bytes at most.
+const MAX_TAGS: usize = 512;
+
+/// Where the system tells the machine's name.
+const HOSTNAME: &str = "/proc/sys/kernel/hostname";
+
+/// A place of `nodes` that has no machine. What is sent there is lost.
+pub const EMPTY: &str = "-";
+
 #[derive(Clone, Debug, PartialEq, Eq, Deserialize)]
 #[serde(deny_unknown_fields)]
 pub struct Config {
     /// The cluster's name: with a key, nodes of clusters of another name don't hear each other.
     pub cluster: String,
-    /// The node's number: its place in `nodes`.
+    /// The node's number: its place in `nodes`. As "hostname" it is the number at the end of this machine's name.
+    #[serde(deserialize_with = "id_of")]
     pub id: u8,
-    /// All nodes in their order, as HOST:PORT; the same list on each machine.
+    /// All places in their order, as HOST:PORT, or "-" where there is no machine; the same list on each machine.
     pub nodes: Vec<String>,
     /// Where datagrams are received, if that isn't the node's own entry of `nodes`.
     pub listen: Option<String>,
@@ -33,6 +44,14 @@ pub struct Config {
     /// What a round trip between nodes takes at most, in milliseconds.
     #[serde(default = "default_round_trip")]
     pub round_trip_ms: u64,
+    /// For how long a grant of a lease is kept, in milliseconds; 0: this machine has no leases, and votes for none.
+    #[serde(default)]
+    pub lease_ms: u64,
+    /// The file of leases, made by `dumgerokctl format`; else that of the node's name with `.lease` behind it.
+    pub lease_file: Option<PathBuf>,
+    /// What is told of this machine beside its node; nothing rests on it.
+    #[serde(default)]
+    pub tags: BTreeMap<String, String>,
     #[serde(default)]
     pub log: LogLevel,
     /// Where what the node is asked and answers is written, from the start; `record on` of a service writes beside the node's file.
@@ -85,6 +104,33 @@ fn default_record_files() -> u32 {
     8
 }
 
+/// A number, or "hostname".
+#[derive(Deserialize)]
+#[serde(untagged)]
+enum Id {
+    Number(u8),
+    Word(String),
+}
+
+fn id_of<'de, D: Deserializer<'de>>(from: D) -> Result<u8, D::Error> {
+    use serde::de::Error;
+    match Id::deserialize(from).map_err(|_| D::Error::custom("id: is a number from 0 to 127, or \"hostname\""))? {
+        Id::Number(number) => Ok(number),
+        Id::Word(word) if word == "hostname" => {
+            let name = fs::read_to_string(HOSTNAME).map_err(|why| D::Error::custom(format!("id: {HOSTNAME}: {why}")))?;
+            let name = name.trim();
+            number_of(name).ok_or_else(|| D::Error::custom(format!("id: this machine's name, {name}, doesn't end with a number behind \"-\"")))
+        }
+        Id::Word(word) => Err(D::Error::custom(format!("id: is a number, or \"hostname\", and no {word:?}"))),
+    }
+}
+
+/// The number at the end of a name, as of `dumgerok-2`.
+fn number_of(name: &str) -> Option<u8> {
+    let (_, number) = name.split('.').next()?.rsplit_once('-')?;
+    number.bytes().all(|byte| byte.is_ascii_digit()).then(|| number.parse().ok())?
+}
+
 impl Config {
     pub fn read(path: &Path) -> Result<Config, ConfigError> {
         Config::parse(&fs::read_to_string(path)?)
@@ -98,11 +144,14 @@ impl Config {
 
     fn check(&self) -> Result<(), ConfigError> {
         let rows = [
-            ("nodes", (1..=128).contains(&self.nodes.len()), "is a list of 1 to 128 strings HOST:PORT".to_string()),
+            ("nodes", (1..=128).contains(&self.nodes.len()), "is a list of 1 to 128 strings HOST:PORT, or \"-\" for a place without a machine".to_string()),
             ("id", usize::from(self.id) < self.nodes.len(), format!("is a number below {}", self.nodes.len())),
+            ("id", self.has_machine(usize::from(self.id)), format!("is a place of `nodes` that has a machine, and {} has none", self.id)),
             ("cluster", is_name(&self.cluster), "is a name of 1 to 64 bytes, without control characters".to_string()),
             ("http", self.http.map_or(true, is_served), "is an address of the loopback with a port".to_string()),
             ("round_trip_ms", (1..=60_000).contains(&self.round_trip_ms), "is a number from 1 to 60000".to_string()),
+            ("lease_ms", self.lease_ms == 0 || (100..=60_000).contains(&self.lease_ms), "is 0, or a number from 100 to 60000".to_string()),
+            ("tags", are_tags(&self.tags), format!("is a table of texts, {MAX_TAGS} bytes in all, without control characters")),
             ("record_mb", (1..=4096).contains(&self.record_mb), "is a number from 1 to 4096".to_string()),
             ("record_files", (1..=1000).contains(&self.record_files), "is a number from 1 to 1000".to_string()),
         ];
@@ -113,7 +162,7 @@ impl Config {
         if let Some(listen) = &self.listen {
             host_and_port("listen", listen)?;
         }
-        for (at, node) in self.nodes.iter().enumerate() {
+        for (at, node) in self.nodes.iter().enumerate().filter(|(_, node)| *node != EMPTY) {
             host_and_port("nodes", node)?;
             if self.nodes[..at].contains(node) {
                 return Err(ConfigError::Setting { setting: "nodes", why: format!("{node:?} stands there twice") });
@@ -126,11 +175,21 @@ impl Config {
     fn check_paths(&self) -> Result<(), ConfigError> {
         let (key, record) = (self.key.as_deref(), self.record.as_deref());
         let given = [("file", Some(&*self.file)), ("program", Some(&*self.program)), ("socket", Some(&*self.socket))];
-        let rows = given.into_iter().chain([("key", key), ("record", record)]);
+        let rows = given.into_iter().chain([("key", key), ("record", record), ("lease_file", self.lease_file.as_deref())]);
         match rows.into_iter().find(|(_, path)| path.map_or(false, |path| !names_file(path))) {
             Some((setting, _)) => Err(ConfigError::Setting { setting, why: "is the path of a file".to_string() }),
             None => Ok(()),
         }
+    }
+
+    /// The file of leases.
+    pub fn lease_file(&self) -> PathBuf {
+        let beside = || {
+            let mut name = self.file.clone().into_os_string();
+            name.push(".lease");
+            name.into()
+        };
+        self.lease_file.clone().unwrap_or_else(beside)
     }
 
     /// The node's own address, where datagrams are received.
@@ -138,21 +197,42 @@ impl Config {
         self.listen.as_deref().unwrap_or(&self.nodes[usize::from(self.id)])
     }
 
-    /// What of a changed configuration is taken without a restart: the addresses of the same nodes.
-    pub fn addresses_of(&self, changed: &Config) -> Result<Vec<String>, ConfigError> {
-        let is_same =
-            (changed.id, changed.nodes.len()) == (self.id, self.nodes.len()) && changed.cluster == self.cluster;
-        if is_same {
-            return Ok(changed.nodes.clone());
+    /// The same with so many places as the node's file has: those behind the list are empty.
+    pub fn with_places(mut self, places: usize) -> Result<Config, ConfigError> {
+        let (listed, file) = (self.nodes.len(), self.file.display());
+        if listed > places {
+            let why = format!(
+                "has {listed} places, and {file} is the file of a node of {places}. One of more is made so at each machine, with all agents stopped: \
+                 `dumgerokctl export {file} > jobs`, the file put aside, `dumgerokctl format --places N --jobs jobs`"
+            );
+            return Err(ConfigError::Setting { setting: "nodes", why });
         }
-        let why = "cluster, id and the number of nodes stay what they are until the agent is started anew".to_string();
+        self.nodes.resize(places, EMPTY.to_string());
+        Ok(self)
+    }
+
+    pub fn has_machine(&self, place: usize) -> bool {
+        self.nodes.get(place).map_or(false, |node| node != EMPTY)
+    }
+
+    /// How many places have a machine.
+    pub fn machines(&self) -> usize {
+        self.nodes.iter().filter(|node| *node != EMPTY).count()
+    }
+
+    /// What of a changed configuration is taken without a restart: which places have a machine, and at which addresses.
+    pub fn nodes_of(&self, changed: &Config) -> Result<Vec<String>, ConfigError> {
+        if (changed.id, &changed.cluster) == (self.id, &self.cluster) {
+            return changed.clone().with_places(self.nodes.len()).map(|changed| changed.nodes);
+        }
+        let why = "cluster and id stay what they are until the agent is started anew".to_string();
         Err(ConfigError::Setting { setting: "nodes", why })
     }
 
     /// Whether a changed configuration has other settings, too, which a restart takes: where the agent listens is one.
     pub fn differs_elsewhere(&self, changed: &Config) -> bool {
         let is_moved = changed.listens_at() != self.listens_at();
-        is_moved || Config { nodes: self.nodes.clone(), ..changed.clone() } != *self
+        is_moved || Config { nodes: self.nodes.clone(), tags: self.tags.clone(), ..changed.clone() } != *self
     }
 }
 
@@ -195,6 +275,13 @@ fn is_name(cluster: &str) -> bool {
     (1..=64).contains(&cluster.len()) && !cluster.chars().any(char::is_control)
 }
 
+/// They travel in one datagram.
+fn are_tags(tags: &BTreeMap<String, String>) -> bool {
+    let texts = || tags.iter().flat_map(|(name, value)| [name, value]);
+    let is_named = tags.keys().all(|name| !name.is_empty());
+    is_named && texts().map(|text| text.len()).sum::<usize>() <= MAX_TAGS && !texts().any(|text| text.chars().any(char::is_control))
+}
+
 fn is_served(at: SocketAddr) -> bool {
     at.ip().is_loopback() && at.port() != 0
 }
@@ -223,6 +310,7 @@ mod tests {
     fn a_whole_one() {
         let config = Config::parse(WHOLE).unwrap();
         assert_eq!((config.id, config.nodes.len(), config.listens_at()), (1, 2, "[::1]:2"));
+        assert_eq!((config.lease_ms, config.lease_file()), (0, PathBuf::from("/f#1.lease")));
         assert_eq!((config.round_trip_ms, config.key, config.http), (20, None, None));
         assert_eq!(config.file, Path::new("/f#1"));
     }
@@ -237,8 +325,13 @@ mod tests {
             ("record_mb = \"9\"\n", "line 8: record_mb: invalid type: string \"9\", expected a number"),
             ("http = \"localhost:80\"\n", "line 8: http: is an address with a port, as 127.0.0.1:7080"),
             ("[part]\n", "line 8: there is no setting part"),
+            ("[tags]\nrole = 7\n", "role: invalid type"),
+            ("tags = { role = \"a\\u001bb\" }\n", "tags: is a table of texts, 512 bytes in all"),
+            (&*format!("tags = {{ a = \"{}\" }}\n", "x".repeat(512)), "tags: is a table of texts, 512 bytes in all"),
             ("key \"k\"\n", "line 8: "),
             ("round_trip_ms = 0\n", "round_trip_ms: is a number from 1 to 60000"),
+            ("lease_ms = 99\n", "lease_ms: is 0, or a number from 100 to 60000"),
+            ("lease_file = \"/f/\"\n", "lease_file: is the path of a file"),
             ("http = \"10.0.0.1:80\"\n", "http: is an address of the loopback"),
             ("http = \"127.0.0.1:0\"\n", "http: is an address of the loopback with a port"),
             ("record = \"\"\n", "record: is the path of a file"),
@@ -265,15 +358,48 @@ mod tests {
     }
 
     #[test]
-    fn addresses_alone_change_without_a_restart() {
+    fn a_number_is_taken_of_the_machines_name() {
+        let names = ["dumgerok-2", "a-b-0.dumgerok.svc", "dumgerok", "dumgerok-", "x-300", "x-+3", "-7", "2"];
+        assert_eq!(names.map(number_of), [Some(2), Some(0), None, None, None, None, Some(7), None]);
+        let said = |id: &str| Config::parse(&WHOLE.replace("id = 1", id)).map_or_else(|why| why.to_string(), |config| config.id.to_string());
+        let own = fs::read_to_string(HOSTNAME).unwrap();
+        match number_of(own.trim()) {
+            Some(number) if number > 1 => assert!(said("id = \"hostname\"").starts_with("id: is a number below 2")),
+            Some(number) => assert_eq!(said("id = \"hostname\""), number.to_string()),
+            None => assert!(said("id = \"hostname\"").contains("doesn't end with a number"), "{}", said("id = \"hostname\"")),
+        }
+        assert!(said("id = \"1\"").contains("id: is a number, or \"hostname\", and no \"1\""), "{}", said("id = \"1\""));
+        assert!(said("id = 300").contains("id: is a number from 0 to 127"), "{}", said("id = 300"));
+    }
+
+    #[test]
+    fn places_may_be_empty_and_those_behind_the_list_are() {
+        let text = WHOLE.replace("\"a:1\"", "\"-\", \"c:1\"").replace("id = 1", "id = 2").replace("two\n", "two\n  \"-\",\n  \"-\",\n");
+        let config = Config::parse(&text).unwrap();
+        assert_eq!((config.nodes.len(), config.machines(), config.listens_at()), (5, 2, "[::1]:2"));
+        let spread = config.clone().with_places(128).unwrap();
+        assert_eq!((spread.nodes.len(), spread.machines(), spread.nodes_of(&config).unwrap()), (128, 2, spread.nodes.clone()));
+        assert_eq!([1, 2, 3, 127, 128].map(|place| spread.has_machine(place)), [true, true, false, false, false]);
+        let said = config.with_places(4).unwrap_err().to_string();
+        assert!(said.starts_with("nodes: has 5 places, and /f#1 is the file of a node of 4. One of more is made so"), "{said}");
+        let own = Config::parse(&text.replace("id = 2", "id = 0")).unwrap_err().to_string();
+        assert_eq!(own, "id: is a place of `nodes` that has a machine, and 0 has none");
+    }
+
+    #[test]
+    fn machines_and_addresses_alone_change_without_a_restart() {
         let config = Config::parse(WHOLE).unwrap();
         let moved = Config::parse(&WHOLE.replace("a:1", "b:1")).unwrap();
-        assert_eq!(config.addresses_of(&moved).unwrap()[0], "b:1");
+        assert_eq!(config.nodes_of(&moved).unwrap()[0], "b:1");
         let more = Config::parse(&format!("{WHOLE}log = \"debug\"\n")).unwrap();
         assert!(config.differs_elsewhere(&more) && !config.differs_elsewhere(&moved));
+        let tagged = Config::parse(&format!("{WHOLE}tags = {{ role = \"db\", rack = \"7\" }}\n")).unwrap();
+        assert!(!config.differs_elsewhere(&tagged) && tagged.tags["rack"] == "7");
         let own_moved = Config::parse(&WHOLE.replace("[::1]:2", "[::1]:3")).unwrap();
         assert!(config.differs_elsewhere(&own_moved), "it listens elsewhere");
         let other = Config::parse(&WHOLE.replace("id = 1", "id = 0")).unwrap();
-        assert!(config.addresses_of(&other).is_err());
+        assert!(config.nodes_of(&other).is_err());
+        let longer = Config::parse(&WHOLE.replace("# two\n", "# two\n  \"d:1\",\n")).unwrap();
+        assert!(config.nodes_of(&longer).is_err() && longer.nodes_of(&config).unwrap()[2] == EMPTY);
     }
 }

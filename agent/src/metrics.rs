@@ -25,6 +25,9 @@ const KINDS: [&str; 12] = [
     "Work",
 ];
 
+/// By these a node comes to lead others: it looks who else leads, and invites them.
+pub const OF_LEADING: [&str; 2] = ["AreYouCoordinator", "Invitation"];
+
 /// Of these the questions that a node in any phase answers at once, and the answers.
 pub const QUESTIONS: [&str; 2] = ["AreYouCoordinator", "AreYouThere"];
 pub const ANSWERS: [&str; 2] = ["Coordinator", "Here"];
@@ -65,6 +68,10 @@ pub struct Metrics {
     pub jobs: IntCounterVec,
     pub durable: IntCounterVec,
     pub groups: IntCounter,
+    pub leases: IntCounterVec,
+    pub lease_messages: IntCounterVec,
+    pub lease_up: IntGauge,
+    pub leases_held: IntGauge,
     phase: IntGaugeVec,
     pub cut_off: IntGauge,
     up: IntGauge,
@@ -75,6 +82,7 @@ pub struct Metrics {
     nodes: IntGauge,
     pub in_hand: IntGauge,
     pub held: IntGauge,
+    pub aside: IntGauge,
     pub pending: IntGauge,
     pub pending_max: IntGauge,
     pub clients: IntGauge,
@@ -135,6 +143,10 @@ impl Metrics {
             farewells: maker.counters("farewells", "What agents said that their nodes end: taken, taken of one that began from a copy of its file, or refused as recorded.", "event")?,
             jobs: maker.counters("jobs", "Jobs, by what happened to them.", "event")?,
             durable: maker.counters("commands_durable", DURABLE, "command")?,
+            leases: maker.counters("leases", "Leases of this machine, by what happened to them.", "event")?,
+            lease_messages: maker.counters("lease_messages", "Messages of leases, by their way.", "way")?,
+            lease_up: maker.gauge("lease_up", "Whether the process of leases is at work.")?,
+            leases_held: maker.gauge("leases_held", "Leases that this machine has.")?,
             phase: maker.gauges("phase", "1 for the phase that the node is in, 0 for the others.", "phase")?,
             cut_off: maker.gauge("clients_cut_off", "Clients that were cut off since they didn't read.")?,
             up: maker.gauge("up", "Whether the node answers.")?,
@@ -145,6 +157,7 @@ impl Metrics {
             nodes: maker.gauge("nodes", "Nodes of the cluster.")?,
             in_hand: maker.gauge("jobs_in_hand", "Jobs that the node is to work on.")?,
             held: maker.gauge("jobs_held", "Of these, jobs that a client works on.")?,
+            aside: maker.gauge("jobs_aside", "Of these, jobs that were put aside until somebody kicks them.")?,
             pending: maker.gauge("jobs_pending", "Jobs that the node keeps and that aren't done.")?,
             pending_max: maker.gauge("jobs_pending_max", "So many of them fit into its journal.")?,
             clients: maker.gauge("clients", "Local clients.")?,
@@ -162,14 +175,16 @@ impl Metrics {
 
     /// A count that isn't told before it is one has no rate: so those that an alarm may follow are told from the start.
     fn begin_at_zero(&self) {
-        let known: [(&IntCounterVec, &[&str]); 8] = [
+        let known: [(&IntCounterVec, &[&str]); 10] = [
+            (&self.leases, &["held", "lost", "given_back"]),
+            (&self.lease_messages, &["in", "out"]),
             (&self.messages_in, &KINDS),
             (&self.messages_out, &KINDS),
             (&self.refused, &REFUSALS),
-            (&self.dropped, &["NoRoom", "NotSent", "Forged", "Empty", "Version", "Kernel", "Down", "Stranger", "Obsolete"]),
+            (&self.dropped, &["NoRoom", "NotSent", "Forged", "Empty", "Version", "Kernel", "Down", "Stranger", "Obsolete", "Draining"]),
             (&self.forwarded, &["taken", "again"]),
-            (&self.farewells, &["taken", "copy", "refused"]),
-            (&self.jobs, &["kept", "gone", "taken", "dropped"]),
+            (&self.farewells, &["taken", "copy", "drained", "refused"]),
+            (&self.jobs, &["kept", "gone", "taken", "dropped", "failed", "aside"]),
             (&self.durable, &["group", "put", "done"]),
         ];
         for (counters, labels) in known {

@@ -18,8 +18,13 @@ const NOT_RUN: u8 = 127;
 
 /// A command, to be run in a session of its own.
 pub fn command(words: impl IntoIterator<Item = impl AsRef<OsStr>>) -> Command {
+    command_as(NAME, words)
+}
+
+/// The program itself, called by another name with these words.
+pub fn command_as(name: &str, words: impl IntoIterator<Item = impl AsRef<OsStr>>) -> Command {
     let mut command = Command::new("/proc/self/exe");
-    command.arg0(NAME).args(words);
+    command.arg0(name).args(words);
     command
 }
 
@@ -42,6 +47,14 @@ pub fn become_command() -> Option<u8> {
 pub fn kill(command: Pid) {
     let _ended_by_itself = kill_process(command, Signal::Kill);
     let _none = kill_process_group(command, Signal::Kill);
+}
+
+/// Has a command end that wasn't waited for yet, and what is in its process group.
+pub fn terminate(command: Pid) {
+    if kill_process_group(command, Signal::Term).is_err() {
+        // it has no session yet
+        let _ended_by_itself = kill_process(command, Signal::Term);
+    }
 }
 
 /// Why a command can't be run, if so.

@@ -41,18 +41,9 @@ fn is_in_use(file: &File) -> bool {
     flock(file, FlockOperation::NonBlockingLockShared) == Err(Errno::WOULDBLOCK)
 }
 
-/// The same, and nobody is kept from it.
-fn is_in_use_now(file: &File) -> bool {
-    let is_in_use = is_in_use(file);
-    if !is_in_use {
-        let _released = flock(file, FlockOperation::Unlock);
-    }
-    is_in_use
-}
-
-/// The number that may have been given though the file doesn't count it, where a hint says so.
-fn skipped_of(hint: &str) -> Option<u64> {
-    hint.strip_prefix("hint counter_unsealed ")?.parse().ok()
+/// Whether a hint names a number that may have been given though the file doesn't count it: the node skips it by itself, and says so.
+fn is_skipped(hint: &str) -> bool {
+    hint.starts_with("hint counter_unsealed ")
 }
 
 /// What is to be done with a file. What else is wrong with it the node says itself.
@@ -60,8 +51,6 @@ fn skipped_of(hint: &str) -> Option<u64> {
 pub enum Verdict {
     /// The node may open it.
     Whole,
-    /// It may, once this number is skipped.
-    Skip(u64),
     /// It may not.
     Broken,
 }
@@ -82,8 +71,6 @@ pub fn verified(program: &Path, path: &Path, file: &File) -> Verdict {
     let found = match look(program, path) {
         Found::Broken(_) if is_in_use(file) => Found::InUse,
         Found::Broken(_) => look(program, path),
-        // in the middle of a raise it looks so, too
-        Found::Hints(hints) if hints.iter().any(|hint| skipped_of(hint).is_some()) && is_in_use_now(file) => Found::InUse,
         found => found,
     };
     let file = path.display();
@@ -97,9 +84,10 @@ pub fn verified(program: &Path, path: &Path, file: &File) -> Verdict {
             Verdict::Whole
         }
         Found::Hints(hints) => {
-            let (skipped, older): (Vec<_>, Vec<_>) = hints.iter().partition(|hint| skipped_of(hint).is_some());
-            older.iter().for_each(|hint| warn!("{file}: {hint}: this may be an older state than the node left"));
-            skipped.first().and_then(|hint| skipped_of(hint)).map_or(Verdict::Whole, Verdict::Skip)
+            for hint in hints.iter().filter(|hint| !is_skipped(hint)) {
+                warn!("{file}: {hint}: this may be an older state than the node left");
+            }
+            Verdict::Whole
         }
         Found::Broken(broken) => {
             broken.iter().for_each(|one| error!("{file}: {one}: no crash leaves this: a write was lost, or the file was changed"));
@@ -124,7 +112,7 @@ mod tests {
         for (code, text) in [(0, whole), (1, "kind node\ncount none\ndamaged_journal 5\n"), (5, ""), (7, ""), (0, "brokenness 1\n")] {
             assert_eq!(read(code, text), Found::Hints(vec![]), "{code}");
         }
-        assert_eq!(["hint counter_unsealed 18446744073709551615", "hint job_differs 3", "broken counter_unsealed 3"].map(skipped_of), [Some(u64::MAX), None, None]);
+        assert_eq!(["hint counter_unsealed 18446744073709551615", "hint job_differs 3", "broken counter_unsealed 3"].map(is_skipped), [true, false, false]);
         assert_eq!((read(2, ""), read(2, "broken counter_slots 4 9\n")), (Found::NotLooked, Found::NotLooked));
         assert_eq!(read(1, &"broken sealed_behind 12\n".repeat(100)), Found::Broken(vec!["broken sealed_behind 12".to_string(); MAX_TOLD]));
     }

@@ -5,7 +5,7 @@ use crate::net::Peers;
 use crate::node::{Group, GroupNumber, Phase};
 use crate::protocol::VERSION;
 use serde::Serialize;
-use std::collections::VecDeque;
+use std::collections::{BTreeMap, VecDeque};
 use std::time::{Duration, Instant};
 
 /// So many groups of the past are kept for the page.
@@ -40,6 +40,7 @@ pub struct Past {
 pub struct View {
     pub cluster: String,
     pub own: u8,
+    /// How many places have a machine.
     pub nodes: usize,
     pub began: Instant,
     pub group: Group,
@@ -92,6 +93,9 @@ pub struct Member {
     pub queues: Vec<u8>,
     /// How long ago a message of it was taken.
     pub heard_ms: Option<u64>,
+    /// What its machine was tagged with, and how long ago that was told.
+    pub tags: BTreeMap<String, String>,
+    pub tags_ms: Option<u64>,
 }
 
 fn ms(duration: Duration) -> u64 {
@@ -103,7 +107,7 @@ impl View {
         View {
             cluster: config.cluster.clone(),
             own: config.id,
-            nodes: config.nodes.len(),
+            nodes: config.machines(),
             began: now,
             group: Group::default(),
             count: None,
@@ -218,8 +222,11 @@ impl View {
             coordinates: self.group.is_normal() && self.group.coordinator == node,
             queues: self.group.queues_of(node),
             heard_ms: peer.heard.map(|at| ms(now.saturating_duration_since(at))),
+            tags: peer.tags.clone(),
+            tags_ms: peer.tagged.map(|at| ms(now.saturating_duration_since(at))),
         };
-        (0..).zip(peers.all()).map(|(node, peer)| member(node, peer)).collect()
+        let is_shown = |node: &u8, peer: &crate::net::Peer| peer.is_machine() || self.group.members.contains(node);
+        (0..).zip(peers.all()).filter(|(node, peer)| is_shown(node, peer)).map(|(node, peer)| member(node, peer)).collect()
     }
 }
 

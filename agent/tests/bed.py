@@ -104,8 +104,8 @@ class Relay:
 class Agents:
     """Agents in a folder, each with a node of its own. The nodes' files are there, too, or in a folder within another one."""
 
-    def __init__(self, folder, program, relay, daemon, ctl, settings=None, first=None, slots=256, within=None, lines=None):
-        """With `lines` what they are asked at their sockets and what they answer is checked."""
+    def __init__(self, folder, program, relay, daemon, ctl, settings=None, first=None, slots=256, within=None, lines=None, places=None):
+        """With `lines` what they are asked at their sockets and what they answer is checked. Their files are of so many places, or of as many as there are agents."""
         self.lines = lines
         self.folder, self.program, self.relay, self.daemon, self.ctl_path, self.settings = folder, program, relay, daemon, ctl, settings or {}
         self.count, self.processes = relay.count, [None] * relay.count
@@ -115,7 +115,7 @@ class Agents:
             self.http[i] = free_port()
             self.write(i)
             if not os.path.exists(self.path(i, "node")):
-                words = [program, "format", self.path(i, "node"), str(slots), str(i), str(self.count)]
+                words = [program, "format", self.path(i, "node"), str(slots), str(i), str(places or self.count)]
                 subprocess.run(words + ([str(first)] if first else []), check=True)
 
     def write(self, i, **settings):

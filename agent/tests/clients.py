@@ -271,7 +271,10 @@ def many(agents, check, timed):
     for words in (["status"], ["jobs"], ["submit", "3", "by an operator"]):
         done = agents.ctl(0, *words)
         check("those that stay keep no `dumgerokctl %s` out" % words[0], done.returncode == 0, done)
-    more += all_at_work(agents, timed)
+    # one that asks for nothing would give its place to one more
+    more.pop().close()
+    agents.until(lambda: metric(agents, 0, "clients") == 240)
+    more += all_at_work(agents, (links[0], readers[0]), timed)
     for link in links + more:
         link.close()
     agents.until(lambda: (agents.status(0) or {}).get("ok"))
@@ -289,20 +292,24 @@ def unread(link):
     return int.from_bytes(fcntl.ioctl(link, termios.TIOCOUTQ, b"\0" * 4), "little")
 
 
-def all_at_work(agents, timed):
-    """Beside those that stay as many as are served, each with a request that has no answer yet: one more is told so."""
+def all_at_work(agents, watcher, timed):
+    """Beside those that stay, of whom this is one, as many as are served, each with a request that has no answer yet: one more is told so."""
     links, node = [agents.connect(0) for _ in range(16)], agents.node(0)
     os.kill(node, signal.SIGSTOP)
     try:
         for link in links:
             link.sendall(b'{"do":"finish","origin":0,"id":99999}\n')
-        # until the agent has read these: a client without a request would give its place to one more
-        agents.until(lambda: not any(unread(link) for link in links))
+        # until the agent has taken and read these
+        agents.until(lambda: metric(agents, 0, "clients") == 256 and not any(unread(link) for link in links))
+        # and obeyed: what it answers behind that
+        watcher[0].sendall(b'{"do":"status"}\n')
+        agents.until(lambda: "phase" in json.loads(watcher[1].readline()))
         done = agents.ctl(0, "status")
         timed("where all places are taken `dumgerokctl status` says so", done.returncode == 1 and "TooManyClients" in done.stderr, done)
     finally:
         os.kill(node, signal.SIGCONT)
-    timed("and they are served on", all(json.loads(link.makefile().readline()).get("error") == "UnknownJob" for link in links))
+    told = [json.loads(link.makefile().readline()).get("error") for link in links]
+    timed("and they are served on", told == ["UnknownJob"] * len(links), told)
     return links
 
 

@@ -26,16 +26,18 @@ def count_of(agents, i):
     return int(said.split("count ")[1].split()[0])
 
 
-def refused(agents, i, name, check, others):
+def refused(bed, agents, i, name, others):
     """Agent i is started over what its file is now: it ends with a status of its own, before it acknowledges anything."""
     before = [metric(agents, j, 'farewells_total{event="copy"}') for j in others]
     agents.start(i)
-    told, end = [], time.monotonic() + PATIENCE / 6
+    # one that a busy machine gives no time tells or asks the others too late
+    told, end, timed = [], time.monotonic() + PATIENCE / 6, bed.tally.timed
     while agents.processes[i].poll() is None and time.monotonic() < end:
         told.append(agents.ask(i, do="submit", queue=0, text="no"))
-    if not check("%s: a status of its own" % name, agents.processes[i].poll() == COPY, (agents.processes[i].poll(), told[-3:])):
+    if not timed("%s: a status of its own" % name, agents.processes[i].poll() == COPY, (agents.processes[i].poll(), told[-3:])):
         raise ValueError("it goes on")
-    check("%s: nothing is acknowledged" % name, not any(one and one["ok"] for one in told), told)
+    timed("%s: nothing is acknowledged" % name, not any(one and one["ok"] for one in told), told)
+    check = bed.tally.check
     check("%s: what happened, and what to do" % name, END_TEXT in logged(agents, i, "--first above ")[-1])
     for j, count in zip(others, before):
         agents.until(lambda: metric(agents, j, 'farewells_total{event="copy"}') == count + 1)
@@ -69,7 +71,7 @@ def scene(bed, word, key):
     shutil.copy(file, last)
     shutil.copy(copy, file)
     count = count_of(agents, 0)
-    least = refused(agents, 0, name, check, [1, 2])
+    least = refused(bed, agents, 0, name, [1, 2])
     check("%s: the number that it names is above what was given" % name, least >= count + 1, (least, count))
     # its own file is none, though the others were told of the copy's life
     shutil.copy(last, file)
@@ -78,16 +80,17 @@ def scene(bed, word, key):
     name = "a copy of the same life, in which jobs were kept since (%s)" % word
     lead = agents.status(0)["coordinator"]
     one_below, file = copied(agents, lead), agents.path(lead, "node")
+    steady = bed.tally.steady(agents)
     kept = [agents.ask(lead, do="submit", queue=q, text="x") for q in range(5)]
-    check("%s: they are kept" % name, all(one["ok"] and one["origin"] == lead for one in kept), kept)
+    steady("%s: they are kept" % name, all(one["ok"] and one["origin"] == lead for one in kept), kept)
     known(agents, lead)
     agents.kill(lead)
     shutil.copy(file, last)
     shutil.copy(one_below, file)
-    refused(agents, lead, name, check, [i for i in range(3) if i != lead])
+    refused(bed, agents, lead, name, [i for i in range(3) if i != lead])
     name = "a new file whose numbers begin too low (%s)" % word
     formatted(agents, lead, 5)
-    least = refused(agents, lead, name, check, [i for i in range(3) if i != lead])
+    least = refused(bed, agents, lead, name, [i for i in range(3) if i != lead])
     formatted(agents, lead, least + 1)
     agents.start(lead)
     check("one above that is taken (%s)" % word, agents.one_group() >= 0)
@@ -127,7 +130,7 @@ def last_alive(bed):
     agents.kill(1)
     agents.kill(0)
     shutil.copy(agents.path(0, "copy"), agents.path(0, "node"))
-    refused(agents, 0, "one peer alive", check, [2])
+    refused(bed, agents, 0, "one peer alive", [2])
     agents.kill(2)
     agents.start(0)
     check("none: it begins", agents.one_group([0]) >= 0)
@@ -158,8 +161,8 @@ def changed_file(bed):
     begun, foreign = file + ".begun", file + ".foreign"
     # a second name keeps the number of its links
     requests = dict(submit=dict(queue=0, text="x"), compact={})
-    for name, other, change, said in (("replaced", begun, replaced, "another file has its name"), ("emptied", begun, emptied, "written over"),
-                                      ("another node's", foreign, overwritten, "written over"), ("its own of before", begun, overwritten, "less than what the node gave")):
+    for name, other, change, said in (("replaced", begun, replaced, "another file took its name"), ("emptied", begun, emptied, "written over"),
+                                      ("another node's", foreign, overwritten, "written over"), ("its own of before", begun, overwritten, "its counter isn't what the node gave")):
         for do, more in requests.items():
             subprocess.run([agents.program, "format", file, "64", "0", "1", "1000"], check=True)
             subprocess.run([agents.program, "format", foreign, "64", "1", "2", "9000"], check=True)

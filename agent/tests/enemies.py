@@ -155,10 +155,10 @@ def old_messages(bed):
     check("dumgerokctl shows it", re.search("^keys +%s$" % told[0], agents.ctl(0, "status").stdout, re.M))
     check("so do the metrics, and each has its cluster", 'dumgerok_key{name="%s",cluster="bed"} 1\n' % told[0] in page(agents, 0, "/metrics")[1] and metric(agents, 0, "sealed") == 1)
     for i in range(2):
-        agents.relay.send(i, b"\xd6\x03{}")
+        agents.relay.send(i, b"\xd6\x05{}")
         agents.until(lambda: metric(agents, i, 'dropped_total{reason="Version"}') == 1)
     agents.kill(1)
-    old = [message for j, message in list(agents.relay.kept) if j == 0 and message[0] in (1, 2)][-AT_ONCE:]
+    old = [datagram for j, datagram in list(agents.relay.kept) if j == 0][-4 * AT_ONCE:]
 
     def is_told():
         agents.send_all(0, old)

@@ -1,9 +1,9 @@
 """What is said to an operator who made a mistake, or whose machine or network did: what it is, where, and what to do."""
 import os, re, shutil, signal, subprocess, tempfile, time
 
-from bed import PATIENCE
+from bed import HERE, PATIENCE
 from cluster import metric
-from machine import ends
+from machine import compiled, ends
 
 KEY = "0a" * 32 + "\n"
 
@@ -49,7 +49,8 @@ def key_files(agents, check):
 
 def files(agents, check):
     """A file that isn't there, of a folder that isn't there, one that is there already, and jobs that are none."""
-    make = lambda *words, **options: agents.ctl(0, "format", "--config", agents.path(0, "toml"), *words, **options)
+    clock = lambda words: [] if "--first" in words else ["--clock-unchecked"]
+    make = lambda *words, **options: agents.ctl(0, "format", "--config", agents.path(0, "toml"), *clock(words), *words, **options)
     agents.write(0, file=os.path.join(agents.folder, "nowhere", "node"), record=None)
     status, told = ends(agents)
     check("a folder that isn't there: 7", status == 7 and "its folder isn't there: is its file system mounted?" in told, (status, told))
@@ -65,16 +66,37 @@ def files(agents, check):
         done = make(*words, input=jobs)
         check("format %s: %s" % (" ".join(words), said), done.returncode == 2 and said in done.stderr and not os.path.exists(os.path.join(agents.folder, "new")), done)
     done = make("--slots", "8", "--first", "9", "--jobs", "-", input="job 7 3 -\n")
-    said = r"new is made, in \d+\.\d\d s: node 0 of 1, 8 slots of 4096 bytes\. At most 6 jobs may be pending\. A compaction makes 4 syncs"
+    said = r"new is made, in \d+\.\d\d s: node 0 of 16 places, 8 slots of 4096 bytes\. At most 6 jobs may be pending\. A compaction makes 4 syncs"
     check("format says what it made, and how long a compaction takes", done.returncode == 0 and re.search(said, done.stdout), done)
-    check("by default each sector has a block of its own", os.path.getsize(os.path.join(agents.folder, "new")) == (8 + 4 * 8) * 4096 + 16)
+    check("by default each sector has a block of its own", os.path.getsize(os.path.join(agents.folder, "new")) == (8 + 4 * 8) * 4096 + 32)
     done = make()
-    check("a file that is there stays: 1", done.returncode == 1 and "stays as it is: it is the file of node 0 of 1, keeps 1 jobs" in done.stderr and len(done.stderr.splitlines()) == 1, done)
+    check("a file that is there stays: 1", done.returncode == 1 and "stays as it is: it is the file of node 0 of 16, keeps 1 jobs" in done.stderr and len(done.stderr.splitlines()) == 1, done)
     text = os.path.join(agents.folder, "a-text")
     with open(text, "w") as file:
         file.write("no node\n")
     done = agents.ctl(0, "inspect", text, "--program", agents.program)
     check("a text is inspected: 1", done.returncode == 1 and "this is no node's file" in done.stderr, done)
+
+
+def clocks(bed, agents, check):
+    """A file whose numbers are to begin behind the time is made where the kernel calls the clock synchronized, or where one says that it is right."""
+    if not shutil.which("cc"):
+        return bed.tally.left_out("a clock that was never synchronized", "there is no C compiler")
+    library = compiled(bed, "kernel_clock", os.path.join(HERE, "kernel_clock.c"))
+    agents.write(0, file=os.path.join(agents.folder, "timed"), record=None)
+    path = os.path.join(agents.folder, "timed")
+    for status, words, is_made in ((0x40, (), False), (0x2041, (), False), (0x2001, (), True), (0x40, ("--clock-unchecked",), True), (0x40, ("--first", "9"), True)):
+        environment = {**os.environ, "LD_PRELOAD": library, "CLOCK_STATUS": str(status)}
+        before = time.time_ns() // 10**6
+        done = subprocess.run([agents.ctl_path, "format", "--config", agents.path(0, "toml"), *words], stdout=subprocess.PIPE, stderr=subprocess.PIPE, text=True, env=environment, timeout=PATIENCE)
+        check("a clock of status %#x, %r: made, or nothing and why" % (status, words), done.returncode == 0 and os.path.exists(path) if is_made
+              else done.returncode == 2 and "never synchronized" in done.stderr and not os.path.exists(path), done)
+        if os.path.exists(path):
+            with open(path, "rb") as file:
+                count = int.from_bytes(file.read(8), "big")
+            check("its count is the time, or what was given", count == 9 if "--first" in words else before <= count <= time.time_ns() // 10**6, count)
+            os.remove(path)
+    agents.write(0, record=None)
 
 
 def as_root(bed, agents, check):
@@ -89,7 +111,7 @@ def as_root(bed, agents, check):
         os.chown(state, 65534, 65534)
         agents.write(0, file=os.path.join(state, "node"), program=programs[2], socket=os.path.join(state, "sock"), record=None)
         config = shutil.copy(agents.path(0, "toml"), os.path.join(folder, "node.toml"))
-        done = subprocess.run([programs[1], "format", "--config", config], stdout=subprocess.PIPE, stderr=subprocess.PIPE, text=True)
+        done = subprocess.run([programs[1], "format", "--clock-unchecked", "--config", config], stdout=subprocess.PIPE, stderr=subprocess.PIPE, text=True)
         owner = os.stat(os.path.join(state, "node")).st_uid if done.returncode == 0 else None
         check("a file that root makes is its folder's owner's", owner == 65534, (done, owner))
         as_nobody = ["setpriv", "--reuid", "65534", "--regid", "65534", "--clear-groups"]
@@ -145,14 +167,14 @@ def payloads(agents, check):
 
 def helps(agents, check):
     """Each command has an example, and offers no option that does nothing there."""
-    commands = re.findall(r"^  (\w+)\b", agents.ctl(0, "--help").stdout.split("Commands:")[1].split("Options:")[0], re.M)
+    commands = re.findall(r"^  ([\w-]+)", agents.ctl(0, "--help").stdout.split("Commands:")[1].split("Options:")[0], re.M)
     check("there are the commands", len(commands) > 12, commands)
     for command in commands:
         if command == "help":
             continue
         text = agents.ctl(0, command, "--help").stdout
         check("%s has an example" % command, re.search(r"Examples?: .*dumgerokctl %s" % command, text), text)
-        asks = command not in ("format", "judge", "completions", "key", "inspect", "export")
+        asks = command not in ("format", "judge", "draw", "completions", "key", "inspect", "export")
         check("%s is offered --socket where it asks an agent" % command, ("--socket" in text) == asks, text)
         check("%s is offered --json where it prints it" % command, ("--json" in text) == (asks or command in ("inspect", "export")), text)
 
@@ -164,6 +186,7 @@ def mistakes(bed):
     key_files(agents, check)
     made_key(agents, check)
     files(agents, check)
+    clocks(bed, agents, check)
     damaged(agents, check)
     as_root(bed, agents, check)
     payloads(agents, check)
@@ -201,19 +224,20 @@ def damaged(agents, check):
 
 def told_of_the_network(bed):
     """One direction that is cut, and a member that dies: a line of the log each, at the node that can know."""
-    agents, check = bed.agents("network", record=None), bed.tally.check
+    agents, check, timed = bed.agents("network", record=None), bed.tally.check, bed.tally.timed
     said = lambda i, text: [line for line in open(agents.path(i, "log")) if text in line]
     agents.start_all()
     agents.one_group()
+    steady = bed.tally.steady(agents)
     time.sleep(6)
-    check("in a cluster that is well nobody is told so", not any(said(i, "answers nothing") or said(i, "no member any more") for i in range(3)))
+    steady("in a cluster that is well nobody is told so", not any(said(i, "answers nothing") or said(i, "no member any more") for i in range(3)))
     lead = agents.status(0)["coordinator"]
     one, other = [i for i in range(3) if i != lead]
     agents.relay.one_way.add((lead, one))
     text = "node %d is heard and answers nothing: what is sent to it is lost" % one
     agents.until(lambda: said(lead, text))
-    check("a way that is cut in one direction is told where it begins", not said(other, "answers nothing") and not said(one, "answers nothing"))
-    check("and once", len(said(lead, text)) == 1)
+    timed("a way that is cut in one direction is told where it begins", not said(other, "answers nothing") and not said(one, "answers nothing"))
+    timed("and once", len(said(lead, text)) == 1)
     agents.relay.one_way.clear()
     agents.one_group()
     lead = agents.status(0)["coordinator"]

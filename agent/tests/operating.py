@@ -25,7 +25,10 @@ ELSEWHERE = [
 WORDS = {"COMMAND": "true", "ORIGIN": "0", "ID": "0", "QUEUE": "0", "TEXT": "x", "N": "0"}
 
 # Commands over files, not asked of an agent: machine.py, messages.py, cluster.py and the blocks of the page run them with paths of their own.
-OVER_FILES = ("format", "inspect", "export", "judge", "key")
+OVER_FILES = ("format", "inspect", "export", "judge", "draw", "key")
+
+# Commands that run another one until they are told to end, or where this machine has what that takes: services.py runs them.
+RUNNERS = ("lead", "lock", "own", "on-change")
 
 
 def beside_blocks(text):
@@ -62,7 +65,7 @@ def commands(bed, text):
 
 def is_command(agents, words):
     """Whether dumgerokctl does this: `watch` prints the state and goes on, `take -- COMMAND` finishes the job that there is and waits for another."""
-    if words[0] in OVER_FILES:
+    if words[0] in OVER_FILES + RUNNERS:
         words = ["help", words[0]]
     elif words[-1] == "--json":
         words = words + ["status"]

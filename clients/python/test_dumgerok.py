@@ -1,5 +1,5 @@
 """The client in Python, in scenes of agent/tests/run: over an agent of a script, which says what a race brings, and over real ones that are killed."""
-import asyncio, json, logging, os, random, socket, threading, time
+import asyncio, contextlib, json, logging, os, random, socket, threading, time
 
 import dumgerok
 from bed import PATIENCE
@@ -10,21 +10,27 @@ from schema import Lines
 logging.getLogger("dumgerok").setLevel(logging.CRITICAL)
 
 STATE = dict(ok=True, event="state", life="0123456789ab", change=7)
-JOB = dict(ok=True, origin=2, id=40, queue=3, priority=0, payload="6a6f62")
+JOB = dict(ok=True, origin=2, id=40, queue=3, priority=0, payload="6a6f62", attempt=1)
 STOP = dict(event="stop", origin=2, id=40)
 
 
 class Scripted:
-    """An agent that gives each connection what the next script says: lines that it sends; None, a request that it awaits; `begun`, that the client begins
+    """An agent that gives each connection what the next script says: lines that it sends, or what makes them; None, a request that it awaits; `begun`, that the client begins
     with a job; `told`, that it goes on with it; `stays`, that the client ends the connection. What it was asked, and `ended` of such a connection, stands in
     `heard`."""
 
     def __init__(self, path, *scripts):
-        self.heard, self.is_right, self.lines, self.begins, self.tells = [], True, Lines(), threading.Event(), threading.Event()
+        self.heard, self.asked, self.is_right, self.lines, self.begins, self.tells = [], [], True, Lines(), threading.Event(), threading.Event()
         self.socket = socket.socket(socket.AF_UNIX, socket.SOCK_STREAM)
         self.socket.bind(path)
         self.socket.listen()
-        threading.Thread(target=self.serve, args=(scripts,), daemon=True).start()
+        self.thread = threading.Thread(target=self.serve, args=(scripts,), daemon=True)
+        self.thread.start()
+
+    def all_heard(self):
+        """What it was asked, once its scripts are over."""
+        self.thread.join(PATIENCE)
+        return self.heard
 
     def serve(self, scripts):
         for script in scripts:
@@ -39,14 +45,19 @@ class Scripted:
             line = reader.readline()
             self.is_right = self.is_right and self.lines.request_of(line)[0] is not None
             self.heard.append(json.loads(line)["do"] if line else "ended")
+            self.asked.append(json.loads(line or "{}"))
         elif step == "begun":
             self.begins.wait(PATIENCE)
         elif step == "told":
             self.tells.set()
         elif step == "stays":
-            self.heard += [json.loads(line)["do"] for line in reader] + ["ended"]
+            with contextlib.suppress(ConnectionError):
+                self.heard.extend(json.loads(line)["do"] for line in reader)
+            self.heard.append("ended")
         else:
-            link.sendall(b"".join(json.dumps(one).encode() + b"\n" for one in (step if isinstance(step, list) else [step])))
+            step = step() if callable(step) else step
+            with contextlib.suppress(BrokenPipeError):         # a client that ends the connection meanwhile
+                link.sendall(b"".join(json.dumps(one).encode() + b"\n" for one in (step if isinstance(step, list) else [step])))
 
 
 class Blocking:
@@ -62,6 +73,22 @@ class Blocking:
         events = self.agent.watch(**words)
         return [next(events) for _ in range(count)]
 
+    def lock(self, seconds, wait=None):
+        """The epoch of a lock that is worked under for so many seconds, and for how long it lasted in these."""
+        with self.agent.lock("a", wait) as lease:
+            begin = time.monotonic()
+            while time.monotonic() - begin < seconds and lease.lasts():
+                time.sleep(0.01)
+            return lease.epoch, time.monotonic() - begin
+
+    def lead(self, count):
+        epochs, leases = [], self.agent.lead("a")
+        for lease in leases:
+            epochs.append(lease.epoch)
+            if len(epochs) == count:
+                leases.close()
+        return epochs
+
     def work(self, agent, until):
         """What the worker began with, and what it saw to its end."""
         begun, ended = [], []
@@ -69,6 +96,8 @@ class Blocking:
         def function(job):
             begun.append(job.payload)
             agent.begins.set()
+            if job.payload == b"fails":
+                raise ValueError(job.name)
             if job.payload == b"deaf":
                 agent.tells.wait(PATIENCE)
             while job.payload == b"long":
@@ -77,7 +106,7 @@ class Blocking:
                     raise dumgerok.Stopped(job.name)
                 time.sleep(0.01)
 
-        self.agent.work(function, until=until)
+        self.agent.work(function, until=until, tries=3)
         return begun, ended
 
 
@@ -100,12 +129,35 @@ class Awaited:
 
         return asyncio.run(some())
 
+    def lock(self, seconds, wait=None):
+        async def locked():
+            async with self.agent.lock("a", wait) as lease:
+                begin = time.monotonic()
+                while time.monotonic() - begin < seconds and lease.lasts():
+                    await asyncio.sleep(0.01)
+                return lease.epoch, time.monotonic() - begin
+
+        return asyncio.run(locked())
+
+    def lead(self, count):
+        async def some():
+            epochs, leases = [], self.agent.lead("a")
+            async for lease in leases:
+                epochs.append(lease.epoch)
+                if len(epochs) == count:
+                    await leases.aclose()
+            return epochs
+
+        return asyncio.run(some())
+
     def work(self, agent, until):
         begun, ended = [], []
 
         async def function(job):
             begun.append(job.payload)
             agent.begins.set()
+            if job.payload == b"fails":
+                raise ValueError(job.name)
             try:
                 await asyncio.sleep(0 if job.payload == b"job" else PATIENCE)
             except asyncio.CancelledError:
@@ -114,7 +166,7 @@ class Awaited:
                 ended.append("stopped")
                 raise
 
-        asyncio.run(self.agent.work(function, until=until))
+        asyncio.run(self.agent.work(function, until=until, tries=3))
         return begun, ended
 
 
@@ -130,12 +182,16 @@ def races(bed):
             agent = Scripted(path, *scripts)
             return agent, kind(path)
 
-        def mark(name, is_so, said):
-            check("%s: %s" % (kind.__name__, name), is_so, said)
+        def mark(name, is_so, said, count=check):
+            count("%s: %s" % (kind.__name__, name), is_so, said)
+
+        def timed(name, is_so, said):
+            mark(name, is_so, said, bed.tally.timed)
 
         jobs(scene, mark)
         doubts(scene, mark)
-        watches(scene, mark)
+        watches(scene, mark, timed)
+        leases(scene, timed)
     with_an_old_event(bed, check)
 
 
@@ -163,8 +219,14 @@ def jobs(scene, mark):
     seen = client.work(agent, done_with(agent, 5))
     mark("a worker goes on where its agent ended, before and while it works", (seen, agent.heard) ==
          (([b"long", b"job"], ["stopped"]), ["take", "take", "take", "finish", "ended"]), (seen, agent.heard))
+    fails = dict(JOB, payload=b"fails".hex())
+    agent, client = scene([None, fails, None, dict(ok=True), "stays"], [None, dict(fails, attempt=3), None, dict(ok=True), "stays"])
+    client.work(agent, done_with(agent, 6))
+    back = [{name: asked.get(name) for name in ("ok", "after_ms", "aside")} for asked in agent.asked if asked.get("do") == "finish"]
+    mark("a job that fails is given back for a pause, and put aside where it was tried that often",
+         back == [dict(ok=False, after_ms=400, aside=None), dict(ok=False, after_ms=None, aside=True)], back)
     agent, client = scene([None, dict(ok=False, error="TooManyClients")], [None, dict(ok=False, error="NoJob")])
-    mark("a job that isn't there is none", client.call("take", 3, False) is None, agent.heard)
+    mark("a job that isn't there is none", client.call("take", [3, 4], False) is None and agent.asked[-1]["queues"] == [3, 4], agent.asked)
     mark("requests are those of the schema", agent.is_right, agent.heard)
 
 
@@ -179,6 +241,15 @@ def doubts(scene, mark):
             seen = why
         mark("a submission that ends with %s" % name, (type(seen).__name__, getattr(seen, "in_doubt", None)) == (name, is_in_doubt), repr(seen))
         mark("is a request of the schema, and isn't made again", agent.is_right and agent.heard == ["submit"], agent.heard)
+    agent, client = scene([None], [None, dict(ok=False, error="NoAnswer", may_be_kept=True)], [None, dict(ok=True, origin=0, id=1)])
+    kept = client.call("submit", 3, "x", 0, "k")
+    mark("under a key it is made again", kept == (0, 1) and agent.is_right and [asked["key"] for asked in agent.asked] == ["k"] * 3, agent.asked)
+    agent, client = scene([None], [None, dict(ok=False, error="Full")])
+    try:
+        seen = client.call("submit", 3, "x", 0, "k")
+    except dumgerok.Error as why:
+        seen = (type(why).__name__, why.in_doubt, agent.heard)
+    mark("until it is refused, and the first try may be kept all the same", seen == ("Full", True, ["submit", "submit"]), seen)
     agent, client = scene([None], [None, dict(ok=True, phase="Normal", later=1)])
     mark("a question is asked again", client.call("status")["phase"] == "Normal" and agent.heard == ["status", "status"], agent.heard)
     begin = time.monotonic()
@@ -190,7 +261,7 @@ def doubts(scene, mark):
     mark("an agent that isn't there is waited for, and nothing was done", is_so, repr(seen))
 
 
-def watches(scene, mark):
+def watches(scene, mark, timed):
     other, odd = dict(STATE, life="ffffffffffff", change=90), dict(event="new", change=8, more=[1])
     agent, client = scene([None, STATE, odd], [None, dict(ok=True, life=STATE["life"]), dict(odd, change=9)], [None, other, "stays"])
     seen = client.watch(7, every=PATIENCE / 4)
@@ -202,13 +273,71 @@ def watches(scene, mark):
     begin = time.monotonic()
     told = [(event["event"], event.get("why")) for event in client.watch(3, every=0.2)]
     is_so = told == [("state", None), ("beat", None), ("lost", "no beat in 0.6 s")] and time.monotonic() - begin >= 0.6
-    mark("where no beat comes the agent is lost", is_so, told)
+    timed("where no beat comes the agent is lost", is_so, told)
     agent, client = scene([None, dict(ok=False, error="Unreadable", why="x")])
     try:
         seen = client.watch(1)
     except dumgerok.Refused as why:
         seen = why.name
     mark("one that was never served is told why", seen == "Unreadable" and agent.is_right, (seen, agent.heard))
+
+
+def boot_ms():
+    return int(time.clock_gettime(time.CLOCK_BOOTTIME) * 1000)
+
+
+def taken():
+    """The answer to `acquire`."""
+    return dict(ok=True, now_ms=boot_ms())
+
+
+def held(epoch, left, **more):
+    return lambda: dict(dict(event="held", name="a", epoch=epoch, until_ms=boot_ms() + left), **more)
+
+
+def locked(client, *words):
+    """The epoch of a lock, or why it isn't had or had to the end."""
+    try:
+        return client.lock(*words)[0]
+    except dumgerok.Error as why:
+        return type(why).__name__
+
+
+def leases(scene, mark):
+    """Each is of a lease's time, which a busy machine may take."""
+    released = ["acquire", "status", "release"]
+    heard = lambda agent: [do for at, do in enumerate(agent.all_heard()) if do != "status" or agent.heard[at - 1] != "status"]
+    agent, client = scene([None, taken, held(5, 60_000), "stays"])
+    mark("a lock is had, and given back", (locked(client, 0.05), heard(agent)[:3]) == (5, released), agent.heard)
+    agent, client = scene([None, taken, held(5, 60_000), None, None, None, dict(ok=True, phase="Normal", lease_ms=800), "stays"])
+    locked(client, 1.0)
+    mark("meanwhile the agent is asked, an eighth of its time apart at most", 6 <= agent.all_heard().count("status") <= 40 and agent.is_right, agent.heard)
+    agent, client = scene([None, taken, held(5, 400)])
+    begin = time.monotonic()
+    said = locked(client, 5)
+    mark("where the agent ends it lasts until its end, and that is said", said == "Lost" and 0.3 < time.monotonic() - begin < 2, (said, time.monotonic() - begin))
+    agent, client = scene([None, taken, held(5, 300), held(5, 60_000), "stays"])
+    mark("a renewal moves the end", locked(client, 0.6) == 5, agent.heard)
+    agent, client = scene([None, taken, held(5, 300), held(6, 60_000), "stays"])
+    mark("that of another epoch doesn't", locked(client, 0.6) == "Lost", agent.heard)
+    agent, client = scene([None, taken], [None, taken, dict(event="refused", name="a", why="Silent")], [None, taken, held(7, 60_000), "stays"])
+    mark("it is asked for over ends of the agent, and where the client was silent", locked(client, 0) == 7, agent.heard)
+    agent, client = scene([None, taken, dict(event="refused", name="a", why="Full")], [None, dict(ok=False, error="NoLeases")])
+    mark("a refusal is told", [locked(client, 0), locked(client, 0)] == ["Refused", "NoLeases"], agent.heard)
+    agent, client = scene([None, taken, "stays"])
+    begin = time.monotonic()
+    said = locked(client, 0, 0.3)
+    mark("it isn't waited for longer than one likes", said == "Held" and time.monotonic() - begin >= 0.3, (said, agent.heard))
+    agent, client = scene([None, dict(ok=True, now_ms=boot_ms() - 60_000), held(5, 60_000), "stays"])
+    mark("an agent of another clock isn't relied on", locked(client, 0) == "Error", agent.heard)
+    drained = dict(ok=True, phase="Normal", draining=True)
+    agent, client = scene([None, taken, None, drained, "stays"], [None, taken, held(8, 60_000), "stays"])
+    mark("where the machine is drained none is asked for, until it isn't", locked(client, 0) == 8 and heard(agent)[:3] == ["acquire", "status", "ended"], agent.heard)
+    agent, client = scene([None, taken, held(5, 60_000), None, drained, "stays"])
+    begin, said = time.monotonic(), locked(client, 5)
+    mark("nor does one last there, and it is given back", said == "Lost" and time.monotonic() - begin < 4 and "release" in heard(agent), agent.heard)
+    agent, client = scene(*([None, taken, held(epoch, 60_000), "stays"] for epoch in (5, 6)))
+    mark("who leads has a lease each time", client.lead(2) == [5, 6] and agent.is_right, agent.heard)
 
 
 def with_an_old_event(bed, check):

@@ -3,8 +3,8 @@
 
     worker.py [--socket PATH] [--queue N] COMMAND [WORD..]
 
-Where the command ends with status 0 the job is finished. Else it is held for a pause, twice as long after each failure in a row up to half a minute, and then
-given again, to this worker or another one. Where the job goes to another node, or the agent ends, the command is killed.
+Where the command ends with status 0 the job is finished. Else it is given back for a pause, twice as long each time up to half a minute, and then given again,
+to this worker or another one. Where the job goes to another node, or the agent ends, the command is killed.
 """
 import argparse, os, signal, subprocess, sys, time
 

@@ -210,6 +210,25 @@ def try_lengths(tried, folder):
         tried.expect(["store", path], feed(["mount", "list"]), 0, text.encode(), ("length", length))
 
 
+def skipped_in(data, count):
+    """The number that comes next, where it stands in a slot of the counter that isn't sealed."""
+    number = (count + 1).to_bytes(9, "big")[1:] + bytes(SECTOR - 8)
+    return count + 1 if count < GREATEST and any(data[at * SECTOR:(at + 1) * SECTOR] == number and data[(at + 1) * SECTOR] != 0xa5 for at in (0, 2)) else None
+
+
+def expect_node(tried, words, data, model, refused, own, note):
+    """Whether a node over this file answers as it may, and skips a number exactly where one may have been given. `model` goes on with it."""
+    number, said = None if refused else skipped_in(data, model.count), b""
+    if number is not None:
+        tried.count("skipped a number")
+        model.apply("raise")
+        said = f"invite: {words[1]}: group number {own}:{number} may have been given before: it is skipped\n".encode()
+    lines, is_up = node_text(model, refused, own)
+    if not tried.expect(words, feed(["recover", "jobs", "submit 0 61"]), 0, feed(lines), note):
+        return False
+    return tried.mark("" if tried.error == said else f"standard error {tried.error!r} in place of {said!r}", note) and is_up
+
+
 def node_text(model, refused, own):
     """What a node over this file answers to `recover`, `jobs` and `submit`, and whether it is up."""
     lines = []
@@ -231,9 +250,10 @@ def node_text(model, refused, own):
 def try_nodes(tried, folder):
     """The file of a node with a sector damaged, and with its label damaged."""
     path, own = os.path.join(folder, "node"), 1
-    tried.expect(["format", path, "6", str(own), "3", "40"], b"", 0, b"", "format")
+    words = ["node", path, str(own), "3", "--cluster", "orders"]
+    tried.expect(["format", path, "6", str(own), "3", "40", "--cluster", "orders"], b"", 0, b"", "format")
     fed = feed(["recover", "submit 0 61", "submit 1 62", "finish 1 40", "recover", "submit 2 -"])
-    status, out, trouble = tried.run(["node", path, str(own), "3"], fed)
+    status, out, trouble = tried.run(words, fed)
     tried.mark(trouble or ("" if status == 0 and out.count(b"\nok ") == 6 and b"1:42" in out else f"it answers {out!r}"), "the node's file")
     data = read(path)
     before = Model(42, 3, {}, 6)
@@ -245,7 +265,7 @@ def try_nodes(tried, folder):
             if byte != data[at]:
                 other = data[:at] + bytes([byte]) + data[at + 1:]
                 write(path, other)
-                status, out, trouble = tried.run(["node", path, str(own), "3"], b"recover\n")
+                status, out, trouble = tried.run(words, b"recover\n")
                 same = read(path) == other
                 tried.mark(trouble or ("" if status == 5 and out == b"" and same else f"status {status}, {out!r}, the file is {'as it was' if same else 'another'}"), ("label", at, byte))
     for length in range(0, len(data) + 600, 256 if tried.is_long else 1024):
@@ -267,8 +287,7 @@ def one_node(tried, path, data, before, own, at, fill):
         tried.count("gave a count again")
         tried.mark("" if at < 4 else "a count comes again, and the counter wasn't damaged", ("node", at, fill))
     tried.count("refused" if refused else "mounted")
-    lines, is_up = node_text(model, refused, own)
-    if tried.expect(["node", path, str(own), "3"], feed(["recover", "jobs", "submit 0 61"]), 0, feed(lines), ("node", at, fill)) and is_up:
+    if expect_node(tried, ["node", path, str(own), "3"], data, model, refused, own, ("node", at, fill)):
         again = found_in(read(path))[0]
         tried.mark("" if again and again.listed() == model.listed() else "what was answered isn't in the file", ("node", at, fill))
 
@@ -346,8 +365,7 @@ def try_crashes(tried, folder, library):
 
 def begun_again(tried, words, image, note):
     model, refused = found_in(image)
-    lines, _ = node_text(model, refused, 0)
-    tried.expect(words, feed(["recover", "jobs", "submit 0 61"]), 0, feed(lines), note)
+    expect_node(tried, words, image, model, refused, 0, note)
 
 
 def try_half_made(tried, folder, library):

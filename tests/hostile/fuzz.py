@@ -11,7 +11,7 @@ from concurrent.futures import ProcessPoolExecutor
 
 sys.dont_write_bytecode = True
 sys.path.insert(0, os.path.dirname(os.path.abspath(__file__)))
-import grammar, pictures, recorded, shim, tables, traces, wire
+import grammar, recorded, shim, tables, traces, turns, wire
 from files_tried import Model
 from inputs import SESSIONS, STORES, WORDS, Inputs
 from layout import Refused, mounted
@@ -119,17 +119,17 @@ def one_trace(fuzz):
     return ["trace"], fed, (status, text.encode())
 
 
-def one_picture(fuzz):
-    """The picture of what can be taken; of what is no trace what `trace` prints."""
+def all_turns(fuzz):
+    """The turns of what can be taken; of what is no trace what `trace` prints."""
     fed = trace_of(fuzz)
     try:
         nodes, histories = traces.read(fed)
     except traces.Bad as bad:
-        return ["draw"], fed, (1, f"{bad}\n".encode())
-    search = pictures.Watched(nodes, histories)
+        return ["trace", "--turns"], fed, (1, f"{bad}\n".encode())
+    search = turns.Watched(nodes, histories)
     wanted, _ = search.verdict()
-    fuzz.tried.count("pictures")
-    return ["draw"], fed, lambda status, out: f"status {status}" if status != wanted else pictures.problem_in_picture(out, nodes, search)
+    fuzz.tried.count("turns of traces")
+    return ["trace", "--turns"], fed, lambda status, out: f"status {status}" if status != wanted else turns.problem_in_turns(out, search)
 
 
 class Stores:
@@ -205,8 +205,9 @@ def problem_in_made(fuzz, path, words, there, status, want):
         found = mounted(data)
     except Refused as refused:
         return f"the layout finds {refused}"
-    if len(data) != (8 + 4 * slots) * 512 + 16 or data[-16:] != b"dumgerok" + bytes([1, own, nodes, 0, 0, 0, 0, 0]) or found != (first, first, {}):
-        return f"the file has {len(data)} bytes, ends with {data[-16:]!r}, and is mounted as {found}"
+    label = b"dumgerok" + bytes([2, own, nodes, 0, 0, 0, 0, 0]) + slots.to_bytes(2, "big") + bytes(14)
+    if len(data) != (8 + 4 * slots) * 512 + 32 or data[-32:] != label or found != (first, first, {}):
+        return f"the file has {len(data)} bytes, ends with {data[-32:]!r}, and is mounted as {found}"
     text = f"group Normal {own} {own}:{first + 1} {own}\nkeeps {first + 1} {first} 0\nok 1\n" if first < grammar.GREATEST else "refused 1 Exhausted\n"
     got, out, trouble = fuzz.tried.run(["node", path, str(own), str(nodes)], b"recover\n")
     return trouble or (f"status {got} of its node" if got else unlike(out, text.encode()))
@@ -327,7 +328,7 @@ def one_refusal(fuzz):
     return words, fed, lambda *_: f"allocation {at} of {total}: {trouble}" if trouble else ""
 
 
-COMMANDS = {"pieces": one_piece, "sim": one_schedule, "record": one_record, "threads": one_run_of_plans, "trace": one_trace, "draw": one_picture, "store": one_store,
+COMMANDS = {"pieces": one_piece, "sim": one_schedule, "record": one_record, "threads": one_run_of_plans, "trace": one_trace, "turns": all_turns, "store": one_store,
             "format": one_format, "node": one_node, "refusals": one_refusal}
 
 

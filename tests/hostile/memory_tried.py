@@ -218,7 +218,7 @@ def try_memory(tried):
         with open(path, "w", encoding="utf-8") as file:
             file.write(rows.TRACES["run"])
         try_batches(refusing, ["trace", path], b"", 0, "trace of a file")
-        try_batches(refusing, ["draw"], rows.TRACES["run"].encode(), 0, "draw")
+        try_batches(refusing, ["trace", "--turns"], rows.TRACES["run"].encode(), 0, "turns of a trace")
         try_batches(refusing, ["record"], b"cluster 2 8\ncheck 0\ndeliver 0\n", 0, "record")
         try_batches(refusing, ["threads"], b"cluster 1 4\nlinks 1\n0 clock check\n0 clock accept\n", 0, "threads")
         try_store(refusing, folder)

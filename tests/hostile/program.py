@@ -8,7 +8,9 @@ SECONDS, PATIENCE = 20, 300
 ERRORS = re.compile(rb"(invite: [ -~]+\n(node [0-9]+: entry [0-9]+ [ -~]+\n)*)?")
 # what `store` says of the lines for which the file can't be had
 REASONS = re.compile(rb"(invite: line [0-9]+: [A-Z][A-Za-z]+: [ -~]+\n)+")
-STATUSES = {"answer": {0, 1}, "show": {0, 1}, "sim": {0, 1}, "trace": {0, 1}, "record": {0, 1}, "threads": {0, 1}, "draw": {0, 1}, "store": {0, 1}, "format": {0, 1, 2, 3, 4, 5, 7, 8}, "node": {0, 1, 3, 4, 5, 6, 7, 8}, "inspect": {0, 1, 3, 7, 8}, "export": {0, 1, 3, 7, 8}}
+# what a node says of a number that it skips before it is served
+SKIPPED = re.compile(rb"invite: [ -~]+: group number [0-9]+:[0-9]+ may have been given before: it is skipped\n")
+STATUSES = {"answer": {0, 1}, "show": {0, 1}, "sim": {0, 1}, "trace": {0, 1}, "record": {0, 1}, "threads": {0, 1}, "store": {0, 1}, "format": {0, 1, 2, 3, 4, 5, 7, 8}, "node": {0, 1, 3, 4, 5, 6, 7, 8}, "inspect": {0, 1, 3, 7, 8}, "export": {0, 1, 3, 7, 8}}
 
 
 def processor_seconds(child):
@@ -69,11 +71,12 @@ class Tried:
             return f"status {status}"
         if words[0] == "store" and status == 0 and REASONS.fullmatch(self.error) and self.error.count(b"\n") <= out.splitlines().count(b"refused Device"):
             return ""
-        if not ERRORS.fullmatch(self.error):
+        error = SKIPPED.sub(b"", self.error, 1) if words[0] == "node" else self.error
+        if not ERRORS.fullmatch(error):
             return f"standard error {self.error[:200]!r}"
-        if status == 0 and self.error:
+        if status == 0 and error:
             return f"{words[0]} writes to standard error, and ends well"
-        is_printed_alone = words[0] in ("trace", "draw") or (words[0] == "threads" and out.startswith(b"unfinished "))
+        is_printed_alone = words[0] == "trace" or (words[0] == "threads" and out.startswith(b"unfinished "))
         if status == 1 and not self.error and not is_printed_alone:
             return f"{words[0]} ends badly and doesn't say why on standard error"
         return ""

@@ -5,7 +5,7 @@ from program import PATIENCE
 
 INPUTS = {
     ("answer", "0", "3"): b"010102000000\n", ("show",): b"010102000000\n", ("sim",): b"cluster 1 4\nrecover 0\n", ("trace",): b'{"nodes":1,"histories":[[]]}',
-    ("draw",): b'{"nodes":1,"histories":[[]]}', ("record",): b"cluster 1 4\nrecover 0\n", ("threads",): b"cluster 1 4\nlinks 1\n0 clock check\n",
+    ("trace", "--turns"): b'{"nodes":1,"histories":[[]]}', ("record",): b"cluster 1 4\nrecover 0\n", ("threads",): b"cluster 1 4\nlinks 1\n0 clock check\n",
     ("store", "FILE"): b"mount\nraise\nput 0 61\n", ("node", "FILE", "0", "3"): b"recover\nsubmit 0 61\n",
 }
 # What the file may hold then: as it was, and with the commands done.

@@ -1,7 +1,7 @@
 """Traces with each byte replaced, cut at each byte, with each field missing, of another type or out of its range, and nested too deep."""
 import json
 import rows, traces
-from pictures import Watched, problem_in_picture
+from turns import Watched, problem_in_turns
 
 VALUES = ["null", "true", "false", "0", "-0", "1", "-1", "00", "01", "1.0", "1e0", "1E2", "0.5", "15", "16", "63", "64", "127", "128", "255", "256", "65536",
           "18446744073709551615", "18446744073709551616", "1e400", "1e-400", '""', '"0"', '"-"', '"f"', '"zz"', '"FF"', '"device"', '"mount"', '"raise"', '"Device"', '"check"', '"none"',
@@ -31,18 +31,18 @@ def judged(tried, data, note):
     tried.count("bad traces" if text.startswith("bad") else "no runs" if status else "runs")
     tried.expect(["trace"], data, status, text.encode(), note)
     if tried.is_long or tried.passed % 5 == 0:
-        drawn(tried, data, status, text, search, note)
+        told(tried, data, status, text, search, note)
 
 
-def drawn(tried, data, status, text, search, note):
-    """Of what is no trace `draw` prints what `trace` does; else the picture of what can be taken, with the status of `trace`."""
+def told(tried, data, status, text, search, note):
+    """Of what is no trace `trace --turns` prints what `trace` does; else the turns of what can be taken, with the status of `trace`."""
     if search is None:
-        tried.expect(["draw"], data, status, text.encode(), ("draw", note))
+        tried.expect(["trace", "--turns"], data, status, text.encode(), ("turns", note))
         return
-    got, out, trouble = tried.run(["draw"], data)
+    got, out, trouble = tried.run(["trace", "--turns"], data)
     if not trouble:
-        trouble = f"status {got}" if got != status else problem_in_picture(out, len(search.nodes), search)
-    tried.mark(trouble, ("draw", note, data[:300]))
+        trouble = f"status {got}" if got != status else problem_in_turns(out, search)
+    tried.mark(trouble, ("turns", note, data[:300]))
 
 
 def try_each_byte(tried):

@@ -4,12 +4,13 @@
 
 use clap::Parser;
 use dumgerok_agent::ctl::{become_guard, run, Arguments};
+use dumgerok_agent::keeper::become_keeper;
 use dumgerok_agent::own_session::become_command;
 use dumgerok_agent::say::say;
 use std::process::ExitCode;
 
 fn main() -> ExitCode {
-    if let Some(status) = become_command().or_else(become_guard) {
+    if let Some(status) = become_command().or_else(become_guard).or_else(become_keeper) {
         return ExitCode::from(status);
     }
     match run(Arguments::parse()) {

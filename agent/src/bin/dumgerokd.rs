@@ -9,10 +9,9 @@ use dumgerok_agent::daemon::{Beginning, Daemon};
 use dumgerok_agent::forward::KeyError;
 use dumgerok_agent::log_lines::LogLines;
 use dumgerok_agent::names;
-use dumgerok_agent::node_file::drop_cache;
+use dumgerok_agent::node_file::{drop_cache, places};
 use dumgerok_agent::own_session::become_command;
 use dumgerok_agent::say::say;
-use dumgerok_agent::skip::skip;
 use dumgerok_agent::verify::{verified, Verdict};
 use log::{error, info, LevelFilter};
 use rustix::fs::fstat;
@@ -32,8 +31,8 @@ const BROKEN: u8 = 10;
 /// Runs the node of a Dumgerok cluster on this machine.
 ///
 /// Exit statuses, which are the node's: 0 by SIGTERM or SIGINT, 1 an address is in use or missing, another agent runs, the program can't be run, the node was
-/// killed or ended by itself, reading or writing failed, or there was no memory; 2 the configuration can't be read; 3 the device failed; 4 another process has
-/// the file open; 5 the file is another node's, no node's, or damaged; 6 the key can't be read, or others than its owner may read it; 7 the file isn't there,
+/// killed or ended by itself, reading or writing failed, or there was no memory; 2 the configuration can't be read, or has more places than the file; 3 the device failed; 4 another process has
+/// the file open; 5 the file is another node's or another cluster's, no node's, or damaged; 6 the key can't be read, or others than its owner may read it; 7 the file isn't there,
 /// may not be opened, is no regular file, or was removed, cut off, written over or replaced while the node ran; 8 there was no room for a write; 9 the file was put back from a copy, or
 /// made with numbers that are too low; 10 the file holds what no crash leaves there.
 #[derive(Parser)]
@@ -111,24 +110,31 @@ fn format_command(config: &Path) -> String {
     }
 }
 
+/// The configuration with as many places as the file has, or the status to end with. Where that can't be told the node says what is wrong with the file.
+fn with_places_of_file(config: Config, path: &Path) -> Result<Config, u8> {
+    let count = if config.file.is_file() { places(&config.file) } else { None };
+    let count = count.unwrap_or(config.nodes.len());
+    config.with_places(count).map_err(|why| {
+        error!("{}: {why}", path.display());
+        CONFIG
+    })
+}
+
 fn run(config: Config, path: PathBuf, beginning: &Beginning) -> anyhow::Result<u8> {
-    let file = match opened(&config.file, &path) {
-        Ok(file) => file,
+    let opened = opened(&config.file, &path);
+    let (file, config) = match opened.and_then(|file| Ok((file, with_places_of_file(config, &path)?))) {
+        Ok(both) => both,
         Err(status) => return Ok(status),
     };
     // A device may have failed under the node before: nothing is read but what it holds.
     if let Some(file) = file {
         drop_cache(&file).with_context(|| format!("{}: the system doesn't let go of it", config.file.display()))?;
-        let over = match verified(&config.program, &config.file, &file) {
-            Verdict::Whole => None,
-            Verdict::Skip(number) => skip(&config, number).with_context(|| config.program.display().to_string())?,
-            Verdict::Broken => Some(BROKEN),
-        };
-        if let Some(status) = over {
-            return Ok(status);
+        if verified(&config.program, &config.file, &file) == Verdict::Broken {
+            return Ok(BROKEN);
         }
     }
-    info!("node {} of cluster {}, {} nodes, at {}", config.id, config.cluster, config.nodes.len(), config.listens_at());
+    let (machines, places) = (config.machines(), config.nodes.len());
+    info!("node {} of cluster {}, {machines} nodes in {places} places, at {}", config.id, config.cluster, config.listens_at());
     let file = config.file.clone();
     let status = Daemon::start(config, path)?.run(beginning)?;
     if status == DEVICE {

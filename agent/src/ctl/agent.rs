@@ -1,94 +1,45 @@
-//! A connection to the agent.
+//! A connection to the agent, whose errors say what to do about them.
 
 use crate::names;
-use rustix::fd::OwnedFd;
-use rustix::io::Errno;
-use rustix::net::sockopt::{set_socket_timeout, Timeout};
-use rustix::net::{connect_unix, socket_with, AddressFamily, Protocol, SocketAddrUnix, SocketFlags, SocketType};
+use dumgerok_client::Connection;
+pub use dumgerok_client::{socket, PATIENCE};
+use serde::Serialize;
 use serde_json::Value;
-use std::io::{self, BufRead, BufReader, ErrorKind, Write};
-use std::net::Shutdown;
+use std::io::{self, ErrorKind};
 use std::os::unix::fs::MetadataExt;
-use std::os::unix::net::UnixStream;
-use std::path::{Path, PathBuf};
+use std::path::Path;
 use std::time::Duration;
 
-/// An agent takes a connection and a request at once; one that was stopped, or hangs, does neither once the system keeps no more for it.
-pub const PATIENCE: Duration = Duration::from_secs(10);
-
-/// Where it is dropped the connection ends, whoever reads it: so the agent gives its job to another.
-pub struct Agent {
-    stream: UnixStream,
-    lines: BufReader<UnixStream>,
-    /// What came of a line whose end didn't come in time.
-    begun: Vec<u8>,
-}
-
-impl Drop for Agent {
-    fn drop(&mut self) {
-        let _ended_before = self.stream.shutdown(Shutdown::Both);
-    }
-}
-
-/// Where the agent listens.
-pub fn socket(given: Option<PathBuf>) -> PathBuf {
-    let from_environment = || std::env::var_os("DUMGEROK_SOCKET").map(PathBuf::from);
-    given.or_else(from_environment).unwrap_or_else(|| PathBuf::from("/run/dumgerok/agent.sock"))
-}
+pub struct Agent(Connection);
 
 impl Agent {
     pub fn connect(socket: &Path) -> io::Result<Agent> {
-        let stream = connected(socket).map_err(|error| named(socket, in_time(error)))?;
-        let lines = BufReader::new(stream.try_clone()?);
-        Ok(Agent { stream, lines, begun: Vec::new() })
+        Connection::open(socket).map(Agent).map_err(|error| named(socket, in_time(error)))
     }
 
-    pub fn say(&mut self, request: &Value) -> io::Result<()> {
-        self.stream.write_all(format!("{request}\n").as_bytes()).map_err(in_time)
+    pub fn say(&mut self, request: &impl Serialize) -> io::Result<()> {
+        self.0.say(request).map_err(in_time)
     }
 
     /// The next line of the agent. After one that didn't come in time it may be heard again.
     pub fn hear(&mut self) -> io::Result<Value> {
-        self.lines.read_until(b'\n', &mut self.begun).map_err(in_time)?;
-        match std::mem::take(&mut self.begun) {
-            line if line.is_empty() => Err(io::Error::new(ErrorKind::UnexpectedEof, "the agent ended the connection")),
-            line => Ok(serde_json::from_slice(&line)?),
-        }
+        self.0.hear().map_err(in_time)
     }
 
     /// A second one that hears the same connection, for a thread; then this one hears nothing more.
     pub fn reader(&mut self) -> io::Result<Agent> {
-        let stream = self.stream.try_clone()?;
-        let lines = std::mem::replace(&mut self.lines, BufReader::new(self.stream.try_clone()?));
-        Ok(Agent { stream, lines, begun: std::mem::take(&mut self.begun) })
+        self.0.reader().map(Agent)
     }
 
     /// The answer to a request. An agent that ends the connection before it has the whole request says why.
-    pub fn ask(&mut self, request: &Value) -> io::Result<Value> {
-        match self.say(request) {
-            Ok(()) => self.hear(),
-            Err(why) => self.hear().map_err(|_| why),
-        }
+    pub fn ask(&mut self, request: &impl Serialize) -> io::Result<Value> {
+        self.0.ask(request).map_err(in_time)
     }
 
     /// From now on it is an error where nothing comes for so long; None: it is waited for.
     pub fn be_patient_for(&mut self, patience: Option<Duration>) -> io::Result<()> {
-        self.stream.set_read_timeout(patience)
+        self.0.be_patient_for(patience)
     }
-}
-
-/// A connection, on which it is an error, too, where nothing that is said is taken for so long.
-fn connected(path: &Path) -> io::Result<UnixStream> {
-    let socket = socket_with(AddressFamily::UNIX, SocketType::STREAM, SocketFlags::CLOEXEC, Protocol::default())?;
-    set_socket_timeout(&socket, Timeout::Send, Some(PATIENCE))?;
-    let address = SocketAddrUnix::new(path)?;
-    loop {
-        match connect_unix(&socket, &address) {
-            Err(Errno::INTR) => {}
-            done => break done?,
-        }
-    }
-    Ok(UnixStream::from(OwnedFd::from(socket)))
 }
 
 /// An error with the socket where it came about, and what to do about it where that isn't plain.

@@ -1,10 +1,13 @@
 //! The command line.
 
-use super::values::{node, priority, queue, slots, Stride};
+use super::lead::{Leads, Locks, OnChanges, Owns};
+use super::values::{key, node, places, priority, queue, seconds, slots, tries, Stride};
+use crate::draw::Form;
 use clap::{Args, Parser, Subcommand, ValueEnum};
 use clap_complete::Shell;
 use std::ffi::OsString;
 use std::path::PathBuf;
+use std::time::Duration;
 
 /// Asks the Dumgerok agent of this machine.
 ///
@@ -76,23 +79,36 @@ pub enum Command {
         /// The payload is hex digits
         #[arg(long)]
         hex: bool,
+        /// Submitted again under this key within ten minutes, at any machine, it is the same job
+        #[arg(long, value_name = "TEXT", value_parser = key)]
+        key: Option<String>,
         #[command(flatten)]
         asks: Asks,
     },
     /// Works on jobs: runs COMMAND for each, and finishes those whose command ends with status 0
     ///
-    /// COMMAND has the payload on its standard input, and DUMGEROK_ORIGIN, DUMGEROK_ID, DUMGEROK_QUEUE, DUMGEROK_PRIORITY and
-    /// DUMGEROK_PAYLOAD (as hex digits) in its environment. A job whose command fails is left to be taken again. Where the job goes to
-    /// another node, or the worker is ended, its command is killed with what it started. Without COMMAND one job is printed, and may be
-    /// given to others until it is finished.
-    #[command(after_help = "Example: dumgerokctl take --queue 0 -- sh")]
+    /// COMMAND has the payload on its standard input, and DUMGEROK_ORIGIN, DUMGEROK_ID, DUMGEROK_QUEUE, DUMGEROK_PRIORITY,
+    /// DUMGEROK_ATTEMPT (1 when it is given first) and DUMGEROK_PAYLOAD (as hex digits) in its environment. A job whose command fails is
+    /// taken again after a pause: half a second, twice as long each time, up to half a minute. Where the job goes to another node, or the
+    /// worker is ended, its command is ended with what it started in its process group. Without COMMAND one job is printed, and may be given
+    /// to others until it is finished.
+    #[command(after_help = "Example: dumgerokctl take --queue 0,3 --timeout 60 --grace 5 --tries 5 -- sh")]
     Take {
-        /// Those of this queue alone, 0 to 15
-        #[arg(long, value_parser = queue)]
-        queue: Option<u8>,
+        /// Those of these queues alone, 0 to 15; it may be given several times
+        #[arg(long, value_name = "QUEUE", value_parser = queue, use_value_delimiter = true)]
+        queue: Vec<u8>,
         /// Ends after one job
         #[arg(long)]
         once: bool,
+        /// Ends a command that runs for longer; its job has failed
+        #[arg(long, value_name = "SECONDS", value_parser = seconds)]
+        timeout: Option<Duration>,
+        /// Where a command is to end it has so long for it from a SIGTERM on; then it is killed
+        #[arg(long, value_name = "SECONDS", value_parser = seconds, default_value = "0")]
+        grace: Duration,
+        /// Puts a job aside that was given so often and failed: `kick` has it given again
+        #[arg(long, value_name = "N", value_parser = tries)]
+        tries: Option<u64>,
         /// What is run for each job
         #[arg(last = true)]
         command: Vec<OsString>,
@@ -107,6 +123,48 @@ pub enum Command {
         origin: u8,
         /// The job's id there
         id: u64,
+        /// Also where a client works on it, which is told to stop
+        #[arg(long)]
+        force: bool,
+        #[command(flatten)]
+        asks: Asks,
+    },
+    /// Has jobs that were put aside at this machine given again, and prints how many they are
+    #[command(after_help = "Example: dumgerokctl kick --queue 3")]
+    Kick {
+        /// Those of this queue alone, 0 to 15
+        #[arg(long, value_parser = queue, conflicts_with = "origin")]
+        queue: Option<u8>,
+        /// This job alone: the node that keeps it
+        #[arg(value_parser = node, requires = "id")]
+        origin: Option<u8>,
+        /// And its id there
+        id: Option<u64>,
+        #[command(flatten)]
+        asks: Asks,
+    },
+    /// Has new jobs kept at other machines, and waits until this one keeps none and has no lease, as before it is stopped
+    ///
+    /// Its node goes on as a member of the group. What it keeps is worked on by those who own the queues. Commands of `lead`, `lock` and `own` that run under a
+    /// lease are ended, and their leases given back.
+    #[command(after_help = "Example: dumgerokctl drain --wait 60 && systemctl stop dumgerok")]
+    Drain {
+        /// For so long at most; else without an end
+        #[arg(long, value_name = "SECONDS", value_parser = seconds)]
+        wait: Option<Duration>,
+        /// Has new jobs kept here again, as a restart of the agent does
+        #[arg(long, conflicts_with = "wait")]
+        off: bool,
+        #[command(flatten)]
+        asks: Asks,
+    },
+    /// Tells those that watch of something, at all machines, as well as it goes
+    #[command(after_help = "Example: dumgerokctl event deploy 'version 7'")]
+    Event {
+        /// 1 to 64 letters, digits and signs of ASCII
+        name: String,
+        /// At most 400 bytes
+        text: String,
         #[command(flatten)]
         asks: Asks,
     },
@@ -132,15 +190,27 @@ pub enum Command {
         /// How many records the journal holds, 4 to 4096, and two fewer how many jobs are pending at most
         #[arg(long, value_name = "N", value_parser = slots, default_value = "128")]
         slots: u32,
+        /// For how many machines there is a place, 1 to 128: as many as the files of the other nodes have
+        #[arg(long, value_name = "N", value_parser = places, default_value = "16")]
+        places: usize,
         /// The bytes of the file for each sector: 512 writes less, for devices that never tear a block of 4096
         #[arg(long, value_name = "BYTES", default_value = "4096")]
         stride: Stride,
         /// The node's group numbers and ids begin behind this; else behind the time
         #[arg(long, value_name = "N")]
         first: Option<u64>,
+        /// Takes the time though the kernel says that this machine's clock was never synchronized: it is known to be right
+        #[arg(long, conflicts_with = "first")]
+        clock_unchecked: bool,
         /// A file of jobs that it begins with, as `export` prints them; - for standard input
         #[arg(long, value_name = "PATH")]
         jobs: Option<PathBuf>,
+        /// Where the file is there already that is no mistake: nothing is done
+        #[arg(long, conflicts_with = "lease")]
+        if_missing: bool,
+        /// Makes the file of leases alone, where `lease_ms` was set later: else it is made, too, where there is none
+        #[arg(long, conflicts_with_all = ["slots", "places", "first", "jobs"])]
+        lease: bool,
     },
     /// Makes a file of a key, for its owner alone: copy it to all machines, and give it to the agent's user there
     #[command(after_help = "Example: dumgerokctl key /etc/dumgerok/key")]
@@ -179,6 +249,47 @@ pub enum Command {
         #[arg(long)]
         trace: bool,
     },
+    /// Draws the run of a trace: a row for each node, a mark for each entry, an arrow for each message that came
+    ///
+    /// The order is the one that stands beside the trace, where all entries can be taken in it, else one that the proved program finds. The status is
+    /// that of `invite trace`.
+    #[command(after_help = "Example: dumgerokctl judge --trace node*/record.* | dumgerokctl draw --to html > run.html")]
+    Draw {
+        /// The file of the trace; else standard input
+        file: Option<PathBuf>,
+        /// A picture, or a page that scrolls, zooms and searches, for long runs
+        #[arg(long, value_name = "FORM", value_enum, default_value = "svg")]
+        to: Form,
+        /// The proved program
+        #[arg(long, value_name = "PATH", default_value = "/usr/lib/dumgerok/invite")]
+        program: PathBuf,
+    },
+    /// Runs COMMAND while this machine leads
+    ///
+    /// COMMAND has DUMGEROK_GROUP, DUMGEROK_COORDINATOR, DUMGEROK_MEMBERS, and under a lease DUMGEROK_EPOCH, in its environment. It is ended with all that
+    /// it started before another machine may lead, whatever becomes of this command, the agent or the node.
+    #[command(after_help = "Example: dumgerokctl lead --majority -- /usr/local/bin/scheduler")]
+    Lead(Leads),
+    /// Runs COMMAND once, under a lock that one in the cluster has at a time
+    ///
+    /// It ends with COMMAND's status; with 1 where the lock can't be had, or was lost while COMMAND ran.
+    #[command(after_help = "Example: dumgerokctl lock backup --wait -- /usr/local/bin/backup")]
+    Lock(Locks),
+    /// The leases that this machine has
+    #[command(after_help = "Example: dumgerokctl leases")]
+    Leases(Asks),
+    /// Runs COMMAND for each shard that this machine owns
+    ///
+    /// Each of SHARDS shards has one owner among the members of the group, and few move where these change. COMMAND has DUMGEROK_SHARD, 0 to SHARDS - 1,
+    /// in its environment, beside what that of `lead` has.
+    #[command(after_help = "Example: dumgerokctl own 64 -- /usr/local/bin/shard")]
+    Own(Owns),
+    /// Runs COMMAND for each change of the group
+    ///
+    /// Changes that come while it runs are joined. COMMAND has DUMGEROK_PHASE, DUMGEROK_GROUP, DUMGEROK_COORDINATOR, DUMGEROK_MEMBERS, DUMGEROK_QUEUES,
+    /// DUMGEROK_LEADS, DUMGEROK_MAJORITY, DUMGEROK_NODE and DUMGEROK_ALIVE in its environment.
+    #[command(after_help = "Example: dumgerokctl on-change -- /usr/local/bin/notify")]
+    OnChange(OnChanges),
     /// Prints completions for a shell
     #[command(after_help = "Example: dumgerokctl completions bash")]
     Completions { shell: Shell },
@@ -187,11 +298,16 @@ pub enum Command {
 impl Command {
     /// How its agent is to be asked, where the command asks one.
     pub fn asks(&self) -> Option<&Asks> {
-        use Command::{Compact, Finish, Jobs, Members, Record, Status, Submit, Take, Watch};
+        use Command::{Compact, Drain, Event, Finish, Jobs, Kick, Lead, Leases, Lock, Members, OnChange, Own, Record, Status, Submit, Take, Watch};
         match self {
-            Status(asks) | Members(asks) | Compact(asks) => Some(asks),
+            Status(asks) | Members(asks) | Compact(asks) | Leases(asks) => Some(asks),
             Jobs { asks, .. } | Watch { asks, .. } | Submit { asks, .. } => Some(asks),
             Take { asks, .. } | Finish { asks, .. } | Record { asks, .. } => Some(asks),
+            Kick { asks, .. } | Drain { asks, .. } | Event { asks, .. } => Some(asks),
+            Lead(leads) => Some(&leads.ends.asks),
+            Lock(locks) => Some(&locks.ends.asks),
+            Own(owns) => Some(&owns.ends.asks),
+            OnChange(changes) => Some(&changes.ends.asks),
             _ => None,
         }
     }

@@ -3,10 +3,11 @@
 use super::agent::{socket, Agent, PATIENCE};
 use super::arguments::{Arguments, Command, OnOff};
 use super::worker::{self, Worker};
-use super::format::Format;
-use super::{file, key, program, show, Failure};
+use super::format::{make_leases, Format};
+use super::{drain, event, file, key, program, show, Failure};
 use clap::CommandFactory;
-use serde_json::{json, Value};
+use dumgerok_client::{JobKey, Request, Submission};
+use serde_json::Value;
 use std::io::{self, ErrorKind, Read, Write};
 use std::path::Path;
 use std::process::ExitStatus;
@@ -34,15 +35,33 @@ pub fn run(arguments: Arguments) -> Result<(), Failure> {
         return with_agent(&socket(given), asks.json || before.json, command);
     }
     match &command {
-        Command::Format { config, slots, stride, first, jobs } => {
-            let format = Format { slots: *slots, stride: *stride, first: *first, jobs: jobs.as_deref() };
-            print(&format.make(&program::read(config)?)?)
+        Command::Format { config, lease: true, clock_unchecked, .. } => {
+            print(&make_leases(&program::read(config)?, *clock_unchecked)?)
+        }
+        Command::Format { config, slots, places, stride, first, clock_unchecked, jobs, if_missing, lease: false } => {
+            let (jobs, is_clock_known) = (jobs.as_deref(), *clock_unchecked);
+            let format = Format { slots: *slots, places: *places, stride: *stride, first: *first, is_clock_known, jobs };
+            let config = program::read(config)?;
+            if *if_missing && config.file.exists() {
+                print(&format!("{} is there\n", config.file.display()))?;
+            } else {
+                print(&format.make(&config)?)?;
+            }
+            if config.lease_ms > 0 && !config.lease_file().exists() {
+                print(&make_leases(&config, is_clock_known || first.is_some())?)?;
+            }
+            Ok(())
         }
         Command::Key { file } => print(&key::make(file)?),
         Command::Inspect { look, verify } => shown(program::look(look, "inspect", verify.then_some("--verify"))?, look.json || before.json, file::inspected),
         Command::Export { look, salvage } => shown(program::look(look, "export", salvage.then_some("--salvage"))?, look.json || before.json, file::exported),
         Command::Judge { files, program: _, trace: true } => print(&format!("{}\n", program::trace_of(files)?)),
         Command::Judge { files, program, trace: false } => program::judge(files, program),
+        Command::Draw { file, to, program } => {
+            let (text, status) = program::drawn(file.as_deref(), *to, program)?;
+            print(&text)?;
+            Failure::of_status(status)
+        }
         Command::Completions { shell } => {
             let mut script = Vec::new();
             clap_complete::generate(*shell, &mut Arguments::command(), "dumgerokctl", &mut script);
@@ -70,51 +89,69 @@ fn shown((text, status): (String, ExitStatus), is_json: bool, as_json: fn(&str) 
 }
 
 fn with_agent(socket: &Path, is_json: bool, command: Command) -> Result<(), Failure> {
-    let asked = |request: Value, shown: fn(&Value) -> String| ask(socket, is_json, &request, shown);
+    let asked = |request: Request, shown: fn(&Value) -> String| ask(socket, is_json, &request, shown);
     match command {
-        Command::Status(_) => asked(json!({"do": "status"}), show::status),
-        Command::Members(_) => asked(json!({"do": "members"}), show::members),
+        Command::Status(_) => asked(Request::Status, show::status),
+        Command::Members(_) => asked(Request::Members, show::members),
         Command::Jobs { queue, skip, limit, .. } => {
-            asked(json!({"do": "jobs", "queue": queue, "skip": skip, "limit": limit}), show::jobs)
+            asked(Request::Jobs { queue, skip, limit }, show::jobs)
         }
-        Command::Submit { queue, text, priority, hex, .. } => {
-            let (field, text) = payload(text, hex)?;
-            asked(json!({"do": "submit", "queue": queue, "priority": priority, field: text}), kept)
+        Command::Submit { queue, text, priority, hex, key, .. } => {
+            let submission = Submission::of_hex(queue, payload(text, hex)?).with_priority(priority);
+            let submission = key.into_iter().fold(submission, Submission::with_key);
+            asked(Request::Submit(&submission), kept)
         }
-        Command::Finish { origin, id, .. } => asked(json!({"do": "finish", "origin": origin, "id": id}), silent),
-        Command::Compact(_) => asked(json!({"do": "compact"}), silent),
-        Command::Record { state, .. } => asked(json!({"do": "record", "on": state == OnOff::On}), silent),
+        Command::Finish { origin, id, force, .. } => {
+            asked(Request::Finish { job: JobKey { origin, id }, ok: true, after_ms: None, aside: false, force }, silent)
+        }
+        Command::Kick { queue, origin, id, .. } => asked(Request::Kick { queue, origin, id }, kicked),
+        Command::Drain { off: true, .. } => asked(Request::Drain { on: false }, silent),
+        Command::Drain { wait, .. } => print(&drain::drained(socket, is_json, wait)?),
+        Command::Event { name, text, .. } => print(&event::told(socket, is_json, &name, &text)?),
+        Command::Compact(_) => asked(Request::Compact, silent),
+        Command::Record { state, .. } => asked(Request::Record { on: state == OnOff::On }, silent),
         Command::Watch { since, .. } => watch(socket, is_json, since),
         Command::Take { queue, command, .. } if command.is_empty() => {
-            let job = worker::next_job(&mut Agent::connect(socket)?, queue)?;
+            let job = worker::next_job(&mut Agent::connect(socket)?, &queue)?;
             print(&if is_json { format!("{job}\n") } else { worker::shown(&job) })
         }
-        Command::Take { queue, once, command, .. } => Worker { socket, queue, once, command: &command }.work(),
+        Command::Leases(_) => asked(Request::Leases, show::all_leases),
+        Command::Lead(leads) => leads.run(socket),
+        Command::Lock(locks) => locks.run(socket),
+        Command::Own(owns) => owns.run(socket),
+        Command::OnChange(changes) => changes.run(socket),
+        Command::Take { queue, once, timeout, grace, tries, command, .. } => {
+            Worker { socket, queues: &queue, once, timeout, grace, tries, command: &command }.work()
+        }
         // these ask no agent
         _ => Ok(()),
     }
 }
 
-/// The field of a payload, and what stands there. What comes of standard input may be any bytes.
-fn payload(text: String, is_hex: bool) -> Result<(&'static str, String), Failure> {
+/// The digits of a payload. What comes of standard input may be any bytes.
+fn payload(text: String, is_hex: bool) -> Result<String, Failure> {
     if text != "-" {
-        return Ok((if is_hex { "hex" } else { "text" }, text));
+        return Ok(if is_hex { text } else { hex::encode(text) });
     }
     let mut bytes = Vec::new();
     let read = io::stdin().take(MAX_INPUT).read_to_end(&mut bytes);
     read.map_err(|why| Failure::Usage(format!("standard input can't be read: {why}")))?;
-    Ok(("hex", if is_hex { String::from_utf8_lossy(&bytes).trim().to_string() } else { hex::encode(&bytes) }))
+    Ok(if is_hex { String::from_utf8_lossy(&bytes).trim().to_string() } else { hex::encode(&bytes) })
 }
 
 fn kept(reply: &Value) -> String {
     format!("node {} keeps it as {}\n", reply["origin"], reply["id"])
 }
 
+fn kicked(reply: &Value) -> String {
+    format!("{} jobs may be given again\n", reply["kicked"])
+}
+
 fn silent(_: &Value) -> String {
     String::new()
 }
 
-fn ask(socket: &Path, is_json: bool, request: &Value, shown: fn(&Value) -> String) -> Result<(), Failure> {
+fn ask(socket: &Path, is_json: bool, request: &Request, shown: fn(&Value) -> String) -> Result<(), Failure> {
     let agent = Agent::connect(socket)?;
     let said = answer(agent, socket, request, (PATIENCE, NODE_PATIENCE));
     let reply = said.map_err(|failure| unsure(failure, request))?;
@@ -129,8 +166,10 @@ fn ask(socket: &Path, is_json: bool, request: &Value, shown: fn(&Value) -> Strin
     }
 }
 
-fn is_one_of(request: &Value, names: &[&str]) -> bool {
-    names.iter().any(|name| request["do"] == *name)
+/// Whether the agent answers by itself.
+fn is_its_own(request: &Request) -> bool {
+    use Request::{Drain, Finish, Kick, Members, Record, Status};
+    matches!(request, Status | Members | Record { .. } | Kick { .. } | Drain { .. } | Finish { ok: false, .. })
 }
 
 /// The answer to a request: at once where the agent answers by itself. Where the node or another machine has to answer it is waited for while the agent
@@ -138,20 +177,20 @@ fn is_one_of(request: &Value, names: &[&str]) -> bool {
 fn answer(
     mut agent: Agent,
     socket: &Path,
-    request: &Value,
+    request: &Request,
     (patience, node_patience): (Duration, Duration),
 ) -> Result<Value, Failure> {
     let begin = Instant::now();
     agent.be_patient_for(Some(patience))?;
     let mut said = agent.ask(request);
     while matches!(&said, Err(why) if why.kind() == ErrorKind::TimedOut) {
-        if is_one_of(request, &["status", "members", "record"]) {
+        if is_its_own(request) {
             break;
         }
         let mut other = Agent::connect(socket)?;
         other.be_patient_for(Some(patience))?;
-        other.ask(&json!({"do": "status"}))?;
-        if begin.elapsed() >= node_patience && !is_one_of(request, &["submit"]) {
+        other.ask(&Request::Status)?;
+        if begin.elapsed() >= node_patience && !matches!(request, Request::Submit(_)) {
             return Err(Failure::Late("the agent answers, and its node doesn't".to_string()));
         }
         said = agent.hear();
@@ -160,16 +199,17 @@ fn answer(
 }
 
 /// What was asked for without an answer may be done.
-fn unsure(failure: Failure, request: &Value) -> Failure {
+fn unsure(failure: Failure, request: &Request) -> Failure {
+    use Request::{Compact, Finish, Record, Submit};
     match failure {
-        Failure::Late(why) if is_one_of(request, &["submit", "finish", "compact", "record"]) => {
+        Failure::Late(why) if matches!(request, Submit(_) | Finish { .. } | Compact | Record { .. }) => {
             Failure::Late(format!("{why}; what was asked may be done all the same"))
         }
         other => other,
     }
 }
 
-fn refused(reply: &Value) -> Failure {
+pub(super) fn refused(reply: &Value) -> Failure {
     let why = reply["why"].as_str().map_or(String::new(), |why| format!(" ({why})"));
     let maybe = if reply["may_be_kept"] == true { ", it may be kept all the same" } else { "" };
     Failure::Refused(format!("{}{maybe}{why}", reply["error"].as_str().unwrap_or("?")))
@@ -178,7 +218,7 @@ fn refused(reply: &Value) -> Failure {
 fn watch(socket: &Path, is_json: bool, since: Option<u64>) -> Result<(), Failure> {
     let mut agent = Agent::connect(socket)?;
     agent.be_patient_for(Some(PATIENCE))?;
-    let mut line = agent.ask(&json!({"do": "watch", "since": since}))?;
+    let mut line = agent.ask(&Request::Watch { since, every_ms: None })?;
     if line["ok"] == false {
         return Err(refused(&line));
     }
@@ -196,6 +236,7 @@ fn watch(socket: &Path, is_json: bool, since: Option<u64>) -> Result<(), Failure
 #[cfg(test)]
 mod tests {
     use super::*;
+    use serde_json::json;
     use std::io::{BufRead, BufReader};
     use std::os::unix::net::{UnixListener, UnixStream};
     use std::thread;
@@ -226,7 +267,7 @@ mod tests {
 
     const SECOND: Duration = Duration::from_secs(1);
 
-    fn asked(socket: &Path, request: &Value, node_patience: Duration) -> Result<Value, Failure> {
+    fn asked(socket: &Path, request: &Request, node_patience: Duration) -> Result<Value, Failure> {
         let said = answer(Agent::connect(socket).unwrap(), socket, request, (SECOND, node_patience));
         std::fs::remove_file(socket).unwrap();
         said
@@ -234,15 +275,18 @@ mod tests {
 
     #[test]
     fn an_agent_that_answers_is_waited_for() {
-        for (name, node_patience) in [("jobs", SECOND * 60), ("submit", Duration::ZERO)] {
-            let said = asked(&slow_agent(name, 2), &json!({ "do": name }), node_patience);
+        let submission = Submission::new(0, "x");
+        for (name, request, node_patience) in
+            [("jobs", Request::Jobs { queue: None, skip: 0, limit: 1 }, SECOND * 60), ("submit", Request::Submit(&submission), Duration::ZERO)]
+        {
+            let said = asked(&slow_agent(name, 2), &request, node_patience);
             assert_eq!(said.unwrap()["n"], 7, "{name}");
         }
     }
 
     #[test]
     fn a_node_that_hangs_is_not_waited_for_without_an_end() {
-        let request = json!({"do": "finish"});
+        let request = Request::finish(JobKey { origin: 0, id: 1 });
         let said = asked(&slow_agent("hangs", usize::MAX), &request, SECOND);
         match said.map_err(|failure| unsure(failure, &request)) {
             Err(Failure::Late(why)) => assert!(why.contains("its node doesn't; what was asked may be done"), "{why}"),

@@ -3,13 +3,15 @@
 mod agent;
 mod arguments;
 mod commands;
+mod drain;
+mod event;
 mod file;
 mod format;
 mod guarded;
 mod interrupts;
 mod job_lines;
 mod key;
-mod left_alone;
+mod lead;
 mod program;
 mod show;
 mod table;
@@ -19,6 +21,7 @@ mod worker;
 pub use arguments::{Arguments, Command};
 pub use commands::run;
 pub use guarded::become_guard;
+pub(crate) use interrupts::Interrupts;
 
 use std::io::{self, ErrorKind};
 use std::os::unix::process::ExitStatusExt;

@@ -3,8 +3,11 @@
 use super::arguments::Look;
 use super::Failure;
 use crate::config::Config;
+use crate::draw::{draw, DrawError, Form};
 use crate::judge;
 use serde_json::Value;
+use std::fs;
+use std::io::{self, Read};
 use std::path::{Path, PathBuf};
 use std::process::{Command, ExitStatus, Stdio};
 
@@ -39,4 +42,20 @@ pub fn judge(files: &[PathBuf], program: &Path) -> Result<(), Failure> {
         let _unread = serde_json::to_writer(std::io::BufWriter::new(input), &trace);
     }
     Failure::of_status(child.wait().map_err(named)?)
+}
+
+/// The run of a trace, drawn, and how the program ended that read it.
+pub fn drawn(file: Option<&Path>, form: Form, program: &Path) -> Result<(String, ExitStatus), Failure> {
+    let text = match file {
+        Some(path) => fs::read(path).map_err(|why| Failure::Usage(format!("{}: {why}", path.display()))),
+        None => {
+            let mut text = Vec::new();
+            let read = io::stdin().lock().read_to_end(&mut text);
+            read.map(|_| text).map_err(|why| Failure::Usage(format!("standard input can't be read: {why}")))
+        }
+    }?;
+    draw(program, &text, form).map_err(|why| match why {
+        DrawError::Program(why) => Failure::Usage(format!("{}: {why}", program.display())),
+        why => Failure::NotDone(why.to_string()),
+    })
 }

@@ -41,12 +41,21 @@ pub fn status(status: &Value) -> String {
         ("majority", of("majority")),
         ("own queues", of("queues")),
         ("jobs kept", kept(status)),
-        ("jobs in hand", of("in_hand")),
+        ("jobs in hand", in_hand(status)),
+        ("drained", of("draining")),
+        ("leases", leases(status)),
         ("recorded", of("recorded")),
         ("keys", if of("keys") == "-" { "none: whoever reaches the port speaks for any node".to_string() } else { of("keys") }),
         ("up", ago(&status["up_ms"])),
     ];
     rows.iter().map(|(name, value)| format!("{name:<13} {value}\n")).collect()
+}
+
+fn in_hand(status: &Value) -> String {
+    match status["aside"].as_u64() {
+        None | Some(0) => word(&status["in_hand"]),
+        Some(aside) => format!("{}, of which {aside} are put aside (`dumgerokctl kick`)", word(&status["in_hand"])),
+    }
 }
 
 /// How many jobs the node keeps, of how many that fit.
@@ -59,9 +68,24 @@ fn kept(status: &Value) -> String {
     }
 }
 
+/// How many leases the machine has, where the agent has some.
+fn leases(status: &Value) -> String {
+    match status["lease_ms"].as_u64() {
+        Some(ms) if ms > 0 => format!("{}, each for {ms} ms at most", word(&status["leases"])),
+        _ => "-".to_string(),
+    }
+}
+
+pub fn all_leases(reply: &Value) -> String {
+    let all = reply["leases"].as_array().map(Vec::as_slice).unwrap_or_default();
+    let rows = all.iter().map(|lease| vec![word(&lease["name"]), word(&lease["epoch"]), ago(&lease["left_ms"])]);
+    format!("{}{} machines vote\n", table(&["NAME", "EPOCH", "LEFT"], &rows.collect::<Vec<_>>()), word(&reply["voters"]))
+}
+
 pub fn members(reply: &Value) -> String {
     let all = reply["members"].as_array().map(Vec::as_slice).unwrap_or_default();
     let coordinator = all.iter().find(|member| member["coordinates"] == true);
+    let has_tags = all.iter().any(|member| !tags(member).is_empty());
     let rows = all.iter().map(|member| {
         let role = match (&member["coordinates"], &member["in_group"]) {
             (Value::Bool(true), _) => "coordinator",
@@ -69,9 +93,24 @@ pub fn members(reply: &Value) -> String {
             _ => "-",
         };
         let heard = heard(member, coordinator);
-        vec![word(&member["node"]), word(&member["name"]), role.to_string(), word(&member["queues"]), heard]
+        let last = has_tags.then(|| tags(member));
+        let row = [word(&member["node"]), word(&member["name"]), role.to_string(), word(&member["queues"]), heard];
+        row.into_iter().chain(last).collect()
     });
-    table(&["NODE", "ADDRESS", "IN THE GROUP", "QUEUES", "HEARD"], &rows.collect::<Vec<_>>())
+    let heads = ["NODE", "ADDRESS", "IN THE GROUP", "QUEUES", "HEARD", "TAGS"];
+    table(&heads[..heads.len() - usize::from(!has_tags)], &rows.collect::<Vec<_>>())
+}
+
+/// The tags of a machine, and of another one how long ago they were told.
+fn tags(member: &Value) -> String {
+    let told = member["tags"].as_object().filter(|told| !told.is_empty());
+    let value = |value: &Value| payload(&hex::encode(value.as_str().unwrap_or_default()));
+    let all = told.map(|told| told.iter().map(|(name, text)| format!("{name}={}", value(text))).collect::<Vec<_>>().join(","));
+    match all {
+        None => String::new(),
+        Some(all) if member["is_self"] == true => all,
+        Some(all) => format!("{all} ({} ago)", ago(&member["tags_ms"])),
+    }
 }
 
 /// When a node was heard. Members of a group hear their coordinator, and nothing of each other: how long ago that was says nothing of them.
@@ -104,9 +143,14 @@ fn is_unseen(letter: char) -> bool {
 pub fn jobs(reply: &Value) -> String {
     let jobs = reply["jobs"].as_array().map(Vec::as_slice).unwrap_or_default();
     let rows = jobs.iter().map(|job| {
-        let state = if job["kept"] == true { "pending" } else { "in hand" };
+        let state = match (&job["kept"], &job["aside"], job["attempt"].as_u64()) {
+            (Value::Bool(true), ..) => "pending".to_string(),
+            (_, Value::Bool(true), _) => "put aside".to_string(),
+            (.., Some(attempt)) if attempt > 1 => format!("in hand, {attempt} times"),
+            _ => "in hand".to_string(),
+        };
         let [origin, id, queue, priority] = ["origin", "id", "queue", "priority"].map(|name| word(&job[name]));
-        vec![state.to_string(), origin, id, queue, priority, payload(job["payload"].as_str().unwrap_or_default())]
+        vec![state, origin, id, queue, priority, payload(job["payload"].as_str().unwrap_or_default())]
     });
     let text = table(&["STATE", "ORIGIN", "ID", "QUEUE", "PRIORITY", "PAYLOAD"], &rows.collect::<Vec<_>>());
     format!("{text}{} of {}\n", jobs.len(), word(&reply["total"]))
@@ -132,6 +176,7 @@ pub fn event(event: &Value) -> String {
             payload(event["payload"].as_str().unwrap_or_default())
         ),
         "majority" => format!("majority {}", of("majority")),
+        "told" => format!("told by node {} {}: {}", of("from"), of("name"), payload(&hex::encode(event["text"].as_str().unwrap_or_default()))),
         name => format!("{name} {}", job()),
     };
     format!("{:>6}  {what}\n", of("change"))
@@ -163,6 +208,16 @@ mod tests {
             let column = text.find("HEARD").unwrap();
             assert_eq!(text.lines().skip(1).map(|line| &line[column..]).collect::<Vec<_>>(), said);
         }
+    }
+
+    #[test]
+    fn tags_stand_beside_their_machine() {
+        let row = |node: u8, tags: Value| json!({"node": node, "name": "n", "is_self": node == 0, "queues": [], "heard_ms": 900, "tags": tags, "tags_ms": 12_000});
+        let text = members(&json!({"members": [row(0, json!({"rack": "7", "role": "db"})), row(1, json!({"a": "b\u{202e}"})), row(2, json!({}))]}));
+        let column = text.find("TAGS").unwrap();
+        let shown: Vec<&str> = text.lines().skip(1).map(|line| line.get(column..).unwrap_or_default()).collect();
+        assert_eq!(shown, ["rack=7,role=db", "a=0x62e280ae (12 s ago)", ""]);
+        assert!(!members(&json!({"members": [row(0, json!({}))]})).contains("TAGS"));
     }
 
     #[test]

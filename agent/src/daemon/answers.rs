@@ -5,7 +5,7 @@ use crate::forward::{Given, Numbers, Outcome};
 use crate::metrics::{kind_of, ANSWERS};
 use crate::node::{Answer, Closing, Group, Job, JobKey, Line, Refusal};
 use crate::protocol::Reply;
-use crate::service::Given as GivenJob;
+use crate::service::{Given as GivenJob, Hand};
 use log::{error, info, warn};
 use serde::Serialize;
 use std::net::SocketAddr;
@@ -19,6 +19,18 @@ struct Row {
     kept: bool,
     #[serde(flatten)]
     job: GivenJob,
+    /// How often it was given here, and whether it was put aside; where this node works on it.
+    #[serde(skip_serializing_if = "Option::is_none")]
+    attempt: Option<u32>,
+    #[serde(skip_serializing_if = "Option::is_none")]
+    aside: Option<bool>,
+}
+
+impl Row {
+    fn of(kept: bool, job: &Job, hand: &Hand) -> Row {
+        let known = (!kept).then(|| hand.attempts(job.key));
+        Row { kept, job: GivenJob::of(job), attempt: known.map(|known| known.attempts), aside: known.map(|known| known.is_aside) }
+    }
 }
 
 impl Daemon {
@@ -28,8 +40,8 @@ impl Daemon {
         for line in &answer.lines {
             self.take_line(line, now);
         }
-        if let Closing::Refused(refusal) = &answer.closing {
-            self.metrics.refused.with_label_values(&[name_of(refusal)]).inc();
+        if let Some(refusal) = answer.closing.refusal().filter(|_| !matches!(answer.closing, Closing::Bad | Closing::Fault)) {
+            self.metrics.refused.with_label_values(&[&refusal.to_string()]).inc();
         }
         if let Closing::Ok(Some(id)) = answer.closing {
             self.numbers.kept_job(id);
@@ -114,7 +126,7 @@ impl Daemon {
 
     fn drop_job(&mut self, key: JobKey) {
         self.metrics.jobs.with_label_values(&["dropped"]).inc();
-        if let Some(holder) = self.hand.leave(key) {
+        if let Some(holder) = self.hand.drop(key) {
             self.clients.tell(holder, &Reply::event("stop").and(key));
         }
         self.tell(Reply::event("drop").and(key));
@@ -131,21 +143,26 @@ impl Daemon {
             Asker::Start => self.started(&answer.closing),
             Asker::Tick => self.clock.ticked(due_of(&answer.lines), now),
             Asker::Datagram { sender, from, kind } => self.delivered((sender, from), kind, &answer.closing, now),
-            Asker::Submission { serial } => {
+            Asker::Submission { serial, key } => {
                 self.outbox.own_answered(serial);
-                self.tried(serial, given_of(answer.closing, self.config.id), now);
+                self.settled(key, &answer.closing, now);
+                self.tried(serial, given_of(&answer.closing, self.config.id), now);
             }
-            Asker::Forwarded { from, token } => self.reply_to_agent(from, token, outcome_of(answer.closing), now),
+            Asker::Forwarded { from, token, key } => {
+                self.settled(key, &answer.closing, now);
+                self.reply_to_agent(from, token, outcome_of(&answer.closing), now);
+            }
             Asker::Finish { client, tag, key } => {
                 if has_left_hand(&answer.closing) {
-                    self.hand.leave(key);
+                    let holder = self.hand.finish(key);
+                    self.stop_other(key, holder, client);
                 }
                 self.clients.answer(client, &reply_of(&answer.closing).tagged(&tag));
             }
             Asker::Compact { client, tag } => self.clients.answer(client, &reply_of(&answer.closing).tagged(&tag)),
             Asker::Jobs { client, tag, queue, skip, limit } => {
                 self.listings -= 1;
-                let reply = jobs_of(&answer.lines, queue, skip, limit).tagged(&tag);
+                let reply = jobs_of(&answer.lines, &self.hand, queue, skip, limit).tagged(&tag);
                 self.clients.answer(client, &reply);
             }
             Asker::Lost => {}
@@ -178,13 +195,11 @@ impl Daemon {
                     self.doubt(sender, from, now);
                 }
             }
-            Closing::Refused(refusal) if name_of(refusal) == "Forged" => self.doubt(sender, from, now),
-            Closing::Refused(refusal) if name_of(refusal) == "Stale" => {
-                if self.peers.is_stale(sender, now) {
-                    warn!("node {sender}: all that comes in its name from {from} is older than what it said before: is this recorded, or was its file put back from a copy?");
-                }
+            Closing::Refused(Refusal::Forged) => self.doubt(sender, from, now),
+            Closing::Refused(Refusal::Stale) if self.peers.is_stale(sender, now) => {
+                warn!("node {sender}: all that comes in its name from {from} is older than what it said before: is this recorded, or was its file put back from a copy?");
             }
-            Closing::Refused(_) | Closing::Fault => {}
+            _ => {}
         }
     }
 
@@ -220,81 +235,58 @@ fn due_of(lines: &[Line]) -> Option<u64> {
 }
 
 /// What node `own` answered to a submission of a local client.
-fn given_of(closing: Closing, own: u8) -> Given {
+fn given_of(closing: &Closing, own: u8) -> Given {
     match closing {
-        Closing::Ok(Some(id)) => Given::Kept { origin: own, id },
-        Closing::Refused(Refusal::NotCoordinator(coordinator)) => Given::Elsewhere { coordinator },
-        other => Given::Refused { error: error_of(&other) },
+        Closing::Ok(Some(id)) => Given::Kept { origin: own, id: *id },
+        Closing::Elsewhere(coordinator) => Given::Elsewhere { coordinator: *coordinator },
+        other => Given::Refused(other.refusal().unwrap_or(Refusal::NoAnswer)),
     }
 }
 
 /// What it answered to a submission of another agent.
-fn outcome_of(closing: Closing) -> Outcome {
+fn outcome_of(closing: &Closing) -> Outcome {
     match closing {
-        Closing::Ok(Some(id)) => Outcome::Kept { id },
-        other => Outcome::Refused { error: error_of(&other) },
+        Closing::Ok(Some(id)) => Outcome::Kept { id: *id, origin: None },
+        other => Outcome::Refused { error: other.refusal().unwrap_or(Refusal::NoAnswer) },
     }
 }
 
 /// Tells the log why the file can't be mounted, where the node answered so to its start; and answers it.
-pub(crate) fn tell_unmounted(file: &Path, closing: &Closing) -> String {
+fn tell_unmounted(file: &Path, closing: &Closing) -> String {
     let why = match closing {
-        Closing::Refused(Refusal::Damaged(sector)) => format!("Damaged, sector {sector}"),
-        other => error_of(other),
+        Closing::Damaged(sector) => format!("Damaged, sector {sector}"),
+        other => other.refusal().map_or(String::new(), |refusal| refusal.to_string()),
     };
     error!("{} can't be mounted: {why}: `dumgerokctl inspect` says what it holds", file.display());
     why
 }
 
 /// The status to end with, where the node answered so to its start; None where it ends by itself.
-pub(crate) fn unmounted(closing: &Closing) -> Option<u8> {
+fn unmounted(closing: &Closing) -> Option<u8> {
     match closing {
         Closing::Ok(_) | Closing::Fault => None,
-        Closing::Refused(refusal) if name_of(refusal) == "NoMemory" => Some(NO_MEMORY),
-        Closing::Refused(_) | Closing::Bad => Some(FILE_DAMAGED),
+        Closing::Refused(Refusal::NoMemory) => Some(NO_MEMORY),
+        Closing::Elsewhere(_) | Closing::Damaged(_) | Closing::Refused(_) | Closing::Bad => Some(FILE_DAMAGED),
     }
 }
 
 /// Whether a job that a client finished isn't in the node's hand any more; a refusal for want of memory, say, leaves it there.
 fn has_left_hand(closing: &Closing) -> bool {
-    match closing {
-        Closing::Ok(_) => true,
-        Closing::Refused(refusal) => name_of(refusal) == "UnknownJob",
-        Closing::Bad | Closing::Fault => false,
-    }
+    matches!(closing, Closing::Ok(_) | Closing::Refused(Refusal::UnknownJob))
 }
 
-fn name_of(refusal: &Refusal) -> &str {
-    match refusal {
-        Refusal::NotCoordinator(_) => "NotCoordinator",
-        Refusal::Damaged(_) => "Damaged",
-        Refusal::Named(name) => name,
-    }
-}
-
-fn error_of(closing: &Closing) -> String {
-    match closing {
-        Closing::Ok(_) => "NoAnswer".to_string(),
-        Closing::Refused(refusal) => name_of(refusal).to_string(),
-        Closing::Bad => "Unreadable".to_string(),
-        Closing::Fault => "Device".to_string(),
-    }
-}
-
-const NOT_IN_HAND: &str =
+pub(super) const NOT_IN_HAND: &str =
     "it isn't in hand here: it is done, or the node's group changed since and the queue's owner there has it";
 
 fn reply_of(closing: &Closing) -> Reply {
-    match closing {
-        Closing::Ok(_) => Reply::ok(),
-        other => match error_of(other) {
-            error if error == "UnknownJob" => Reply::refused(&error).with("why", NOT_IN_HAND),
-            error => Reply::refused(&error),
-        },
+    match closing.refusal() {
+        None => Reply::ok(),
+        Some(Refusal::UnknownJob) => Reply::refused(Refusal::UnknownJob).with("why", NOT_IN_HAND),
+        Some(refusal) => Reply::refused(refusal),
     }
 }
 
-fn jobs_of(lines: &[Line], queue: Option<u8>, skip: usize, limit: usize) -> Reply {
+fn jobs_of(lines: &[Line], hand: &Hand, queue: Option<u8>, skip: usize, limit: usize) -> Reply {
     let rows: Vec<(bool, &Job)> = lines
         .iter()
         .filter_map(|line| match line {
@@ -304,7 +296,7 @@ fn jobs_of(lines: &[Line], queue: Option<u8>, skip: usize, limit: usize) -> Repl
         })
         .filter(|(_, job)| queue.map_or(true, |queue| queue == job.queue))
         .collect();
-    let shown = rows.iter().skip(skip).take(limit).map(|(kept, job)| Row { kept: *kept, job: GivenJob::of(job) });
+    let shown = rows.iter().skip(skip).take(limit).map(|(kept, job)| Row::of(*kept, job, hand));
     Reply::ok().with("total", rows.len()).with("jobs", shown.collect::<Vec<_>>())
 }
 

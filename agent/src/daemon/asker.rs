@@ -1,6 +1,6 @@
 //! On whose behalf the node is asked.
 
-use crate::forward::Token;
+use crate::forward::{Key, Token};
 use crate::node::{JobKey, Lane};
 use crate::protocol::Tag;
 use crate::service::ClientId;
@@ -19,11 +19,13 @@ pub enum Asker {
     /// A submission of a local client, by its number in the outbox.
     Submission {
         serial: u64,
+        key: Option<Key>,
     },
     /// A submission of another agent.
     Forwarded {
         from: u8,
         token: Token,
+        key: Option<Key>,
     },
     Finish {
         client: ClientId,

@@ -3,8 +3,8 @@
 use super::{Asker, Daemon};
 use crate::config::Config;
 use crate::forward::{is_of_agents, marked, About, Datagram, Seal};
-use crate::metrics::{kind_of, QUESTIONS};
-use crate::net::{GroupBytes, Leaves, MAX_DATAGRAM};
+use crate::metrics::{kind_of, OF_LEADING, QUESTIONS};
+use crate::net::{is_encrypted, GroupBytes, Leaves, MAX_DATAGRAM};
 use crate::node::Lane;
 use log::{info, warn};
 use std::io::ErrorKind;
@@ -51,16 +51,33 @@ impl Daemon {
         let mut bytes = [0; MAX_DATAGRAM];
         for _ in 0..MAX_AT_A_TIME {
             match self.link.receive(&mut bytes) {
-                Some((datagram, from)) if is_of_agents(datagram) => {
+                Some((datagram, from)) => {
                     let datagram = datagram.to_vec();
-                    self.take_of_agent(&datagram, from, now);
-                }
-                Some((message, from)) => {
-                    let message = message.to_vec();
-                    self.take_sealed(message, from, now);
+                    self.take_datagram(datagram, from, now);
                 }
                 None => return,
             }
+        }
+    }
+
+    /// What came, encrypted or not: whether a key was needed to say it, its seal tells.
+    fn take_datagram(&mut self, datagram: Vec<u8>, from: SocketAddr, now: Instant) {
+        if !is_encrypted(&datagram) {
+            return self.take_clear(datagram, from, now);
+        }
+        if let Some(clear) = self.cipher.decrypt(&datagram) {
+            return self.take_clear(clear, from, now);
+        }
+        let reason = if self.cipher.encrypts() { "Forged" } else { "Version" };
+        self.metrics.dropped.with_label_values(&[reason]).inc();
+        self.doubt(sender_of(&datagram), from, now);
+    }
+
+    fn take_clear(&mut self, datagram: Vec<u8>, from: SocketAddr, now: Instant) {
+        if is_of_agents(&datagram) {
+            self.take_of_agent(&datagram, from, now);
+        } else {
+            self.take_sealed(datagram, from, now);
         }
     }
 
@@ -80,7 +97,7 @@ impl Daemon {
         if self.introductions.is_stranger(sender) {
             return self.metrics.dropped.with_label_values(&["Stranger"]).inc();
         }
-        self.take_message(message, from);
+        self.take_message(message, from, now);
     }
 
     /// A message without a seal. One by a mark that isn't known is of another cluster, or of one whose list is another one for a while.
@@ -90,14 +107,22 @@ impl Daemon {
             self.metrics.dropped.with_label_values(&["Stranger"]).inc();
             return self.ask_stranger(from, sender, now);
         }
-        self.take_message(message.to_vec(), from);
+        self.take_message(message.to_vec(), from, now);
     }
 
     /// Half of the node's room is for those who are where the other nodes are, and they alone may wait: a flood from elsewhere keeps none of them from the
     /// node.
-    fn take_message(&mut self, message: Vec<u8>, from: SocketAddr) {
+    fn take_message(&mut self, message: Vec<u8>, from: SocketAddr, now: Instant) {
         if self.opening.is_some() {
             return self.metrics.dropped.with_label_values(&["Down"]).inc();
+        }
+        let sender = sender_of(&message);
+        if self.peers.is_empty_place(sender) {
+            self.metrics.dropped.with_label_values(&["Unnamed"]).inc();
+            if !self.introductions.has_gaps(sender) {
+                self.ask_stranger(from, sender, now);
+            }
+            return;
         }
         let peer = self.peers.at(from);
         if self.node.has_half_its_room(Lane::Network) || (peer.is_some() && self.node.has_room(Lane::Network)) {
@@ -122,10 +147,17 @@ impl Daemon {
         self.ask(asker, format!("deliver {}", hex::encode(message)));
     }
 
-    /// Carries a message of the node. Work, of which the node may send as much at once as its journal holds, leaves a part at a time.
+    /// Carries a message of the node. Work, of which the node may send as much at once as its journal holds, leaves a part at a time. The node asks all places;
+    /// what it says to one without a machine is lost here.
     pub(super) fn carry(&mut self, to: u8, digits: &str, now: Instant) {
+        if self.peers.is_empty_place(to) {
+            return;
+        }
         let message = hex::decode(digits).unwrap_or_default();
         let kind = kind_of(&message);
+        if self.draining.is_some() && OF_LEADING.contains(&kind) {
+            return self.metrics.dropped.with_label_values(&["Draining"]).inc();
+        }
         self.metrics.messages_out.with_label_values(&[kind]).inc();
         if QUESTIONS.contains(&kind) {
             self.peers.asked(to, now);
@@ -151,7 +183,14 @@ impl Daemon {
 
     /// Sends a datagram to another machine. One that can't be sent is the same as one that is lost.
     pub(super) fn send(&mut self, to: u8, datagram: &[u8], now: Instant) {
-        let sent = self.peers.address(to).map(|address| (address, self.link.send(datagram, address)));
+        if self.peers.is_empty_place(to) {
+            return;
+        }
+        let datagram = match self.cipher.encrypt(datagram) {
+            Some(datagram) => datagram,
+            None => return self.metrics.dropped.with_label_values(&["NotSent"]).inc(),
+        };
+        let sent = self.peers.address(to).map(|address| (address, self.link.send(&datagram, address)));
         if !matches!(sent, Some((_, Ok(())))) {
             self.metrics.dropped.with_label_values(&["NotSent"]).inc();
         }
@@ -204,16 +243,19 @@ impl Daemon {
         read.map_or(false, |read| read.map_or(true, |seal| seal.fingerprints != self.seal.fingerprints))
     }
 
-    /// Reads the configuration again, and takes its addresses.
-    pub(super) fn reload(&mut self) {
+    /// Reads the configuration again, and takes its nodes.
+    pub(super) fn reload(&mut self, now: Instant) {
         let own = &self.config;
         let read = Config::read(&self.path)
-            .and_then(|changed| Ok((own.addresses_of(&changed)?, own.differs_elsewhere(&changed))));
+            .and_then(|changed| Ok((own.nodes_of(&changed)?, own.differs_elsewhere(&changed), changed.tags)));
         match read {
-            Ok((names, has_more)) => {
-                self.introductions.rename(About::new(&self.config.cluster, &names));
-                self.peers.rename(&names);
+            Ok((names, has_more, tags)) => {
                 info!("the addresses were read again");
+                if tags != self.config.tags {
+                    self.config.tags = tags;
+                    self.tag_own(now);
+                }
+                self.take_nodes(&names, now);
                 if has_more {
                     warn!("{}: other settings changed, too: they are taken by a restart", self.path.display());
                 }
@@ -223,6 +265,29 @@ impl Daemon {
                 self.warn_of_addresses();
             }
             Err(error) => warn!("{}: {error}: nothing was taken of it", self.path.display()),
+        }
+    }
+
+    /// Goes by these nodes from now on. The others are told at once which they are, and a machine that was taken away is no member any more.
+    fn take_nodes(&mut self, names: &[String], now: Instant) {
+        let before = self.others();
+        self.introductions.rename(About::new(&self.config.cluster, names));
+        self.peers.rename(names);
+        let others = self.others();
+        self.view.nodes = others.len() + 1;
+        for node in others.iter().filter(|node| !before.contains(node)) {
+            info!("node {node}: a machine was added, {}", names[usize::from(*node)]);
+        }
+        for node in before.into_iter().filter(|node| !others.contains(node)) {
+            info!("node {node}: its machine was taken away");
+            if self.view.group.members.contains(&node) {
+                self.lose(node, now);
+            }
+        }
+        for node in others {
+            if self.peers.address(node).is_some() {
+                self.say_hello(node, None, now);
+            }
         }
     }
 }

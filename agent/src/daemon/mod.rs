@@ -1,45 +1,56 @@
 //! The agent: one loop over all that comes. Nothing in it blocks.
 
+mod announcing;
 mod answers;
 mod asker;
 mod datagrams;
+mod drain;
 mod forwarding;
 mod guard;
+mod keyed;
+mod leases;
 mod looks;
+mod losses;
 mod opening;
 mod pages;
 mod requests;
 mod signals;
+mod voters;
 
-pub(crate) use answers::{tell_unmounted, unmounted};
+use announcing::Announcing;
+use answers::NOT_IN_HAND;
 pub use asker::Asker;
 pub use signals::Beginning;
 
 use crate::clock::Clock;
 use crate::config::Config;
 use crate::fill::Fill;
-use crate::forward::{self, About, Inbox, Introductions, Ledger, Outbox, OwnNumbers, Seal};
+use crate::forward::{self, read_keys, About, Inbox, Introductions, Key, Keys, Ledger, Outbox, OwnNumbers, Seal, Submission, Token as AgentToken};
 use crate::http::Server;
 use crate::metrics::Metrics;
-use crate::net::{Backlog, Link, News, Pace, Peers};
+use crate::net::{Backlog, Cipher, Link, News, Pace, Peers};
 use crate::node::{Answer, Lane, NodeProcess};
-use crate::node_file::{self, NodeFile};
+use crate::node_file;
 use crate::notify::Notify;
 use crate::protocol::Reply;
 use crate::record::Record;
 use crate::resolver::Resolver;
-use crate::service::{is_left, Changes, Clients, Hand};
+use crate::service::{is_left, Changes, ClientId, Clients, Hand};
 use crate::view::{Majority, View};
 use anyhow::Context;
 use datagrams::Waiting;
+use drain::Drain;
 use guard::Guard;
+use leases::{Leases, LEASE_INPUT, LEASE_OUTPUT};
 use log::{debug, error, info, warn};
 use looks::Looks;
+use losses::Looking;
 use mio::event::Event;
 use mio::{Events, Poll, Registry, Token, Waker};
 use opening::Opening;
 use pages::PendingJobs;
 use signals::Signals;
+use std::collections::{BTreeMap, BTreeSet, HashMap};
 use std::io::ErrorKind;
 use std::ops::RangeInclusive;
 use std::os::unix::process::ExitStatusExt;
@@ -82,9 +93,9 @@ pub struct Daemon {
     path: PathBuf,
     poll: Poll,
     node: NodeProcess<Asker>,
+    /// None where the configuration has none.
+    leases: Option<Leases>,
     guard: Guard,
-    /// None where it can't be opened: then the node says why.
-    file: Option<NodeFile>,
     socket_guard: Guard,
     /// Whether the socket couldn't be made again.
     is_socket_gone: bool,
@@ -94,6 +105,8 @@ pub struct Daemon {
     looks: Looks,
     clock: Clock,
     link: Link,
+    /// By what datagrams are encrypted on their way.
+    cipher: Cipher,
     backlog: Backlog<Waiting>,
     pace: Pace,
     peers: Peers,
@@ -104,6 +117,9 @@ pub struct Daemon {
     seal: Seal,
     inbox: Inbox,
     outbox: Outbox,
+    keys: Keys,
+    /// Submissions of other agents under keys that others are asked about.
+    held: HashMap<Key, (u8, AgentToken, Submission)>,
     /// What the agents of all nodes said that these gave, and the own node's numbers.
     ledger: Ledger,
     numbers: OwnNumbers,
@@ -120,6 +136,14 @@ pub struct Daemon {
     pending_jobs: PendingJobs,
     /// Whether the node is to be recorded, by the configuration or since somebody asked.
     wants_record: bool,
+    /// Since its machine is drained, when the others were told last to make a group without it.
+    draining: Option<Drain>,
+    /// When the node is to look for others in place of one that led it.
+    looking: Looking,
+    /// When others said last that they are drained.
+    drained: BTreeMap<u8, Instant>,
+    /// Tags and events that the others are told.
+    announcing: Announcing,
     /// Listings of jobs that the node is asked for.
     listings: usize,
 }
@@ -142,12 +166,13 @@ impl Daemon {
         let http = http_of(&config, &waker)?;
         Ok(Daemon {
             guard: Guard::start(&config.file, Arc::clone(&waker))?,
-            file: NodeFile::open(&config.file).ok(),
             socket_guard: Guard::start(&config.socket, Arc::clone(&waker))?,
             node: node_of(&config, registry, begin)?,
+            leases: Leases::of(&config, now),
             clock: Clock::new(config.round_trip_ms, now),
             peers: Peers::new(config.id, &config.nodes, link.is_ipv6(), round_trip),
             link,
+            cipher: cipher_of(&config)?,
             backlog: Backlog::new(nodes),
             pace: Pace::new(nodes, config.key.is_some(), round_trip, now),
             resolver: Resolver::start(Arc::clone(&waker))?,
@@ -158,6 +183,8 @@ impl Daemon {
             wants_record: config.record.is_some(),
             inbox: Inbox::new(life, nodes),
             outbox: Outbox::new(life, nodes, round_trip),
+            keys: Keys::new(round_trip),
+            held: HashMap::new(),
             ledger: Ledger::new(nodes),
             introductions: Introductions::new(config.id, About::new(&config.cluster, &config.nodes)),
             numbers: OwnNumbers::new(life, nodes),
@@ -171,6 +198,10 @@ impl Daemon {
             http,
             pending_jobs: PendingJobs::default(),
             listings: 0,
+            announcing: Announcing::default(),
+            draining: None,
+            looking: Looking::default(),
+            drained: BTreeMap::new(),
             unusable: None,
             is_socket_gone: false,
             looks: Looks::new(now),
@@ -184,10 +215,12 @@ impl Daemon {
     pub fn run(mut self, beginning: &Beginning) -> anyhow::Result<u8> {
         beginning.is_over();
         let mut events = Events::with_capacity(256);
+        self.tag_own(Instant::now());
         self.warn_of_addresses();
         self.warn_of_network();
         loop {
             self.node.flush();
+            self.leases.iter_mut().for_each(Leases::flush);
             self.wait(&mut events)?;
             for event in &events {
                 self.wake(event);
@@ -209,6 +242,7 @@ impl Daemon {
             self.node.end(PATIENCE_AT_END)?;
             // what it did meanwhile is told to those who asked for it
             self.hear();
+            self.leases.iter_mut().for_each(Leases::end);
             self.say_goodbye();
             info!("ended by a signal");
             return Ok(Some(0));
@@ -246,6 +280,8 @@ impl Daemon {
     fn wake(&mut self, event: &Event) {
         match event.token() {
             NODE_INPUT | WAKER => {}
+            LEASE_INPUT => {}
+            LEASE_OUTPUT => self.leases.iter_mut().for_each(Leases::wake),
             NODE_OUTPUT => self.node.wake(),
             LINK => self.link.wake(),
             LISTENER => self.clients.wake_listener(),
@@ -258,7 +294,6 @@ impl Daemon {
     fn hear(&mut self) -> bool {
         let mut answers: Vec<Answer<Asker>> = Vec::new();
         let goes_on = self.node.read_answers(&mut answers);
-        self.look_at_file(&answers);
         for answer in answers {
             // a node that isn't to go on acknowledges nothing
             if self.unusable.is_none() {
@@ -268,20 +303,10 @@ impl Daemon {
         goes_on
     }
 
-    /// Looks, before something is acknowledged, whether the file is still the one that the node wrote it to.
-    fn look_at_file(&mut self, answers: &[Answer<Asker>]) {
-        let is_durable = |answer: &Answer<Asker>| answer.is_durable() || matches!(answer.asker, Asker::Compact { .. });
-        let file = self.file.as_ref().filter(|_| answers.iter().any(is_durable));
-        if let Some(why) = file.and_then(|file| file.changed(self.numbers.count())) {
-            error!("{}: {why}: what the node kept since isn't acknowledged", self.config.file.display());
-            self.unusable = Some(FILE_GONE);
-        }
-    }
-
     /// All that may be to be done, each kind by a bounded number at a time.
     fn work(&mut self, now: Instant) {
         if self.signals.take_reload() {
-            self.reload();
+            self.reload(now);
         }
         self.keep_socket();
         if self.opening.is_some() {
@@ -290,9 +315,13 @@ impl Daemon {
         self.receive(now);
         self.send_on(now);
         self.tell_numbers(now);
-        self.clients.accept(self.poll.registry(), now, || self.hand.holders());
+        self.announce(now);
+        self.give_up_lead(now);
+        self.look_for_others(now);
+        self.accept(now);
         self.obey(now);
         self.give_up_gone(now);
+        self.give_again(now);
         self.try_again(now);
         self.look_up(now);
         self.serve_pages(now);
@@ -300,6 +329,7 @@ impl Daemon {
             self.tell(Reply::event("majority").with("majority", is_so));
         }
         self.beat(now);
+        self.keep_leases(now);
         if let Some(ms) = self.clock.tick(now) {
             self.node.ask(Asker::Tick, Lane::Local, format!("tick {ms}"));
         }
@@ -325,8 +355,17 @@ impl Daemon {
             Majority::Until(end) if now < end => end - now,
             _ => Duration::MAX,
         };
-        let beat = self.clients.next_beat().map_or(Duration::MAX, |next| next.saturating_duration_since(now));
-        self.clock.sleep(now).min(until).min(self.pace.sleep(now)).min(majority).min(beat)
+        let wait = |next: Option<Instant>| next.map_or(Duration::MAX, |next| next.saturating_duration_since(now));
+        let of_clients = wait(self.clients.next_beat()).min(wait(self.hand.next_due()));
+        let leases = self.leases.as_ref().map_or(Duration::MAX, |leases| leases.sleep(now));
+        let leases = leases.min(self.announcing.sleep(now)).min(self.looking.sleep(now));
+        self.clock.sleep(now).min(until).min(self.pace.sleep(now)).min(majority).min(of_clients).min(leases)
+    }
+
+    /// Takes clients that came; those that work on a job, or have a lease, aren't ended for them.
+    fn accept(&mut self, now: Instant) {
+        let (hand, leases) = (&self.hand, &self.leases);
+        self.clients.accept(self.poll.registry(), now, || busy(hand, leases));
     }
 
     /// Asks the node something else than the time.
@@ -375,8 +414,13 @@ impl Daemon {
     }
 }
 
+/// The clients that work on a job, or ask for a lease or have one.
+fn busy(hand: &Hand, leases: &Option<Leases>) -> BTreeSet<ClientId> {
+    hand.holders().into_iter().chain(leases.iter().flat_map(Leases::clients)).collect()
+}
+
 /// The status of the agent, where its node ended with this one though nobody ended it: that is no success, whatever the node says.
-pub(crate) fn ended(status: ExitStatus) -> u8 {
+fn ended(status: ExitStatus) -> u8 {
     match (status.code(), status.signal()) {
         (Some(code), _) => error!("the node ended with status {code}"),
         (_, signal) => error!("the node was ended by signal {}", signal.unwrap_or(0)),
@@ -416,6 +460,16 @@ fn seal_of(config: &Config) -> anyhow::Result<Seal> {
         }
         None => Ok(Seal::default()),
     }
+}
+
+/// What encrypts datagrams, where there is a key.
+fn cipher_of(config: &Config) -> anyhow::Result<Cipher> {
+    let path = match &config.key {
+        Some(path) => path,
+        None => return Ok(Cipher::default()),
+    };
+    let keys = read_keys(path).with_context(|| format!("key {}", path.display()))?;
+    Ok(Cipher::begin(&keys, &config.cluster, config.nodes.len(), config.id)?)
 }
 
 fn http_of(config: &Config, waker: &Arc<Waker>) -> anyhow::Result<Option<Server>> {

@@ -42,8 +42,7 @@ impl Daemon {
         };
         self.receive(now);
         self.look_up(now);
-        let own = self.config.id;
-        let silent: Vec<u8> = (0..).zip(self.peers.all()).map(|(node, _)| node).filter(|node| *node != own && !self.numbers.has_answered(*node)).collect();
+        let silent: Vec<u8> = self.peers.others().filter(|node| !self.numbers.has_answered(*node)).collect();
         if silent.is_empty() || now >= until {
             self.opening = None;
             return self.ask(Asker::Start, "recover".to_string());

@@ -1,6 +1,7 @@
 //! What is shown over HTTP.
 
 use super::requests::MAX_LISTINGS;
+use super::leases::Leases;
 use super::{Asker, Daemon};
 use crate::http::{Page, Response, PAGE, THREADS};
 use crate::node::{Lane, Line};
@@ -39,10 +40,13 @@ impl Daemon {
             "/members" => Response::json(json!(self.view.members(&self.peers, now)).to_string()),
             "/state" => self.state(now),
             "/metrics" => {
+                self.metrics.lease_up.set(i64::from(self.leases.as_ref().map_or(false, Leases::is_up)));
+                self.metrics.leases_held.set(self.leases.as_ref().map_or(0, Leases::count) as i64);
                 self.metrics.pending.set(self.fill.pending() as i64);
                 self.metrics.pending_max.set(self.fill.most().unwrap_or(0) as i64);
                 self.metrics.in_hand.set(self.hand.count() as i64);
                 self.metrics.held.set(self.hand.count_held() as i64);
+                self.metrics.aside.set(self.hand.count_aside() as i64);
                 self.metrics.clients.set(self.clients.count() as i64);
                 self.metrics.waiting.set(self.clients.waiting_count() as i64);
                 self.metrics.unheld.set(self.hand.unheld(now).as_secs_f64());
@@ -75,6 +79,8 @@ impl Daemon {
             "pending_by_queue": self.pending_jobs.by_queue,
             "in_hand": self.hand.count(),
             "held": self.hand.count_held(),
+            "lease_ms": self.config.lease_ms,
+            "leases": self.leases.as_ref().map_or_else(Vec::new, Leases::rows),
         });
         Response::json(state.to_string())
     }

@@ -1,11 +1,13 @@
 //! What local services ask.
 
-use super::{Asker, Daemon};
+use super::leases::Leases;
+use super::{busy, Asker, Daemon, NOT_IN_HAND};
 use crate::forward::{Client, Submission};
 use crate::node::{JobKey, Lane};
-use crate::protocol::{payload_of, Envelope, Reply, Request, RequestError, Tag};
+use crate::protocol::{key_of, named, payload_of, text_of, Envelope, Reply, Request, RequestError, Tag, Wanted};
 use crate::record::Record;
-use crate::service::{Beats, ClientId, Waiting};
+use crate::service::{Back, Beats, ClientId, Waiting};
+use log::{info, warn};
 use std::time::{Duration, Instant};
 
 /// So many requests of all clients together are taken at a time, and one of each at least: so the node and the network have their turn soon, however many
@@ -17,6 +19,24 @@ const MAX_ROWS: usize = 250;
 
 /// So many times the node may be asked for all its jobs at a time: each time it writes them all.
 pub(super) const MAX_LISTINGS: usize = 8;
+
+/// How a job is given back; None where it is done.
+fn back_of(ok: bool, after_ms: Option<u64>, aside: bool) -> Result<Option<Back>, RequestError> {
+    match (ok, aside, after_ms) {
+        (true, false, None) => Ok(None),
+        (false, true, None) => Ok(Some(Back::Aside)),
+        (false, false, after) => Ok(Some(Back::After(Duration::from_millis(after.unwrap_or(0))))),
+        _ => Err(RequestError::Back),
+    }
+}
+
+fn key_of_job(origin: Option<u8>, id: Option<u64>) -> Result<Option<JobKey>, RequestError> {
+    match (origin, id) {
+        (Some(origin), Some(id)) => Ok(Some(JobKey { origin, id })),
+        (None, None) => Ok(None),
+        _ => Err(RequestError::HalfKey),
+    }
+}
 
 impl Daemon {
     /// Takes requests of all clients in turn. What the node is to be asked waits until it has room, as long as it answers at all; all else is answered
@@ -73,7 +93,9 @@ impl Daemon {
         Ok(match request {
             Request::Status {} => Some(self.status(now)),
             Request::Members {} => Some(Reply::ok().with("members", self.view.members(&self.peers, now))),
-            Request::Watch { .. } | Request::Take { .. } if !self.clients.may_stay(client, || self.hand.holders()) => {
+            Request::Watch { .. } | Request::Take { .. } | Request::Acquire { .. }
+                if !self.clients.may_stay(client, || busy(&self.hand, &self.leases)) =>
+            {
                 Some(Reply::refused("TooManyClients"))
             }
             Request::Watch { since, every_ms } => {
@@ -81,17 +103,20 @@ impl Daemon {
                 self.clients.watch(client, beats);
                 self.state_or_missed(client, &tag, since, now)
             }
-            Request::Take { queue, wait } => self.give(client, tag, queue, wait),
-            Request::Submit { queue, priority, text, hex } => {
+            Request::Take { queue, queues, wait } => self.give(Waiting { client, tag, wanted: Wanted::read(queue, queues.as_deref())? }, wait, now),
+            Request::Submit { queue, priority, text, hex, key } => {
                 let payload = payload_of(text, hex)?;
-                self.submit(Client { id: client, tag }, Submission { queue, priority, payload }, now);
+                self.submit(Client { id: client, tag }, Submission { queue, priority, payload, key: key_of(key)? }, now);
                 None
             }
-            Request::Finish { origin, id } => {
-                let key = JobKey { origin, id };
-                self.clients.owe(client);
-                self.ask(Asker::Finish { client, tag, key }, format!("finish {origin} {id}"));
-                None
+            Request::Finish { origin, id, ok, after_ms, aside, force } => {
+                let (key, back) = (JobKey { origin, id }, back_of(ok, after_ms, aside)?);
+                self.end_job((client, tag), key, back, force, now)
+            }
+            Request::Kick { queue, origin, id } => {
+                let kicked = self.hand.kick(Wanted::read(queue, None)?, key_of_job(origin, id)?, now);
+                self.hand_out(now);
+                Some(Reply::ok().with("kicked", kicked))
             }
             Request::Jobs { .. } if self.listings >= MAX_LISTINGS => Some(Reply::refused("Busy")),
             Request::Jobs { queue, skip, limit } => {
@@ -101,12 +126,20 @@ impl Daemon {
                 self.ask(Asker::Jobs { client, tag, queue, skip, limit }, "jobs".to_string());
                 None
             }
+            Request::Drain { on } => {
+                self.drain(on, now);
+                Some(Reply::ok().with("draining", on))
+            }
             Request::Compact {} => {
                 self.clients.owe(client);
                 self.ask(Asker::Compact { client, tag }, "compact".to_string());
                 None
             }
             Request::Record { on } => Some(self.record(on)),
+            Request::Acquire { name } => Some(self.acquire(client, &named(name)?)),
+            Request::Release { name } => Some(self.release(client, &named(name)?)),
+            Request::Leases {} => Some(self.list_leases()),
+            Request::Event { name, text } => Some(self.tell_event(named(name)?, text_of(text)?, now)),
         })
     }
 
@@ -144,9 +177,15 @@ impl Daemon {
             .with("pending", self.fill.pending())
             .with("pending_max", self.fill.most())
             .with("in_hand", self.hand.count())
+            .with("aside", self.hand.count_aside())
             .with("submissions", self.outbox.count())
+            .with("draining", self.draining.is_some())
+            .with("drained", self.drained(now))
             .with("recorded", self.node.is_recorded())
             .with("keys", &self.seal.fingerprints)
+            .with("encrypted", self.cipher.encrypts())
+            .with("lease_ms", self.config.lease_ms)
+            .with("leases", self.leases.as_ref().map_or(0, Leases::count))
     }
 
     /// What a watcher is told first: the state, or what it missed.
@@ -175,35 +214,80 @@ impl Daemon {
         due.into_iter().for_each(|client| self.clients.tell_lines(client, &line));
     }
 
-    fn give(&mut self, client: ClientId, tag: Tag, queue: Option<u8>, wait: bool) -> Option<Reply> {
-        if let Some(given) = self.hand.give(client, queue) {
-            return Some(Reply::ok().and(given));
+    fn give(&mut self, waiting: Waiting, wait: bool, now: Instant) -> Option<Reply> {
+        let client = waiting.client;
+        if let Some(taken) = self.hand.give(client, waiting.wanted, now) {
+            return Some(Reply::ok().and(taken));
         }
         if !wait {
             return Some(Reply::refused("NoJob"));
         }
-        if !self.clients.wait(Waiting { client, tag, queue }) {
+        if !self.clients.wait(waiting) {
             return Some(Reply::refused("Busy"));
         }
         self.clients.owe(client);
         None
     }
 
+    /// The work on a job is over: it is done, or given back.
+    fn end_job(&mut self, (client, tag): (ClientId, Tag), key: JobKey, back: Option<Back>, force: bool, now: Instant) -> Option<Reply> {
+        let other = self.hand.other_holder(key, client).filter(|_| !force);
+        if other.map_or(false, |holder| self.clients.is_there(holder)) {
+            return Some(Reply::refused("NotYours").with("why", "another client works on it"));
+        }
+        if let Some(back) = back {
+            return Some(self.give_back(client, key, back, now));
+        }
+        self.clients.owe(client);
+        self.ask(Asker::Finish { client, tag, key }, format!("finish {} {}", key.origin, key.id));
+        None
+    }
+
+    /// A client can't do a job now, or at all.
+    fn give_back(&mut self, client: ClientId, key: JobKey, back: Back, now: Instant) -> Reply {
+        match self.hand.give_back(key, back, now) {
+            None => return Reply::refused("UnknownJob").with("why", NOT_IN_HAND),
+            Some(holder) => self.stop_other(key, holder, client),
+        }
+        self.metrics.jobs.with_label_values(&[if back == Back::Aside { "aside" } else { "failed" }]).inc();
+        if back == Back::Aside {
+            warn!("job {} of node {} is put aside: `dumgerokctl kick` has it given again", key.id, key.origin);
+            self.tell(Reply::event("aside").and(key));
+        }
+        Reply::ok()
+    }
+
+    /// A client ended a job: another one that works on it is told so.
+    pub(super) fn stop_other(&mut self, key: JobKey, holder: Option<ClientId>, client: ClientId) {
+        if let Some(holder) = holder.filter(|holder| *holder != client) {
+            info!("job {} of node {}: another client than the one that works on it ends it", key.id, key.origin);
+            self.clients.tell(holder, &Reply::event("stop").and(key));
+        }
+    }
+
     /// Gives a job that came in hand now to the first that waits for one of its queue: no other job is for it, or it wouldn't wait.
     pub(super) fn offer(&mut self, key: JobKey, queue: u8) {
         if let Some(one) = self.clients.take_first_waiting(queue) {
-            if let Some(given) = self.hand.give_this(key, one.client) {
-                self.clients.answer(one.client, &Reply::ok().and(given).tagged(&one.tag));
+            match self.hand.give_this(key, one.client) {
+                Some(taken) => self.clients.answer(one.client, &Reply::ok().and(taken).tagged(&one.tag)),
+                None => self.clients.wait_first(one),
             }
         }
     }
 
+    /// Jobs that were given back may be given again, those whose time has come.
+    pub(super) fn give_again(&mut self, now: Instant) {
+        if self.hand.take_due(now) {
+            self.hand_out(now);
+        }
+    }
+
     /// Gives those that wait the jobs that nobody works on.
-    pub(super) fn hand_out(&mut self) {
+    pub(super) fn hand_out(&mut self, now: Instant) {
         let mut waiting = self.clients.take_waiting();
-        waiting.retain(|one| match self.hand.give(one.client, one.queue) {
-            Some(given) => {
-                self.clients.answer(one.client, &Reply::ok().and(given).tagged(&one.tag));
+        waiting.retain(|one| match self.hand.give(one.client, one.wanted, now) {
+            Some(taken) => {
+                self.clients.answer(one.client, &Reply::ok().and(taken).tagged(&one.tag));
                 false
             }
             None => true,
@@ -220,11 +304,12 @@ impl Daemon {
             }
             let mut has_freed = false;
             for client in gone {
+                self.leases.iter_mut().for_each(|leases| leases.gone(client));
                 has_freed |= self.hand.give_up(client, now);
                 self.outbox.give_up(client);
             }
             if has_freed {
-                self.hand_out();
+                self.hand_out(now);
             }
         }
     }

@@ -1,9 +1,12 @@
 //! What agents send each other.
 
 use super::about::Mark;
-use super::{About, Numbers, Seal, Told};
-use crate::node::Payload;
+use super::of_leases::is_of_leases;
+use super::{About, Key, Knows, Numbers, Seal, Told};
+use crate::lease::Voting;
+use crate::node::{JobKey, Payload, Refusal};
 use serde::{Deserialize, Serialize};
+use std::collections::BTreeMap;
 
 /// A datagram of agents begins so; a message of nodes begins with 1 or 2.
 const HEAD: [u8; 2] = [0xd6, 1];
@@ -23,6 +26,8 @@ pub struct Submission {
     pub queue: u8,
     pub priority: u8,
     pub payload: Payload,
+    #[serde(default, skip_serializing_if = "Option::is_none")]
+    pub key: Option<Key>,
 }
 
 #[derive(Clone, Debug, PartialEq, Eq, Serialize, Deserialize)]
@@ -30,9 +35,12 @@ pub struct Submission {
 pub enum Outcome {
     Kept {
         id: u64,
+        /// Where it isn't the node of who replies.
+        #[serde(default, skip_serializing_if = "Option::is_none")]
+        origin: Option<u8>,
     },
     Refused {
-        error: String,
+        error: Refusal,
     },
     /// The request named another life of its receiver, or a number that was used before: it is to be sent again with these.
     Stale {
@@ -74,9 +82,24 @@ pub enum What {
         /// Whether it began from a copy of its file.
         #[serde(default, skip_serializing_if = "std::ops::Not::not")]
         is_copy: bool,
+        /// Whether it goes on as a member: it alone doesn't lead any more.
+        #[serde(default, skip_serializing_if = "std::ops::Not::not")]
+        stays: bool,
     },
-    /// To one that isn't of the sender's cluster: of which one the sender is.
+    /// A job is kept under this key.
+    Keeps { life: u64, number: u64, key: Key, job: JobKey },
+    /// Asks what its receiver knows of a key, and the answer, which has the token of the question.
+    Asks { key: Key },
+    Says { key: Key, knows: Knows },
+    /// To one that isn't of the sender's cluster, or that its list doesn't name: of which one the sender is.
     Stranger { about: About },
+    /// Asks among how many machines its receiver votes for leases, and the answer, which has the token of the question.
+    AsksVoting {},
+    SaysVoting(Voting),
+    /// The tags of the sender's machine.
+    Tags { tags: BTreeMap<String, String> },
+    /// An event of the sender's machine, by the token that it has each time it is sent.
+    Event { life: u64, number: u64, name: String, text: String },
 }
 
 #[derive(Clone, Debug, PartialEq, Eq, Serialize, Deserialize)]
@@ -106,7 +129,7 @@ pub fn unmarked(bytes: &[u8]) -> Option<(Mark, &[u8])> {
 
 /// Whether it is one of agents of another version than this one.
 pub fn is_of_another_version(bytes: &[u8]) -> bool {
-    is_of_agents(bytes) && bytes.get(1).map_or(false, |version| ![HEAD[1], HEAD_OF_MESSAGE[1]].contains(version))
+    is_of_agents(bytes) && bytes.get(1).map_or(false, |version| ![HEAD[1], HEAD_OF_MESSAGE[1]].contains(version)) && !is_of_leases(bytes)
 }
 
 impl Datagram {
@@ -121,7 +144,8 @@ impl Datagram {
         match &self.what {
             What::Hello { about, .. } | What::Reply(Outcome::Stale { about, .. }) => about.as_ref(),
             What::Stranger { about } => Some(about),
-            What::Submit { .. } | What::Reply(_) | What::Leaving { .. } => None,
+            What::Submit { .. } | What::Reply(_) | What::Leaving { .. } | What::Keeps { .. } | What::Asks { .. } | What::Says { .. } | What::AsksVoting {} | What::SaysVoting(_) => None,
+            What::Tags { .. } | What::Event { .. } => None,
         }
     }
 
@@ -134,20 +158,20 @@ impl Datagram {
 #[cfg(test)]
 mod tests {
     use super::*;
-    use crate::net::MAX_DATAGRAM;
+    use crate::net::{LONGER, MAX_DATAGRAM};
 
     #[test]
     fn the_longest_fits_and_is_read_back() {
-        let job = Submission { queue: 15, priority: 255, payload: Payload::of_bytes(&[0xff; 400]).unwrap() };
+        let job = Submission { queue: 15, priority: 255, payload: Payload::of_bytes(&[0xff; 400]).unwrap(), key: Some(Key::of("a")) };
         let token = Token { life: u64::MAX, serial: u64::MAX };
         let what = What::Submit { life: u64::MAX, number: u64::MAX, job };
         let datagram = Datagram { from: 127, to: 126, token, what };
         let bytes = datagram.encode(&Seal::default());
-        assert!(is_of_agents(&bytes) && bytes.len() + 32 < MAX_DATAGRAM.min(1400), "{}", bytes.len());
+        assert!(is_of_agents(&bytes) && bytes.len() + 32 + LONGER < MAX_DATAGRAM.min(1400), "{}", bytes.len());
         assert_eq!(Datagram::decode(&bytes, &Seal::default()), Some(datagram));
         assert_eq!(Datagram::decode(&bytes[1..], &Seal::default()), None);
-        let versions = [&bytes[..], &[0xd6, 2], &[0xd6, 3], &[0xd6], &[1, 2]].map(is_of_another_version);
-        assert_eq!(versions, [false, false, true, false, false]);
+        let versions = [&bytes[..], &[0xd6, 2], &[0xd6, 3], &[0xd6, 4], &[0xd6], &[1, 2]].map(is_of_another_version);
+        assert_eq!(versions, [false, false, false, true, false, false]);
     }
 
     #[test]
@@ -158,11 +182,24 @@ mod tests {
         let what = What::Hello { about: Some(About::new(&"\"".repeat(64), &names)), news };
         let datagram = Datagram { from: 127, to: 126, token, what };
         let bytes = datagram.encode(&Seal::default());
-        assert!(bytes.len() + 32 <= MAX_DATAGRAM, "{}", bytes.len());
+        assert!(bytes.len() + 32 + LONGER <= MAX_DATAGRAM, "{}", bytes.len());
         assert_eq!(Datagram::decode(&bytes, &Seal::default()), Some(datagram));
         let old = br#"{"from":1,"to":0,"token":{"life":1,"serial":0},"what":{"hello":{}}}"#;
         let old = Datagram::decode(&[&HEAD[..], old].concat(), &Seal::default()).map(|datagram| datagram.what);
         assert_eq!(old, Some(What::Hello { about: None, news: None }));
+    }
+
+    #[test]
+    fn the_longest_tags_and_event_fit() {
+        let token = Token { life: u64::MAX, serial: u64::MAX };
+        let tags: BTreeMap<String, String> = [("\"".repeat(256), "\"".repeat(256))].into_iter().collect();
+        let event = What::Event { life: u64::MAX, number: u64::MAX, name: "\"".repeat(64), text: "\"".repeat(400) };
+        for what in [What::Tags { tags }, event] {
+            let datagram = Datagram { from: 127, to: 126, token, what };
+            let bytes = datagram.encode(&Seal::default());
+            assert!(bytes.len() + 32 + LONGER <= MAX_DATAGRAM, "{}", bytes.len());
+            assert_eq!(Datagram::decode(&bytes, &Seal::default()), Some(datagram));
+        }
     }
 
     #[test]

@@ -86,6 +86,7 @@ impl Inbox {
 #[cfg(test)]
 mod tests {
     use super::*;
+    use crate::node::Refusal;
 
     #[test]
     fn each_request_once_and_none_that_was_recorded() {
@@ -97,8 +98,8 @@ mod tests {
         inbox.asked(token);
         assert_eq!(inbox.judge(1, token, 7, 1), stale(1), "the same datagram again");
         assert_eq!(inbox.judge(1, token, 7, 2), Some(Verdict::Wait));
-        inbox.answered(token, &Outcome::Kept { id: 4 });
-        assert_eq!(inbox.judge(1, token, 7, 3), Some(Verdict::Answer(Outcome::Kept { id: 4 })));
+        inbox.answered(token, &Outcome::Kept { id: 4, origin: None });
+        assert_eq!(inbox.judge(1, token, 7, 3), Some(Verdict::Answer(Outcome::Kept { id: 4, origin: None })));
         assert_eq!(
             inbox.judge(2, Token { life: 1, serial: 2 }, 7, 1),
             Some(Verdict::Ask),
@@ -120,7 +121,7 @@ mod tests {
     fn a_refused_request_may_come_again() {
         let (mut inbox, token) = (Inbox::new(7, 2), Token { life: 1, serial: 1 });
         inbox.asked(token);
-        inbox.answered(token, &Outcome::Refused { error: "NotNormal".to_string() });
+        inbox.answered(token, &Outcome::Refused { error: Refusal::NotNormal });
         assert_eq!(inbox.judge(1, token, 7, 1), Some(Verdict::Ask));
     }
 }

@@ -31,7 +31,7 @@ pub enum KeyError {
 /// The keys of a file. It is opened without a wait: a pipe would have its reader wait for a writer.
 pub fn read_keys(path: &Path) -> Result<Vec<[u8; 32]>, KeyError> {
     let unreadable = |why: std::io::Error| KeyError::Unreadable(why.to_string());
-    let flags = OFlags::NONBLOCK.bits() as i32;
+    let flags = OFlags::NONBLOCK.bits();
     let file = OpenOptions::new().read(true).custom_flags(flags).open(path).map_err(unreadable)?;
     let about = file.metadata().map_err(unreadable)?;
     let mode = about.permissions().mode() & 0o7777;

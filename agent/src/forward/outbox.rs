@@ -1,7 +1,8 @@
 //! Jobs that were submitted here and have no answer yet.
 
 use super::stamps::Stamps;
-use super::{Outcome, Submission, Token, What};
+use super::{Key, Outcome, Submission, Token, What};
+use crate::node::Refusal;
 use crate::protocol::{Reply, Tag};
 use crate::service::ClientId;
 use std::collections::BTreeMap;
@@ -19,9 +20,6 @@ const PAUSE: u32 = 4;
 
 /// So often an agent may ask for other stamps before its answer is waited for: where two agents don't agree they don't write to each other without an end.
 const MAX_STALE: u32 = 4;
-
-/// The device of the node that was asked failed while it kept the job: it may be kept, as by a kill.
-const IN_DOUBT: &str = "Device";
 
 /// The serial number of what is no submission: theirs begin at 1.
 const NO_SUBMISSION: u64 = 0;
@@ -47,9 +45,7 @@ pub enum Given {
     Elsewhere {
         coordinator: u8,
     },
-    Refused {
-        error: String,
-    },
+    Refused(Refusal),
 }
 
 /// What is to be done with a submission whose time has come.
@@ -68,26 +64,28 @@ struct Open {
     next: Instant,
     /// Whether the own node was asked and didn't answer yet.
     asks_own: bool,
-    /// How often it was sent to agents that may have taken it, and whether one of them said that its node doesn't keep it.
-    sent: u32,
-    was_refused: bool,
+    /// How often it was sent to each agent that may have taken it, and whether that one said that its node doesn't keep it.
+    sent: BTreeMap<u8, (u32, bool)>,
+    /// Whether a node was asked that may have kept it though it didn't say so.
+    is_in_doubt: bool,
     /// How often an agent asked for other stamps since it was tried last.
     stale: u32,
-    last_error: String,
+    last: Refusal,
 }
 
 impl Open {
     /// Whether some node may keep it without our knowing. A refusal says so of one request alone.
     fn may_be_kept(&self) -> bool {
-        self.asks_own || self.sent > 1 || (self.sent == 1 && !self.was_refused)
+        let is_sure = |(times, was_refused): &(u32, bool)| *times == 1 && *was_refused;
+        self.is_in_doubt || self.asks_own || !self.sent.values().all(is_sure)
     }
 
-    fn refusal(&self, error: &str) -> Reply {
-        let reply = match error {
-            "Full" => Reply::refused(error).with("why", FULL),
-            _ => Reply::refused(error),
+    fn refusal(&self, refusal: Refusal) -> Reply {
+        let reply = match refusal {
+            Refusal::Full => Reply::refused(refusal).with("why", FULL),
+            _ => Reply::refused(refusal),
         };
-        if self.may_be_kept() || error == IN_DOUBT {
+        if self.may_be_kept() {
             reply.with("may_be_kept", true)
         } else {
             reply
@@ -119,11 +117,20 @@ impl Outbox {
         }
         self.serial += 1;
         let until = now + (self.round_trip * PATIENCE).max(MIN_PATIENCE);
-        let (asks_own, sent, was_refused, stale) = (false, 0, false, 0);
-        let last_error = "NoAnswer".to_string();
-        let open = Open { client, job, until, next: until, asks_own, sent, was_refused, stale, last_error };
+        let (asks_own, sent, is_in_doubt, stale) = (false, BTreeMap::new(), false, 0);
+        let open = Open { client, job, until, next: until, asks_own, sent, is_in_doubt, stale, last: Refusal::NoAnswer };
         self.open.insert(self.serial, open);
         Some(self.serial)
+    }
+
+    /// The key of a submission that has one.
+    pub fn key(&self, serial: u64) -> Option<Key> {
+        self.open.get(&serial)?.job.key
+    }
+
+    /// Submissions under this key are to be tried again at once.
+    pub fn hurry(&mut self, key: Key, now: Instant) {
+        self.open.values_mut().filter(|open| open.job.key == Some(key) && !open.asks_own).for_each(|open| open.next = now);
     }
 
     /// The own node is asked for it now.
@@ -145,7 +152,10 @@ impl Outbox {
     pub fn datagram(&mut self, serial: u64, to: u8) -> Option<(Token, What)> {
         let open = self.open.get_mut(&serial)?;
         let (life, number) = self.stamps.next(to)?;
-        open.sent = open.sent.saturating_add(u32::from(life != 0));
+        if life != 0 {
+            let (times, _) = open.sent.entry(to).or_default();
+            *times = times.saturating_add(1);
+        }
         let what = What::Submit { life, number, job: open.job.clone() };
         Some((Token { life: self.life, serial }, what))
     }
@@ -186,17 +196,17 @@ impl Outbox {
 
     /// What tells an agent that the node of this one ends; None where it isn't known how to have it believe that.
     pub fn goodbye(&mut self, to: u8, is_copy: bool) -> Option<What> {
-        self.stamps_for(to).map(|(life, number)| What::Leaving { life, number, is_copy })
+        self.stamps_for(to).map(|(life, number)| What::Leaving { life, number, is_copy, stays: false })
     }
 
     /// An agent answered; what its answer says of one of the submissions. Where it asks for other stamps, the request goes there again.
     pub fn replied(&mut self, from: u8, token: Token, outcome: Outcome) -> Option<(u64, Given)> {
         let open = self.open.get_mut(&token.serial).filter(|_| token.life == self.life)?;
         let given = match outcome {
-            Outcome::Kept { id } => Given::Kept { origin: from, id },
+            Outcome::Kept { id, origin } => Given::Kept { origin: origin.unwrap_or(from), id },
             Outcome::Refused { error } => {
-                open.was_refused = error != IN_DOUBT;
-                Given::Refused { error }
+                open.sent.entry(from).and_modify(|(_, was_refused)| *was_refused = true);
+                Given::Refused(error)
             }
             Outcome::Stale { .. } if open.stale == MAX_STALE => return None,
             Outcome::Stale { life, last, .. } => {
@@ -216,11 +226,14 @@ impl Outbox {
         let reply = match given {
             Given::Kept { origin, id } => Reply::ok().with("origin", origin).with("id", id),
             Given::Elsewhere { .. } => return None,
-            Given::Refused { error } if ["NotNormal", "NotCoordinator", "Down", "Busy"].contains(&error.as_str()) => {
-                open.last_error = error;
+            Given::Refused(refusal) if refusal.may_pass() => {
+                open.last = refusal;
                 return None;
             }
-            Given::Refused { error } => open.refusal(&error),
+            Given::Refused(refusal) => {
+                open.is_in_doubt |= refusal.is_in_doubt();
+                open.refusal(if refusal == Refusal::Unknown { Refusal::NoAnswer } else { refusal })
+            }
         };
         self.open.remove(&serial).map(|open| (open.client, reply))
     }
@@ -235,7 +248,7 @@ impl Outbox {
             return Some(Due::Ask { serial });
         }
         let open = self.open.remove(&serial)?;
-        let reply = open.refusal(if open.may_be_kept() { "NoAnswer" } else { &open.last_error });
+        let reply = open.refusal(if open.may_be_kept() { Refusal::NoAnswer } else { open.last });
         Some(Due::Tell { client: open.client, reply })
     }
 
@@ -258,7 +271,7 @@ mod tests {
 
     fn outbox(now: Instant) -> (Outbox, u64) {
         let mut outbox = Outbox::new(9, 3, Duration::from_millis(20));
-        let job = Submission { queue: 1, priority: 0, payload: Payload::default() };
+        let job = Submission { queue: 1, priority: 0, payload: Payload::default(), key: None };
         let serial = outbox.add(Client { id: 5, tag: None }, job, now).unwrap();
         (outbox, serial)
     }
@@ -285,8 +298,8 @@ mod tests {
         assert_eq!(stamps(outbox.datagram(serial, 2)), (77, 41));
         assert!(outbox.replied(2, token, stale(77, 40)).is_some());
         assert_eq!(stamps(outbox.datagram(serial, 2)), (77, 42), "numbers rise");
-        assert_eq!(outbox.replied(2, Token { life: 8, serial }, Outcome::Kept { id: 1 }), None);
-        let (_, given) = outbox.replied(2, token, Outcome::Kept { id: 1 }).unwrap();
+        assert_eq!(outbox.replied(2, Token { life: 8, serial }, Outcome::Kept { id: 1, origin: None }), None);
+        let (_, given) = outbox.replied(2, token, Outcome::Kept { id: 1, origin: None }).unwrap();
         let (client, reply) = outbox.settle(serial, given, now).unwrap();
         assert_eq!((client.id, reply.line()), (5, b"{\"id\":1,\"ok\":true,\"origin\":2}\n".to_vec()));
         assert_eq!(outbox.count(), 0);
@@ -297,7 +310,7 @@ mod tests {
         let now = Instant::now();
         let (mut outbox, serial) = outbox(now);
         assert!(outbox.due(now, true).is_none());
-        assert!(outbox.settle(serial, Given::Refused { error: "NotNormal".to_string() }, now).is_none());
+        assert!(outbox.settle(serial, Given::Refused(Refusal::NotNormal), now).is_none());
         let later = now + Duration::from_millis(80);
         assert_eq!((outbox.next(true), outbox.next(false)), (Some(later), Some(now + MIN_PATIENCE)));
         assert!(outbox.due(later, false).is_none(), "the own node has no room");
@@ -323,7 +336,7 @@ mod tests {
 
     #[test]
     fn a_refusal_is_sure_where_one_request_alone_was_sent() {
-        let (now, full) = (Instant::now(), || Outcome::Refused { error: "Full".to_string() });
+        let (now, full) = (Instant::now(), || Outcome::Refused { error: Refusal::Full });
         for (requests, reply) in [
             (1, json!({"ok": false, "error": "Full", "why": FULL})),
             (2, json!({"ok": false, "error": "Full", "why": FULL, "may_be_kept": true})),
@@ -340,8 +353,32 @@ mod tests {
     }
 
     #[test]
+    fn a_refusal_is_sure_where_each_that_was_asked_once_refuses() {
+        let (now, draining) = (Instant::now(), || Outcome::Refused { error: Refusal::Draining });
+        let (mut outbox, serial) = outbox(now);
+        let token = Token { life: 9, serial };
+        for to in [1, 2] {
+            outbox.datagram(serial, to);
+            outbox.replied(to, token, stale(77, 0));
+            outbox.datagram(serial, to);
+            // an answer may come twice
+            for _ in 0..2 {
+                let (_, given) = outbox.replied(to, token, draining()).unwrap();
+                assert!(outbox.settle(serial, given, now).is_none());
+            }
+        }
+        assert_eq!(told(outbox.due(now + MIN_PATIENCE, false)), json!({"ok": false, "error": "Draining"}));
+        let (mut outbox, serial) = self::outbox(now);
+        outbox.datagram(serial, 1);
+        outbox.replied(1, token, stale(77, 0));
+        outbox.datagram(serial, 1);
+        outbox.replied(2, token, draining());
+        assert_eq!(told(outbox.due(now + MIN_PATIENCE, false))["may_be_kept"], true, "it is another one's");
+    }
+
+    #[test]
     fn a_device_that_failed_leaves_in_doubt_what_it_was_to_keep() {
-        let (now, device) = (Instant::now(), || "Device".to_string());
+        let now = Instant::now();
         let (mut own, serial) = outbox(now);
         own.asks_own(serial);
         own.own_answered(serial);
@@ -350,8 +387,8 @@ mod tests {
         other.datagram(there, 2);
         other.replied(2, token, stale(77, 0));
         other.datagram(there, 2);
-        let (_, given) = other.replied(2, token, Outcome::Refused { error: device() }).unwrap();
-        for said in [own.settle(serial, Given::Refused { error: device() }, now), other.settle(there, given, now)] {
+        let (_, given) = other.replied(2, token, Outcome::Refused { error: Refusal::Device }).unwrap();
+        for said in [own.settle(serial, Given::Refused(Refusal::Device), now), other.settle(there, given, now)] {
             let reply: Value = serde_json::from_slice(&said.unwrap().1.line()).unwrap();
             assert_eq!(reply, json!({"ok": false, "error": "Device", "may_be_kept": true}));
         }
@@ -367,7 +404,7 @@ mod tests {
             outbox.replied(to, token, stale(77, 0));
             outbox.datagram(serial, to);
         }
-        let (_, given) = outbox.replied(2, token, Outcome::Refused { error: "Full".to_string() }).unwrap();
+        let (_, given) = outbox.replied(2, token, Outcome::Refused { error: Refusal::Full }).unwrap();
         let (_, said) = outbox.settle(serial, given, now).unwrap();
         assert_eq!(serde_json::from_slice::<Value>(&said.line()).unwrap()["may_be_kept"], true);
     }
@@ -383,10 +420,23 @@ mod tests {
     }
 
     #[test]
+    fn a_refusal_of_a_later_version_is_in_doubt() {
+        let now = Instant::now();
+        let (mut outbox, serial) = outbox(now);
+        let later: Outcome = serde_json::from_value(json!({"refused": {"error": "OfLater"}})).unwrap();
+        let token = Token { life: 9, serial };
+        outbox.datagram(serial, 2);
+        let (_, given) = outbox.replied(2, token, later).unwrap();
+        let (_, said) = outbox.settle(serial, given, now).unwrap();
+        let reply: Value = serde_json::from_slice(&said.line()).unwrap();
+        assert_eq!(reply, json!({"ok": false, "error": "NoAnswer", "may_be_kept": true}));
+    }
+
+    #[test]
     fn a_lasting_refusal_ends_it() {
         let now = Instant::now();
         let (mut outbox, serial) = outbox(now);
-        assert!(outbox.settle(serial, Given::Refused { error: "Full".to_string() }, now).is_some());
+        assert!(outbox.settle(serial, Given::Refused(Refusal::Full), now).is_some());
         assert!(outbox.due(now + MIN_PATIENCE, true).is_none());
     }
 }

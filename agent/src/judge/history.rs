@@ -329,7 +329,7 @@ mod tests {
     use super::*;
 
     fn entries(lines: &str) -> Vec<String> {
-        let record = NodeRecord { node: 0, lines: lines.lines().map(str::to_string).collect() };
+        let record = NodeRecord { node: 0, is_there: true, lines: lines.lines().map(str::to_string).collect() };
         let begins = [Begin { count: 100, id: 5 }];
         let (entries, _) = History::of(0, &record, &begins).unwrap().entries();
         entries.iter().map(Value::to_string).collect()
@@ -371,7 +371,7 @@ mod tests {
             (90_000, [5009, 90_001, 90_001, 91_900]),
         ] {
             let lines = START.replace("start", "start 5000") + &tick(9) + &again(second) + &tick(1) + &tick(1900);
-            let record = NodeRecord { node: 0, lines: lines.lines().map(str::to_string).collect() };
+            let record = NodeRecord { node: 0, is_there: true, lines: lines.lines().map(str::to_string).collect() };
             let (entries, turns) = History::of(0, &record, &[Begin { count: 100, id: 5 }]).unwrap().entries();
             let seen: Vec<(&str, u64)> =
                 entries.iter().zip(&turns).map(|(entry, turn)| (entry["do"].as_str().unwrap(), turn.time)).collect();
@@ -385,7 +385,7 @@ mod tests {
     #[test]
     fn counts_that_no_node_reaches_are_refused() {
         let lines = format!("{START}> merge\nstart\n> recover\nkeeps 18446744073709551615 5 0\nok 1\n");
-        let record = NodeRecord { node: 0, lines: lines.lines().map(str::to_string).collect() };
+        let record = NodeRecord { node: 0, is_there: true, lines: lines.lines().map(str::to_string).collect() };
         assert!(History::of(0, &record, &[Begin { count: 100, id: 5 }]).is_err());
     }
 

@@ -25,6 +25,9 @@ pub fn trace_of(records: &[NodeRecord]) -> Result<Value, RecordError> {
 
 /// What the file of a node kept when its record began: a trace begins with count 1 and id 0.
 fn begin_of(record: &NodeRecord) -> Result<Begin, RecordError> {
+    if !record.is_there {
+        return Ok(Begin::default());
+    }
     let fault = |what| RecordError::NoBegin { node: record.node, what };
     if record.lines.first().map_or(false, |first| !first.starts_with("start")) {
         return Err(fault("the node ran already"));
@@ -46,14 +49,15 @@ mod tests {
     use super::*;
 
     fn said(lines: &str) -> String {
-        let record = NodeRecord { node: 0, lines: lines.lines().map(str::to_string).collect() };
-        trace_of(&[record]).map_or_else(|why| why.to_string(), |trace| trace["nodes"].to_string())
+        let record = NodeRecord { node: 0, is_there: true, lines: lines.lines().map(str::to_string).collect() };
+        let empty = NodeRecord { node: 1, is_there: false, lines: Vec::new() };
+        trace_of(&[record, empty]).map_or_else(|why| why.to_string(), |trace| trace["nodes"].to_string())
     }
 
     #[test]
     fn a_record_that_lacks_a_part_of_the_run_is_not_judged() {
         let start = "start\n> recover\ngroup Normal 0 0:101 0\nkeeps 101 5 0\nok 1\n";
-        assert_eq!(said(start), "1");
+        assert_eq!(said(start), "2");
         let begin = |what: &str| format!("the record of node 0 can't be judged: {what} where it begins");
         assert_eq!(said(&format!("> tick 9\nok 7\n{start}")), begin("the node ran already"));
         assert_eq!(said(&start.replace("5 0", "5 1")), begin("the node kept jobs already"));

@@ -1,5 +1,6 @@
 //! Record files, put together.
 
+use std::collections::BTreeSet;
 use std::fs::File;
 use std::io::{self, Read};
 use std::path::{Path, PathBuf};
@@ -14,7 +15,7 @@ pub enum RecordError {
     Unreadable { path: PathBuf, why: io::Error },
     #[error("{0}: this is no record of a node")]
     NoRecord(PathBuf),
-    #[error("the records are of {nodes} nodes, and none is of node {missing}")]
+    #[error("the records are of {nodes} places, and none is of node {missing}, which others heard")]
     Missing { nodes: usize, missing: usize },
     #[error("of node {node} part {part} is missing")]
     Gap { node: usize, part: u64 },
@@ -30,10 +31,21 @@ pub enum RecordError {
     Line { node: usize, line: String },
 }
 
-/// All that was recorded of one node.
+/// All that was recorded of one node; of a place that nobody heard of there is nothing.
 pub struct NodeRecord {
     pub node: usize,
+    /// Whether there is a file of it.
+    pub is_there: bool,
     pub lines: Vec<String>,
+}
+
+/// Where a message has its sender, in hex digits.
+const SENDER: std::ops::Range<usize> = 4..6;
+
+/// The node that said what was brought by a line.
+fn sender_of(line: &str) -> Option<usize> {
+    let digits = line.strip_prefix("> deliver ")?.get(SENDER)?;
+    usize::from_str_radix(digits, 16).ok()
 }
 
 struct Part {
@@ -91,7 +103,7 @@ pub fn read(paths: &[PathBuf]) -> Result<Vec<NodeRecord>, RecordError> {
     }
     parts.sort_by_key(|part| (part.node, part.part));
     let nodes = parts.iter().map(|part| part.nodes).max().unwrap_or(0);
-    let mut records: Vec<NodeRecord> = (0..nodes).map(|node| NodeRecord { node, lines: Vec::new() }).collect();
+    let mut records: Vec<NodeRecord> = (0..nodes).map(|node| NodeRecord { node, is_there: false, lines: Vec::new() }).collect();
     let mut last: Vec<u64> = vec![0; nodes];
     for part in parts {
         let record = match records.get_mut(part.node) {
@@ -106,10 +118,13 @@ pub fn read(paths: &[PathBuf]) -> Result<Vec<NodeRecord>, RecordError> {
             return Err(RecordError::Gap { node: part.node, part: next });
         }
         last[part.node] = part.part;
+        record.is_there = true;
         record.lines.extend(part.lines);
     }
-    match last.iter().position(|part| *part == 0) {
-        Some(missing) => Err(RecordError::Missing { nodes, missing }),
+    // a place that nobody heard had no machine, or one that did nothing that the others saw
+    let heard: BTreeSet<usize> = records.iter().flat_map(|record| &record.lines).filter_map(|line| sender_of(line)).collect();
+    match records.iter().find(|record| !record.is_there && heard.contains(&record.node)) {
+        Some(missing) => Err(RecordError::Missing { nodes, missing: missing.node }),
         None => Ok(records),
     }
 }
@@ -145,6 +160,7 @@ mod tests {
             path
         };
         let first = file("0", "node 0 of 2 part 1 cluster a b");
+        let heard = file("4", "node 0 of 2 part 1 cluster a b\nstart\n> deliver 010101000000\nok 2");
         let other = file("1", "node 1 of 2 part 1 cluster a b");
         let third = file("2", "node 1 of 2 part 3 cluster a b");
         let foreign = file("3", "node 1 of 2 part 1 cluster a");
@@ -155,7 +171,8 @@ mod tests {
         assert_eq!(said(&[&other, &first]), "2");
         assert_eq!(said(&[&other, &first, &first]), "of node 0 part 1 is given twice");
         assert_eq!(said(&[&first, &third, &other]), "of node 1 part 2 is missing");
-        assert_eq!(said(&[&first]), "the records are of 2 nodes, and none is of node 1");
+        assert_eq!((said(&[&first]), said(&[&heard, &other])), ("2".to_string(), "2".to_string()));
+        assert_eq!(said(&[&heard]), "the records are of 2 places, and none is of node 1, which others heard");
         assert_eq!(said(&[&first, &foreign]), "these are records of two clusters, \"a b\" and \"a\"");
         fs::remove_dir_all(&folder).unwrap();
     }

@@ -1,12 +1,14 @@
 //! Datagrams between the machines of a cluster.
 
 mod backlog;
+mod cipher;
 mod kernel;
 mod link;
 mod pace;
 mod peers;
 
 pub use backlog::Backlog;
+pub use cipher::{is_encrypted, Cipher, LONGER};
 pub use link::{Link, MAX_DATAGRAM};
 pub use pace::{GroupBytes, Leaves, Pace};
 pub use peers::{News, Peer, Peers};

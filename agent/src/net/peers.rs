@@ -1,5 +1,7 @@
 //! The other nodes: where they are, and when they were heard.
 
+use crate::config::EMPTY;
+use std::collections::BTreeMap;
 use std::net::SocketAddr;
 use std::time::{Duration, Instant};
 
@@ -13,11 +15,14 @@ const SILENCE: Duration = Duration::from_secs(5);
 const UNANSWERED: u32 = 10;
 
 pub struct Peer {
-    /// HOST:PORT, as the configuration has it.
+    /// HOST:PORT, as the configuration has it; of a place without a machine "-".
     pub name: String,
     pub address: Option<SocketAddr>,
     /// When the node last took a message that names this one as its sender.
     pub heard: Option<Instant>,
+    /// The tags of its machine, as its agent told them last, and when.
+    pub tags: BTreeMap<String, String>,
+    pub tagged: Option<Instant>,
     looked_up: Option<Instant>,
     /// Where that came from.
     heard_from: Option<SocketAddr>,
@@ -56,19 +61,14 @@ pub enum News {
     NoAddress,
 }
 
-pub struct Peers {
-    own: usize,
-    is_ipv6: bool,
-    unanswered: Duration,
-    peers: Vec<Peer>,
-}
-
-impl Peers {
-    pub fn new(own: u8, names: &[String], is_ipv6: bool, round_trip: Duration) -> Peers {
-        let peer = |name: &String| Peer {
-            name: name.clone(),
+impl Peer {
+    fn new(name: &str) -> Peer {
+        Peer {
+            name: name.to_string(),
             address: None,
             heard: None,
+            tags: BTreeMap::new(),
+            tagged: None,
             looked_up: None,
             heard_from: None,
             known: Vec::new(),
@@ -83,15 +83,62 @@ impl Peers {
             was_found: None,
             is_unsent: false,
             said: None,
-        };
+        }
+    }
+
+    /// Whether its place has a machine.
+    pub fn is_machine(&self) -> bool {
+        self.name != EMPTY
+    }
+}
+
+pub struct Peers {
+    own: usize,
+    is_ipv6: bool,
+    unanswered: Duration,
+    peers: Vec<Peer>,
+}
+
+impl Peers {
+    pub fn new(own: u8, names: &[String], is_ipv6: bool, round_trip: Duration) -> Peers {
         let unanswered = (round_trip * UNANSWERED).max(SILENCE);
-        let mut peers = Peers { own: usize::from(own), is_ipv6, unanswered, peers: names.iter().map(peer).collect() };
+        let peers = names.iter().map(|name| Peer::new(name)).collect();
+        let mut peers = Peers { own: usize::from(own), is_ipv6, unanswered, peers };
         (0..peers.peers.len()).for_each(|at| peers.take_literal(at));
         peers
     }
 
     pub fn all(&self) -> &[Peer] {
         &self.peers
+    }
+
+    /// Whether a node's place has a machine.
+    pub fn has_machine(&self, node: u8) -> bool {
+        self.peers.get(usize::from(node)).map_or(false, Peer::is_machine)
+    }
+
+    /// Whether a node's place is there and has none.
+    pub fn is_empty_place(&self, node: u8) -> bool {
+        self.peers.get(usize::from(node)).map_or(false, |peer| !peer.is_machine())
+    }
+
+    /// The machine of a node has these tags.
+    pub fn tag(&mut self, node: u8, tags: BTreeMap<String, String>, now: Instant) {
+        if let Some(peer) = self.peers.get_mut(usize::from(node)) {
+            (peer.tags, peer.tagged) = (tags, Some(now));
+        }
+    }
+
+    /// How many places the list has up to its last machine.
+    pub fn listed(&self) -> u8 {
+        let last = self.peers.iter().rposition(Peer::is_machine);
+        last.map_or(0, |last| last as u8 + 1)
+    }
+
+    /// The nodes that have a machine, beside the own one.
+    pub fn others(&self) -> impl Iterator<Item = u8> + '_ {
+        let own = self.own;
+        (0..).zip(self.peers.iter().enumerate()).filter(move |(_, (at, peer))| *at != own && peer.is_machine()).map(|(node, _)| node)
     }
 
     pub fn address(&self, node: u8) -> Option<SocketAddr> {
@@ -174,6 +221,11 @@ impl Peers {
         self.silence(node, now).map_or(false, |silence| silence < SILENCE)
     }
 
+    /// Whether it was, and didn't say since that it ends.
+    pub fn is_there(&self, node: u8, now: Instant) -> bool {
+        self.is_heard(node, now) && !self.has_left(node)
+    }
+
     /// How long ago a node was heard.
     pub fn silence(&self, node: u8, now: Instant) -> Option<Duration> {
         let heard = self.peers.get(usize::from(node)).and_then(|peer| peer.heard);
@@ -202,9 +254,13 @@ impl Peers {
         self.peers.iter().position(|peer| peer.address == Some(from) || peer.heard_from == Some(from))
     }
 
-    /// Other names for the same nodes.
+    /// Other names for the same places. Nothing is known any more of a machine that was taken away, and nothing yet of one that came.
     pub fn rename(&mut self, names: &[String]) {
         for (at, name) in names.iter().enumerate().take(self.peers.len()) {
+            if (name == EMPTY) == self.peers[at].is_machine() {
+                self.peers[at] = Peer::new(name);
+                self.take_literal(at);
+            }
             if self.peers[at].name != *name {
                 self.peers[at].name = name.clone();
                 (self.peers[at].looked_up, self.peers[at].was_found) = (None, None);
@@ -239,8 +295,8 @@ impl Peers {
         let own = self.own;
         let others = self.peers.iter_mut().enumerate().filter(|(at, _)| *at != own);
         let is_doubtful = |peer: &Peer| is_old(peer.heard) || peer.heard_from != peer.address;
-        let is_wanted =
-            |peer: &Peer| is_doubtful(peer) && is_old(peer.looked_up) && peer.name.parse::<SocketAddr>().is_err();
+        let is_name = |peer: &Peer| peer.is_machine() && peer.name.parse::<SocketAddr>().is_err();
+        let is_wanted = |peer: &Peer| is_name(peer) && is_doubtful(peer) && is_old(peer.looked_up);
         let (at, peer) = others.filter(|(_, peer)| is_wanted(peer)).min_by_key(|(_, peer)| peer.looked_up)?;
         peer.looked_up = Some(now);
         if is_old(peer.heard) {
@@ -480,6 +536,20 @@ mod tests {
         peers.rename(&["x:1", "c:2", "[::1]:3"].map(str::to_string));
         peers.hear(1, "127.0.0.2:2".parse().unwrap(), now);
         assert_eq!(peers.next_look_up(now), Some((1, "c:2".to_string())));
+    }
+
+    #[test]
+    fn a_place_without_a_machine_has_no_address_and_is_not_looked_up() {
+        let (now, from) = (Instant::now(), "10.0.0.9:2".parse().unwrap());
+        let mut peers = peers_of(&["127.0.0.1:1", "-", "b:2"].map(str::to_string));
+        assert_eq!((peers.others().collect::<Vec<_>>(), peers.has_machine(1), peers.address(1), peers.has_machine(3)), (vec![2], false, None, false));
+        assert_eq!((peers.next_look_up(now), peers.next_look_up(now)), (Some((2, "b:2".to_string())), None));
+        peers.hear(2, from, now);
+        peers.rename(&["127.0.0.1:1", "10.0.0.8:2", "-"].map(str::to_string));
+        assert_eq!((peers.others().collect::<Vec<_>>(), peers.address(1), peers.at(from)), (vec![1], Some("10.0.0.8:2".parse().unwrap()), None));
+        assert!(!peers.is_heard(2, now) && peers.next_look_up(now + SILENCE * 2).is_none());
+        peers.rename(&["127.0.0.1:1", "10.0.0.8:2", "c:2"].map(str::to_string));
+        assert_eq!(peers.next_look_up(now), Some((2, "c:2".to_string())), "a name that came is looked up at once");
     }
 
     #[test]

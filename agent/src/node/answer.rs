@@ -1,21 +1,16 @@
 //! A whole answer of the node: its lines, and the one that closes it.
 
 use super::line::{Line, LineError};
-
-#[derive(Clone, Debug, PartialEq, Eq)]
-pub enum Refusal {
-    /// The job has to be submitted at this node.
-    NotCoordinator(u8),
-    /// The node's file can't be mounted: this sector is damaged.
-    Damaged(u64),
-    /// Any other one, by its name.
-    Named(String),
-}
+use super::Refusal;
 
 #[derive(Clone, Debug, PartialEq, Eq)]
 pub enum Closing {
     /// With the id of a submitted job.
     Ok(Option<u64>),
+    /// The job has to be submitted at this node.
+    Elsewhere(u8),
+    /// The node's file can't be mounted: this sector is damaged.
+    Damaged(u64),
     Refused(Refusal),
     Bad,
     Fault,
@@ -29,15 +24,27 @@ impl Closing {
             ["ok", _, "id", id] => id.parse().ok().map(|id| Closing::Ok(Some(id))),
             ["ok", _] => Some(Closing::Ok(None)),
             ["refused", _, "NotCoordinator", node] => {
-                node.parse().ok().map(|node| Closing::Refused(Refusal::NotCoordinator(node)))
+                node.parse().ok().map(Closing::Elsewhere)
             }
             ["refused", _, "Damaged", sector] => {
-                sector.parse().ok().map(|sector| Closing::Refused(Refusal::Damaged(sector)))
+                sector.parse().ok().map(Closing::Damaged)
             }
-            ["refused", _, name, ..] => Some(Closing::Refused(Refusal::Named(name.to_string()))),
+            ["refused", _, name, ..] => Some(Closing::Refused(Refusal::read(name))),
             ["bad", _] => Some(Closing::Bad),
             ["fault", _, ..] => Some(Closing::Fault),
             _ => None,
+        }
+    }
+
+    /// Why it wasn't done, where it wasn't.
+    pub fn refusal(&self) -> Option<Refusal> {
+        match self {
+            Closing::Ok(_) => None,
+            Closing::Elsewhere(_) => Some(Refusal::NotCoordinator),
+            Closing::Damaged(_) => Some(Refusal::Damaged),
+            Closing::Refused(refusal) => Some(*refusal),
+            Closing::Bad => Some(Refusal::Unreadable),
+            Closing::Fault => Some(Refusal::Device),
         }
     }
 }
@@ -51,13 +58,6 @@ pub struct Answer<A> {
 }
 
 impl<A> Answer<A> {
-    /// Whether it says that something is in the node's file now: a job that is kept or done, a count, an area.
-    pub fn is_durable(&self) -> bool {
-        let is_kept = matches!(self.closing, Closing::Ok(Some(_)));
-        let is_other = |line: &Line| matches!(line, Line::Group(_) | Line::Gone { .. });
-        is_kept || self.lines.iter().any(is_other)
-    }
-
     /// Lines that can't be read are left out: no later line of the answer depends on them.
     pub fn of(own: u8, asker: A, texts: &[String], closing: Closing) -> (Answer<A>, Vec<LineError>) {
         let (mut lines, mut faults) = (Vec::with_capacity(texts.len()), Vec::new());
@@ -79,9 +79,9 @@ mod tests {
     fn closings() {
         assert_eq!(Closing::read("ok 3"), Some(Closing::Ok(None)));
         assert_eq!(Closing::read("ok 3 id 8"), Some(Closing::Ok(Some(8))));
-        assert_eq!(Closing::read("refused 4 NotCoordinator 2"), Some(Closing::Refused(Refusal::NotCoordinator(2))));
-        assert_eq!(Closing::read("refused 4 Full"), Some(Closing::Refused(Refusal::Named("Full".to_string()))));
-        assert_eq!(Closing::read("refused 1 Damaged 12"), Some(Closing::Refused(Refusal::Damaged(12))));
+        assert_eq!(Closing::read("refused 4 NotCoordinator 2"), Some(Closing::Elsewhere(2)));
+        assert_eq!(Closing::read("refused 4 Full"), Some(Closing::Refused(Refusal::Full)));
+        assert_eq!(Closing::read("refused 1 Damaged 12"), Some(Closing::Damaged(12)));
         assert_eq!(Closing::read("fault 9 Device"), Some(Closing::Fault));
         assert_eq!(Closing::read("send 1 00"), None);
     }

@@ -5,9 +5,11 @@ mod group;
 mod job;
 mod line;
 mod process;
+mod refusal;
 
-pub use answer::{Answer, Closing, Refusal};
+pub use answer::{Answer, Closing};
 pub use group::{Group, GroupNumber, Phase};
 pub use job::{Job, JobKey, Payload, PayloadError};
 pub use line::{Line, LineError};
 pub use process::{node_command, Lane, NodeProcess};
+pub use refusal::Refusal;

@@ -68,8 +68,9 @@ pub fn node_command(config: &Config) -> Command {
     let mut command = own_session::command([&config.program]);
     command.arg("node").arg(&config.file).arg(config.id.to_string()).arg(config.nodes.len().to_string());
     command.arg(config.round_trip_ms.to_string());
+    command.arg("--cluster").arg(&config.cluster);
     if let Some(key) = &config.key {
-        command.arg("--key").arg(key).arg("--cluster").arg(&config.cluster);
+        command.arg("--key").arg(key);
     }
     command
 }

@@ -3,6 +3,7 @@
 use super::{RequestError, Tag};
 use serde::Serialize;
 use serde_json::{json, Map, Value};
+use std::fmt::Display;
 
 /// An object that becomes a line.
 #[derive(Clone, Debug)]
@@ -14,8 +15,8 @@ impl Reply {
     }
 
     /// Nothing was done, for the reason of this name.
-    pub fn refused(name: &str) -> Reply {
-        Reply(Map::new()).with("ok", false).with("error", name)
+    pub fn refused(name: impl Display) -> Reply {
+        Reply(Map::new()).with("ok", false).with("error", name.to_string())
     }
 
     pub fn unreadable(error: &RequestError) -> Reply {

@@ -1,6 +1,8 @@
 //! Requests.
 
-use super::VERSION;
+use super::{QUEUES, VERSION};
+use crate::forward::Key;
+use crate::lease::is_name;
 use crate::node::{Payload, PayloadError};
 use serde::Deserialize;
 use serde_json::{Map, Value};
@@ -10,6 +12,11 @@ use thiserror::Error;
 pub type Tag = Option<Value>;
 
 const MAX_TAG: usize = 200;
+const MAX_KEY: usize = 200;
+const MAX_TEXT: usize = 400;
+
+/// A job that is given back waits for a day at most.
+pub const MAX_AFTER_MS: u64 = 86_400_000;
 
 #[derive(Clone, Debug, Deserialize, PartialEq, Eq)]
 #[serde(tag = "do", rename_all = "lowercase", deny_unknown_fields)]
@@ -29,26 +36,67 @@ pub enum Request {
         priority: u8,
         text: Option<String>,
         hex: Option<String>,
+        /// One that is made again under its key is one job.
+        key: Option<String>,
     },
-    /// A job to be worked on: one that nobody works on now, or, with `wait`, the next one.
+    /// A job of one of these queues to be worked on: one that nobody works on now, or, with `wait`, the next one.
     Take {
         queue: Option<u8>,
+        queues: Option<Vec<u8>>,
         #[serde(default)]
         wait: bool,
     },
+    /// The work on a job is done; or, where `ok` is false, it is given back: to be given again after some time, or put aside.
     Finish {
         origin: u8,
         id: u64,
+        #[serde(default = "yes")]
+        ok: bool,
+        after_ms: Option<u64>,
+        #[serde(default)]
+        aside: bool,
+        /// Also where another client works on it, which is told to stop.
+        #[serde(default)]
+        force: bool,
+    },
+    /// Jobs that were put aside may be given again: those of a queue or of all, or one.
+    Kick {
+        queue: Option<u8>,
+        origin: Option<u8>,
+        id: Option<u64>,
     },
     /// Each change from now on, behind the state; or all that came behind change `since`. With `every_ms` a beat comes that often, too.
     Watch {
         since: Option<u64>,
         every_ms: Option<u64>,
     },
+    /// From now on new jobs are to be kept elsewhere; or, where `on` is false, here again.
+    Drain {
+        #[serde(default = "yes")]
+        on: bool,
+    },
     Compact {},
     Record {
         on: bool,
     },
+    /// Asks for a lease: events say when it is held, and when it is lost.
+    Acquire {
+        name: String,
+    },
+    /// Nothing relies on the lease any more, or it is asked for no more.
+    Release {
+        name: String,
+    },
+    Leases {},
+    /// All machines are told of this, as well as it goes.
+    Event {
+        name: String,
+        text: String,
+    },
+}
+
+fn yes() -> bool {
+    true
 }
 
 #[derive(Debug, Error, PartialEq, Eq)]
@@ -59,12 +107,22 @@ pub enum RequestError {
     Version,
     #[error("{0}")]
     Unreadable(String),
-    #[error("a queue is a number from 0 to 15")]
+    #[error("a queue is a number from 0 to {}", QUEUES - 1)]
     Queue,
     #[error("a priority is a number from 0 to 255")]
     Priority,
-    #[error("`every_ms` is a number from 100 to 60000")]
+    #[error("`every_ms` is a number from 100 to 60000, `after_ms` one from 0 to {MAX_AFTER_MS}")]
     Interval,
+    #[error("`after_ms` and `aside` go with `\"ok\": false`, one of them")]
+    Back,
+    #[error("a key is a text of 1 to {MAX_KEY} bytes")]
+    Key,
+    #[error("a job has `origin` and `id`")]
+    HalfKey,
+    #[error("an event has a text of at most {MAX_TEXT} bytes, few of them control characters")]
+    Text,
+    #[error("a name is 1 to 64 letters, digits and signs of ASCII")]
+    Name,
     #[error("{0}")]
     Payload(#[from] PayloadError),
     #[error("a payload is `text` or `hex`, and here are both")]
@@ -79,10 +137,13 @@ impl RequestError {
         match self {
             RequestError::NoObject => "NoObject",
             RequestError::Version => "Version",
-            RequestError::Unreadable(_) => "Unreadable",
+            RequestError::Unreadable(_) | RequestError::Back | RequestError::HalfKey => "Unreadable",
             RequestError::Queue => "BadQueue",
             RequestError::Priority => "BadPriority",
             RequestError::Interval => "BadInterval",
+            RequestError::Key => "BadKey",
+            RequestError::Name => "BadName",
+            RequestError::Text => "BadPayload",
             RequestError::Payload(_) | RequestError::TwoPayloads | RequestError::NoPayload => "BadPayload",
         }
     }
@@ -112,14 +173,15 @@ impl Envelope {
     /// Whether the node is asked for the answer.
     pub fn asks_node(&self) -> bool {
         use Request::{Compact, Finish, Jobs, Submit};
-        matches!(self.request, Ok(Submit { .. } | Finish { .. } | Jobs { .. } | Compact {}))
+        matches!(self.request, Ok(Submit { .. } | Finish { ok: true, .. } | Jobs { .. } | Compact {}))
     }
 
     fn request_of(object: Map<String, Value>) -> Result<Request, RequestError> {
         for (field, range, error) in [
-            ("queue", 0..=15, RequestError::Queue),
+            ("queue", 0..=u64::from(QUEUES - 1), RequestError::Queue),
             ("priority", 0..=255, RequestError::Priority),
             ("every_ms", 100..=60_000, RequestError::Interval),
+            ("after_ms", 0..=MAX_AFTER_MS, RequestError::Interval),
         ] {
             let is_wrong =
                 |value: &Value| !value.is_null() && value.as_u64().map_or(true, |value| !range.contains(&value));
@@ -129,6 +191,25 @@ impl Envelope {
         }
         serde_json::from_value(Value::Object(object)).map_err(|error| RequestError::Unreadable(error.to_string()))
     }
+}
+
+/// The key of a submission.
+pub fn key_of(key: Option<String>) -> Result<Option<Key>, RequestError> {
+    match key {
+        Some(key) if key.is_empty() || key.len() > MAX_KEY => Err(RequestError::Key),
+        key => Ok(key.map(|key| Key::of(&key))),
+    }
+}
+
+/// The text of an event, which travels as JSON in one datagram.
+pub fn text_of(text: String) -> Result<String, RequestError> {
+    let spelled = serde_json::to_string(&text).map_or(usize::MAX, |spelled| spelled.len());
+    (text.len() <= MAX_TEXT && spelled <= 2 * MAX_TEXT + 2).then_some(text).ok_or(RequestError::Text)
+}
+
+/// The name of a lease, or of an event.
+pub fn named(name: String) -> Result<String, RequestError> {
+    is_name(&name).then_some(name).ok_or(RequestError::Name)
 }
 
 /// The payload of a submitted job.
@@ -152,14 +233,23 @@ mod tests {
     #[test]
     fn requests() {
         assert_eq!(read(r#"{"do":"status"}"#), Ok(Request::Status {}));
-        assert_eq!(read(r#"{"v":1,"do":"take","wait":true}"#), Ok(Request::Take { queue: None, wait: true }));
-        let job = Request::Submit { queue: 3, priority: 0, text: Some("hi".to_string()), hex: None };
+        assert_eq!(read(r#"{"v":1,"do":"take","wait":true}"#), Ok(Request::Take { queue: None, queues: None, wait: true }));
+        let job = Request::Submit { queue: 3, priority: 0, text: Some("hi".to_string()), hex: None, key: None };
         assert_eq!(read(r#"{"do":"submit","queue":3,"text":"hi","request":7}"#), Ok(job));
+        let back = Request::Finish { origin: 1, id: 7, ok: false, after_ms: Some(0), aside: false, force: false };
+        assert_eq!(read(r#"{"do":"finish","origin":1,"id":7,"ok":false,"after_ms":0}"#), Ok(back));
         let watch = |since, every_ms| Ok(Request::Watch { since, every_ms });
         assert_eq!(read(r#"{"do":"watch"}"#), watch(None, None));
         assert_eq!(read(r#"{"do":"watch","since":7,"every_ms":100}"#), watch(Some(7), Some(100)));
         assert_eq!(Envelope::read(br#"{"do":"status","request":"a"}"#).tag, Some(Value::from("a")));
         assert_eq!(Envelope::read(br#"{"do":"status","request":[1]}"#).tag, None);
+    }
+
+    #[test]
+    fn keys() {
+        let key = |text: &str| key_of(Some(text.to_string()));
+        assert_eq!((key_of(None), key(""), key(&"k".repeat(201))), (Ok(None), Err(RequestError::Key), Err(RequestError::Key)));
+        assert!(key("a") == key("a") && key("a") != key("b") && key(&"k".repeat(200)).is_ok());
     }
 
     #[test]
@@ -177,6 +267,8 @@ mod tests {
             (r#"{"do":"submit","queue":1,"text":"","priority":256}"#, "BadPriority"),
             (r#"{"do":"submit","queue":16,"text":""}"#, "BadQueue"),
             (r#"{"do":"take","queue":16}"#, "BadQueue"),
+            (r#"{"do":"take","queues":[300]}"#, "Unreadable"),
+            (r#"{"do":"finish","origin":1,"id":7,"ok":false,"after_ms":86400001}"#, "BadInterval"),
             (r#"{"do":"watch","every_ms":99}"#, "BadInterval"),
             (r#"{"do":"watch","every_ms":60001}"#, "BadInterval"),
             (r#"{"do":"watch","every_ms":1.5}"#, "BadInterval"),

@@ -100,6 +100,19 @@ impl Client {
         }
     }
 
+    /// Reads what it wrote, unless much of it waits already; false where it is gone.
+    pub fn look(&mut self) -> bool {
+        self.is_readable = !self.is_ended;
+        while self.input.len() < MAX_LINE {
+            match self.fill() {
+                Ok(true) => {}
+                Ok(false) => return true,
+                Err(_) => return false,
+            }
+        }
+        true
+    }
+
     /// Reads once more; false where nothing is there now.
     fn fill(&mut self) -> io::Result<bool> {
         let mut piece = [0; 4096];

@@ -2,7 +2,7 @@
 
 use super::client::{Client, Next};
 use super::Beats;
-use crate::protocol::{Reply, Tag};
+use crate::protocol::{Reply, Tag, Wanted};
 use log::{debug, warn};
 use mio::net::{UnixListener, UnixStream};
 use mio::{Interest, Registry, Token};
@@ -42,7 +42,7 @@ pub type ClientId = usize;
 pub struct Waiting {
     pub client: ClientId,
     pub tag: Tag,
-    pub queue: Option<u8>,
+    pub wanted: Wanted,
 }
 
 pub struct Clients {
@@ -203,6 +203,11 @@ impl Clients {
         None
     }
 
+    /// Whether a client is there now: one that ended just now may not have been noticed yet.
+    pub fn is_there(&mut self, id: ClientId) -> bool {
+        self.all.get_mut(&id).map_or(false, |client| client.look() && !client.is_gone())
+    }
+
     /// A client is owed an answer.
     pub fn owe(&mut self, id: ClientId) {
         if let Some(client) = self.all.get_mut(&id) {
@@ -235,6 +240,11 @@ impl Clients {
 
     pub fn tell(&mut self, id: ClientId, reply: &Reply) {
         self.tell_line(id, &reply.line());
+    }
+
+    /// How long ago a client asked for something last; None where it is gone.
+    pub fn silence(&self, id: ClientId, now: Instant) -> Option<Duration> {
+        self.all.get(&id).map(|client| now.saturating_duration_since(client.asked))
     }
 
     /// Tells lines that were written before.
@@ -299,8 +309,13 @@ impl Clients {
 
     /// The oldest request that waits for a job of this queue.
     pub fn take_first_waiting(&mut self, queue: u8) -> Option<Waiting> {
-        let at = self.waiting.iter().position(|one| one.queue.map_or(true, |wanted| wanted == queue))?;
+        let at = self.waiting.iter().position(|one| one.wanted.has(queue))?;
         self.waiting.remove(at)
+    }
+
+    /// A request that was the first one goes on waiting as such.
+    pub fn wait_first(&mut self, waiting: Waiting) {
+        self.waiting.push_front(waiting);
     }
 
     /// Those that wait, the oldest request first.
@@ -394,7 +409,7 @@ mod tests {
     }
 
     fn wait(clients: &mut Clients, client: ClientId, queue: u8) {
-        assert!(clients.wait(Waiting { client, tag: None, queue: Some(queue) }));
+        assert!(clients.wait(Waiting { client, tag: None, wanted: Wanted::of(&[queue]) }));
     }
 
     #[test]

@@ -1,5 +1,6 @@
 //! Local services at the Unix socket.
 
+mod attempts;
 mod client;
 mod clients;
 mod hand;
@@ -7,5 +8,5 @@ mod watch;
 
 pub use client::Client;
 pub use clients::{is_left, ClientId, Clients, Waiting};
-pub use hand::{Given, Hand};
+pub use hand::{Back, Given, Hand, Taken};
 pub use watch::{Beats, Changes};

@@ -7,10 +7,8 @@ use Rattle.file_disk.specs.declared.stride.Stride.TheVariants.{Packed, Spaced}
 use Rattle.group_task.specs.declared.node.TheConstants.{NODES}
 use Rattle.disk_sector.specs.declared.layout.TheConstants.{LEAST_SLOTS, MOST_SLOTS}
 use Rattle.line_words.specs.Words.{number_of}
-use Rattle.trace_draw.specs.declared.judging.Stage.{Stage}
-use Rattle.trace_draw.specs.declared.judging.Stage.TheVariants.{Over, Ongoing}
-use Rattle.trace_draw.specs.declared.drawing.OutputFormat.{OutputFormat}
-use Rattle.trace_draw.specs.declared.drawing.OutputFormat.TheVariants as format
+use Rattle.trace_console.specs.declared.judging.Stage.{Stage}
+use Rattle.trace_console.specs.declared.judging.Stage.TheVariants.{Over, Ongoing}
 use Rattle.store_console.specs.declared.inspecting.Shown.{Shown}
 use Rattle.store_console.specs.declared.inspecting.Shown.TheVariants as show
 use Rattle.threads_console.specs.declared.kind.TraceKind.{TraceKind}
@@ -20,7 +18,7 @@ use Rattle.command_line.specs.declared.invocation.NodePlace.{NodePlace}
 use Rattle.command_line.specs.declared.invocation.Making.{Making}
 use Rattle.command_line.specs.declared.invocation.Sealing.{Sealing}
 use Rattle.command_line.specs.declared.invocation.Batch.{Batch}
-use Rattle.command_line.specs.declared.invocation.Batch.TheVariants.{Answer, Show, Sim, Store, Trace, Record, Threads, Draw}
+use Rattle.command_line.specs.declared.invocation.Batch.TheVariants.{Answer, Show, Sim, Store, Trace, Record, Threads, Turns}
 use Rattle.command_line.specs.declared.invocation.Invocation.{Invocation}
 use Rattle.command_line.specs.declared.invocation.Invocation.TheVariants as invocation
 
@@ -48,9 +46,15 @@ pub data Asked : Type 0 where
   records : Asked
   -- whether the order is printed, too
   runs_threads : Bool → Asked
-  draws : Bool → Asked
-  makes : List ℕ → Made → Option (List ℕ) → Asked
-  serves : List ℕ → ℕ × ℕ → ℕ → Option Sealed → Asked
+  -- the turns of a trace
+  tells_turns : Asked
+  -- with the file of its jobs, and the name of its cluster
+  makes : List ℕ → Made → Option (List ℕ) → Option (List ℕ) → Asked
+  -- the name of the cluster is said under a key and without one
+  serves : List ℕ → ℕ × ℕ → ℕ → Option Sealed → Option (List ℕ) → Asked
+  -- the file of a machine's leases, and the number that its processes begin behind
+  makes_leases : List ℕ → ℕ → ℕ → Asked
+  serves_leases : List ℕ → ℕ × ℕ → ℕ → Option Sealed → Asked
   -- whether it is verified, too
   inspects : Bool → List ℕ → Asked
   -- whether the jobs are salvaged
@@ -75,11 +79,6 @@ abbrev pub is_ordered : TraceKind → Bool
 is_ordered Plain = false
 is_ordered Ordered = true
 
--- whether a page is drawn, and no picture
-abbrev pub is_page : OutputFormat → Bool
-is_page format.Picture = false
-is_page format.Page = true
-
 abbrev pub asked_batch : Batch → Asked
 asked_batch (Answer place) = answers (placed place)
 asked_batch Show = shows
@@ -88,7 +87,7 @@ asked_batch (Store path) = stores (string_bytes path)
 asked_batch (Trace stage) = traces (is_ongoing stage) []
 asked_batch Record = records
 asked_batch (Threads kind) = runs_threads (is_ordered kind)
-asked_batch (Draw format) = draws (is_page format)
+asked_batch Turns = tells_turns
 
 abbrev pub looks : Shown → List ℕ → Asked
 looks show.All path = inspects false path
@@ -97,8 +96,11 @@ looks show.Jobs path = exports false path
 
 abbrev pub asked : Invocation → Asked
 asked (invocation.Batch batch) = asked_batch batch
-asked (invocation.Format path making jobs) = makes (string_bytes path) (made making) (option_map string_bytes jobs)
-asked (invocation.Node path place round_trip sealing) = serves (string_bytes path) (placed place) round_trip (option_map sealed sealing)
+asked (invocation.Format path making jobs cluster) = makes (string_bytes path) (made making) (option_map string_bytes jobs) (option_map string_bytes cluster)
+asked (invocation.Node path place round_trip sealing cluster) =
+    serves (string_bytes path) (placed place) round_trip (option_map sealed sealing) (option_map string_bytes cluster)
+asked (invocation.FormatLeases path machine first) = makes_leases (string_bytes path) machine first
+asked (invocation.Lease path place round_trip sealing) = serves_leases (string_bytes path) (placed place) round_trip (option_map sealed sealing)
 asked (invocation.Look path shown) = looks shown (string_bytes path)
 asked (invocation.Salvage path) = exports true (string_bytes path)
 asked (invocation.Trace stage files) = traces (is_ongoing stage) (map string_bytes files.items)
@@ -163,12 +165,26 @@ making_by (Some place) (Some slots) (Some first) (Some stride) =
 abbrev pub making_of : Arguments → Option Made
 making_of arguments = making_by (place_of arguments) (number_in (arguments (codes "SLOTS"))) (first_of (arguments (codes "FIRST"))) (stride_of (arguments (codes "stride")))
 
-abbrev pub format_by : Option (List ℕ) → Option Made → Option (List ℕ) → Option Asked
-format_by None made jobs = None
-format_by (Some path) made jobs = option_map (λ m. makes path m jobs) made
+abbrev pub format_by : Option (List ℕ) → Option Made → Option (List ℕ) → Option (List ℕ) → Option Asked
+format_by None made jobs cluster = None
+format_by (Some path) made jobs cluster = option_map (λ m. makes path m jobs cluster) made
+
+abbrev pub machine_of : Option ℕ → Option ℕ
+machine_of None = None
+machine_of (Some machine) = if nat_le NODES machine then None else Some machine
+
+abbrev pub leases_by : Option (List ℕ) → Option ℕ → Option ℕ → Option Asked
+leases_by None machine first = None
+leases_by (Some path) None first = None
+leases_by (Some path) (Some machine) first = option_map (makes_leases path machine) first
+
+-- a file of leases: its words are the file, the machine, and what the numbers of its processes begin behind
+abbrev pub format_leases_of : Arguments → Option Asked
+format_leases_of arguments = leases_by (arguments (codes "FILE")) (machine_of (number_in (arguments (codes "SLOTS")))) (first_of (arguments (codes "SELF")))
 
 abbrev pub format_of : Arguments → Option Asked
-format_of arguments = format_by (arguments (codes "FILE")) (making_of arguments) (arguments (codes "jobs"))
+format_of arguments = if is_set (arguments (codes "lease")) then format_leases_of arguments
+    else format_by (arguments (codes "FILE")) (making_of arguments) (arguments (codes "jobs")) (arguments (codes "cluster"))
 
 abbrev pub round_trip_in : Option ℕ → Option ℕ
 round_trip_in None = None
@@ -186,15 +202,35 @@ sealed_by None (Some cluster) = None
 sealed_by (Some key) None = None
 sealed_by (Some key) (Some cluster) = Some (Some (record { key = key; cluster = cluster }))
 
-abbrev pub serves_by : Option (List ℕ) → Option (ℕ × ℕ) → Option ℕ → Option (Option Sealed) → Option Asked
-serves_by None place round_trip sealing = None
-serves_by (Some path) None round_trip sealing = None
-serves_by (Some path) (Some place) None sealing = None
-serves_by (Some path) (Some place) (Some ms) sealing = option_map (serves path place ms) sealing
+-- a key isn't given without a name; a name may be given alone
+abbrev pub keyed_by : Option (List ℕ) → Option (List ℕ) → Option (Option Sealed)
+keyed_by None cluster = Some None
+keyed_by (Some key) None = None
+keyed_by (Some key) (Some cluster) = Some (Some (record { key = key; cluster = cluster }))
+
+abbrev pub serves_by : Option (List ℕ) → Option (ℕ × ℕ) → Option ℕ → Option (Option Sealed) → Option (List ℕ) → Option Asked
+serves_by None place round_trip sealing cluster = None
+serves_by (Some path) None round_trip sealing cluster = None
+serves_by (Some path) (Some place) None sealing cluster = None
+serves_by (Some path) (Some place) (Some ms) sealing cluster = option_map (λ s. serves path place ms s cluster) sealing
+
+abbrev pub lease_by : Option (List ℕ) → Option (ℕ × ℕ) → Option ℕ → Option (Option Sealed) → Option Asked
+lease_by None place round_trip sealing = None
+lease_by (Some path) None round_trip sealing = None
+lease_by (Some path) (Some place) None sealing = None
+lease_by (Some path) (Some place) (Some ms) sealing = option_map (serves_leases path place ms) sealing
+
+abbrev pub lease_of : Arguments → Option Asked
+lease_of arguments = lease_by (arguments (codes "FILE")) (place_of arguments) (round_trip_of (arguments (codes "ROUND_TRIP_MS")))
+    (sealed_by (arguments (codes "key")) (arguments (codes "cluster")))
 
 abbrev pub node_of : Arguments → Option Asked
 node_of arguments = serves_by (arguments (codes "FILE")) (place_of arguments) (round_trip_of (arguments (codes "ROUND_TRIP_MS")))
-    (sealed_by (arguments (codes "key")) (arguments (codes "cluster")))
+    (keyed_by (arguments (codes "key")) (arguments (codes "cluster"))) (arguments (codes "cluster"))
+
+-- the turns of a trace, or the verdict on it
+abbrev pub trace_of : Arguments → Lists → Asked
+trace_of arguments lists = if is_set (arguments (codes "turns")) then tells_turns else traces (is_set (arguments (codes "ongoing"))) (lists (codes "FILE"))
 
 -- what the command of a name asks for; nothing, where a number is out of its range
 abbrev pub asked_by : List ℕ → Arguments → Lists → Option Asked
@@ -203,11 +239,11 @@ asked_by name arguments lists =
     if bytes_eq name (codes "show") then Some shows else
     if bytes_eq name (codes "sim") then Some (simulates (is_set (arguments (codes "names"))) (is_set (arguments (codes "nodes")))) else
     if bytes_eq name (codes "store") then option_map stores (arguments (codes "PATH")) else
-    if bytes_eq name (codes "trace") then Some (traces (is_set (arguments (codes "ongoing"))) (lists (codes "FILE"))) else
+    if bytes_eq name (codes "trace") then Some (trace_of arguments lists) else
     if bytes_eq name (codes "record") then Some records else
     if bytes_eq name (codes "threads") then Some (runs_threads (is_set (arguments (codes "order")))) else
-    if bytes_eq name (codes "draw") then Some (draws (is_set (arguments (codes "html")))) else
     if bytes_eq name (codes "format") then format_of arguments else
     if bytes_eq name (codes "node") then node_of arguments else
+    if bytes_eq name (codes "lease") then lease_of arguments else
     if bytes_eq name (codes "inspect") then option_map (inspects (is_set (arguments (codes "verify")))) (arguments (codes "FILE")) else
     if bytes_eq name (codes "export") then option_map (exports (is_set (arguments (codes "salvage")))) (arguments (codes "FILE")) else None

@@ -27,6 +27,7 @@ code_of status.Done = 0
 code_of (status.Failed error) = 1
 code_of (status.File fault) = code_for fault
 code_of (status.Foreign owner) = 5
+code_of (status.Spent fault) = 5
 code_of (status.Device error) = 3
 code_of status.Key = 6
 code_of (status.Lost error) = 7

@@ -1,7 +1,7 @@
 // From the words of the command line to what they ask for.
 ghost use Rattle.std.specs.Prelude.{◌≡◌, IfOk, Some, bytes_eq, codes, map, option_map, string_bytes};
 ghost use Rattle.clap.specs.Words.{first_value, found_of};
-ghost use Rattle.command_line.specs.Asked.{answers, asked, asked_by, exports, format_of, inspects, is_ongoing, is_ordered, is_page, is_set, made, making_of, node_of, placed, place_of, round_trip_of, sealed, sealed_by, stores, stride_of, traces, values_of};
+ghost use Rattle.command_line.specs.Asked.{answers, asked, asked_by, exports, format_leases_of, format_of, first_of, inspects, is_ongoing, is_ordered, is_set, keyed_by, lease_of, machine_of, made, making_of, node_of, number_in, placed, place_of, round_trip_of, sealed, sealed_by, stores, stride_of, trace_of, values_of};
 
 use crate::invocation::{
     Batch, Invocation, MOST_ROUND_TRIP, Making, NodePlace, ROUND_TRIP, Sealing,
@@ -15,7 +15,7 @@ use line_words::number;
 use std::alloc::{AllocError, Global};
 use store_console::Shown;
 use threads_console::TraceKind;
-use trace_draw::{OutputFormat, Stage};
+use trace_console::Stage;
 
 /// What the command of this name asks for, with these arguments. None where a number is out of its range.
 pub fn invocation(
@@ -26,7 +26,7 @@ pub fn invocation(
     // Promise: The command that is run is the one that was named, with its arguments as numbers, and the exit status is that of its
     // ending.
     // Also: perform.
-    // Refuses: one_command_for_another, sim_shows, every_status_zero, picture_for_a_page, files_passed_over, inspected_without_verifying.
+    // Refuses: one_command_for_another, sim_shows, every_status_zero, turns_passed_over, files_passed_over, inspected_without_verifying.
     ensures { IfOk result (λ invocation. option_map asked invocation ≡ asked_by name.now (λ id. first_value (found_of words.now) id) (λ id. values_of (found_of words.now) id)) }
 {
     if is(name, "answer") {
@@ -43,12 +43,12 @@ pub fn invocation(
         Ok(Some(Invocation::Batch(Batch::Record)))
     } else if is(name, "threads") {
         Ok(Some(Invocation::Batch(Batch::Threads(trace_kind(words)))))
-    } else if is(name, "draw") {
-        Ok(Some(Invocation::Batch(Batch::Draw(output_format(words)))))
     } else if is(name, "format") {
         format(alloc, words)
     } else if is(name, "node") {
         node(alloc, words)
+    } else if is(name, "lease") {
+        lease(alloc, words)
     } else if is(name, "inspect") {
         inspect(alloc, words)
     } else if is(name, "export") {
@@ -74,11 +74,14 @@ fn sim_details(words: &ArgMatches<'_>) -> Details
     }
 }
 
-/// The run of the files that are named, or of standard input where none is.
+/// The turns of the run of standard input, or the verdict on the run of the files that are named, or of standard input where none is.
 fn trace(alloc: Global, words: &ArgMatches<'_>) -> Result<Option<Invocation>, AllocError>
     ensures { IfOk result (λ invocation. option_map asked invocation
-        ≡ Some (traces (is_set (first_value (found_of words.now) (codes "ongoing"))) (values_of (found_of words.now) (codes "FILE")))) }
+        ≡ Some (trace_of (λ id. first_value (found_of words.now) id) (λ id. values_of (found_of words.now) id))) }
 {
+    if is_set(words, "turns") {
+        return Ok(Some(Invocation::Batch(Batch::Turns)));
+    }
     let stage = stage(words);
     let files = files(alloc, words)?;
     if files.is_empty() {
@@ -129,17 +132,6 @@ fn trace_kind(words: &ArgMatches<'_>) -> TraceKind
     }
 }
 
-/// As what a run is to be drawn.
-fn output_format(words: &ArgMatches<'_>) -> OutputFormat
-    ensures { is_page result ≡ is_set (first_value (found_of words.now) (codes "html")) }
-{
-    if is_set(words, "html") {
-        OutputFormat::Page
-    } else {
-        OutputFormat::Picture
-    }
-}
-
 fn store(alloc: Global, words: &ArgMatches<'_>) -> Result<Option<Invocation>, AllocError>
     ensures { IfOk result (λ invocation. option_map asked invocation ≡ option_map stores (first_value (found_of words.now) (codes "PATH"))) }
 {
@@ -152,11 +144,65 @@ fn store(alloc: Global, words: &ArgMatches<'_>) -> Result<Option<Invocation>, Al
 fn format(alloc: Global, words: &ArgMatches<'_>) -> Result<Option<Invocation>, AllocError>
     ensures { IfOk result (λ invocation. option_map asked invocation ≡ format_of (λ id. first_value (found_of words.now) id)) }
 {
+    if is_set(words, "lease") {
+        return format_leases(alloc, words);
+    }
     let (Some(path), Some(making)) = (words.get_str("FILE"), making(words)) else {
         return Ok(None);
     };
     let jobs = named(alloc, words, "jobs")?;
-    Ok(Some(Invocation::Format(String::from_str(alloc, path)?, making, jobs)))
+    let cluster = named(alloc, words, "cluster")?;
+    Ok(Some(Invocation::Format(String::from_str(alloc, path)?, making, jobs, cluster)))
+}
+
+/// A file of leases: what stands at the place of SLOTS is its SELF, and behind it FIRST.
+fn format_leases(alloc: Global, words: &ArgMatches<'_>) -> Result<Option<Invocation>, AllocError>
+    ensures { IfOk result (λ invocation. option_map asked invocation ≡ format_leases_of (λ id. first_value (found_of words.now) id)) }
+{
+    let (Some(path), Some(machine)) = (words.get_str("FILE"), machine(words)) else {
+        return Ok(None);
+    };
+    let Some(first) = lease_first(words) else {
+        return Ok(None);
+    };
+    Ok(Some(Invocation::FormatLeases(String::from_str(alloc, path)?, machine, first)))
+}
+
+/// The machine that the word at the place of SLOTS names.
+pub(crate) fn machine(words: &ArgMatches<'_>) -> Option<NodeId>
+    ensures { result ≡ machine_of (number_in (first_value (found_of words.now) (codes "SLOTS"))) }
+{
+    let machine = number(words.get_str("SLOTS")?.as_bytes())?;
+    if u64::from(NODES) <= machine {
+        return None;
+    }
+    Some(NodeId::numbered(machine as u8))
+}
+
+/// The number that the word at the place of SELF names, or 0.
+fn lease_first(words: &ArgMatches<'_>) -> Option<u64>
+    ensures { result ≡ first_of (first_value (found_of words.now) (codes "SELF")) }
+{
+    match words.get_str("SELF") {
+        Some(word) => number(word.as_bytes()),
+        None => Some(0),
+    }
+}
+
+fn lease(alloc: Global, words: &ArgMatches<'_>) -> Result<Option<Invocation>, AllocError>
+    ensures { IfOk result (λ invocation. option_map asked invocation ≡ lease_of (λ id. first_value (found_of words.now) id)) }
+{
+    let (Some(path), Some(place)) = (words.get_str("FILE"), place(words)) else {
+        return Ok(None);
+    };
+    let Some(round_trip) = round_trip(words) else {
+        return Ok(None);
+    };
+    let Some(sealing) = sealing(alloc, words)? else {
+        return Ok(None);
+    };
+    let path = String::from_str(alloc, path)?;
+    Ok(Some(Invocation::Lease(path, place, round_trip, sealing)))
 }
 
 /// The value of an option, where it was given.
@@ -178,11 +224,27 @@ fn node(alloc: Global, words: &ArgMatches<'_>) -> Result<Option<Invocation>, All
     let Some(round_trip) = round_trip(words) else {
         return Ok(None);
     };
-    let Some(sealing) = sealing(alloc, words)? else {
+    let Some(sealing) = node_sealing(alloc, words)? else {
         return Ok(None);
     };
+    let cluster = named(alloc, words, "cluster")?;
     let path = String::from_str(alloc, path)?;
-    Ok(Some(Invocation::Node(path, place, round_trip, sealing)))
+    Ok(Some(Invocation::Node(path, place, round_trip, sealing, cluster)))
+}
+
+/// A file of keys and the name of a cluster, or no keys; None where keys are given without a name.
+fn node_sealing(
+    alloc: Global,
+    words: &ArgMatches<'_>,
+) -> Result<Option<Option<Sealing>>, AllocError>
+    ensures { IfOk result (λ given. option_map (λ s. option_map sealed s) given
+        ≡ keyed_by (first_value (found_of words.now) (codes "key")) (first_value (found_of words.now) (codes "cluster"))) }
+{
+    match (words.get_str("key"), words.get_str("cluster")) {
+        (None, _) => Ok(Some(None)),
+        (Some(key), Some(cluster)) => Ok(Some(Some(sealing_by(alloc, key, cluster)?))),
+        _ => Ok(None),
+    }
 }
 
 /// A file of keys and the name of a cluster, or neither; None where one is given without the other.
@@ -192,13 +254,17 @@ fn sealing(alloc: Global, words: &ArgMatches<'_>) -> Result<Option<Option<Sealin
 {
     match (words.get_str("key"), words.get_str("cluster")) {
         (None, None) => Ok(Some(None)),
-        (Some(key), Some(cluster)) => {
-            let key = String::from_str(alloc, key)?;
-            let cluster = String::from_str(alloc, cluster)?;
-            Ok(Some(Some(Sealing { key, cluster })))
-        }
+        (Some(key), Some(cluster)) => Ok(Some(Some(sealing_by(alloc, key, cluster)?))),
         _ => Ok(None),
     }
+}
+
+fn sealing_by(alloc: Global, key: &str, cluster: &str) -> Result<Sealing, AllocError>
+    ensures { IfOk result (λ sealing. sealed sealing ≡ record { key = key.now; cluster = cluster.now }) }
+{
+    let key = String::from_str(alloc, key)?;
+    let cluster = String::from_str(alloc, cluster)?;
+    Ok(Sealing { key, cluster })
 }
 
 /// What a round trip takes, in milliseconds.

@@ -18,8 +18,14 @@ enum ArgumentKind {
     Flag,
     /// `--` and its name, with a value.
     Valued,
+    /// A word at its place, which is left out beside the other argument.
+    Unless(&'static str),
+    /// `--` and its name, without a value, and none of the other arguments.
+    Without(&'static [&'static str]),
     /// `--`, its name and a value, which is called so, only beside the other argument.
     Beside(&'static str, &'static str),
+    /// `--`, its name and a value, which is called so.
+    Called(&'static str),
 }
 
 /// An argument of a command.
@@ -57,6 +63,12 @@ const FILE: Argument = Argument {
     help: "The file of the node",
 };
 
+const LEASE_FILE: Argument = Argument {
+    name: "FILE",
+    kind: ArgumentKind::Word,
+    help: "The file of leases of this machine",
+};
+
 const LOOKED_AT: Argument = Argument {
     name: "FILE",
     kind: ArgumentKind::Word,
@@ -79,6 +91,27 @@ const SLOTS: Argument = Argument {
     name: "SLOTS",
     kind: ArgumentKind::Word,
     help: "How many records an area of its journal holds, 4 to 4096",
+};
+
+const FORMAT_SLOTS: Argument = Argument {
+    kind: ArgumentKind::Unless("lease"),
+    ..SLOTS
+};
+
+const FORMAT_SELF: Argument = Argument {
+    kind: ArgumentKind::Unless("lease"),
+    ..SELF
+};
+
+const FORMAT_NODES: Argument = Argument {
+    kind: ArgumentKind::Unless("lease"),
+    ..NODES
+};
+
+const LEASE: Argument = Argument {
+    name: "lease",
+    kind: ArgumentKind::Without(&["NODES", "FIRST", "jobs", "stride", "cluster"]),
+    help: "Makes a file of leases: behind FILE stand the SELF of its machine and then FIRST, if any, and no more",
 };
 
 const FIRST: Argument = Argument {
@@ -109,6 +142,18 @@ const CLUSTER: Argument = Argument {
     name: "cluster",
     kind: ArgumentKind::Beside("NAME", "key"),
     help: "The name of the cluster, which the key is bound to",
+};
+
+const NODE_CLUSTER: Argument = Argument {
+    name: "cluster",
+    kind: ArgumentKind::Called("NAME"),
+    help: "The name of the cluster, which the key is bound to: a file that was made for another one isn't taken",
+};
+
+const FORMAT_CLUSTER: Argument = Argument {
+    name: "cluster",
+    kind: ArgumentKind::Called("NAME"),
+    help: "The name of the cluster that it is made for: a node of another one doesn't take it",
 };
 
 const VERIFY: Argument = Argument {
@@ -153,10 +198,10 @@ const ORDER: Argument = Argument {
     help: "Prints the order in which the turns were taken, too",
 };
 
-const HTML: Argument = Argument {
-    name: "html",
-    kind: ArgumentKind::Flag,
-    help: "Prints a page of HTML that scrolls and zooms, for long runs, in place of an SVG",
+const TURNS: Argument = Argument {
+    name: "turns",
+    kind: ArgumentKind::Without(&["FILE", "ongoing"]),
+    help: "Prints the turns in the order that stands beside the trace, if they can come so, and how the node of each stands then",
 };
 
 /// The commands in the order of the help.
@@ -188,14 +233,30 @@ const COMMANDS: [Described; 12] = [
     Described {
         name: "format",
         about: "Makes the file of a node, where there is none of this name",
-        more: "It reads nothing but the jobs. A node that lost its file takes FIRST above each count and id that it gave (docs/FORMATS.md).\n\nExit status: 0 the file was made; 1 there is something of its name, or a line of the jobs can't be taken, reading or writing failed, or there was no memory; 2 the command line can't be read, or asks for help; 3 the device failed; 7 its folder isn't there, or may not be written; 8 there is no room for it.\n\nExample: invite format /tmp/node0 64 0 3",
-        arguments: &[FILE, SLOTS, SELF, NODES, FIRST, JOBS, STRIDE],
+        more: "It reads nothing but the jobs. With --lease it is the file of a process of leases, as in: invite format --lease /tmp/leases0 0. A node that lost its file takes FIRST above each count and id that it gave (docs/FORMATS.md).\n\nExit status: 0 the file was made; 1 there is something of its name, or a line of the jobs can't be taken, reading or writing failed, or there was no memory; 2 the command line can't be read, or asks for help; 3 the device failed; 7 its folder isn't there, or may not be written; 8 there is no room for it.\n\nExample: invite format /tmp/node0 64 0 3",
+        arguments: &[
+            FILE,
+            FORMAT_SLOTS,
+            FORMAT_SELF,
+            FORMAT_NODES,
+            FIRST,
+            JOBS,
+            STRIDE,
+            FORMAT_CLUSTER,
+            LEASE,
+        ],
     },
     Described {
         name: "node",
         about: "Reads lines that ask something of the node over its file, and answers each at once",
-        more: "Its lines are events such as check, deliver HEX, submit, finish, tick MS, and state and jobs (docs/FORMATS.md).\n\nExit status: 0 the input ended; 1 reading or writing failed, or there was no memory; 2 the command line can't be read, or asks for help; 3 the device failed; 4 another process has the file open; 5 the file isn't this node's; 6 the keys can't be used; 7 the file can't be opened, or was removed or cut off meanwhile.\n\nExample: printf 'state\\n' | invite node /tmp/node0 0 3",
-        arguments: &[FILE, SELF, NODES, ROUND_TRIP_MS, KEY, CLUSTER],
+        more: "Its lines are events such as check, deliver HEX, submit, finish, tick MS, and state and jobs (docs/FORMATS.md).\n\nExit status: 0 the input ended; 1 reading or writing failed, or there was no memory; 2 the command line can't be read, or asks for help; 3 the device failed; 4 another process has the file open; 5 the file isn't this node's; 6 the keys can't be used; 7 the file can't be opened, or was removed, replaced, cut off or written over meanwhile.\n\nExample: printf 'state\\n' | invite node /tmp/node0 0 3",
+        arguments: &[FILE, SELF, NODES, ROUND_TRIP_MS, KEY, NODE_CLUSTER],
+    },
+    Described {
+        name: "lease",
+        about: "Reads lines that ask something of a process of leases over its file, and answers each at once",
+        more: "It writes process COUNT first; a time of a line is read behind that. Its lines are tick MS, deliver MS HEX, acquire MS NAME CLIENT and release MS NAME CLIENT (docs/FORMATS.md).\n\nExit status: 0 the input ended; 1 reading or writing failed, or there was no memory; 2 the command line can't be read, or asks for help; 3 the device failed; 4 another process has the file open; 5 the file isn't one of this machine's leases, is damaged, or has no epochs left; 6 the keys can't be used; 7 the file can't be opened, or was removed or cut off meanwhile.\n\nExample: printf 'tick 0\\n' | invite lease /tmp/leases0 0 3",
+        arguments: &[LEASE_FILE, SELF, NODES, ROUND_TRIP_MS, KEY, CLUSTER],
     },
     Described {
         name: "inspect",
@@ -213,7 +274,7 @@ const COMMANDS: [Described; 12] = [
         name: "trace",
         about: "Reads a trace, and prints an order in which its entries can have come, or where none goes on",
         more: "A trace is the nodes' histories as JSON. It is read from standard input, or from files that have some of the nodes each, in their order (docs/SIMULATION.md).\n\nExit status: 0 it is a run, or one that may go on; 1 it is none, or no trace, reading or writing failed, or there was no memory; 2 the command line can't be read, or asks for help.\n\nExample: echo '{\"nodes\":1,\"histories\":[[{\"do\":\"check\",\"sent\":[]}]]}' | invite trace",
-        arguments: &[JUDGED, ONGOING],
+        arguments: &[JUDGED, ONGOING, TURNS],
     },
     Described {
         name: "record",
@@ -226,12 +287,6 @@ const COMMANDS: [Described; 12] = [
         about: "Reads plans, runs them on nodes in threads, and prints the trace of that run",
         more: "The first line is cluster NODES SLOTS, the second links CAPACITY, each other one a turn of a worker, such as 0 clock check, 1 intake 0 or 0 operator crash (docs/SIMULATION.md). The trace is what trace reads: the nodes and their histories, in one line.\n\nExit status: 0 the trace was printed; 1 a line can't be read, or the run is unfinished, reading or writing failed, or there was no memory; 2 the command line can't be read, or asks for help.\n\nExample: invite threads < plans/question.txt",
         arguments: &[ORDER],
-    },
-    Described {
-        name: "draw",
-        about: "Reads a trace, and prints a picture of the run that was recorded",
-        more: "The picture is an SVG: a row for each node, a mark for each entry, an arrow for each message that came, in the order that stands beside the trace, if one does (docs/SIMULATION.md).\n\nExit status: 0 the picture was printed; 1 it is no run, or no trace, reading or writing failed, or there was no memory; 2 the command line can't be read, or asks for help.\n\nExample: echo '{\"nodes\":1,\"histories\":[[{\"do\":\"check\",\"sent\":[]}]]}' | invite draw",
-        arguments: &[HTML],
     },
 ];
 
@@ -275,9 +330,15 @@ fn made<'a>(alloc: Global, argument: &Argument) -> Result<Arg<'a>, AllocError> {
         ArgumentKind::Several => Ok(named.num_args(1..)),
         ArgumentKind::Flag => Ok(named.long(argument.name).action(ArgAction::SetTrue)),
         ArgumentKind::Valued => Ok(named.long(argument.name)),
+        ArgumentKind::Unless(other) => named.required_unless_present(other),
+        ArgumentKind::Without(others) => named
+            .long(argument.name)
+            .action(ArgAction::SetTrue)
+            .conflicts_with_all(others),
         ArgumentKind::Beside(value, other) => named
             .long(argument.name)
             .value_name(value)
             .requires_arg(other),
+        ArgumentKind::Called(value) => Ok(named.long(argument.name).value_name(value)),
     }
 }

@@ -8,7 +8,7 @@ use group_task::NodeId;
 use invite_console::Details;
 use store_console::Shown;
 use threads_console::TraceKind;
-use trace_draw::{OutputFormat, Stage};
+use trace_console::Stage;
 
 /// What a round trip between nodes takes where nothing else is said, and at most, in milliseconds of the clock that ticks tell.
 pub const ROUND_TRIP: u16 = 20;
@@ -20,11 +20,15 @@ pub const MOST_ROUND_TRIP: u16 = 60_000;
 pub enum Invocation {
     /// A command that reads its whole input first.
     Batch(Batch),
-    /// The file of this path is to be made, with the jobs of the lines of another one, where that is named.
-    Format(String, Making, Option<String>),
+    /// The file of this path is to be made, with the jobs of the lines of another one, where that is named, for the cluster of this name.
+    Format(String, Making, Option<String>, Option<String>),
     /// A node is to be served, over the file of this path, where a round trip takes so many milliseconds, with its messages sealed where
-    /// there are keys.
-    Node(String, NodePlace, u16, Option<Sealing>),
+    /// there are keys, in the cluster of this name.
+    Node(String, NodePlace, u16, Option<Sealing>, Option<String>),
+    /// The file of this path is to be made for the leases of a machine, numbered from behind this on.
+    FormatLeases(String, NodeId, u64),
+    /// A process of leases is to be served, as a node is.
+    Lease(String, NodePlace, u16, Option<Sealing>),
     /// What the file of this path holds is to be printed, all of it or its jobs.
     Look(String, Shown),
     /// The jobs of the file of this path are to be printed that can still be read.
@@ -46,7 +50,8 @@ pub enum Batch {
     Record,
     /// The trace of a run alone, or with its order.
     Threads(TraceKind),
-    Draw(OutputFormat),
+    /// Of a trace.
+    Turns,
 }
 
 /// What a file is made for.

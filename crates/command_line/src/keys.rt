@@ -1,11 +1,14 @@
 // The keys of a node's messages, as a file has them.
-ghost use Rattle.std.specs.Prelude.{◌≡◌, IfOk, option_map};
+ghost use Rattle.std.specs.Prelude.{◌≡◌, IfOk, IfSome, option_map};
 ghost use Rattle.line_words.specs.Lines.{lines_of};
+ghost use Rattle.sealed_msg.specs.Cluster.{cluster_key};
 ghost use Rattle.command_line.specs.Keys.{first_and, one_of, pair_of, secret_in, secrets_of, two_of};
+ghost use Rattle.command_line.specs.Served.{AreSpelled, IsSealBy, seals_by};
 
+use lease_session::{LeaseSeal, lease_key};
 use line_words::{bytes, cut_line};
 use node_session::Seal;
-use sealed_msg::cluster_key;
+use sealed_msg::{Key, cluster_key};
 use std::alloc::{AllocError, Global};
 use std::fs::{File, Files};
 use std::io;
@@ -39,23 +42,75 @@ pub(crate) fn read_seal(
     alloc: Global,
     keys: Keys<'_>,
     nodes: u8,
-) -> io::Result<Option<Seal>> {
-    let mut file = File::open(rt, keys.path)?;
+) -> io::Result<Option<Seal>>
+    ensures { IfOk result (λ seal. IfSome seal (λ seals. IsSealBy nodes keys.entry.cluster.now seals)) }
+{
+    let Some(secrets) = read_secrets(rt, alloc, keys.path)? else {
+        return Ok(None);
+    };
+    Ok(Some(seal_by(alloc, &secrets, nodes, keys.cluster.as_bytes())?))
+}
+
+/// What seals and opens the messages of a node of so many, in the cluster of this name, by these secrets.
+#[tactic(auto, unfolding(crate::specs::Served::seals_by, crate::specs::Keys::pair_of, crate::specs::Keys::items_of))]
+fn seal_by(alloc: Global, secrets: &Secrets, nodes: u8, cluster: &[u8]) -> Result<Seal, AllocError>
+    // Promise: Under keys a node seals by the first secret of its file and opens by either, each bound to the cluster's name and the number of its nodes.
+    // Refuses: name_of_the_cluster_not_bound.
+    ensures { IfOk result (λ seals. seals ≡ seals_by (pair_of secrets.now) nodes cluster.now) }
+{
+    let own = cluster_key(alloc, &secrets.own, nodes, cluster)?;
+    let other = other_key(alloc, &secrets.other, nodes, cluster)?;
+    Ok(Seal::new(alloc, own, other))
+}
+
+fn other_key(
+    alloc: Global,
+    other: &Option<Vec<u8>>,
+    nodes: u8,
+    cluster: &[u8],
+) -> Result<Option<Key>, AllocError>
+    ensures { IfOk result (λ key. key ≡ option_map (λ other. cluster_key other.items nodes cluster.now) other.now) }
+{
+    match other {
+        Some(other) => Ok(Some(cluster_key(alloc, other, nodes, cluster)?)),
+        None => Ok(None),
+    }
+}
+
+/// What seals and opens the messages of leases of a machine of so many, likewise.
+pub(crate) fn read_lease_seal(
+    rt: &impl Files<File = File>,
+    alloc: Global,
+    keys: Keys<'_>,
+    machines: u8,
+) -> io::Result<Option<LeaseSeal>> {
+    let Some(secrets) = read_secrets(rt, alloc, keys.path)? else {
+        return Ok(None);
+    };
+    let name = keys.cluster.as_bytes();
+    let own = lease_key(alloc, &secrets.own, machines, name)?;
+    let other = match &secrets.other {
+        Some(other) => Some(lease_key(alloc, other, machines, name)?),
+        None => None,
+    };
+    Ok(Some(LeaseSeal::new(own, other)))
+}
+
+/// The secrets of the file of this path. None where it isn't one of keys, or others may read it.
+fn read_secrets(
+    rt: &impl Files<File = File>,
+    alloc: Global,
+    path: &str,
+) -> io::Result<Option<Secrets>>
+    ensures { IfOk result (λ secrets. IfSome secrets (λ them. AreSpelled (pair_of them))) }
+{
+    let mut file = File::open(rt, path)?;
     let about = file.metadata()?;
     if !about.is_file() || about.permissions().mode() & 0o077 != 0 {
         return Ok(None);
     }
     let text = read_text(alloc, &mut file)?;
-    let Some(secrets) = secrets_in(alloc, &text)? else {
-        return Ok(None);
-    };
-    let name = keys.cluster.as_bytes();
-    let own = cluster_key(alloc, &secrets.own, nodes, name)?;
-    let other = match &secrets.other {
-        Some(other) => Some(cluster_key(alloc, other, nodes, name)?),
-        None => None,
-    };
-    Ok(Some(Seal::new(alloc, own, other)))
+    Ok(secrets_in(alloc, &text)?)
 }
 
 /// Reads a file that may be one of keys; of a longer one no more than tells that.

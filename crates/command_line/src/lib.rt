@@ -1,32 +1,44 @@
 //! The command line of the program `invite`, and the commands of a node: `format` makes its file, and `node` serves it over that, lines in and
-//! lines out. The other commands are those of `invite_console`, `store_console`, `trace_draw` and `threads_console`, over
+//! lines out. The other commands are those of `invite_console`, `store_console`, `trace_console` and `threads_console`, over
 //! standard input and output.
 //!
 //! It stands apart from the program, since a program is proved over the code of all that it reaches, and a library over the interfaces
 //! of what it uses.
 #![tactic(auto)]
 
-ghost use Rattle.std.specs.Prelude.{◌≤◌, ◌+◌, length, IfOk};
+ghost use Rattle.std.specs.Prelude.{◌≡◌, ◌≤◌, ◌+◌, length, IfOk};
+ghost use Rattle.console_text.specs.Ends.{status_of};
+ghost use Rattle.command_line.specs.Ends.{code_of};
 
 mod asking;
 mod commands;
 mod invocation;
 mod keys;
 mod label;
+mod lease_label;
+mod lease_store;
+mod leasing;
 mod making;
 mod mistake;
 mod performing;
 mod reading;
+mod readying;
 mod reasons;
 mod serving;
 mod status;
+mod watching;
 
 use commands::command;
 use console_text::{Ended, ExitKind, IoTrouble, MAX_READS, Sink, Source, read_source};
 use file_disk::OpenFault;
+use group_task::NodeId;
 use invocation::{Batch, Invocation, Making, NodePlace, Sealing};
 use job_model::JobTable;
 use keys::Keys;
+use label::mark_of;
+use lease_machine::LeaseTerms;
+use lease_session::keeps_for;
+use leasing::{format_leases, list_of, serve_leases};
 use line_words::LineFault;
 use making::format_file;
 use mistake::mistake_in;
@@ -42,7 +54,7 @@ use std::process::ExitCode;
 use std::sync::Wait;
 use std::thread::Threads;
 use store_console::Shown;
-use trace_draw::{Stage, TraceFile};
+use trace_console::{Stage, TraceFile};
 
 /// The exit status of a command line that can't be read, or asks for help.
 const UNREADABLE: u8 = 2;
@@ -75,8 +87,25 @@ fn obey<T: Threads + Wait + Sync>(rt: &HostRuntime, threads: &T) -> io::Result<u
     };
     match invocation_of(rt, words.as_slice())? {
         Ok(Invocation::Batch(batch)) => Ok(carry_out(rt, threads, &batch)),
-        Ok(Invocation::Format(path, making, jobs)) => format(rt, path.as_str(), &making, &jobs),
-        Ok(Invocation::Node(path, place, round_trip, sealing)) => node(
+        Ok(Invocation::Format(path, making, jobs, cluster)) => format(
+            rt,
+            path.as_str(),
+            &making,
+            &jobs,
+            &cluster,
+        ),
+        Ok(Invocation::Node(path, place, round_trip, sealing, cluster)) => node(
+            rt,
+            path.as_str(),
+            place,
+            round_trip,
+            &sealing,
+            &cluster,
+        ),
+        Ok(Invocation::FormatLeases(path, machine, first)) => {
+            make_leases(rt, path.as_str(), machine, first)
+        }
+        Ok(Invocation::Lease(path, place, round_trip, sealing)) => lease(
             rt,
             path.as_str(),
             place,
@@ -134,7 +163,7 @@ fn judge(rt: &HostRuntime, stage: Stage, paths: &[String]) -> io::Result<u8> {
         files.push(TraceFile { name, text })?;
     }
     let mut output = Sink::new(rt.stdout());
-    let ended = trace_draw::trace_files(rt.alloc(), stage, &files, &mut output);
+    let ended = trace_console::trace_files(rt.alloc(), stage, &files, &mut output);
     tell(rt, ended, None, output.fault())
 }
 
@@ -168,7 +197,9 @@ fn tell(
     ended: Ended,
     unread: Option<io::Error>,
     unwritten: Option<io::Error>,
-) -> io::Result<u8> {
+) -> io::Result<u8>
+    ensures { IfOk result (λ code. code ≡ status_of ended.ending) }
+{
     let status = ended.ending.status();
     if let Some(reason) = reason_of(ended, unread, unwritten) {
         explain(rt, reason)?;
@@ -183,14 +214,8 @@ fn node(
     place: NodePlace,
     round_trip: u16,
     sealing: &Option<Sealing>,
+    cluster: &Option<String>,
 ) -> io::Result<u8> {
-    let keys = match sealing {
-        Some(sealing) => Some(Keys {
-            path: sealing.key.as_str(),
-            cluster: sealing.cluster.as_str(),
-        }),
-        None => None,
-    };
     let mut input = rt.stdin();
     let mut output = Sink::new(rt.stdout());
     let status = serve_file(
@@ -200,12 +225,38 @@ fn node(
         place.id,
         place.nodes,
         round_trip,
-        keys,
+        keys_of(sealing),
+        mark_of(cluster),
         &mut input,
         &mut output,
+        &mut rt.stderr(),
     );
-    if matches!(status, Status::Failed(_)) && output.fault().is_some() {
-        explain(rt, Reason::Unwritten(output.fault()))?;
+    tell_served(rt, path, sealing, status, output.fault())
+}
+
+/// Where the keys stand, if messages are sealed.
+fn keys_of(sealing: &Option<Sealing>) -> Option<Keys<'_>> {
+    match sealing {
+        Some(sealing) => Some(Keys {
+            path: sealing.key.as_str(),
+            cluster: sealing.cluster.as_str(),
+        }),
+        None => None,
+    }
+}
+
+/// Says on standard error how a node or a process of leases ended, where that wasn't well, and answers the exit status.
+fn tell_served(
+    rt: &HostRuntime,
+    path: &str,
+    sealing: &Option<Sealing>,
+    status: Status,
+    unwritten: Option<io::Error>,
+) -> io::Result<u8>
+    ensures { IfOk result (λ code. code ≡ code_of status) }
+{
+    if matches!(status, Status::Failed(_)) && unwritten.is_some() {
+        explain(rt, Reason::Unwritten(unwritten))?;
         return Ok(status.code());
     }
     match (status, sealing) {
@@ -214,8 +265,50 @@ fn node(
     }
 }
 
+/// Serves a process of leases, and answers the exit status.
+fn lease(
+    rt: &HostRuntime,
+    path: &str,
+    place: NodePlace,
+    round_trip: u16,
+    sealing: &Option<Sealing>,
+) -> io::Result<u8> {
+    let cluster = match sealing {
+        Some(sealing) => Some(sealing.cluster.as_str()),
+        None => None,
+    };
+    let list = list_of(rt.alloc(), place.nodes, cluster)?;
+    let Some(terms) = LeaseTerms::new(place.id, place.nodes, list, keeps_for(round_trip)) else {
+        return Ok(UNREADABLE);
+    };
+    let mut output = Sink::new(rt.stdout());
+    let status = serve_leases(
+        rt,
+        rt.alloc(),
+        path,
+        terms,
+        round_trip,
+        keys_of(sealing),
+        &mut rt.stdin(),
+        &mut output,
+    );
+    tell_served(rt, path, sealing, status, output.fault())
+}
+
+/// Makes the file of a machine's leases, and answers the exit status.
+fn make_leases(rt: &HostRuntime, path: &str, machine: NodeId, first: u64) -> io::Result<u8> {
+    let status = format_leases(rt, path, machine, first);
+    tell_made(rt, path, status)
+}
+
 /// Makes the file of a node, with the jobs of the lines of another file where that is named, and answers the exit status.
-fn format(rt: &HostRuntime, path: &str, making: &Making, jobs: &Option<String>) -> io::Result<u8> {
+fn format(
+    rt: &HostRuntime,
+    path: &str,
+    making: &Making,
+    jobs: &Option<String>,
+    cluster: &Option<String>,
+) -> io::Result<u8> {
     let jobs = match jobs {
         None => store_console::no_jobs(rt.alloc(), making.first),
         Some(lines) => match listed(rt, lines.as_str(), making)? {
@@ -231,8 +324,16 @@ fn format(rt: &HostRuntime, path: &str, making: &Making, jobs: &Option<String>) 
         place.id,
         place.nodes,
         making.stride,
+        mark_of(cluster),
         &jobs,
     );
+    tell_made(rt, path, status)
+}
+
+/// Where a file wasn't made, says why on standard error, and whose the one is that is there. Answers the exit status.
+fn tell_made(rt: &HostRuntime, path: &str, status: Status) -> io::Result<u8>
+    ensures { IfOk result (λ code. code ≡ code_of status) }
+{
     if let Status::File(OpenFault::Exists(_)) = status {
         if let Some(owner) = owner_at(rt, path) {
             eprintln!(rt; "invite: {path}: {status}: {owner}")?;
@@ -334,7 +435,12 @@ fn tell_of_file(
 }
 
 /// Where a command of a node didn't end well, says why on standard error, in one line. Answers the exit status.
-fn explain_status(rt: &HostRuntime, path: &str, status: Status) -> io::Result<u8> {
+fn explain_status(rt: &HostRuntime, path: &str, status: Status) -> io::Result<u8>
+    // Promise: How `format`, `node`, `lease` and the reading of a file end, the exit status says.
+    // Also: tell_served, tell_made, Status::code.
+    // Refuses: status_always_zero.
+    ensures { IfOk result (λ code. code ≡ code_of status) }
+{
     match status {
         Status::Done => {}
         Status::Failed(_) => eprintln!(rt; "invite: {status}")?,
@@ -386,7 +492,7 @@ fn hint(rt: &HostRuntime, words: &[String]) -> io::Result<()> {
         return Ok(());
     }
     let name = words[1].as_str();
-    if matches!(name, "show" | "sim" | "record" | "threads" | "draw") {
+    if matches!(name, "show" | "sim" | "record" | "threads") {
         println!(rt; "\n{name} reads standard input, as in: invite {name} < FILE")?;
     }
     Ok(())

@@ -1,16 +1,16 @@
 ghost use Rattle.std.specs.Prelude.{◌≤◌, ◌+◌, length};
 ghost use Rattle.disk_sector.specs.declared.layout.TheConstants.{LEAST_SLOTS, MOST_SLOTS};
 
-use crate::label::label_of;
 use crate::status::Status;
-use file_disk::{FileDisk, OpenFault, Stride};
+use file_disk::{FileDisk, MARK, OpenFault, Stride, marked_label};
 use group_task::NodeId;
 use job_model::JobTable;
+use node_server::format_node;
 use std::fs;
 use std::fs::{File, Files};
 use std::path::AsPath;
 
-/// Makes the file of a node with these jobs, and sectors so far apart. The next id is what its counter begins with, too: so it gives
+/// Makes the file of a node of the cluster of this mark with these jobs, and sectors so far apart. The next id is what its counter begins with, too: so it gives
 /// no number of a group and no id below it. It is refused where there is something of its name. Where it fails, what it made is removed.
 pub fn format_file<P: AsPath>(
     rt: &impl Files<File = File>,
@@ -19,6 +19,7 @@ pub fn format_file<P: AsPath>(
     id: NodeId,
     nodes: u8,
     stride: Stride,
+    mark: [u8; MARK],
     jobs: &JobTable,
 ) -> Status
     requires least { LEAST_SLOTS ≤ slots }
@@ -29,8 +30,9 @@ pub fn format_file<P: AsPath>(
         Ok(disk) => disk,
         Err(fault) => return Status::File(fault),
     };
-    let begun = node_store::begin(&mut disk, jobs.next(), jobs).is_ok();
-    if begun && disk.set_label(&label_of(id, nodes, stride)).is_ok() {
+    let begun = format_node(&mut disk, jobs).is_ok();
+    let label = marked_label(id.number(), nodes, stride, mark, slots as u16);
+    if begun && disk.set_label(&label).is_ok() {
         return Status::Done;
     }
     let _ = fs::remove_file(rt, &path);

@@ -1,4 +1,4 @@
-use crate::asking::{place, round_trip, stride};
+use crate::asking::{machine, place, round_trip, stride};
 use crate::invocation::MOST_ROUND_TRIP;
 use clap::ArgMatches;
 use disk_sector::{LEAST_SLOTS, MOST_SLOTS};
@@ -11,6 +11,8 @@ use std::fmt::{Display, Formatter};
 #[derive(Clone, Copy, Debug, PartialEq, Eq)]
 pub enum Mistake {
     Place,
+    /// That of a file of leases.
+    Machine,
     Slots,
     First,
     Stride,
@@ -21,7 +23,9 @@ pub enum Mistake {
 
 /// What is wrong with the arguments of the command of this name, where it asks for nothing.
 pub fn mistake_in(name: &str, words: &ArgMatches<'_>) -> Mistake {
-    if place(words).is_none() {
+    if words.get_str("lease") == Some("true") {
+        mistake_in_leases(words)
+    } else if place(words).is_none() {
         Mistake::Place
     } else if name.as_bytes() == "format".as_bytes() {
         mistake_in_format(words)
@@ -29,6 +33,14 @@ pub fn mistake_in(name: &str, words: &ArgMatches<'_>) -> Mistake {
         Mistake::RoundTrip
     } else {
         Mistake::Sealing
+    }
+}
+
+fn mistake_in_leases(words: &ArgMatches<'_>) -> Mistake {
+    if machine(words).is_none() {
+        Mistake::Machine
+    } else {
+        Mistake::First
     }
 }
 
@@ -56,6 +68,7 @@ impl Display for Mistake {
                 f,
                 "SELF and NODES are decimal numbers, NODES from 1 to {NODES}, and SELF is below NODES"
             ),
+            Mistake::Machine => write!(f, "SELF is a decimal number below {NODES}"),
             Mistake::Slots => write!(
                 f,
                 "SLOTS is a decimal number from {LEAST_SLOTS} to {MOST_SLOTS}"

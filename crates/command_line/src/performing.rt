@@ -40,10 +40,10 @@ pub fn perform<T: Threads + Wait + Sync, R: Read, W: Write>(
         Batch::Show => invite_console::show(alloc, input, output),
         Batch::Sim(details) => invite_console::sim(alloc, *details, input, output),
         Batch::Store(path) => store_console::store(rt, alloc, path.as_str(), input, output),
-        Batch::Trace(stage) => trace_draw::trace(alloc, *stage, input, output),
+        Batch::Trace(stage) => trace_console::trace(alloc, *stage, input, output),
         Batch::Record => invite_console::record(alloc, input, output),
         Batch::Threads(kind) => { threads_console::threads(threads, alloc, *kind, input, output) }
-        Batch::Draw(format) => trace_draw::draw(alloc, *format, input, output),
+        Batch::Turns => trace_console::turns(alloc, input, output),
     };
     let status = ended.ending.status();
     Performed { ended, status }

@@ -1,9 +1,8 @@
 use crate::label::{LabelOwner, owner_of};
 use crate::status::Status;
-use file_disk::{LABEL, open_to_read};
+use file_disk::{open_to_read, read_label};
 use std::fs::{File, Files};
 use std::io;
-use std::os::unix::fs::FileExt;
 use std::path::AsPath;
 
 /// Opens a file that is read and not written, also while a node has it open.
@@ -20,10 +19,7 @@ pub fn owner_at<P: AsPath>(rt: &impl Files<File = File>, path: P) -> Option<Labe
 /// Whose this file is.
 pub fn owner_in(file: &File) -> io::Result<LabelOwner> {
     let length = file.metadata()?.len();
-    if length % 512 != LABEL as u64 {
-        return Ok(owner_of(None));
-    }
-    let mut label = [0u8; LABEL];
-    file.read_exact_at(&mut label, length.saturating_sub(LABEL as u64))?;
-    Ok(owner_of(Some(label)))
+    let behind = length % 512;
+    let label = read_label(file, length.saturating_sub(behind), behind)?;
+    Ok(owner_of(label))
 }

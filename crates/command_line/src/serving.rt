@@ -1,29 +1,30 @@
-// A node that is fed with lines and writes lines.
-ghost use Rattle.std.specs.Prelude.{◌<◌, ◌≤◌};
+// A node that is served over its file.
+ghost use Rattle.std.specs.Prelude.{◌≡◌, ◌<◌, ◌≤◌, IfOk, IfErr};
 ghost use Rattle.group_task.specs.declared.node.TheConstants.{NODES};
+ghost use Rattle.pace.specs.Timers.{measured};
+ghost use Rattle.command_line.specs.Served.{IsSealUnder, IsUnserved, ServesSo, ServesTo};
 
 use crate::keys::{Keys, read_seal};
-use crate::label::{LabelOwner, is_own, owner_of};
+use crate::label::{LabelOwner, is_own, judged, owner_of};
+use crate::readying::{Readied, ready_file};
 use crate::status::{Status, stopped};
-use file_disk::FileDisk;
+use crate::watching::Watched;
+use file_disk::{FileDisk, MARK};
 use group_task::NodeId;
-use memchr::memchr;
-use node_session::{Seal, Session};
+use node_server::{ServingEnd, serve_node};
+use node_session::Seal;
 use pace::TimerSettings;
 use sector_disk::SectorDisk;
 use std::alloc::Global;
 use std::fs::{File, Files};
-use std::io;
 use std::io::{ErrorKind, Read, Write};
 use std::path::AsPath;
-use std::time::{Clock, Instant};
+use std::time::Clock;
 
-/// How many bytes one read may give.
-const PIECE: usize = 65_536;
-
-/// Serves a node over its file until the input ends, with its messages sealed where there are keys. A round trip between nodes takes so many
-/// milliseconds of the clock that ticks tell.
-pub fn serve_file<P: AsPath, R: Read, W: Write>(
+/// Serves a node over its file until the input ends, with its messages sealed where there are keys, in the cluster of this mark. A round trip
+/// between nodes takes so many milliseconds of the clock that ticks tell. Where a number is skipped before that, it is told to `errors`.
+#[tactic(auto, using(crate::proofs::Stopped::stops_so, crate::proofs::Stopped::unserved_so))]
+pub fn serve_file<P: AsPath, R: Read, W: Write, E: Write>(
     rt: &(impl Files<File = File> + Clock),
     alloc: Global,
     path: P,
@@ -31,38 +32,85 @@ pub fn serve_file<P: AsPath, R: Read, W: Write>(
     nodes: u8,
     round_trip: u16,
     keys: Option<Keys<'_>>,
+    mark: [u8; MARK],
     input: &mut R,
     output: &mut W,
+    errors: &mut E,
 ) -> Status
     requires within { id < nodes }
     requires most { nodes ≤ NODES }
+    // Promise: `node` reads its input to the end, or until the device fails or the file is lost, and writes just the answers of its session to what it
+    // read: of the node and of so many nodes as the command line says, at its round trip, with its messages sealed under the keys of the
+    // cluster's name and number of nodes where keys are given, and nowhere else. Where the file isn't served, nothing is read or written.
+    // Also: node_server::serve_node.
+    // Refuses: node_server::answers_not_written, node_server::line_fed_twice, node_server::nothing_sealed_under_a_key, keys_not_used, round_trip_ignored.
+    ensures { ServesSo ((input.new ≡ input.old) × (output.new ≡ output.old)) (ServesTo keys.entry id nodes (measured round_trip) (R.remaining input.old) (R.remaining input.new) (W.contents output.old) (W.contents output.new)) result }
 {
     let seal = match seal_of(rt, alloc, keys, nodes) {
         Ok(seal) => seal,
         Err(status) => return status,
     };
-    let disk = match FileDisk::open_labelled(rt, path) {
+    let disk = match opened_own(rt, &path, id, nodes, mark) {
         Ok(disk) => disk,
-        Err(fault) => return Status::File(fault),
+        Err(status) => return status,
     };
-    match disk.label() {
-        Ok(label) if is_own(label, id, nodes, disk.stride()) => {}
-        Ok(label) => return Status::Foreign(owner_of(label)),
-        Err(error) => return Status::Device(Some(error)),
-    }
-    if disk.sectors() < 24 {
-        return Status::Foreign(LabelOwner::Nobody);
-    }
     let setting = TimerSettings::measured(round_trip);
-    let mut session = Session::new(alloc, id, nodes, disk, setting, u64::from(id.number()));
-    if let Some(seal) = seal {
-        session.seal(seal);
+    let Readied { disk, skipped } = match ready_file(alloc, id, nodes, disk, setting) {
+        Ok(readied) => readied,
+        Err(status) => return status,
+    };
+    if let Some(number) = skipped {
+        tell_skipped(errors, path.path_text(), id, number);
     }
-    match serve(rt, &mut session, input, output) {
-        Ok(true) => Status::Done,
-        Ok(false) => stopped(session.into_disk().why()),
+    let watched = match disk.watch() {
+        Ok(file) => Watched::new(rt, &path, file),
+        Err(error) => return Status::Device(Some(error)),
+    };
+    let (end, left) = serve_node(
+        rt, alloc, id, nodes, disk, &watched, setting, seal, input, output,
+    );
+    match end {
+        Ok(ServingEnd::Input) => Status::Done,
+        Ok(ServingEnd::Device) => stopped(left.why()),
+        Ok(ServingEnd::Lost(error)) => Status::Lost(error),
         Err(error) => Status::Failed(error),
     }
+}
+
+/// The file of that node in the cluster of this mark, locked.
+fn opened_own<P: AsPath>(
+    rt: &impl Files<File = File>,
+    path: &P,
+    id: NodeId,
+    nodes: u8,
+    mark: [u8; MARK],
+) -> Result<FileDisk, Status>
+    ensures sectors { IfOk result (λ disk. 24 ≤ disk.sectors) }
+    ensures unserved { IfErr result IsUnserved }
+{
+    let disk = match FileDisk::open_labelled(rt, path) {
+        Ok(disk) => disk,
+        Err(fault) => return Err(Status::File(fault)),
+    };
+    let sectors = disk.sectors();
+    match disk.label() {
+        Ok(label) if is_own(label, id, nodes, disk.stride(), sectors, mark) => {}
+        Ok(label) => return Err(Status::Foreign(judged(owner_of(label), sectors, mark))),
+        Err(error) => return Err(Status::Device(Some(error))),
+    }
+    if sectors < 24 {
+        return Err(Status::Foreign(LabelOwner::Nobody));
+    }
+    Ok(disk)
+}
+
+/// Says that a number of this node was skipped.
+fn tell_skipped<E: Write>(errors: &mut E, path: &str, id: NodeId, number: u64) {
+    let id = id.number();
+    let _ = writeln!(
+        errors,
+        "invite: {path}: group number {id}:{number} may have been given before: it is skipped"
+    );
 }
 
 /// What seals the messages, if there are keys.
@@ -71,7 +119,10 @@ fn seal_of(
     alloc: Global,
     keys: Option<Keys<'_>>,
     nodes: u8,
-) -> Result<Option<Seal>, Status> {
+) -> Result<Option<Seal>, Status>
+    ensures seal { IfOk result (λ seal. IsSealUnder keys.entry nodes seal) }
+    ensures unserved { IfErr result IsUnserved }
+{
     let Some(keys) = keys else {
         return Ok(None);
     };
@@ -81,66 +132,4 @@ fn seal_of(
         Err(error) if error.kind() == ErrorKind::OutOfMemory => Err(Status::Failed(error)),
         Err(_) => Err(Status::Key),
     }
-}
-
-/// Feeds what each read gives, and writes what is answered to it in one go, but at once behind a command. It ends where the
-/// input does, or where the device failed, and tells whether it was the input; a last line that isn't whole is not answered.
-pub fn serve<D: SectorDisk + Drop, R: Read, W: Write>(
-    clock: &impl Clock,
-    session: &mut Session<D>,
-    input: &mut R,
-    output: &mut W,
-) -> io::Result<bool> {
-    let mut piece = [0u8; PIECE];
-    for _read in 0..u64::MAX {
-        let count = input.read(&mut piece)?;
-        if count == 0 {
-            break;
-        }
-        answer(clock, session, &piece[..count], output)?;
-        write_out(session, output)?;
-        if session.has_stopped() {
-            return Ok(false);
-        }
-    }
-    Ok(true)
-}
-
-/// Feeds a piece line by line, and says how long each command took: a line in which what the file keeps changed, or a compaction.
-fn answer<D: SectorDisk + Drop, W: Write>(
-    clock: &impl Clock,
-    session: &mut Session<D>,
-    piece: &[u8],
-    output: &mut W,
-) -> io::Result<()> {
-    let mut left = piece;
-    let mut begun = Instant::now(clock)?;
-    let mut kept = session.kept();
-    for _line in 0..piece.len() {
-        let Some(end) = memchr(b'\n', left) else {
-            break;
-        };
-        let behind = end.saturating_add(1);
-        let line = &left[..behind];
-        session.feed(line)?;
-        left = &left[behind..];
-        let now = Instant::now(clock)?;
-        let keeps = session.kept();
-        if keeps != kept || line.starts_with(b"compact") {
-            let ms = now.duration_since(begun).as_millis();
-            session.took(u64::try_from(ms).unwrap_or(u64::MAX));
-            write_out(session, output)?;
-        }
-        begun = now;
-        kept = keeps;
-    }
-    session.feed(left)?;
-    Ok(())
-}
-
-fn write_out<D: SectorDisk, W: Write>(session: &mut Session<D>, output: &mut W) -> io::Result<()> {
-    output.write_all(session.text())?;
-    output.flush()?;
-    session.clear();
-    Ok(())
 }

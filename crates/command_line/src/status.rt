@@ -1,8 +1,10 @@
 ghost use Rattle.std.specs.Prelude.{◌≡◌};
 ghost use Rattle.command_line.specs.Ends.{code_for, stopped};
+ghost use Rattle.command_line.specs.Served.{IsStopped};
 
 use crate::label::LabelOwner;
 use file_disk::OpenFault;
+use lease_file::LeaseFault;
 use std::fmt::{Display, Formatter};
 use std::io::ErrorKind;
 use std::{fmt, io};
@@ -22,6 +24,8 @@ pub enum Status {
     Device(Option<io::Error>),
     /// The file of keys can't be read, isn't one of keys, or others than its owner may read it.
     Key,
+    /// The file of leases can't be read, or no epochs are left in it.
+    Spent(LeaseFault),
     /// While it was open, the file was removed or became shorter.
     Lost(io::Error),
 }
@@ -39,7 +43,7 @@ impl Status {
             Status::Done => 0,
             Status::Failed(_) => 1,
             Status::File(fault) => code_for(fault),
-            Status::Foreign(_) => 5,
+            Status::Foreign(_) | Status::Spent(_) => 5,
             Status::Device(_) => 3,
             Status::Key => 6,
             Status::Lost(_) => 7,
@@ -67,7 +71,8 @@ fn code_for(fault: OpenFault) -> u8
 pub(crate) fn stopped(why: Option<io::Error>) -> Status
     // Promise: A file that was removed or became shorter, and a file system without room for a write, are no failed device.
     // Refuses: full_file_system_is_a_failed_device.
-    ensures { result ≡ stopped why }
+    ensures as_said { result ≡ stopped why }
+    ensures ended { IsStopped result }
 {
     match why {
         None => Status::Device(None),
@@ -95,6 +100,7 @@ impl Display for Status {
             Status::Key => f.write_str(
                 "it can't be read, isn't one or two lines of 64 hex digits, or others than its owner may read it",
             ),
+            Status::Spent(fault) => write!(f, "{fault}"),
             Status::Lost(error) => write!(f, "{error} while it was open"),
         }
     }
@@ -112,7 +118,27 @@ impl Display for LabelOwner {
                     "its format is of version {version}, which isn't read here"
                 )
             }
-            LabelOwner::Node { id, nodes } => write!(f, "it is the file of node {id} of {nodes}"),
+            LabelOwner::Node { id, nodes } | LabelOwner::Marked { id, nodes, .. } => {
+                write!(f, "it is the file of node {id} of {nodes}")
+            }
+            LabelOwner::OtherLength { slots } => {
+                write!(
+                    f,
+                    "it was made with {slots} slots, and isn't as long as that: bytes of it are missing, or were put in"
+                )
+            }
+            LabelOwner::OtherCluster { id, nodes } => {
+                write!(
+                    f,
+                    "it is the file of node {id} of {nodes} of another cluster"
+                )
+            }
+            LabelOwner::Leases { machine } => {
+                write!(f, "it is the file of the leases of machine {machine}")
+            }
+            LabelOwner::NoLeases => f.write_str(
+                "it is no file of leases: it was never formatted, or its end was cut off",
+            ),
         }
     }
 }

@@ -3,7 +3,7 @@ ghost use Rattle.std.specs.Prelude.{◌≡◌, ◌↔◌, IfOk, IsOk, IsErrOf, I
 ghost use Rattle.sector_disk.specs.Memory.{risen};
 ghost use Rattle.sector_disk.specs.declared.fault.DiskFault.TheVariants.{Device};
 ghost use Rattle.file_disk.specs.File.{unfailed};
-ghost use Rattle.file_disk.specs.Label.{IsOfANode, IsSpaced};
+ghost use Rattle.file_disk.specs.Label.{IsOfANode, IsSpaced, mark_in, marked_label, slots_in};
 ghost use Rattle.file_disk.specs.declared.stride.Stride.TheVariants.{Spaced};
 
 use crate::disk::{FileDisk, over};
@@ -17,7 +17,13 @@ use std::io;
 use std::path::AsPath;
 
 /// How many bytes a label has. They are fewer than a sector's, so the file has as many sectors with it as without.
-pub const LABEL: usize = 16;
+pub const LABEL: usize = 32;
+
+/// How many bytes one of version 1 has: it is read as these and zeros.
+pub const OLDER_LABEL: usize = 16;
+
+/// How many bytes the mark of a cluster has.
+pub const MARK: usize = 4;
 
 /// What the label of a node's file begins with.
 pub const NAME: [u8; 8] = *b"dumgerok";
@@ -30,6 +36,32 @@ pub fn is_of_a_node(label: Option<[u8; LABEL]>) -> bool
         Some(label) => label[..8] == NAME[..],
         None => false,
     }
+}
+
+/// What stands behind the last sector of the file of a node of so many, with so many slots, in the cluster of this mark.
+pub fn marked_label(id: u8, nodes: u8, stride: Stride, mark: [u8; MARK], slots: u16) -> [u8; LABEL]
+    ensures { result ≡ marked_label id nodes stride mark slots }
+{
+    let apart = stride.byte();
+    let (high, low) = ((slots / 256) as u8, (slots % 256) as u8);
+    [
+        b'd', b'u', b'm', b'g', b'e', b'r', b'o', b'k', 2, id, nodes, apart, mark[0], mark[1],
+        mark[2], mark[3], high, low, 0, 0, 0, 0, 0, 0, 0, 0, 0, 0, 0, 0, 0, 0,
+    ]
+}
+
+/// The mark of the cluster in a label of version 2.
+pub fn mark_in(label: [u8; LABEL]) -> [u8; MARK]
+    ensures { result ≡ mark_in label }
+{
+    [label[12], label[13], label[14], label[15]]
+}
+
+/// The number of slots in a label of version 2.
+pub fn slots_in(label: [u8; LABEL]) -> u16
+    ensures { result ≡ slots_in label }
+{
+    256 * (label[16] as u16) + (label[17] as u16)
 }
 
 /// How far apart the sectors of a file with this label, or with none, lie: packed, where it isn't a node's.
@@ -48,14 +80,24 @@ pub fn stride_in(label: Option<[u8; LABEL]>) -> Stride
     }
 }
 
-// The label at the end of a file of this length, and how far apart its sectors lie.
-pub(crate) fn stride_of(file: &File, length: u64) -> io::Result<Stride> {
-    if length % Stride::Spaced.bytes() != LABEL as u64 {
-        return Ok(Stride::Packed);
-    }
+// How far apart the sectors of a file of this length lie, by the label at its end.
+fn stride_of(file: &File, length: u64) -> io::Result<Stride> {
+    let behind = length % Stride::Spaced.bytes();
+    let label = read_label(file, length.saturating_sub(behind), behind)?;
+    Ok(stride_in(label))
+}
+
+/// The label of so many bytes that stands there, with zeros behind one of version 1; none where a label has more or fewer.
+pub fn read_label(file: &File, place: u64, behind: u64) -> io::Result<Option<[u8; LABEL]>> {
     let mut label = [0u8; LABEL];
-    read_at(file, length.saturating_sub(LABEL as u64), &mut label)?;
-    Ok(stride_in(Some(label)))
+    if behind == LABEL as u64 {
+        read_at(file, place, &mut label)?;
+    } else if behind == OLDER_LABEL as u64 {
+        read_at(file, place, &mut label[..OLDER_LABEL])?;
+    } else {
+        return Ok(None);
+    }
+    Ok(Some(label))
 }
 
 impl FileDisk {
@@ -88,15 +130,10 @@ impl FileDisk {
         self.answer(done)
     }
 
-    /// The label of the file; none where there aren't just so many bytes behind the last sector.
+    /// The label of the file; none where there aren't just as many bytes behind the last sector as one has.
     pub fn label(&self) -> io::Result<Option<[u8; LABEL]>> {
         let length = self.file.metadata()?.len();
-        if length.saturating_sub(self.end()) != LABEL as u64 {
-            return Ok(None);
-        }
-        let mut label = [0u8; LABEL];
-        read_at(&self.file, self.end(), &mut label)?;
-        Ok(Some(label))
+        read_label(&self.file, self.end(), length.saturating_sub(self.end()))
     }
 }
 

@@ -14,11 +14,16 @@ mod making;
 mod places;
 mod reading;
 mod stride;
+mod watching;
 mod zeros;
 
 pub use disk::FileDisk;
 pub use fault::OpenFault;
-pub use label::{LABEL, NAME, is_of_a_node, stride_in};
+pub use label::{
+    LABEL, MARK, NAME, OLDER_LABEL, is_of_a_node, mark_in, marked_label, read_label, slots_in,
+    stride_in,
+};
 pub use making::put_in_place;
-pub use reading::{open_to_read, read_spaced};
+pub use reading::open_to_read;
 pub use stride::Stride;
+pub use watching::FileWatch;

@@ -1,17 +1,28 @@
-//! A body as the slot of a ring holds it.
+//! A message as the slot of a ring holds it.
 
 ghost use Rattle.std.specs.Prelude.{◌≡◌, ◌≤◌, ◌+◌, true, vec_len, IfSome, IfNone};
 ghost use Rattle.link_ring.specs.Carried.{carried, IsWhole};
 
+use group_task::NodeId;
 use std::alloc::Global;
 use std::boxed::Box;
-use wire_msg::{Body, Form, Short};
+use wire_msg::{Body, Form, Kind, Message};
 
-/// A body: its short form, or a Ready or a Work, which are long, in a box.
+/// The nodes of a message, and the small parts of its short form; where it has none, its sender, and no.
+#[derive(Clone, Copy)]
+pub(crate) struct Head {
+    pub(crate) sender: NodeId,
+    pub(crate) receiver: NodeId,
+    pub(crate) kind: Kind,
+    pub(crate) answer: bool,
+    pub(crate) creator: NodeId,
+}
+
+/// A message, in 16 bytes: with the number of its short form, or the body of a Ready or a Work, which is long, in a box.
 #[derive(Drop)]
 pub(crate) enum Carried {
-    Short(Short),
-    Overflow(Box<Body>),
+    Short(Head, u64),
+    Overflow(Head, Box<Body>),
 }
 
 /// Boxes for long bodies. They are made before messages are put, so that a put takes no memory.
@@ -57,18 +68,34 @@ impl Spares {
         true
     }
 
-    /// The body for a slot; none where it is long and no box is there.
+    /// The message for a slot; none where it is long and no box is there.
     #[inline]
-    pub(crate) fn pack(&mut self, body: &Body) -> Option<Carried>
-        ensures packed { IfSome result (λ held. (carried held ≡ body.now) × IsWhole held) }
+    pub(crate) fn pack(&mut self, message: &Message) -> Option<Carried>
+        ensures packed { IfSome result (λ held. (carried held ≡ message.now) × IsWhole held) }
         ensures none { IfNone result (vec_len self.old.boxes ≡ 0) }
         ensures left { vec_len self.old.boxes ≤ vec_len self.new.boxes + 1 }
     {
+        let (sender, receiver) = (message.sender(), message.receiver());
+        let body = message.body();
         if let Form::Short(short) = body.form() {
-            return Some(Carried::Short(short));
+            let head = Head {
+                sender,
+                receiver,
+                kind: short.kind,
+                answer: short.answer,
+                creator: short.creator,
+            };
+            return Some(Carried::Short(head, short.number));
         }
+        let head = Head {
+            sender,
+            receiver,
+            kind: Kind::AreYouCoordinator,
+            answer: false,
+            creator: sender,
+        };
         let mut long = self.boxes.pop()?;
         *long = *body;
-        Some(Carried::Overflow(long))
+        Some(Carried::Overflow(head, long))
     }
 }

@@ -4,10 +4,10 @@ ghost use Rattle.std.specs.Prelude.{◌≡◌, ◌↔◌, IsOk, IsTrue, IfOk, sl
 ghost use mathlib.Core.List.{IsPrefix};
 ghost use Rattle.link_ring.specs.Sides.{Paired};
 
+use crate::link_log::LinkLog;
 use crate::put_end::PutEnd;
 use crate::take_end::TakeEnd;
 use group_task::NodeId;
-use message_list::MessageList;
 use thiserror::Error;
 
 /// What went through a link: all that was put and all that was taken, each in its order.
@@ -15,8 +15,8 @@ use thiserror::Error;
 pub struct LinkEnd {
     pub sender: NodeId,
     pub receiver: NodeId,
-    pub put: MessageList,
-    pub taken: MessageList,
+    pub put: LinkLog,
+    pub taken: LinkLog,
 }
 
 /// Two ends that can't be those of one link.
@@ -29,7 +29,8 @@ pub struct Unpaired;
 pub fn gather(put_end: PutEnd, take_end: TakeEnd) -> Result<LinkEnd, Unpaired>
     // Promise: Two ends are gathered exactly where they have the same sender and receiver and what was taken is the front of what
     // was put; else they are Unpaired.
-    // Refuses: always_unpaired, never_unpaired, paired_whoever_takes, messages_counted_only, first_message_not_compared.
+    // Refuses: always_unpaired, never_unpaired, paired_whoever_takes, messages_counted_only, first_message_not_compared,
+    // long_ones_compared_by_place.
     ensures paired { IsOk result ↔ Paired put_end take_end }
     // Promise: What is gathered are the two nodes, all that was put and all that was taken.
     // Also: messages.
@@ -59,7 +60,7 @@ fn are_paired(put_end: &PutEnd, take_end: &TakeEnd) -> bool
 
 /// Whether what was taken is the front of what was put.
 #[tactic(auto, using(crate::proofs::Fronts::front_of_places))]
-fn begins(taken: &MessageList, put: &MessageList) -> bool
+fn begins(taken: &LinkLog, put: &LinkLog) -> bool
     ensures { IsTrue result ↔ IsPrefix taken.now.messages put.now.messages }
 {
     for place in 0..taken.len() {
@@ -71,9 +72,12 @@ fn begins(taken: &MessageList, put: &MessageList) -> bool
 }
 
 /// Whether both lists have one and the same message at this place, or neither has any.
-fn is_same_at(taken: &MessageList, put: &MessageList, place: usize) -> bool
+fn is_same_at(taken: &LinkLog, put: &LinkLog, place: usize) -> bool
     ensures { IsTrue result ↔ (slice_get taken.now.messages place ≡ slice_get put.now.messages place) }
 {
+    if taken.is_alike(put, place) {
+        return true;
+    }
     match taken.get(place) {
         Some(message) => put.holds(place, &message),
         None => put.len() <= place,

@@ -16,12 +16,15 @@
 
 mod carried;
 mod gathering;
+mod link_log;
 mod opening;
+mod passed;
 mod put_end;
 mod slot;
 mod take_end;
 
 pub use gathering::{LinkEnd, Unpaired, gather};
+pub use link_log::LinkLog;
 pub use opening::link;
 pub use put_end::PutEnd;
 pub use take_end::TakeEnd;

@@ -8,7 +8,7 @@ use rtrb::RingBuffer;
 use std::alloc::{AllocError, Global};
 
 /// A link from one node to another, whose ring has slots for so many messages. That many first puts find room, whether or not
-/// anything is taken; with no slot at all each put is handed back. A slot takes 32 bytes, and a Ready or a Work that is in it a box of
+/// anything is taken; with no slot at all each put is handed back. A slot takes 16 bytes, and a Ready or a Work that is in it a box of
 /// some 450 more.
 pub fn link(
     alloc: Global,

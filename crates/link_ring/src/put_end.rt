@@ -3,9 +3,9 @@ ghost use Rattle.rtrb.specs.Ring.{sent, known_free, producer_capacity};
 ghost use Rattle.link_ring.specs.Sides.{unused, with_message, with_room};
 
 use crate::carried::Spares;
+use crate::link_log::LinkLog;
 use crate::slot::Slot;
 use group_task::NodeId;
-use message_list::MessageList;
 use rtrb::Producer;
 use std::alloc::{AllocError, Global};
 use std::marker::Model;
@@ -18,7 +18,7 @@ pub struct PutEnd {
     receiver: NodeId,
     producer: Producer<Slot>,
     spares: Spares,
-    put: MessageList,
+    put: LinkLog,
 }
 
 impl Model for PutEnd {
@@ -50,7 +50,7 @@ impl PutEnd {
             receiver,
             producer,
             spares: Spares::new(alloc),
-            put: MessageList::new(alloc),
+            put: LinkLog::new(alloc),
         }
     }
 
@@ -69,7 +69,7 @@ impl PutEnd {
     }
 
     /// All that was put, in order.
-    pub fn messages(&self) -> &MessageList
+    pub fn messages(&self) -> &LinkLog
         // Promise: Each end shows the list of what went through it.
         // Also: TakeEnd::messages.
         ensures { result.now.messages ≡ self.now.messages }
@@ -130,17 +130,16 @@ impl PutEnd {
         if self.producer.is_full() {
             return false;
         }
-        let Some(body) = self.spares.pack(message.body()) else {
+        let Some(held) = self.spares.pack(message) else {
             return false;
         };
-        self.producer
-            .push_reserved(Slot::between(message.sender(), message.receiver(), body));
+        self.producer.push_reserved(Slot::of(held));
         self.put.push(message);
         true
     }
 
     /// All that was put, in order, once the end is given up.
-    pub(crate) fn into_messages(self) -> MessageList
+    pub(crate) fn into_messages(self) -> LinkLog
         ensures { result.messages ≡ self.messages }
     {
         self.put

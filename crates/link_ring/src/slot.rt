@@ -4,48 +4,39 @@ ghost use Rattle.std.specs.Prelude.{◌≡◌, ◌≢◌};
 ghost use Rattle.link_ring.specs.Carried.{carried, IsWhole};
 
 use crate::carried::Carried;
-use group_task::NodeId;
 use std::boxed::Box;
 use std::marker::Model;
 use std::mem::size_of;
-use wire_msg::Message;
+use wire_msg::{Message, Short};
 
 /// A message as a slot holds it.
 #[derive(Drop)]
 pub(crate) struct Slot {
-    sender: NodeId,
-    receiver: NodeId,
-    body: Carried,
+    held: Carried,
 }
 
-// each slot is touched once before the first is used again
-const _: () = prove!(size_of::<Slot>() <= 32);
+// each slot is touched once before the first is used again; and 4,096 slots lie in the heap, where malloc maps no memory for a ring alone
+const _: () = prove!(size_of::<Slot>() == 16);
 
 impl Model for Slot {
-    ghost use Rattle.std.specs.Prelude.{◌≢◌};
     ghost use Rattle.wire_msg.specs.Envelope.{Envelope};
     ghost use Rattle.link_ring.specs.Carried.{carried, IsWhole};
 
     ghost Value = { Envelope };
 
-    ghost view = { λ a. record { sender = a.sender; receiver = a.receiver; body = carried a.body } };
+    ghost view = { λ a. carried a.held };
 
-    ghost invariant = { λ a. (a.sender ≢ a.receiver) × IsWhole a.body };
+    ghost invariant = { λ a. IsWhole a.held };
 }
 
 impl Slot {
-    /// The message between two nodes that are known to differ, for a slot.
+    /// A slot for this message.
     #[inline]
-    pub(crate) fn between(sender: NodeId, receiver: NodeId, body: Carried) -> Slot
-        requires differ { sender ≢ receiver }
-        requires whole { IsWhole body }
-        ensures { result ≡ record { sender = sender; receiver = receiver; body = carried body } }
+    pub(crate) fn of(held: Carried) -> Slot
+        requires { IsWhole held }
+        ensures { result ≡ carried held }
     {
-        Slot {
-            sender,
-            receiver,
-            body,
-        }
+        Slot { held }
     }
 
     /// The message.
@@ -53,15 +44,19 @@ impl Slot {
     pub(crate) fn open(self) -> Message
         ensures { result ≡ self }
     {
-        let Slot {
-            sender,
-            receiver,
-            body,
-        } = self;
-        let body = match body {
-            Carried::Short(short) => short.body(),
-            Carried::Overflow(long) => Box::into_inner(long),
-        };
-        Message::between(sender, receiver, body)
+        match self.held {
+            Carried::Short(head, number) => {
+                let short = Short {
+                    kind: head.kind,
+                    answer: head.answer,
+                    creator: head.creator,
+                    number,
+                };
+                Message::between(head.sender, head.receiver, short.body())
+            }
+            Carried::Overflow(head, long) => {
+                Message::between(head.sender, head.receiver, Box::into_inner(long))
+            }
+        }
     }
 }

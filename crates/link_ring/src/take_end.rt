@@ -3,9 +3,9 @@ ghost use mathlib.Core.List.{IsPrefix};
 ghost use Rattle.rtrb.specs.Ring.{received, known_items, consumer_capacity};
 ghost use Rattle.link_ring.specs.Sides.{unused, with_room, TookNext};
 
+use crate::link_log::LinkLog;
 use crate::slot::Slot;
 use group_task::NodeId;
-use message_list::MessageList;
 use rtrb::Consumer;
 use std::alloc::{AllocError, Global};
 use std::marker::Model;
@@ -17,7 +17,7 @@ pub struct TakeEnd {
     sender: NodeId,
     receiver: NodeId,
     consumer: Consumer<Slot>,
-    taken: MessageList,
+    taken: LinkLog,
 }
 
 impl Model for TakeEnd {
@@ -47,7 +47,7 @@ impl TakeEnd {
             sender,
             receiver,
             consumer,
-            taken: MessageList::new(alloc),
+            taken: LinkLog::new(alloc),
         }
     }
 
@@ -66,7 +66,7 @@ impl TakeEnd {
     }
 
     /// All that was taken, in order.
-    pub fn messages(&self) -> &MessageList
+    pub fn messages(&self) -> &LinkLog
         ensures { result.now.messages ≡ self.now.messages }
     {
         &self.taken
@@ -116,7 +116,7 @@ impl TakeEnd {
     }
 
     /// All that was taken, in order, once the end is given up.
-    pub(crate) fn into_messages(self) -> MessageList
+    pub(crate) fn into_messages(self) -> LinkLog
         ensures { result.messages ≡ self.messages }
     {
         self.taken

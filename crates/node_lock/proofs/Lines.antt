@@ -1,5 +1,7 @@
 -- A turn that was kept is that turn again, and stays so whatever is kept after it.
+use Rattle.std.specs.Prelude.{min}
 use Rattle.std.proofs.Common.{◌≡◌, ℕ, zero, suc, ◌+◌, ◌-◌, ◌<◌, ◌≤◌, List, [], ◌∷◌, ◌++◌, length, take, drop, map, All, slice_get, Option, Some, get_or, option_map, Bool, true, false, refl, sym, ap, ◌∙◌, subst, arith}
+use Rattle.std.proofs.Math.Nat.{min-le_right}
 use Rattle.std.proofs.lemmas.List.{map-append, length-append}
 use Rattle.std.proofs.lemmas.Option.{slice_get-map, slice_get_read, same_Some}
 use Rattle.std.proofs.lemmas.List.Elements.{All-head, All-tail, All-push, All-weaker}
@@ -16,6 +18,7 @@ use Rattle.node_lock.specs.declared.line.Quiet.TheVariants as quiet
 use Rattle.node_lock.specs.declared.line.PackedHistoryEvent.{PackedHistoryEvent}
 use Rattle.node_lock.specs.declared.line.PackedHistoryEvent.TheVariants as kept
 use Rattle.node_lock.specs.declared.line.Line.{Line}
+use Rattle.node_lock.specs.declared.line.TheConstants.{MOST_KEPT}
 use Rattle.node_lock.specs.History.{Turn}
 use Rattle.node_lock.specs.Kept.{IsQuietAt, IsHandledAt, what_quiet, what_came, what_in, turn_in, WhatStands, LineStands}
 use Rattle.trace_check.specs.Kept.{part}
@@ -30,7 +33,7 @@ turn_by worker index w sent = record { worker = worker; index = index; entry = r
 -- ---- more is kept, and a line says what it said
 
 what_same : (es more : List Event) (t : PackedHistoryEvent) → WhatStands (length es) t → what_in (es ++ more) t ≡ what_in es t
-what_same es more (kept.Handed place event_outcome) h = ap (λ (o : Option Event). what_came o event_outcome) (get_same es more place h)
+what_same es more (kept.Handed event_outcome place) h = ap (λ (o : Option Event). what_came o event_outcome) (get_same es more place h)
 what_same es more (kept.Quiet q) h = refl
 
 line_same : (ms sent : List Envelope) (es more : List Event) (l : Line) → LineStands (length ms) (length es) l → turn_in (ms ++ sent) (es ++ more) l ≡ turn_in ms es l
@@ -48,14 +51,14 @@ lines_same ms sent es more (l ∷ ls) h =
 
 -- its line, behind so many messages and events
 abbrev pub line_for : Worker → ℕ → ℕ → EventOutcome → List Envelope → ℕ → ℕ → Line
-line_for worker index number event_outcome sent messages events = line_by worker index number (kept.Handed events event_outcome) messages (messages + length sent)
+line_for worker index number event_outcome sent messages events = line_by worker index number (kept.Handed event_outcome events) messages (messages + length sent)
 
 pub pushed : (ls new : List Line) (ms sent all : List Envelope) (es : List Event) (worker : Worker) (index number : ℕ) (event_outcome : EventOutcome) (place start end : ℕ)
-    → new ≡ ls ++ line_by worker index number (kept.Handed place event_outcome) start end ∷ [] → place ≡ length es → start ≡ length ms → end ≡ length all → all ≡ ms ++ sent
+    → new ≡ ls ++ line_by worker index number (kept.Handed event_outcome place) start end ∷ [] → place ≡ length es → start ≡ length ms → end ≡ length all → all ≡ ms ++ sent
     → new ≡ ls ++ line_for worker index number event_outcome sent (length ms) (length es) ∷ []
 pushed ls new ms sent all es worker index number event_outcome place start end is place_so start_so end_so all_so =
     let many : end ≡ length ms + length sent = end_so ∙ (ap (λ (xs : List Envelope). length xs) all_so ∙ length-append ms sent) in
-    is ∙ (λ i. ls ++ line_by worker index number (kept.Handed (place_so i) event_outcome) (start_so i) (many i) ∷ [])
+    is ∙ (λ i. ls ++ line_by worker index number (kept.Handed event_outcome (place_so i)) (start_so i) (many i) ∷ [])
 
 line_again : (ms : List Envelope) (es : List Event) (worker : Worker) (index number : ℕ) (e : Event) (event_outcome : EventOutcome) (sent : List Envelope)
     → turn_in (ms ++ sent) (es ++ e ∷ []) (line_for worker index number event_outcome sent (length ms) (length es)) ≡ turn_by worker index (what_of e event_outcome) sent
@@ -75,7 +78,7 @@ turns_more ls ms es worker index number e event_outcome sent h =
     ∙ ap (λ (t : Turn). map (turn_in ms es) ls ++ t ∷ []) (line_again ms es worker index number e event_outcome sent))
 
 what_longer : (n m : ℕ) → n ≤ m → (t : PackedHistoryEvent) → WhatStands n t → WhatStands m t
-what_longer n m le (kept.Handed place event_outcome) h = omega (arith, h, le)
+what_longer n m le (kept.Handed event_outcome place) h = omega (arith, h, le)
 what_longer n m le (kept.Quiet q) h = tt
 
 longer : (n n' m m' : ℕ) → n ≤ n' → m ≤ m' → (l : Line) → LineStands n m l → LineStands n' m' l
@@ -91,6 +94,13 @@ all_stand_more ls ms es worker index number e event_outcome sent h =
     All-push (LineStands n m) ls (line_for worker index number event_outcome sent (length ms) (length es))
     (All-weaker (LineStands (length ms) (length es)) (LineStands n m) (longer (length ms) n (length es) m (omega (arith, messages)) (omega (arith, events))) ls h)
     (record { sent = (omega arith, omega (arith, messages)); what = omega (arith, events) })
+
+-- the messages stay as many as are kept
+pub kept_within : (ms sent : List Envelope) (room sends : ℕ) → length ms ≤ MOST_KEPT → length sent ≤ sends → min room (MOST_KEPT - length ms) ≡ sends → length (ms ++ sent) ≤ MOST_KEPT
+kept_within ms sent room sends within few is =
+    let long = length-append ms sent in
+    let less = min-le_right room (MOST_KEPT - length ms) in
+    omega (arith, within, few, is, long, less)
 
 -- ---- a turn with no event
 
@@ -128,7 +138,7 @@ came_of e event_outcome.MountFailed = refl
 came_of e (event_outcome.RaiseFailed kept) = refl
 came_of e (event_outcome.RaiseRefused kept) = refl
 
-came_in : (es : List Event) (place : ℕ) (f : EventOutcome) → place < length es → is_quiet (what_in es (kept.Handed place f)) ≡ false
+came_in : (es : List Event) (place : ℕ) (f : EventOutcome) → place < length es → is_quiet (what_in es (kept.Handed f place)) ≡ false
 came_in [] place f within = absurd (omega (arith, within))
 came_in (e ∷ es) zero f within = came_of e f
 came_in (e ∷ es) (suc place) f within = came_in es place f (omega (arith, within))
@@ -150,10 +160,10 @@ turn_at : (ls : List Line) (ms : List Envelope) (es : List Event) (place : ℕ) 
 turn_at ls ms es place l q at h =
     same_Some h.turn (turn_in ms es l) (sym h.at ∙ (slice_get-map (turn_in ms es) ls place ∙ ap (λ (o : Option Line). option_map (turn_in ms es) o) at))
 
-pub event_at : (ls : List Line) (ms : List Envelope) (es : List Event) (place : ℕ) (l : Line) (q : Quiet) (k : ℕ) (f : EventOutcome) → All (LineStands (length ms) (length es)) ls → slice_get ls place ≡ Some l → l.what ≡ kept.Handed k f → IsQuietAt place q (map (turn_in ms es) ls) → ⊥
+pub event_at : (ls : List Line) (ms : List Envelope) (es : List Event) (place : ℕ) (l : Line) (q : Quiet) (k : ℕ) (f : EventOutcome) → All (LineStands (length ms) (length es)) ls → slice_get ls place ≡ Some l → l.what ≡ kept.Handed f k → IsQuietAt place q (map (turn_in ms es) ls) → ⊥
 event_at ls ms es place l q k f all at is h =
     let stands : k < length es = subst (WhatStands (length es)) is (stands_at (LineStands (length ms) (length es)) ls place l all at).what in
-    let what : what_in es (kept.Handed k f) ≡ what_quiet q = ap (λ (t : PackedHistoryEvent). what_in es t) (sym is) ∙ (ap (λ (t : Turn). t.entry.what) (sym (turn_at ls ms es place l q at h)) ∙ h.what) in
+    let what : what_in es (kept.Handed f k) ≡ what_quiet q = ap (λ (t : PackedHistoryEvent). what_in es t) (sym is) ∙ (ap (λ (t : Turn). t.entry.what) (sym (turn_at ls ms es place l q at h)) ∙ h.what) in
     let bad : false ≡ true = sym (came_in es k f stands) ∙ (ap is_quiet what ∙ quiet_of q) in
     absurd cc
 
@@ -168,7 +178,7 @@ sent_at ls ms es place l q all at some h =
 
 -- ---- a turn in which an event was handled
 
-pub handled_at : (ls : List Line) (ms : List Envelope) (es : List Event) (place : ℕ) (l : Line) (k : ℕ) (e : Event) → slice_get ls place ≡ Some l → l.what ≡ kept.Handed k event_outcome.Done → slice_get es k ≡ Some e
+pub handled_at : (ls : List Line) (ms : List Envelope) (es : List Event) (place : ℕ) (l : Line) (k : ℕ) (e : Event) → slice_get ls place ≡ Some l → l.what ≡ kept.Handed event_outcome.Done k → slice_get es k ≡ Some e
     → IsHandledAt place e (part l.start l.end ms) (map (turn_in ms es) ls)
 handled_at ls ms es place l k e at is event = record {
   turn = turn_in ms es l;

@@ -1,12 +1,14 @@
 -- No event but a dispatch sends two messages to one node, and a dispatch sends no more than there are pending jobs.
-use Rattle.std.proofs.Common.{◌≡◌, ℕ, zero, suc, ◌+◌, ◌<◌, ◌≤◌, ◌==◌, Bool, true, false, not, ◌&&◌, List, [], ◌∷◌, ◌++◌, map, length, Option, Some, None, refl, sym, ap, ◌∙◌, subst, arith}
+use Rattle.std.proofs.Common.{◌≡◌, ℕ, zero, suc, ◌+◌, ◌%◌, ◌<◌, ◌≤◌, ◌==◌, Bool, true, false, not, ◌&&◌, List, [], ◌∷◌, ◌++◌, map, length, get_or, Option, Some, None, refl, sym, ap, ◌∙◌, subst, arith}
 use Rattle.std.specs.Prelude.{if◌then◌else◌, nat_lt, ⊤}
 use Rattle.std.specs.List.{filter}
 use Rattle.std.proofs.lemmas.Bool.Decides.{nat_tests}
 use Rattle.std.proofs.lemmas.List.{length-append}
+use Rattle.std.proofs.lemmas.Nat.{mod_below}
 use Rattle.std.proofs.lemmas.Option.{same_Some}
 use Rattle.group_task.specs.Group.{Group}
-use Rattle.group_task.specs.Ids.{with_id, without_id, either_of, ids_below, RisesWithin, IsSet}
+use Rattle.group_task.specs.Assignment.{Assignment, owner_of}
+use Rattle.group_task.specs.Ids.{has, with_id, without_id, either_of, ids_below, RisesWithin, IsSet}
 use Rattle.group_task.specs.declared.node.TheConstants.{NODES}
 use Rattle.job_model.specs.declared.job.Job.{Job}
 use Rattle.job_model.specs.Durable.{Durable}
@@ -19,7 +21,7 @@ use Rattle.node_core.specs.declared.timer.Timer.{Timer}
 use Rattle.node_core.specs.declared.timer.Timer.TheVariants as timer
 use Rattle.node_core.specs.State.{State, is_down, in_phase}
 use Rattle.node_core.specs.Effect.{Effect, quietly}
-use Rattle.node_core.specs.Words.{letter, to_each, is_empty, leads_in, owner, own_group, task_of}
+use Rattle.node_core.specs.Words.{letter, to_each, is_empty, leads_in, members_of, owner, own_group, task_of}
 use Rattle.node_core.specs.declared.phase.Phase.{Phase}
 use Rattle.node_core.specs.declared.phase.Phase.TheVariants as phase
 use Rattle.node_core.specs.Priorities.{by_priority}
@@ -38,7 +40,7 @@ use Rattle.durable_node.specs.Node.{Node}
 use Rattle.node_lock.specs.Asking.{Hand}
 use Rattle.node_lock.specs.Doing.{Did, StandsForSome}
 use Rattle.durable_node.specs.Stepping.{most_by}
-use Rattle.node_lock.specs.Sending.{addressed_to, most_from, most_to}
+use Rattle.node_lock.specs.Sending.{addressed_to, is_member, may_give_to, most_from, most_to}
 use Rattle.node_lock.proofs.Carried.{addressed-append}
 use Rattle.node_lock.proofs.Comings.{turn_comes}
 
@@ -288,13 +290,75 @@ dispatch_fate nodes self n s event_outcome.MountFailed few = omega arith
 dispatch_fate nodes self n s (event_outcome.RaiseFailed kept) few = omega arith
 dispatch_fate nodes self n s (event_outcome.RaiseRefused kept) few = omega arith
 
-at_most : (n pending : ℕ) (event : Event) → (event ≡ on.Timer timer.Dispatch → n ≤ pending) → (IsSingle event → n ≤ 1) → n ≤ most_from event pending
-at_most n pending (on.Timer timer.Dispatch) all one = all refl
-at_most n pending event all one = one tt
+-- ---- a dispatch gives work to members alone
 
-pub sends_few : (old new : Node Memory) (event : Event) (event_outcome : EventOutcome) (sent : List Envelope) → StandsForSome old → Did old event (what_of event event_outcome) sent new → length sent ≤ most_by old.nodes old.kept → IsSet old.state.up × IsSet old.state.found
-    → (j : ℕ) → length (addressed_to j sent) ≤ most_to event old.kept
-sends_few old new event event_outcome sent stands did few sets j = by_kept old.kept refl few
+has_place : (i : ℕ) (xs : List ℕ) → i < length xs → has xs (get_or xs i 0) ≡ true
+has_place i [] lt = absurd (omega arith)
+has_place zero (x ∷ xs) lt = grind (arith, nat_tests)
+has_place (suc i) (x ∷ xs) lt = grind (arith, nat_tests, has_place i xs (omega arith))
+
+filled : (id : ℕ) (xs : List ℕ) → has xs id ≡ true → 0 < length xs
+filled id [] is = absurd cc
+filled id (x ∷ xs) is = omega arith
+
+owner_is_member : (id queue : ℕ) (members : List ℕ) → has members id ≡ true → has members (owner_of members queue) ≡ true
+owner_is_member id queue members some = has_place (queue % length members) members (mod_below queue (length members) (filled id members some))
+
+-- the creator of the task is a member by it
+abbrev pub IsFilled : Option Assignment → Type 0
+IsFilled task = (t : Assignment) → task ≡ Some t → has t.members t.group.creator ≡ true
+
+never_owner : (j queue : ℕ) (task : Option Assignment) → IsFilled task → is_member task j ≡ false → (owner_of (members_of task) queue == j) ≡ false
+never_owner j queue None some out = absurd cc
+never_owner j queue (Some t) some out = by_test (owner_of t.members queue == j) refl
+  where
+    by_test : (b : Bool) → (owner_of t.members queue == j) ≡ b → b ≡ false
+    by_test false is = refl
+    by_test true is =
+        let same : owner_of t.members queue ≡ j = grind (arith, nat_tests, is) in
+        let bad : has t.members j ≡ true = subst (λ (x : ℕ). has t.members x ≡ true) same (owner_is_member t.group.creator queue t.members (some t refl)) in
+        absurd (let no : true ≡ false = sym bad ∙ out in cc)
+
+no_orders : (self j : ℕ) (s : State) (jobs : List Job) → ((queue : ℕ) → (owner s queue == j) ≡ false) → length (addressed_to j (orders self s jobs)) ≤ 0
+no_orders self j s [] never = omega arith
+no_orders self j s (job ∷ jobs) never = by_test (not (owner s job.work.queue == self)) (no_orders self j s jobs never)
+  where
+    past : (b : Bool) → b ≡ false → (m : Envelope) (ms : List Envelope) → length ms ≤ 0 → length (if b then m ∷ ms else ms) ≤ 0
+    past true is m ms few = absurd cc
+    past false is m ms few = few
+
+    by_test : (b : Bool) → length (addressed_to j (orders self s jobs)) ≤ 0
+        → length (addressed_to j (map (λ (x : Job). letter self (owner s x.work.queue) (says.Work s.group x.id x.work)) (if b then job ∷ filter (λ x. not (owner s x.work.queue == self)) jobs else filter (λ x. not (owner s x.work.queue == self)) jobs))) ≤ 0
+    by_test true few = past (owner s job.work.queue == j) (never job.work.queue) _ _ few
+    by_test false few = few
+
+none_to : (nodes self j answer : ℕ) (pending : List Job) (s : State) → IsFilled s.task → may_give_to s j ≡ false → length (addressed_to j (timed nodes self pending timer.Dispatch answer s).sent) ≤ 0
+unfolding timed
+none_to nodes self j answer pending s some out = by_test _ (in_phase phase.Normal s.phase) refl (λ normal. no_orders self j s (by_priority pending) (λ queue. never_owner j queue s.task some (not_there normal)))
+  where
+    not_there : in_phase phase.Normal s.phase ≡ true → is_member s.task j ≡ false
+    not_there normal = ap (λ (b : Bool). b && is_member s.task j) (sym normal) ∙ out
+
+    by_test : (x : Effect) (b : Bool) → in_phase phase.Normal s.phase ≡ b → (in_phase phase.Normal s.phase ≡ true → length (addressed_to j x.sent) ≤ 0) → length (addressed_to j (if b then x else quietly s).sent) ≤ 0
+    by_test x true is few = few is
+    by_test x false is few = omega arith
+
+none_of_fate : (nodes self j : ℕ) (s : NodeState) (event_outcome : EventOutcome) → IsFilled s.state.task → may_give_to s.state j ≡ false → length (addressed_to j (sent_at self nodes s (what_of (on.Timer timer.Dispatch) event_outcome))) ≤ 0
+none_of_fate nodes self j s event_outcome.Done some out = none_to nodes self j (answer_to s.durable (wants_at self nodes s (on.Timer timer.Dispatch))) s.durable.pending s.state some out
+none_of_fate nodes self j s (event_outcome.Refused why) some out = omega arith
+none_of_fate nodes self j s event_outcome.Faulted some out = omega arith
+none_of_fate nodes self j s (event_outcome.Recovered kept) some out = omega arith
+none_of_fate nodes self j s event_outcome.MountFailed some out = omega arith
+none_of_fate nodes self j s (event_outcome.RaiseFailed kept) some out = omega arith
+none_of_fate nodes self j s (event_outcome.RaiseRefused kept) some out = omega arith
+
+at_most : (n pending : ℕ) (event : Event) (gives : Bool) → (event ≡ on.Timer timer.Dispatch → n ≤ (if gives then pending else 0)) → (IsSingle event → n ≤ 1) → n ≤ most_from event gives pending
+at_most n pending (on.Timer timer.Dispatch) gives all one = all refl
+at_most n pending event gives all one = one tt
+
+pub sends_few : (old new : Node Memory) (event : Event) (event_outcome : EventOutcome) (sent : List Envelope) → StandsForSome old → Did old event (what_of event event_outcome) sent new → length sent ≤ most_by old.nodes old.kept → IsSet old.state.up × IsSet old.state.found → IsFilled old.state.task
+    → (j : ℕ) → length (addressed_to j sent) ≤ most_to event old.state old.kept j
+sends_few old new event event_outcome sent stands did few sets some_task j = by_kept old.kept refl few
   where
     s : NodeState
     s = stands.0
@@ -309,9 +373,9 @@ sends_few old new event event_outcome sent stands did few sets j = by_kept old.k
     one single = subst (λ (ms : List Envelope). length (addressed_to j ms) ≤ 1) (sym came)
         (fate_once old.nodes old.id j s event event_outcome (subst (λ (v : State). IsSet v.up) is sets.0) (subst (λ (v : State). IsSet v.found) is sets.1) single)
 
-    by_kept : (kept : Option Durable) → old.kept ≡ kept → length sent ≤ most_by old.nodes kept → length (addressed_to j sent) ≤ most_to event kept
+    by_kept : (kept : Option Durable) → old.kept ≡ kept → length sent ≤ most_by old.nodes kept → length (addressed_to j sent) ≤ most_to event old.state kept j
     by_kept None none few = let shorter = fewer j sent in omega (arith, shorter, few)
-    by_kept (Some d) some few = at_most (length (addressed_to j sent)) (length d.pending) event all one
+    by_kept (Some d) some few = at_most (length (addressed_to j sent)) (length d.pending) event (may_give_to old.state j) (λ dispatch. by_giving (may_give_to old.state j) refl dispatch) one
       where
         same : is_down s.state.phase ≡ false → length s.durable.pending ≤ length d.pending
         same up = let kept = same_Some s.durable d (sym (stands.1.up (subst (λ (v : State). is_down v.phase ≡ false) (sym is) up)).0 ∙ some) in subst (λ (x : Durable). length s.durable.pending ≤ length x.pending) kept (omega arith)
@@ -322,3 +386,14 @@ sends_few old new event event_outcome sent stands did few sets j = by_kept old.k
             let shorter = fewer j sent in
             let long = ap length came in
             omega (arith, shorter, few, long)
+
+        gone : may_give_to old.state j ≡ false → event ≡ on.Timer timer.Dispatch → length (addressed_to j sent) ≤ 0
+        gone out dispatch =
+            let task : IsFilled s.state.task = subst (λ (v : State). IsFilled v.task) is some_task in
+            let given : may_give_to s.state j ≡ false = subst (λ (v : State). may_give_to v j ≡ false) is out in
+            subst (λ (ms : List Envelope). length (addressed_to j ms) ≤ 0) (sym came)
+            (subst (λ (e : Event). length (addressed_to j (sent_at old.id old.nodes s (what_of e event_outcome))) ≤ 0) (sym dispatch) (none_of_fate old.nodes old.id j s event_outcome task given))
+
+        by_giving : (b : Bool) → may_give_to old.state j ≡ b → event ≡ on.Timer timer.Dispatch → length (addressed_to j sent) ≤ (if b then length d.pending else 0)
+        by_giving true is dispatch = all dispatch
+        by_giving false is dispatch = gone is dispatch

@@ -1,5 +1,6 @@
 -- A message goes onto the link to its receiver.
-use Rattle.std.proofs.Common.{◌≡◌, ℕ, ◌<◌, List, [], ◌∷◌, length, slice_index_or, slice_set, ap, sym, ◌∙◌, subst, inl, inr, arith}
+use Rattle.std.proofs.Common.{◌≡◌, ℕ, ◌<◌, Bool, true, false, List, [], ◌∷◌, length, slice_index_or, slice_set, refl, ap, sym, ◌∙◌, subst, inl, inr, arith}
+use Rattle.std.specs.Prelude.{if◌then◌else◌}
 use Rattle.std.proofs.lemmas.List.{get_or_read, get_or-set_other, length-set}
 use Rattle.std.proofs.lemmas.Grind.{get_or-set_at}
 use Rattle.std.proofs.lemmas.Bool.{cases_eq}
@@ -32,6 +33,10 @@ sent_at m place sides was new l same put = record {
 }
 
 -- ---- before a turn's messages are put
+
+pub either_way : (b : Bool) (x y : ℕ) → y ≡ x → x ≡ (if b then x else y)
+either_way true x y same = refl
+either_way false x y same = sym same
 
 pub ends_same : (id : ℕ) (old new : List Side) → AreEnds id old → SameSides old new → AreEnds id new
 ends_same id old new ends same k d lt =

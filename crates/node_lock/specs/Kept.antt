@@ -37,7 +37,7 @@ what_came (Some event) event_outcome = what_of event event_outcome
 
 -- what came of a turn, by the list of events
 abbrev pub what_in : List Event → PackedHistoryEvent → HistoryEvent
-what_in events (kept.Handed place event_outcome) = what_came (slice_get events place) event_outcome
+what_in events (kept.Handed event_outcome place) = what_came (slice_get events place) event_outcome
 what_in events (kept.Quiet q) = what_quiet q
 
 -- the turn that a line says, by the list of messages and that of events
@@ -60,7 +60,7 @@ pub record IsHandledAt (place : ℕ) (event : Event) (messages : List Envelope) 
 
 -- the event of a line is among so many
 abbrev pub WhatStands : ℕ → PackedHistoryEvent → Type 0
-WhatStands events (kept.Handed place event_outcome) = place < events
+WhatStands events (kept.Handed event_outcome place) = place < events
 WhatStands events (kept.Quiet q) = ⊤
 
 -- the messages of a line are among so many, and so is its event

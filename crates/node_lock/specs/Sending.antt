@@ -1,12 +1,16 @@
 -- What goes onto the links.
-use Rattle.std.specs.Prelude.{◌≡◌, ℕ, ◌<◌, ◌≤◌, ◌==◌, ◌⊎◌, List, [], ◌∷◌, ◌++◌, length, slice_index_or, if◌then◌else◌, Option, Some, None}
+use Rattle.std.specs.Prelude.{◌≡◌, ℕ, ◌<◌, ◌≤◌, ◌==◌, ◌⊎◌, ◌&&◌, Bool, true, List, [], ◌∷◌, ◌++◌, length, slice_index_or, if◌then◌else◌, Option, Some, None}
 use Rattle.std.specs.List.{filter}
 use mathlib.Core.List.{IsPrefix}
+use Rattle.group_task.specs.Ids.{has}
+use Rattle.group_task.specs.Assignment.{Assignment}
 use Rattle.job_model.specs.Durable.{Durable}
 use Rattle.wire_msg.specs.Envelope.{Envelope}
 use Rattle.node_core.specs.declared.event.Event.{Event}
 use Rattle.node_core.specs.declared.event.Event.TheVariants as on
 use Rattle.node_core.specs.declared.timer.Timer.TheVariants.{Dispatch}
+use Rattle.node_core.specs.declared.phase.Phase.TheVariants.{Normal}
+use Rattle.node_core.specs.State.{State, in_phase}
 use Rattle.link_ring.specs.Sides.{Side}
 
 -- the messages to one node, in order
@@ -35,19 +39,29 @@ pub record SentOn (sent : List Envelope) (old new : List Side) : Type 0 where
   pub len : length new ≡ length old
   pub each : (k : ℕ) (d : Side) → k < length old → SentTo sent (slice_index_or old k d) (slice_index_or new k d)
 
--- how many messages to one node an event may send where so many jobs are pending: a dispatch one for each, and any other event one
-abbrev pub most_from : Event → ℕ → ℕ
-most_from (on.Timer Dispatch) pending = pending
-most_from event pending = 1
+-- whether the node is a member by this task, where there is one
+abbrev pub is_member : Option Assignment → ℕ → Bool
+is_member None j = true
+is_member (Some task) j = has task.members j
 
--- and at a node that keeps this: one that is Down keeps nothing, and sends nothing
-abbrev pub most_to : Event → Option Durable → ℕ
-most_to event None = 0
-most_to event (Some d) = most_from event (length d.pending)
+-- whether a dispatch of a node in this state may give work to node j: it gives some in the phase Normal alone, to members of its group
+abbrev pub may_give_to : State → ℕ → Bool
+may_give_to s j = in_phase Normal s.phase && is_member s.task j
 
--- there is room for n more messages on each link
-abbrev pub HasRoomFor : ℕ → List Side → Type 0
-HasRoomFor n sides = (k : ℕ) (d : Side) → k < length sides → n ≤ (slice_index_or sides k d).room
+-- how many messages to one node an event may send where so many jobs are pending: a dispatch one for each to a node that it may give work
+-- to, and none to another one; any other event one
+abbrev pub most_from : Event → Bool → ℕ → ℕ
+most_from (on.Timer Dispatch) gives pending = if gives then pending else 0
+most_from event gives pending = 1
+
+-- and to node j, at a node in this state that keeps this: one that is Down keeps nothing, and sends nothing
+abbrev pub most_to : Event → State → Option Durable → ℕ → ℕ
+most_to event s None j = 0
+most_to event s (Some d) j = most_from event (may_give_to s j) (length d.pending)
+
+-- there is room for so many more messages on each link, by its receiver
+abbrev pub HasRoomFor : (ℕ → ℕ) → List Side → Type 0
+HasRoomFor most sides = (k : ℕ) (d : Side) → k < length sides → most (slice_index_or sides k d).receiver ≤ (slice_index_or sides k d).room
 
 -- there is room on each link for those of these messages that are for its receiver
 abbrev pub HasRoomToSend : List Envelope → List Side → Type 0

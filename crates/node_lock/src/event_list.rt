@@ -1,6 +1,6 @@
 //! Lists of events, kept as the entries of a trace keep them.
 
-ghost use Rattle.std.specs.Prelude.{◌≡◌, ◌<◌, ◌-◌, [], ◌∷◌, ◌++◌, length, max, slice_get, Some, OnOk, OnErr};
+ghost use Rattle.std.specs.Prelude.{◌≡◌, ◌<◌, ◌-◌, [], ◌∷◌, ◌++◌, length, max, slice_get, Some, IfOk, OnOk, OnErr};
 
 use job_model::PAYLOAD_CAPACITY;
 use message_list::MessageList;
@@ -36,16 +36,16 @@ impl Model for EventList {
 }
 
 impl EventList {
-    /// An empty list. It takes no memory before its first event.
-    pub fn new(alloc: Global) -> EventList
-        ensures { result ≡ record { events = []; room = 0 } }
+    /// An empty list, with memory for so many events but for what they bring.
+    pub fn with_capacity(alloc: Global, events: usize) -> Result<EventList, AllocError>
+        ensures { IfOk result (λ list. list ≡ record { events = []; room = 0 }) }
     {
-        EventList {
-            kept: Vec::new(alloc),
+        Ok(EventList {
+            kept: Vec::with_capacity(alloc, events)?,
             messages: MessageList::new(alloc),
             payloads: Vec::new(alloc),
             room: 0,
-        }
+        })
     }
 
     /// How many events there are.

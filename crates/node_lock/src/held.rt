@@ -38,6 +38,9 @@ pub enum HeldFault {
 /// The most entries of a history.
 pub const MOST_ENTRIES: usize = 65_536;
 
+// a history has room for what a turn sends, with so many jobs pending, before its first one: else that room grows job by job
+const FEW_JOBS: u64 = 64;
+
 /// A node with its links, its plans and its history.
 #[derive(Drop)]
 pub struct Held {
@@ -107,7 +110,9 @@ impl Held {
         ensures { IfOk result (λ h. (h.run ≡ run) × (h.plans ≡ plans) × (h.turns ≡ no_turns) × (h.history ≡ []) × (h.waiting ≡ None)) }
     {
         let node = DurableNode::open(alloc, run.node, run.nodes, run.slots)?;
-        let history = TurnLog::with_capacity(alloc, plans.turns().min(MOST_ENTRIES))?;
+        let turns = plans.turns().min(MOST_ENTRIES);
+        let messages = usize::from(run.nodes).max(run.slots.min(FEW_JOBS) as usize);
+        let history = TurnLog::with_capacity(alloc, turns, messages)?;
         Ok(Held {
             site: Site {
                 node,
@@ -176,7 +181,7 @@ impl Held {
         let from = self.plans.intake()[index];
         let place = place_of(self.run.node, from);
         fetch(&mut self.takes, &mut self.waiting, place)?;
-        self.site.receive(index as u64, &self.waiting)?;
+        self.site.receive(index as u32, &self.waiting)?;
         self.turns.intake += 1;
         clear(&mut self.waiting);
         Ok(true)
@@ -192,7 +197,7 @@ impl Held {
     {
         let index = self.turns.clock;
         let event = Event::Timer(self.plans.clock()[index]);
-        self.site.hand(Worker::Clock, index as u64, &event)?;
+        self.site.hand(Worker::Clock, index as u32, &event)?;
         self.turns.clock += 1;
         Ok(true)
     }
@@ -207,7 +212,7 @@ impl Held {
     {
         let index = self.turns.operator;
         let order = &self.plans.operator()[index];
-        self.site.operate(index as u64, order)?;
+        self.site.operate(index as u32, order)?;
         self.turns.operator += 1;
         Ok(true)
     }

@@ -1,20 +1,22 @@
 // One event at a node.
-ghost use Rattle.std.specs.Prelude.{◌≡◌, ◌≤◌, ℕ, IfOk, IfErr, length, None};
-ghost use Rattle.group_task.specs.Ids.{IsSet};
+ghost use Rattle.std.specs.Prelude.{◌≡◌, ◌≤◌, ℕ, IfOk, IfErr, length, None, Some, true};
+ghost use Rattle.group_task.specs.Ids.{IsSet, has};
+ghost use Rattle.group_task.specs.Assignment.{Assignment};
 ghost use Rattle.durable_node.specs.Stepping.{most_by};
 ghost use Rattle.histories.specs.EventOutcomes.{what_of};
 ghost use Rattle.node_lock.specs.declared.held.HeldFault.TheVariants.{NoMemory};
 ghost use Rattle.node_lock.specs.Doing.{Did, StandsForSome};
-ghost use Rattle.node_lock.specs.Sending.{addressed_to, most_from, most_to};
+ghost use Rattle.node_lock.specs.Sending.{addressed_to, most_to};
 
 use crate::held::HeldFault;
 use durable_node::{DurableNode, StepReport};
 use histories::EventOutcome;
-use node_core::{Event, Timer};
+use node_core::Event;
 use sector_disk::MemDisk;
 use wire_msg::Message;
 
-/// Does one event: what came of it, and what was sent, to one node no more than [`most_to`] says. The disk forgets the moments before.
+/// Does one event: what came of it, and what was sent, to one node no more than [`reserve_puts`](crate::links::reserve_puts) makes room
+/// for. The disk forgets the moments before.
 ///
 /// An error is want of memory: the disk of a node that has a history can be mounted.
 pub(crate) fn perform(
@@ -26,14 +28,15 @@ pub(crate) fn perform(
     ensures nodes { node.new.nodes ≡ node.old.nodes }
     ensures did { IfOk result (λ r. Did node.old event.now (what_of event.now r.0) r.1.items node.new) }
     ensures few { IfOk result (λ r. length r.1.items ≤ most_by node.old.nodes node.old.kept) }
-    // Promise: A turn makes room on each link for what its event can send to one node: for a dispatch one message for each pending
-    // job, for any other event one.
-    // Also: most_to.
-    // Refuses: dispatch_has_room_for_one.
-    ensures each { IfOk result (λ r. (j : ℕ) → length (addressed_to j r.1.items) ≤ most_to event.now node.old.kept) }
+    // Promise: A turn makes room on each link for what its event can send to its receiver: for a dispatch one message for each pending
+    // job where the receiver is a member of the node's group and the node is Normal, else none; for any other event one.
+    // Also: reserve_puts.
+    // Refuses: dispatch_has_room_for_one, no_room_for_work_to_node_0.
+    ensures each { IfOk result (λ r. (j : ℕ) → length (addressed_to j r.1.items) ≤ most_to event.now node.old.state node.old.kept j) }
     ensures memory { IfErr result (λ fault. (fault ≡ NoMemory) × (node.new ≡ record node.old { mounted = None })) }
 {
     note_sets(node);
+    note_task(node);
     match node.step(event) {
         Ok(came) => {
             node.forget();
@@ -57,23 +60,11 @@ fn note_sets(node: &DurableNode<MemDisk>)
     let _ = group_state.found.len();
 }
 
-/// How many messages to one node an event may send: a dispatch one for each pending job, and any other event one. A node that is Down
-/// sends none.
-pub(crate) fn most_to(event: &Event, node: &DurableNode<MemDisk>) -> usize
-    ensures { result ≡ most_to event.now node.now.kept }
+/// The creator of the node's task is a member by it. It does nothing.
+fn note_task(node: &DurableNode<MemDisk>)
+    ensures { (task : Assignment) → node.now.state.task ≡ Some task → has task.members task.group.creator ≡ true }
 {
-    match node.durable() {
-        Some((_, table)) => most_from(event, table.pending().len()),
-        None => 0,
-    }
-}
-
-/// How many it may send where so many jobs are pending.
-fn most_from(event: &Event, pending: usize) -> usize
-    ensures { result ≡ most_from event.now pending }
-{
-    match event {
-        Event::Timer(Timer::Dispatch) => pending,
-        _ => 1,
+    if let Some(task) = node.vector().group_state.task {
+        let _ = task.members();
     }
 }

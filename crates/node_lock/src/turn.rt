@@ -15,7 +15,7 @@ use crate::held::HeldFault;
 use crate::line::Quiet;
 use crate::links::{reserve_puts, send_all};
 use crate::order::OperatorOrder;
-use crate::perform::{most_to, perform};
+use crate::perform::perform;
 use crate::turn_log::TurnLog;
 use crate::turn_numbers::TurnNumbers;
 use crate::worker::Worker;
@@ -40,7 +40,7 @@ impl Site {
     pub(crate) fn hand(
         &mut self,
         worker: Worker,
-        index: u64,
+        index: u32,
         event: &Event,
     ) -> Result<(), HeldFault>
         requires { IsReady self.old }
@@ -60,7 +60,7 @@ impl Site {
     }
 
     /// The operator's turn.
-    pub(crate) fn operate(&mut self, index: u64, order: &OperatorOrder) -> Result<(), HeldFault>
+    pub(crate) fn operate(&mut self, index: u32, order: &OperatorOrder) -> Result<(), HeldFault>
         requires { IsReady self.old }
         ensures taken { OnOk result ((e : Entry) × TookTurn Operator index (asked_in order.now) e (site_of self.old) (site_of self.new)) }
         ensures memory { IfErr result (λ fault. (fault ≡ NoMemory) × TookNone (site_of self.old) (site_of self.new)) }
@@ -89,7 +89,7 @@ impl Site {
     }
 
     /// The intake's turn: what a poll took is handed to the node.
-    pub(crate) fn receive(&mut self, index: u64, arrived: &Option<Message>) -> Result<(), HeldFault>
+    pub(crate) fn receive(&mut self, index: u32, arrived: &Option<Message>) -> Result<(), HeldFault>
         requires { IsReady self.old }
         ensures taken { OnOk result ((e : Entry) × TookTurn Intake index (asked_by arrived.now) e (site_of self.old) (site_of self.new)) }
         ensures memory { IfErr result (λ fault. (fault ≡ NoMemory) × TookNone (site_of self.old) (site_of self.new)) }
@@ -102,7 +102,7 @@ impl Site {
 
     // Hands a message to the node. It stands apart, since most polls take none, and here a whole event is made.
     #[inline(never)]
-    fn deliver(&mut self, index: u64, message: &Message) -> Result<(), HeldFault>
+    fn deliver(&mut self, index: u32, message: &Message) -> Result<(), HeldFault>
         requires { IsReady self.old }
         ensures taken { OnOk result ((e : Entry) × TookTurn Intake index (Hand (Event.Deliver message.now)) e (site_of self.old) (site_of self.new)) }
         ensures memory { IfErr result (λ fault. (fault ≡ NoMemory) × TookNone (site_of self.old) (site_of self.new)) }
@@ -124,10 +124,10 @@ fn make_room(
     ensures room { OnOk result ((0 < history.new.room) × (0 < history.new.events)) }
     ensures sends { OnOk result (most_by node.now.nodes node.now.kept ≤ history.new.sends) }
     ensures losses { OnOk result (most_by node.now.nodes node.now.kept ≤ history.new.losses) }
-    ensures puts { OnOk result (HasRoomFor (most_to event.now node.now.kept) puts.new.items) }
+    ensures puts { OnOk result (HasRoomFor (most_to event.now node.now.state node.now.kept) puts.new.items) }
 {
     history.reserve(node.most())?;
-    reserve_puts(puts, most_to(event, node))
+    reserve_puts(puts, event, node)
 }
 
 /// A turn that hands no event to the node and leaves it as it is.
@@ -135,7 +135,7 @@ fn rest(
     history: &mut TurnLog,
     numbers: &TurnNumbers,
     worker: Worker,
-    index: u64,
+    index: u32,
 ) -> Result<(), HeldFault>
     ensures taken { OnOk result (history.new.turns ≡ history.old.turns ++ turn_of worker index (record { what = what_quiet Rested; sent = [] }) ∷ []) }
     ensures memory { IfErr result (λ fault. (fault ≡ NoMemory) × (history.new.turns ≡ history.old.turns)) }

@@ -9,7 +9,7 @@ ghost use Rattle.node_lock.specs.Seen.{turn_seen};
 ghost use Rattle.node_lock.specs.declared.line.Quiet.{Quiet};
 
 use crate::event_list::EventList;
-use crate::line::{Line, PackedHistoryEvent, Quiet};
+use crate::line::{Line, MOST_KEPT, PackedHistoryEvent, Quiet};
 use crate::worker::Worker;
 use histories::{EventOutcome, HistoryEvent, NoOpKind};
 use message_list::MessageList;
@@ -22,8 +22,8 @@ use wire_msg::Message;
 /// The turns that were taken at a node, in their order. A poll that took nothing, an event that was refused and an order that
 /// arms the disk are turns too.
 ///
-/// A turn takes 64 bytes, with an event 24 more; a message that was delivered or sent takes 16 for most, one that was lost 16 more, and a
-/// new job the bytes of its payload.
+/// A turn takes 32 bytes, with an event 24 more; a message that was delivered or sent takes 16 for most, one that was lost 16 more, and a
+/// new job the bytes of its payload. There is room for 2^32 - 1 messages and as many events.
 #[derive(Debug, Drop)]
 pub struct TurnLog {
     lines: Vec<Line>,
@@ -42,28 +42,36 @@ pub struct Loss {
 }
 
 impl Model for TurnLog {
-    ghost use Rattle.std.specs.Prelude.{◌-◌, All, length, map, vec_len, vec_capacity};
+    ghost use Rattle.std.specs.Prelude.{◌-◌, ◌≤◌, All, length, map, min, vec_len, vec_capacity};
     ghost use Rattle.node_lock.specs.Kept.{LineStands, Log, turn_in};
     ghost use Rattle.node_lock.specs.declared.line.Line.{Line};
+    ghost use Rattle.node_lock.specs.declared.line.TheConstants.{MOST_KEPT};
 
     ghost Value = { Log };
 
-    ghost view = { λ a. record { turns = map (turn_in a.sent.messages a.events.events) a.lines.items; numbers = map (λ (l : Line). l.number) a.lines.items; room = vec_capacity a.lines - vec_len a.lines; sends = a.sent.room; events = a.events.room; losses = vec_capacity a.losses - vec_len a.losses } };
+    ghost view = { λ a. record { turns = map (turn_in a.sent.messages a.events.events) a.lines.items; numbers = map (λ (l : Line). l.number) a.lines.items; room = vec_capacity a.lines - vec_len a.lines; sends = min a.sent.room (MOST_KEPT - length a.sent.messages); events = min a.events.room (MOST_KEPT - length a.events.events); losses = vec_capacity a.losses - vec_len a.losses } };
 
-    ghost invariant = { λ a. All (LineStands (length a.sent.messages) (length a.events.events)) a.lines.items };
+    ghost invariant = { λ a. All (LineStands (length a.sent.messages) (length a.events.events)) a.lines.items × (length a.sent.messages ≤ MOST_KEPT) };
 }
 
 impl TurnLog {
-    /// A history of no turns, with memory for so many that hand no event to their node.
-    pub(crate) fn with_capacity(alloc: Global, turns: usize) -> Result<TurnLog, AllocError>
+    /// A history of no turns, with memory for so many but for what events bring and what they send, and with room for a turn that sends so
+    /// many messages.
+    pub(crate) fn with_capacity(
+        alloc: Global,
+        turns: usize,
+        messages: usize,
+    ) -> Result<TurnLog, AllocError>
         ensures { IfOk result (λ log. log.turns ≡ []) }
     {
-        Ok(TurnLog {
+        let mut log = TurnLog {
             lines: Vec::with_capacity(alloc, turns)?,
             sent: MessageList::new(alloc),
-            events: EventList::new(alloc),
+            events: EventList::with_capacity(alloc, turns)?,
             losses: Vec::new(alloc),
-        })
+        };
+        log.reserve(messages)?;
+        Ok(log)
     }
 
     /// How many turns there are.
@@ -90,6 +98,9 @@ impl TurnLog {
         ensures events { OnOk result (0 < self.new.events) }
         ensures losses { OnOk result (messages ≤ self.new.losses) }
     {
+        if MOST_KEPT - self.sent.len() < messages || MOST_KEPT <= self.events.len() {
+            return Err(AllocError);
+        }
         self.lines.reserve(1)?;
         self.events.reserve(1)?;
         self.losses.reserve(messages)?;
@@ -111,8 +122,8 @@ impl TurnLog {
     pub(crate) fn push(
         &mut self,
         worker: Worker,
-        index: u64,
-        number: u64,
+        index: u32,
+        number: u32,
         event: &Event,
         event_outcome: EventOutcome,
         sent: &[Message],
@@ -123,22 +134,22 @@ impl TurnLog {
         ensures turns { self.new.turns ≡ self.old.turns ++ (record { worker = worker; index = index; entry = record { what = what_of event.now event_outcome; sent = sent.now } }) ∷ [] }
         ensures numbers { self.new.numbers ≡ self.old.numbers ++ number ∷ [] }
     {
-        let place = self.events.len();
+        let place = self.events.len() as u32;
         self.events.push(event);
-        let start = self.sent.len();
+        let start = self.sent.len() as u32;
         keep_messages(&mut self.sent, sent);
         self.lines.push_reserved(Line {
             worker,
             index,
             number,
-            what: PackedHistoryEvent::Handed(place, event_outcome),
+            what: PackedHistoryEvent::Handed(event_outcome, place),
             start,
-            end: self.sent.len(),
+            end: self.sent.len() as u32,
         });
     }
 
     /// Adds a turn that handed no event to its node, in the room that is there.
-    pub(crate) fn push_quiet(&mut self, worker: Worker, index: u64, number: u64, quiet: Quiet)
+    pub(crate) fn push_quiet(&mut self, worker: Worker, index: u32, number: u32, quiet: Quiet)
         requires { 0 < self.old.room }
         ensures turns { self.new.turns ≡ self.old.turns ++ (record { worker = worker; index = index; entry = record { what = what_quiet quiet; sent = [] } }) ∷ [] }
         ensures numbers { self.new.numbers ≡ self.old.numbers ++ number ∷ [] }
@@ -154,7 +165,7 @@ impl TurnLog {
     }
 
     /// The number of the turn at this place among the turns of all nodes ([`TurnNumbers`](crate::TurnNumbers)).
-    pub fn number(&self, place: usize) -> Option<u64>
+    pub fn number(&self, place: usize) -> Option<u32>
         // Promise: The number that a turn drew is kept with it, and each turn has one.
         // Also: TurnLog::len.
         // Refuses: index_told_as_number.
@@ -195,14 +206,14 @@ impl TurnLog {
         ensures none { IsNone result → (event : Event) → (sent : List Envelope) → IsHandledAt place event sent self.now.turns → ⊥ }
     {
         let line = self.lines.get(place)?;
-        let PackedHistoryEvent::Handed(at, event_outcome) = line.what else {
+        let PackedHistoryEvent::Handed(event_outcome, at) = line.what else {
             return None;
         };
         let EventOutcome::Done = event_outcome else {
             return None;
         };
-        self.events.read(at, event);
-        Some(Sent::part(&self.sent, line.start, line.end))
+        self.events.read(at as usize, event);
+        Some(Sent::part(&self.sent, line.start as usize, line.end as usize))
     }
 
     /// The turn at this place.
@@ -213,9 +224,9 @@ impl TurnLog {
         let line = self.lines.get(place)?;
         Some(Entry {
             worker: line.worker,
-            index: line.index,
+            index: u64::from(line.index),
             what: what_in(&self.events, line.what),
-            sent: Sent::part(&self.sent, line.start, line.end),
+            sent: Sent::part(&self.sent, line.start as usize, line.end as usize),
         })
     }
 }
@@ -226,7 +237,7 @@ fn what_in(events: &EventList, what: PackedHistoryEvent) -> HistoryEvent
     ensures { result ≡ what_in events.now.events what }
 {
     match what {
-        PackedHistoryEvent::Handed(place, event_outcome) => match events.get(place) {
+        PackedHistoryEvent::Handed(event_outcome, place) => match events.get(place as usize) {
             Some(event) => event_outcome.what(&event),
             None => unreachable!(),
         },

@@ -1,5 +1,5 @@
 -- Calls of the node, one behind another.
-use Rattle.std.proofs.Common.{◌≡◌, ℕ, List, [], ◌∷◌, ◌++◌, Bool, true, false, None, refl, sym, ap, ◌∙◌, subst, append_assoc, append-nil, Result, Ok, Err}
+use Rattle.std.proofs.Common.{◌≡◌, ℕ, List, [], ◌∷◌, ◌++◌, Bool, true, false, None, Some, refl, sym, ap, ◌∙◌, subst, append_assoc, append-nil, Result, Ok, Err}
 use Rattle.std.specs.Prelude.{IfOk}
 use Rattle.sector_disk.specs.Disk.{DiskState}
 use Rattle.node_core.specs.declared.event.Event.{Event}
@@ -10,12 +10,13 @@ use Rattle.node_session.proofs.Happens.{caused}
 use Rattle.node_session.specs.declared.call_outcome.CallOutcome.{CallOutcome}
 use Rattle.node_session.specs.declared.call_outcome.CallOutcome.TheVariants as end
 use Rattle.node_core.specs.State.{State, is_down}
-use Rattle.node_session.specs.Turns.{Turn, after_turn, end_of, IsFired, IsTimely, IsGoing, MayComeOf, MayCompact}
+use Rattle.node_session.specs.Turns.{Turn, after_turn, cause, end_of, IsFired, IsTimely, IsGoing, MayComeOf, MayCompact}
 use Rattle.pace.specs.Retransmission.{Waits}
 use Rattle.node_session.specs.Chains.{AreGoing, AreTimely, ComesAndEnds, IsOne, IsWrittenAnew, brought_up, after_turns, last_end, waits_turn, waits_turns}
 use Rattle.node_session.specs.Text.{fired_by, fired_line, fired_news, turn_text, turns_text, no_news}
 use Rattle.node_session.specs.Exact.{IsCallOf, AreCallsOf}
 use Rattle.node_session.specs.Serving.{Progress, IsNodeOf, Turned, Turns, Calls}
+use Rattle.node_session.specs.Timing.{Timers, Timely}
 
 -- ---- one more turn behind others
 
@@ -78,13 +79,23 @@ node_then disks old mid new a b = record {
 pub at_node : {Disk : Type 0} (P : ℕ → ℕ → Type 0) (old mid : Node Disk) → mid.id ≡ old.id → mid.nodes ≡ old.nodes → P mid.id mid.nodes → P old.id old.nodes
 at_node P old mid id nodes p = subst (λ (n : ℕ). P old.id n) nodes (subst (λ (n : ℕ). P n mid.nodes) id p)
 
+-- ---- the rest stays the same
+
+-- a call leaves the timers
+same_timers : {Disk : Type 0} (old new : Progress Disk) → new ≡ record old { node = new.node; text = new.text; waits = new.waits } → new ≡ record old { node = new.node; text = new.text; waits = new.waits; timers = new.timers }
+same_timers {Disk} old new is = is ∙ ap (λ (t : Timers). record old { node = new.node; text = new.text; waits = new.waits; timers = t }) (sym (ap (λ (p : Progress Disk). p.timers) is))
+
+same_behind : {Disk : Type 0} (old mid new : Progress Disk) → mid ≡ record old { node = mid.node; text = mid.text; waits = mid.waits; timers = mid.timers }
+    → new ≡ record mid { node = new.node; text = new.text; waits = new.waits; timers = new.timers } → new ≡ record old { node = new.node; text = new.text; waits = new.waits; timers = new.timers }
+same_behind {Disk} old mid new first second = second ∙ ap (λ (p : Progress Disk). record p { node = new.node; text = new.text; waits = new.waits; timers = new.timers }) first
+
 -- ---- calls
 
 pub one_call : {Disk : Type 0} (disks : Disk → DiskState) (old new : Progress Disk) (May : ℕ → ℕ → ℕ → NodeState → Turn → Type 0) (before ended : CallOutcome) → Turns disks old new May ended
     → Calls disks old new no_news (λ i n slots s turns. IsOne (May i n slots s) turns) before ended
 one_call disks old new May before ended a = record {
   node = a.node;
-  same = a.same;
+  same = same_timers old new a.same;
   called = λ was s is stands. (let x = a.turned was s is stands in
       record {
         turns = x.turn ∷ [];
@@ -112,7 +123,7 @@ pub step_alone : {Disk : Type 0} (disks : Disk → DiskState) (old new : Progres
     → brought_up (is_down old.node.state.phase) (is_down new.node.state.phase) ≡ false → Calls disks old new no_news (ComesAndEnds event ended) (end.Done None) ended
 step_alone {Disk} disks old new event ended a stays = record {
   node = a.node;
-  same = a.same;
+  same = same_timers old new a.same;
   called = λ was s is stands. (let x = a.turned was s is stands in
       let t = after_turn old.node.id old.node.nodes s x.turn in
       let none = up_so disks old.node new.node s t false stands x.stands stays in
@@ -133,7 +144,7 @@ pub step_anew : {Disk : Type 0} (disks : Disk → DiskState) (old mid new : Prog
     → brought_up (is_down old.node.state.phase) (is_down mid.node.state.phase) ≡ true → Turns disks mid new MayCompact last → Calls disks old new no_news (ComesAndEnds event step) (end.Done None) last
 step_anew {Disk} disks old mid new event step last a up b = record {
   node = node_then disks old.node mid.node new.node a.node b.node;
-  same = b.same ∙ ap (λ (p : Progress Disk). record p { node = new.node; text = new.text; waits = new.waits }) a.same;
+  same = same_timers old new (b.same ∙ ap (λ (p : Progress Disk). record p { node = new.node; text = new.text; waits = new.waits }) a.same);
   called = λ was s is stands. (let x = a.turned was s is stands in
       let d = a.node.disk was is in
       let id = old.node.id in
@@ -156,31 +167,65 @@ step_anew {Disk} disks old mid new event step last a up b = record {
       });
 }
 
-pub no_call : {Disk : Type 0} (disks : Disk → DiskState) (p : Progress Disk) (before : CallOutcome) → Calls disks p p fired_news AreTimely before before
-no_call disks p before = record {
+pub no_call : {Disk : Type 0} (disks : Disk → DiskState) (p : Progress Disk) (before : CallOutcome) (So : ℕ → ℕ → NodeState → List Turn → Type 0) → ((s : NodeState) → Stands disks p.node s → So p.node.id p.node.nodes s [])
+    → Calls disks p p fired_news (Timely So) before before
+no_call disks p before So so = record {
   node = node_refl disks p.node;
   same = refl;
-  called = λ was s is stands. record { turns = []; may = tt; exact = refl; honest = λ honest. tt; stands = stands; ended_so = refl; text = sym (append-nil p.text); waits = refl };
+  called = λ was s is stands. record { turns = []; may = (tt, so s stands); exact = refl; honest = λ honest. tt; stands = stands; ended_so = refl; text = sym (append-nil p.text); waits = refl };
 }
 
+-- the timers alone were looked at behind calls
+pub look_more : {Disk : Type 0} (disks : Disk → DiskState) (old mid new : Progress Disk) (before ended : CallOutcome) (Before After : ℕ → ℕ → NodeState → List Turn → Type 0) → new ≡ record mid { timers = new.timers }
+    → ((s : NodeState) (turns : List Turn) → Stands disks mid.node (after_turns old.node.id old.node.nodes s turns) → mid.node.id ≡ old.node.id → mid.waits ≡ waits_turns old.node.id old.node.nodes s turns old.waits
+    → ended ≡ last_end old.node.id old.node.nodes before s turns → Before old.node.id old.node.nodes s turns → After old.node.id old.node.nodes s turns)
+    → Calls disks old mid fired_news (Timely Before) before ended → Calls disks old new fired_news (Timely After) before ended
+look_more {Disk} disks old mid new before ended Before After is goes a =
+    let there : new.node ≡ mid.node = ap (λ (p : Progress Disk). p.node) is in
+    record {
+      node = subst (λ (n : Node Disk). IsNodeOf disks old.node n) (sym there) a.node;
+      same = same_behind old mid new a.same (is ∙ (ap (λ (n : Node Disk). record mid { node = n; timers = new.timers }) (sym there)
+          ∙ (ap (λ (t : List ℕ). record mid { node = new.node; text = t; timers = new.timers }) (sym (ap (λ (p : Progress Disk). p.text) is))
+          ∙ ap (λ (w : Waits). record mid { node = new.node; text = new.text; waits = w; timers = new.timers }) (sym (ap (λ (p : Progress Disk). p.waits) is)))));
+      called = λ was s at stands. (let x = a.called was s at stands in
+          record {
+            turns = x.turns;
+            may = (x.may.0, goes s x.turns x.stands a.node.id x.waits x.ended_so x.may.1);
+            exact = subst (λ (n : Node Disk). AreCallsOf disks old.node.id old.node.nodes s x.turns old.node n) (sym there) x.exact;
+            honest = x.honest;
+            stands = subst (λ (n : Node Disk). Stands disks n (after_turns old.node.id old.node.nodes s x.turns)) (sym there) x.stands;
+            ended_so = x.ended_so;
+            text = ap (λ (p : Progress Disk). p.text) is ∙ x.text;
+            waits = ap (λ (p : Progress Disk). p.waits) is ∙ x.waits;
+          });
+    }
+
 -- one more, behind the line that names its event
-pub call_more : {Disk : Type 0} (disks : Disk → DiskState) (old mid new : Progress Disk) (event : Event) (said : List ℕ) (before between ended : CallOutcome) → IsFired event → said ≡ mid.text ++ fired_line event
-    → Calls disks old mid fired_news AreTimely before between → Turns disks (record mid { text = said }) new (λ i n. MayComeOf i n event) ended
-    → Calls disks old new fired_news AreTimely before ended
-call_more {Disk} disks old mid new event said before between ended fired fires a b = record {
+pub call_more : {Disk : Type 0} (disks : Disk → DiskState) (old mid new : Progress Disk) (event : Event) (said : List ℕ) (told : Timers) (before between ended : CallOutcome) (Before After : ℕ → ℕ → NodeState → List Turn → Type 0) → IsFired event
+    → said ≡ mid.text ++ fired_line event
+    → ((s : NodeState) (turns : List Turn) (turn : Turn) → Stands disks mid.node (after_turns old.node.id old.node.nodes s turns) → mid.node.id ≡ old.node.id
+    → mid.waits ≡ waits_turns old.node.id old.node.nodes s turns old.waits → between ≡ last_end old.node.id old.node.nodes before s turns
+    → cause turn ≡ Some event → ended ≡ end_of old.node.id old.node.nodes (after_turns old.node.id old.node.nodes s turns) turn → new.timers ≡ told
+    → Before old.node.id old.node.nodes s turns → After old.node.id old.node.nodes s (turns ++ turn ∷ []))
+    → Calls disks old mid fired_news (Timely Before) before between → Turns disks (record mid { text = said; timers = told }) new (λ i n. MayComeOf i n event) ended
+    → Calls disks old new fired_news (Timely After) before ended
+call_more {Disk} disks old mid new event said told before between ended Before After fired fires goes a b = record {
   node = node_then disks old.node mid.node new.node a.node b.node;
-  same = b.same ∙ ap (λ (p : Progress Disk). record p { node = new.node; text = new.text; waits = new.waits }) a.same;
+  same = same_behind old mid new a.same (same_timers (record mid { text = said; timers = told }) new b.same);
   called = λ was s is stands. (let x = a.called was s is stands in
       let d = a.node.disk was is in
       let t = after_turns old.node.id old.node.nodes s x.turns in
-      let y = at_node (λ i n. Turned disks (record mid { text = said }) new i n (λ i n. MayComeOf i n event) ended d.now t) old.node mid.node a.node.id a.node.nodes (b.turned d.now t d.is x.stands) in
+      let y = at_node (λ i n. Turned disks (record mid { text = said; timers = told }) new i n (λ i n. MayComeOf i n event) ended d.now t) old.node mid.node a.node.id a.node.nodes (b.turned d.now t d.is x.stands) in
       let may : MayComeOf old.node.id old.node.nodes event (slots_for (disks was).sectors) t y.turn = subst (λ (n : ℕ). MayComeOf old.node.id old.node.nodes event (slots_for n) t y.turn) d.sectors y.may in
       let more : new.text ≡ mid.text ++ (fired_news y.turn ++ turn_text old.node.id old.node.nodes t y.turn) =
       both_texts mid.text said new.text (fired_news y.turn) (turn_text old.node.id old.node.nodes t y.turn)
       (fires ∙ ap (λ (l : List ℕ). mid.text ++ l) (fired_so old.node.id old.node.nodes (slots_for (disks was).sectors) t event y.turn may)) y.text in
       record {
         turns = x.turns ++ y.turn ∷ [];
-        may = timely_more old.node.id old.node.nodes (slots_for (disks was).sectors) s x.turns y.turn x.may (record { event = event; fired = fired; may = may });
+        may = (
+          timely_more old.node.id old.node.nodes (slots_for (disks was).sectors) s x.turns y.turn x.may.0 (record { event = event; fired = fired; may = may }),
+          goes s x.turns y.turn x.stands a.node.id x.waits x.ended_so (sym (caused old.node.id old.node.nodes (slots_for (disks was).sectors) t event y.turn may)) y.ended_so (ap (λ (p : Progress Disk). p.timers) b.same) x.may.1,
+        );
         exact = calls_more disks old.node.id old.node.nodes s x.turns y.turn old.node mid.node new.node x.exact y.exact;
         honest = λ honest. going_more x.turns y.turn (x.honest honest) (y.honest (d.honest ∙ honest));
         stands = subst (λ (u : NodeState). Stands disks new.node u) (sym (after_more old.node.id old.node.nodes s x.turns y.turn)) y.stands;
@@ -190,16 +235,6 @@ call_more {Disk} disks old mid new event said before between ended fired fires a
         waits = (y.waits ∙ ap (λ (w : Waits). waits_turn old.node.id old.node.nodes t y.turn w) x.waits) ∙ sym (waits_more old.node.id old.node.nodes s x.turns y.turn old.waits);
       });
 }
-
--- as the code does it: what is due is looked at, which changes nothing, it is named, and made
-pub due_more : {Disk : Type 0} (disks : Disk → DiskState) (old mid due here new : Progress Disk) (event : Event) (before between ended : CallOutcome) → IsFired event → due ≡ mid
-    → here ≡ record due { text = due.text ++ fired_line event }
-    → Calls disks old mid fired_news AreTimely before between → Turns disks here new (λ i n. MayComeOf i n event) ended
-    → Calls disks old new fired_news AreTimely before ended
-due_more {Disk} disks old mid due here new event before between ended fired is named a b =
-    call_more disks old mid new event (mid.text ++ fired_line event) before between ended fired refl a
-    (subst (λ (p : Progress Disk). Turns disks p new (λ i n. MayComeOf i n event) ended)
-    (named ∙ ap (λ (p : Progress Disk). record p { text = p.text ++ fired_line event }) is) b)
 
 pub if_ok : {T E : Type 0} (r : Result T E) (P Q : T → Type 0) → ((x : T) → P x → Q x) → IfOk r P → IfOk r Q
 if_ok (Ok x) P Q f h = f x h

@@ -2,6 +2,8 @@ mod Next
 mod Reading
 mod Lines
 mod Calls
+mod Looks
+mod Timings
 mod Servings
 mod Sealings
 mod Happens

@@ -9,4 +9,6 @@ pub mod Exact
 pub mod Stamping
 pub mod Lives
 pub mod Sending
+pub mod Ticks
+pub mod Timing
 pub mod Serving

@@ -16,6 +16,8 @@ use Rattle.node_session.specs.Chains.{LineOutcome, AllGoing, AreGoing, IsTold, M
 use Rattle.node_session.specs.Lines.{At, AreOf, after_lines, answers}
 use Rattle.node_session.specs.Exact.{IsCallOf, AreCallsOf, AreCallsIn}
 use Rattle.node_session.specs.Seals.{Seals}
+use Rattle.node_session.specs.Timing.{Timers, AreTimedIn, IsTimed, Nothing, OwnTime, Spends, new_timers}
+use Rattle.pace.specs.declared.timer_settings.TimerSettings.{TimerSettings}
 use Rattle.node_session.specs.Text.{answer, turn_text, turns_text}
 use Rattle.node_session.specs.declared.asked.Asked.{Asked}
 use Rattle.node_session.specs.declared.call_outcome.CallOutcome.{CallOutcome}
@@ -32,19 +34,22 @@ pub record Progress (Disk : Type 0) : Type 0 where
   pub rest : List ℕ
   -- the messages that are waited for
   pub waits : Waits
+  pub timers : Timers
   -- what is kept under a key
   pub seal : Option Seals
 
 abbrev pub at_of : {Disk : Type 0} → Progress Disk → NodeState → At
 at_of p s = record { stopped = p.stopped; count = p.count; state = s; waits = p.waits; seal = p.seal }
 
--- These lines were answered, at a node that stood for this state over this disk.
-pub record Served {Disk : Type 0} (disks : Disk → DiskState) (old new : Progress Disk) (self nodes : ℕ) (lines : List (List ℕ)) (was : Disk) (s : NodeState) : Type 0 where
+-- These lines were answered, at a node that stood for this state over this disk. This may be told to the timers between them.
+pub record Served {Disk : Type 0} (disks : Disk → DiskState) (Between : ℕ → NodeState → Timers → Timers → Type 0) (old new : Progress Disk) (self nodes : ℕ) (lines : List (List ℕ)) (was : Disk) (s : NodeState) : Type 0 where
   -- of each line came something that may come of it
   pub all : List LineOutcome
   pub came : AreOf self nodes (slots_for (disks was).sectors) (at_of old s) lines all
   -- by calls of the node, of which all holds that is said of them
   pub exact : AreCallsIn disks self nodes (at_of old s) lines all old.node new.node
+  -- by events that were due, where the timers made them, and with the times that they say
+  pub timed : AreTimedIn Between self nodes (at_of old s) lines all old.timers new.timers
   -- over an honest disk it is one history
   pub honest : IsTrue (disks was).honest → AllGoing all
   -- the node stands for the state that this leaves
@@ -68,15 +73,23 @@ pub record IsNodeOf {Disk : Type 0} (disks : Disk → DiskState) (old new : Node
   pub disk : (was : Disk) → old.disk ≡ Some was → IsDiskOf disks was new.disk
 
 -- these lines were answered, whatever state the node stood for
-pub record Serves {Disk : Type 0} (disks : Disk → DiskState) (old new : Progress Disk) (lines : List (List ℕ)) : Type 0 where
+pub record Serves {Disk : Type 0} (disks : Disk → DiskState) (Between : ℕ → NodeState → Timers → Timers → Type 0) (old new : Progress Disk) (lines : List (List ℕ)) : Type 0 where
   pub node : IsNodeOf disks old.node new.node
-  pub served : (was : Disk) (s : NodeState) → old.node.disk ≡ Some was → Stands disks old.node s → Served disks old new old.node.id old.node.nodes lines was s
+  pub served : (was : Disk) (s : NodeState) → old.node.disk ≡ Some was → Stands disks old.node s → Served disks Between old new old.node.id old.node.nodes lines was s
 
 -- a piece was fed: its whole lines were answered, the first behind what was kept, and what is behind the last of them is kept
-pub record Fed {Disk : Type 0} (disks : Disk → DiskState) (old : Progress Disk) (piece : List ℕ) (new : Progress Disk) : Type 0 where
+pub record IsFed {Disk : Type 0} (disks : Disk → DiskState) (Between : ℕ → NodeState → Timers → Timers → Type 0) (old : Progress Disk) (piece : List ℕ) (new : Progress Disk) : Type 0 where
   pub lines : List (List ℕ)
   pub cut : lines_of (old.rest ++ piece) ≡ lines ++ new.rest ∷ []
-  pub serves : Serves disks old new lines
+  pub serves : Serves disks Between old new lines
+
+-- in one go
+abbrev pub FedAtOnce : {Disk : Type 0} → (Disk → DiskState) → Progress Disk → List ℕ → Progress Disk → Type 0
+FedAtOnce disks old piece new = IsFed disks Nothing old piece new
+
+-- and where between the lines the session was told how long commands took
+abbrev pub Fed : {Disk : Type 0} → (Disk → DiskState) → Progress Disk → List ℕ → Progress Disk → Type 0
+Fed disks old piece new = IsFed disks OwnTime old piece new
 
 -- ---- one call of the node
 
@@ -110,10 +123,10 @@ pub record Called {Disk : Type 0} (disks : Disk → DiskState) (old new : Progre
   pub text : new.text ≡ old.text ++ turns_text heading self nodes s turns
   pub waits : new.waits ≡ waits_turns self nodes s turns old.waits
 
--- whatever state the node stood for; this is written before each
+-- whatever state the node stood for; this is written before each. The timers may be looked at meanwhile
 pub record Calls {Disk : Type 0} (disks : Disk → DiskState) (old new : Progress Disk) (heading : Turn → List ℕ) (May : ℕ → ℕ → ℕ → NodeState → List Turn → Type 0) (before ended : CallOutcome) : Type 0 where
   pub node : IsNodeOf disks old.node new.node
-  pub same : new ≡ record old { node = new.node; text = new.text; waits = new.waits }
+  pub same : new ≡ record old { node = new.node; text = new.text; waits = new.waits; timers = new.timers }
   pub called : (was : Disk) (s : NodeState) → old.node.disk ≡ Some was → Stands disks old.node s → Called disks old new old.node.id old.node.nodes heading May before ended was s
 
 -- ---- one request, before its messages are sealed
@@ -125,6 +138,7 @@ pub record Replied {Disk : Type 0} (disks : Disk → DiskState) (old new : Progr
   pub told : IsTold a (after_turns old.node.id old.node.nodes s turns) due
   pub may : MayCome old.node.id old.node.nodes (slots_for (disks was).sectors) s a turns
   pub exact : AreCallsOf disks old.node.id old.node.nodes s turns old.node new.node
+  pub timed : IsTimed old.node.id old.node.nodes s old.waits a (record { turns = turns; due = due }) old.timers new.timers
   pub honest : IsTrue (disks was).honest → AreGoing turns
   pub stands : Stands disks new.node (after_turns old.node.id old.node.nodes s turns)
   pub stopped : new.stopped ≡ is_failed (line_end old.node.id old.node.nodes s turns)
@@ -151,6 +165,16 @@ AnyClearing {Disk} disks =
     (old mid new : Progress Disk) (first second : List ℕ) → Fed disks old first mid → Fed disks (record mid { text = [] }) second new →
     Fed disks old (first ++ second) (record new { text = mid.text ++ new.text })
 
+-- what is fed in one go is fed
+abbrev pub AtOnceIsFed : {Disk : Type 0} → (Disk → DiskState) → Type 0
+AtOnceIsFed {Disk} disks = (old new : Progress Disk) (piece : List ℕ) → FedAtOnce disks old piece new → Fed disks old piece new
+
+-- and the session may be told behind it how long a command took
+abbrev pub AnyTaking : {Disk : Type 0} → (Disk → DiskState) → Type 0
+AnyTaking {Disk} disks =
+    (old new : Progress Disk) (piece : List ℕ) (ms : ℕ) (timers : Timers) → Fed disks old piece new →
+    Spends new.node.id ms new.node.state new.timers timers → Fed disks old piece (record new { timers = timers })
+
 -- where no history begins, the entries follow each other, and the state is the one that they replay to
 abbrev pub OneHistory : Type 0
 OneHistory =
@@ -167,23 +191,24 @@ BegunHistory =
     Follows self nodes (begun self mounted) (entries_in self nodes (begun self mounted) (first_turn (Goes what) turns due ∷ all)) ×
     (replay self nodes (begun self mounted) (entries_in self nodes (begun self mounted) (first_turn (Goes what) turns due ∷ all)) ≡ (after_lines self nodes a (line ∷ lines) (first_turn (Begins mounted what) turns due ∷ all)).state)
 
--- messages are sent again each so many milliseconds
-abbrev pub opened : {Disk : Type 0} → ℕ → ℕ → ℕ → Disk → Progress Disk
-opened id nodes unit disk = record {
+-- where no time was told yet and nothing was fed
+abbrev pub opened : {Disk : Type 0} → ℕ → ℕ → TimerSettings → Disk → Progress Disk
+opened id nodes setting disk = record {
   node = record { id = id; nodes = nodes; state = down id; disk = Some disk; kept = None; area = None; doubt = None; mounted = None };
   stopped = false;
   count = 0;
   text = [];
   rest = [];
-  waits = none_waited unit;
+  waits = none_waited setting.unit;
+  timers = new_timers setting id;
   seal = None;
 }
 
 -- over a disk of which nothing is known, a new session stands for any jobs and counter
 abbrev pub BeginsAnywhere : {Disk : Type 0} → (Disk → DiskState) → Type 0
 BeginsAnywhere {Disk} disks =
-    (id nodes unit : ℕ) (disk : Disk) (d : Durable) → IsFalse (disks disk).honest → 24 ≤ (disks disk).sectors →
-    Stands disks (opened id nodes unit disk).node (record { state = down id; durable = d; doubt = None })
+    (id nodes : ℕ) (setting : TimerSettings) (disk : Disk) (d : Durable) → IsFalse (disks disk).honest → 24 ≤ (disks disk).sectors →
+    Stands disks (opened id nodes setting disk).node (record { state = down id; durable = d; doubt = None })
 
 -- a session stops only where the disk's count of failures rose while it was fed, or is the greatest
 abbrev pub StopsWhereFailed : {Disk : Type 0} → (Disk → DiskState) → Type 0

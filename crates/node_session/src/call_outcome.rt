@@ -1,6 +1,7 @@
 // How calls of the node end.
 ghost use Rattle.std.specs.Prelude.{◌≡◌};
 ghost use Rattle.node_session.specs.Chains.{behind_end};
+ghost use Rattle.node_session.specs.Timing.{is_denied};
 
 use durable_node::NodeFault;
 
@@ -10,6 +11,14 @@ pub enum CallOutcome {
     /// It was done, with the answer of the command that was wanted, if one was.
     Done(Option<u64>),
     Denied(NodeFault),
+}
+
+impl CallOutcome {
+    pub(crate) fn is_denied(&self) -> bool
+        ensures { result ≡ is_denied self.now }
+    {
+        matches!(self, CallOutcome::Denied(_))
+    }
 }
 
 /// How the calls of an event ended: that of the event, and the last one, which is another where the journal was written anew behind it.

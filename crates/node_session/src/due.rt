@@ -4,6 +4,7 @@ ghost use Rattle.node_core.specs.declared.event.Event.{Event};
 ghost use Rattle.pace.specs.declared.deadline.Deadline.{Deadline};
 ghost use Rattle.pace.specs.Policy.{passed, IsDue, MayFire, Runs};
 ghost use Rattle.pace.specs.Retransmission.{has_come, sent_again};
+ghost use Rattle.pace.specs.Timers.{wait_of};
 ghost use Rattle.node_session.specs.Text.{next_line};
 
 use console_text::{push_number, push_text};
@@ -25,6 +26,7 @@ pub(crate) fn next_due(
     ensures silent { (later : ℕ) → now ≤ later → later < result → sent_again later waiting.now ≡ [] }
     ensures fires { (d : Deadline) → Runs pace.now snapshot.now d → is_some pace.now.told ≡ true → result < 2 ^ 64 - 1
         → IsDue (passed result pace.now) snapshot.now ⊎ (has_come result waiting.now ≡ true) }
+    ensures at_once { ((d : Deadline) → Runs pace.now snapshot.now d → ⊥) → is_some (wait_of snapshot.now) ≡ true → result ≡ 0 }
 {
     let timer = pace.due_at(snapshot).unwrap_or(u64::MAX);
     let again = waiting.due_at(now).unwrap_or(u64::MAX);

@@ -3,7 +3,7 @@ ghost use Rattle.node_session.specs.Exact.{DeviceWhereFailed, ExhaustedWhereNone
 ghost use Rattle.node_session.specs.Lives.{LivesFollow};
 ghost use Rattle.node_session.specs.Stamping.{NoStampTwice, OpenedAlone, TakenRises};
 ghost use Rattle.node_session.specs.Sending.{SendsSealed};
-ghost use Rattle.node_session.specs.Serving.{AnyClearing, AnyCutting, BeginsAnywhere, BegunHistory, OneHistory, StopsWhereFailed};
+ghost use Rattle.node_session.specs.Serving.{AnyClearing, AnyCutting, AnyTaking, AtOnceIsFed, BeginsAnywhere, BegunHistory, OneHistory, StopsWhereFailed};
 
 use sector_disk::SectorDisk;
 
@@ -15,6 +15,16 @@ pub fn any_cutting<D: SectorDisk>()
 /// What was answered may be written and cleared at any time: what is written in all is what is answered to all that was fed.
 pub fn any_clearing<D: SectorDisk>()
     ensures { AnyClearing D.state }
+{}
+
+/// What the laws of pieces say holds of each piece that is fed.
+pub fn at_once_is_fed<D: SectorDisk>()
+    ensures { AtOnceIsFed D.state }
+{}
+
+/// Between two pieces a session may be told how long a command took: it changes what is waited for, and nothing else.
+pub fn any_taking<D: SectorDisk>()
+    ensures { AnyTaking D.state }
 {}
 
 /// A session stops only where the device failed.

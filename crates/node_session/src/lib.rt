@@ -21,14 +21,15 @@ mod seals;
 mod sending;
 mod session;
 mod showing;
+mod timers;
 mod unread;
 
 pub use asked::{Asked, Unsealed, read_line};
 pub use call_outcome::CallOutcome;
 pub use laws::{
-    any_clearing, any_cutting, begins_anywhere, begun_history, device_where_failed,
-    exhausted_where_none_left, lives_follow, no_stamp_twice, one_history, opened_alone,
-    sends_sealed, stops_where_failed, taken_rises,
+    any_clearing, any_cutting, any_taking, at_once_is_fed, begins_anywhere, begun_history,
+    device_where_failed, exhausted_where_none_left, lives_follow, no_stamp_twice, one_history,
+    opened_alone, sends_sealed, stops_where_failed, taken_rises,
 };
 pub use seals::Seal;
 pub use session::Session;

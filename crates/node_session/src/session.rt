@@ -9,12 +9,13 @@ ghost use Rattle.line_words.specs.Lines.{lines_of};
 ghost use Rattle.node_session.specs.declared.asked.Asked.TheVariants as ask;
 ghost use Rattle.node_session.specs.declared.call_outcome.CallOutcome.TheVariants as end;
 ghost use Rattle.node_session.specs.Seals.{asked_under, life_of, sealed_behind, taken_under, written};
-ghost use Rattle.node_session.specs.Chains.{AreTimely, ComesAndEnds, IsAtOnce, IsToldBy, brought_up, is_failed};
-ghost use Rattle.node_session.specs.Serving.{opened, Calls, Fed, Replies, Serves, Turns};
+ghost use Rattle.node_session.specs.Chains.{ComesAndEnds, IsAtOnce, IsToldBy, brought_up, is_failed};
+ghost use Rattle.node_session.specs.Serving.{opened, Calls, FedAtOnce, Replies, Serves, Turns};
+ghost use Rattle.node_session.specs.Timing.{lost_by, Fires, GivesUp, IsDueAt, IsSeen, IsToldNext, Nothing, Spends, Timely};
 ghost use Rattle.durable_node.specs.Faults.{answered};
 ghost use Rattle.durable_node.specs.Node.{Stands};
 ghost use Rattle.histories.specs.NodeState.{NodeState};
-ghost use Rattle.node_core.specs.State.{is_down};
+ghost use Rattle.node_core.specs.State.{is_down, state_of};
 ghost use Rattle.pace.specs.Retransmission.{sent_again, waits_on};
 ghost use Rattle.node_session.specs.Text.{fired_line, fired_news, no_news, send_lines};
 ghost use Rattle.node_session.specs.Turns.{compaction_end, ended_by, sent_by, IsFired, MayComeOf, MayCompact};
@@ -28,29 +29,24 @@ use crate::fired::push_fired;
 use crate::seals::Seal;
 use crate::sending::push_messages;
 use crate::showing::{push_at_once, push_keeps_news};
+use crate::timers::{MOST_FIRED, Timers};
 use crate::unread::Unread;
 use durable_node::{DurableNode, NodeFault, StepReport};
-use group_task::{GroupNo, NodeId};
+use group_task::NodeId;
 use line_words::cut_line;
 use node_core::{CoreFault, Event, Phase, Timer, Vector};
-use pace::{NodeSnapshot, Retransmission, TimerPolicy, TimerSettings};
+use pace::{NodeSnapshot, Retransmission, TimerSettings};
 use sector_disk::SectorDisk;
 use std::alloc::{AllocError, Global};
 use std::marker::Model;
 use wire_msg::Message;
-
-/// At most so many timers fire in one tick; what is due beyond that fires in the next.
-const MOST_FIRED: u32 = 16;
 
 /// A node over its disk, and what it has answered so far.
 #[derive(Drop)]
 pub struct Session<D: SectorDisk> {
     alloc: Global,
     node: DurableNode<D>,
-    pace: TimerPolicy,
-    // the group in which a timer was last looked for, and the one in which time was last spent
-    group: Option<GroupNo>,
-    spent_in: Option<GroupNo>,
+    timers: Timers,
     waiting: Retransmission,
     stopped: bool,
     count: u64,
@@ -66,7 +62,7 @@ impl<D: SectorDisk> Model for Session<D> {
 
     ghost Value = { Progress D };
 
-    ghost view = { λ a. record { node = a.node; stopped = a.stopped; count = a.count; text = a.text.items; rest = a.unread; waits = a.waiting; seal = a.seal } };
+    ghost view = { λ a. record { node = a.node; stopped = a.stopped; count = a.count; text = a.text.items; rest = a.unread; waits = a.waiting; timers = a.timers; seal = a.seal } };
 }
 
 impl<D: SectorDisk> Session<D> {
@@ -82,14 +78,12 @@ impl<D: SectorDisk> Session<D> {
         requires within { id < nodes }
         requires most { nodes ≤ NODES }
         requires sound { IsSound (slots_for (D.state disk).sectors) (D.state disk) }
-        ensures { result ≡ opened id nodes setting.unit disk }
+        ensures { result ≡ opened id nodes setting disk }
     {
         Session {
             alloc,
             node: DurableNode::down(alloc, id, nodes, disk),
-            pace: TimerPolicy::new(setting, id, seed),
-            group: None,
-            spent_in: None,
+            timers: Timers::new(setting, id, seed),
             waiting: Retransmission::new(alloc, setting.unit),
             stopped: false,
             count: 0,
@@ -133,17 +127,14 @@ impl<D: SectorDisk> Session<D> {
     /// A command took so many milliseconds: the node's timers don't wait for them. Where the node raised its counter in it, other nodes are reckoned to
     /// take as long for that.
     pub fn took(&mut self, ms: u64)
-        ensures { self.new ≡ self.old }
+        // Promise: What a node is told that its own commands took isn't waited for: the next tick counts so much less. Where it was the first in a
+        // group that the node made, other nodes are reckoned to take as long for a raise.
+        // Refuses: own_sync_waited_for_by_the_session.
+        ensures same { self.new ≡ record self.old { timers = self.new.timers } }
+        ensures spent { Spends self.old.node.id ms self.old.node.state self.old.timers self.new.timers }
     {
-        self.pace.spend(ms);
-        let group_state = &self.node.vector().group_state;
-        if self.node.is_down() || self.spent_in == Some(group_state.group) {
-            return;
-        }
-        if group_state.group.creator().is(self.node.id()) {
-            self.pace.raised(ms);
-        }
-        self.spent_in = Some(group_state.group);
+        let id = self.node.id();
+        self.timers.spend(ms, id, self.node.vector());
     }
 
     /// Whether the device failed. The answer that says it is the last one.
@@ -185,7 +176,12 @@ impl<D: SectorDisk + Drop> Session<D> {
         // line is kept.
         // Also: any_cutting, any_clearing.
         // Refuses: rest_is_dropped.
-        ensures { OnOk result (Fed D.state self.old piece.now self.new) }
+        // Promise: A tick makes the events of those timers that are due as the policy says, each of them that is due where the one before it left
+        // the node, until none is, 16 fired or one was denied; a loss makes the one event that is due behind it; what comes is heard. The line
+        // `next` says when something is due next.
+        // Also: Session::fire_due, Session::give_up, Session::next_due, at_once_is_fed, any_taking.
+        // Refuses: timer_never_fires, next_is_never, each_due_timer_recovers, loss_ignored, nobody_heard, new_group_not_told.
+        ensures { OnOk result (FedAtOnce D.state self.old piece.now self.new) }
     {
         if self.unread.is_empty() {
             return self.answer_whole(piece);
@@ -201,7 +197,7 @@ impl<D: SectorDisk + Drop> Session<D> {
     /// Answers the whole lines of a text behind which nothing is kept, and keeps what stands behind the last.
     fn answer_whole(&mut self, whole: &[u8]) -> Result<(), AllocError>
         requires { self.old.rest ≡ [] }
-        ensures { OnOk result (Fed D.state self.old whole.now self.new) }
+        ensures { OnOk result (FedAtOnce D.state self.old whole.now self.new) }
     {
         let left = self.answer_lines(whole)?;
         self.unread.push(left)?;
@@ -211,7 +207,7 @@ impl<D: SectorDisk + Drop> Session<D> {
     /// Answers the whole lines of a text, and gives what stands behind the last.
     fn answer_lines<'a>(&mut self, whole: &'a [u8]) -> Result<&'a [u8], AllocError>
         ensures rest { self.new.rest ≡ self.old.rest }
-        ensures lines { IfOk result (λ left. (lines : List (List ℕ)) × (lines_of whole.now ≡ lines ++ left.now ∷ []) × Serves D.state self.old self.new lines) }
+        ensures lines { IfOk result (λ left. (lines : List (List ℕ)) × (lines_of whole.now ≡ lines ++ left.now ∷ []) × Serves D.state Nothing self.old self.new lines) }
         ensures last { IfOk result (λ left. lines_of left.now ≡ left.now ∷ []) }
     {
         let mut left = whole;
@@ -224,7 +220,7 @@ impl<D: SectorDisk + Drop> Session<D> {
 
     fn answer_line(&mut self, line: &[u8]) -> Result<(), AllocError>
         ensures rest { self.new.rest ≡ self.old.rest }
-        ensures line { OnOk result (Serves D.state self.old self.new (line.now ∷ [])) }
+        ensures line { OnOk result (Serves D.state Nothing self.old self.new (line.now ∷ [])) }
     {
         if self.stopped {
             return Ok(());
@@ -297,7 +293,7 @@ impl<D: SectorDisk + Drop> Session<D> {
         ensures replies { OnOk result (Replies D.state self.old self.new (ask.Event event.now)) }
     {
         let number = self.next_number()?;
-        self.hear(event);
+        self.timers.hear(event);
         let ends = self.make(event)?;
         self.stop_where_failed(&ends.last);
         let ended = ends.of_event();
@@ -322,7 +318,7 @@ impl<D: SectorDisk + Drop> Session<D> {
         ensures replies { OnOk result (Replies D.state self.old self.new (ask.Tick now)) }
     {
         let number = self.next_number()?;
-        self.tell(now);
+        self.timers.pass(now);
         self.send_again(now)?;
         let ended = self.fire_due()?;
         self.stop_where_failed(&ended);
@@ -372,13 +368,6 @@ impl<D: SectorDisk + Drop> Session<D> {
         self.stopped = matches!(ended, CallOutcome::Denied(NodeFault::Device));
     }
 
-    /// The policy of timers learns how late it is.
-    fn tell(&mut self, now: u64)
-        ensures { self.new ≡ self.old }
-    {
-        self.pace.pass(now);
-    }
-
     /// Sends again what is waited for and due at this time.
     fn send_again(&mut self, now: u64) -> Result<(), AllocError>
         ensures again { OnOk result (self.new ≡ record self.old { text = self.old.text ++ send_lines (sent_again now self.old.waits); waits = waits_on now self.old.waits }) }
@@ -392,7 +381,7 @@ impl<D: SectorDisk + Drop> Session<D> {
     /// Makes the events that are due at the time that was told.
     fn fire_due(&mut self) -> Result<CallOutcome, AllocError>
         ensures rest { self.new.rest ≡ self.old.rest }
-        ensures calls { IfOk result (λ ended. Calls D.state self.old self.new fired_news AreTimely (end.Done None) ended) }
+        ensures calls { IfOk result (λ ended. Calls D.state self.old self.new fired_news (Timely (Fires self.old.waits self.old.timers self.new.timers)) (end.Done None) ended) }
     {
         let mut ended = CallOutcome::Done(None);
         for _fired in 0..MOST_FIRED {
@@ -401,7 +390,7 @@ impl<D: SectorDisk + Drop> Session<D> {
             };
             self.add_fired(&event)?;
             ended = self.turn(&event)?;
-            if matches!(ended, CallOutcome::Denied(_)) {
+            if ended.is_denied() {
                 return Ok(ended);
             }
         }
@@ -410,33 +399,32 @@ impl<D: SectorDisk + Drop> Session<D> {
 
     /// The event that is due.
     fn due(&mut self) -> Option<Event>
-        ensures same { self.new ≡ self.old }
+        ensures same { self.new ≡ record self.old { timers = self.new.timers } }
         ensures fired { IfSome result IsFired }
+        ensures due { (s : NodeState) → Stands D.state self.old.node s
+            → IsDueAt self.old.node.id s self.old.waits self.old.timers result self.new.timers }
     {
         let snapshot = self.snapshot();
-        self.look_at(snapshot.group);
-        let due = self.pace.tick(&snapshot);
-        if due.is_some() || !self.waiting.is_answered(&snapshot) {
-            return due;
-        }
-        self.pace.answered();
-        self.pace.tick(&snapshot)
+        self.timers.due(&snapshot, &self.waiting)
     }
 
     /// When something is due next, where nothing comes. A node that is Down waits for nothing.
     fn next_due(&self, now: u64) -> Option<u64>
-        ensures { IsToldBy (is_down self.now.node.state.phase) result }
+        ensures told { IsToldBy (is_down self.now.node.state.phase) result }
+        ensures next { (s : NodeState) → Stands D.state self.now.node s
+            → IfSome result (IsToldNext self.now.node.id s self.now.waits self.now.timers now) }
     {
         let snapshot = self.snapshot();
         match snapshot.phase {
             Phase::Down => None,
-            _ => Some(next_due(&self.pace, &self.waiting, &snapshot, now)),
+            _ => Some(next_due(self.timers.policy(), &self.waiting, &snapshot, now)),
         }
     }
 
     /// What the policy of timers sees of the node.
     fn snapshot(&self) -> NodeSnapshot
-        ensures { result.phase ≡ self.now.node.state.phase }
+        ensures phase { result.phase ≡ self.now.node.state.phase }
+        ensures seen { (s : NodeState) → Stands D.state self.now.node s → IsSeen self.now.node.id s result }
     {
         let id = self.node.id();
         let vector = self.node.vector();
@@ -444,16 +432,6 @@ impl<D: SectorDisk + Drop> Session<D> {
         match self.node.durable() {
             Some((_count, table)) => NodeSnapshot::of(id, vector, merge_wait, &table.pending()),
             None => NodeSnapshot::without_jobs(id, vector, merge_wait),
-        }
-    }
-
-    /// A new group's members have no work in hand: in it the jobs that the node keeps are due at once.
-    fn look_at(&mut self, group: GroupNo)
-        ensures { self.new ≡ self.old }
-    {
-        if self.group != Some(group) {
-            self.group = Some(group);
-            self.pace.regrouped();
         }
     }
 
@@ -468,33 +446,15 @@ impl<D: SectorDisk + Drop> Session<D> {
     /// A node that the transport gave up isn't waited for: its coordinator leaves the group, and a member asks or leaves.
     fn give_up(&mut self, node: NodeId) -> Result<CallOutcome, AllocError>
         ensures rest { self.new.rest ≡ self.old.rest }
-        ensures calls { IfOk result (λ ended. Calls D.state self.old self.new fired_news AreTimely (end.Done None) ended) }
+        ensures calls { IfOk result (λ ended. Calls D.state self.old self.new fired_news (Timely (GivesUp node self.old.timers self.new.timers)) (end.Done None) ended) }
     {
         match loss_of(self.node.id(), self.node.vector(), node) {
             Some(event) => {
                 self.add_fired(&event)?;
-                self.tell_given_up(&event);
+                self.timers.give_up(&event);
                 self.turn(&event)
             }
             None => Ok(CallOutcome::Done(None)),
-        }
-    }
-
-    /// The policy of timers learns that a coordinator leaves a member behind that the transport gave up.
-    fn tell_given_up(&mut self, event: &Event)
-        ensures { self.new ≡ self.old }
-    {
-        if let Event::Recover = event {
-            self.pace.gave_up();
-        }
-    }
-
-    /// The policy of timers learns what an event says to it.
-    fn hear(&mut self, event: &Event)
-        ensures { self.new ≡ self.old }
-    {
-        if let Event::Deliver(message) = event {
-            self.pace.delivered(message);
         }
     }
 }
@@ -504,6 +464,7 @@ impl<D: SectorDisk + Drop> Session<D> {
     /// Makes an event, and writes what came of it. All that the session asks of a node's step stands here.
     fn turn(&mut self, event: &Event) -> Result<CallOutcome, AllocError>
         ensures rest { self.new.rest ≡ self.old.rest }
+        ensures timers { self.new.timers ≡ self.old.timers }
         ensures turn { IfOk result (λ ended. Turns D.state self.old self.new (λ id nodes. MayComeOf id nodes event.now) ended) }
     {
         let seen = self.node.seen()?;
@@ -532,6 +493,7 @@ impl<D: SectorDisk + Drop> Session<D> {
     /// device never kept, and only writing it again puts that right.
     fn make(&mut self, event: &Event) -> Result<EventEnds, AllocError>
         ensures rest { self.new.rest ≡ self.old.rest }
+        ensures timers { self.new.timers ≡ self.old.timers }
         // Promise: A recovery that mounts the disk compacts the journal before it is answered, so that all that it keeps is written anew; where
         // the device fails in that, so does the recovery. No other event does.
         // Also: EventEnds::of_event.
@@ -551,6 +513,7 @@ impl<D: SectorDisk + Drop> Session<D> {
     /// Compacts the journal, and writes what came of it.
     fn compact(&mut self) -> Result<CallOutcome, AllocError>
         ensures rest { self.new.rest ≡ self.old.rest }
+        ensures timers { self.new.timers ≡ self.old.timers }
         ensures turn { IfOk result (λ ended. Turns D.state self.old self.new MayCompact ended) }
     {
         let seen = self.node.seen()?;
@@ -611,7 +574,8 @@ fn ran_out(reply: &Result<StepReport, NodeFault>) -> bool
 
 /// What a node makes of it that the transport gave another node up.
 fn loss_of(id: NodeId, vector: &Vector, lost: NodeId) -> Option<Event>
-    ensures { IfSome result IsFired }
+    ensures fired { IfSome result IsFired }
+    ensures value { result ≡ lost_by id (state_of vector.now) lost }
 {
     let group_state = &vector.group_state;
     if lost.is(id) || matches!(group_state.phase, Phase::Down | Phase::Election) {

@@ -43,6 +43,10 @@ abbrev pub IsRead : Option (List ℕ) → Option ℕ → Type 0
 IsRead slot None = slot ≡ None
 IsRead slot (Some v) = (body : List ℕ) × (slot ≡ Some body) × (body_value body ≡ Some v)
 
+-- the cell after the spare slot was sealed over a greater value
+abbrev pub raised_to : ℕ → CellState → CellState
+raised_to value cell = record { present = cell.spare; spare = cell.present; spare_sealed = true; value = value; broken = false }
+
 -- the cell after the spare slot was sealed over the next value
 abbrev pub raised : CellState → CellState
-raised cell = record { present = cell.spare; spare = cell.present; spare_sealed = true; value = cell.value + 1; broken = false }
+raised cell = raised_to (cell.value + 1) cell

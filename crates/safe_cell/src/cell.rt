@@ -5,8 +5,8 @@ ghost use Rattle.sector_disk.specs.Run.{Run, Each};
 ghost use Rattle.slot_gate.specs.Slot.{slot_at, InSlot};
 ghost use Rattle.safe_cell.specs.Answered.{AnswersOr};
 ghost use Rattle.safe_cell.specs.Cell.{cell_at, AllHave};
-ghost use Rattle.safe_cell.specs.Mounted.{CellState, IsCellAt, IsRead, Stands, AllStand, raised};
-ghost use Rattle.safe_cell.specs.Raising.{raise_refusal};
+ghost use Rattle.safe_cell.specs.Mounted.{CellState, IsCellAt, IsRead, Stands, AllStand, raised, raised_to};
+ghost use Rattle.safe_cell.specs.Raising.{broken_refusal, raise_refusal};
 
 use crate::body::body_for;
 use crate::fault::CellFault;
@@ -135,7 +135,58 @@ impl SafeCell {
             return Err(CellFault::Exhausted);
         }
         let next = self.value + 1;
-        if store(disk, self.spare, self.spare_sealed, &body_for(next)).is_err() {
+        self.raise_to(disk, next)?;
+        Ok(next)
+    }
+
+    /// Makes the value this one, which is greater. Works in the slot that doesn't count: four device
+    /// calls where that is unsealed, else six. Refused in the order `Broken`, `Device`, the first with
+    /// no device call.
+    pub fn raise_to<D: SectorDisk>(&mut self, disk: &mut D, value: u64) -> Result<(), CellFault>
+        requires on_disk { self.old.spare + 1 < (D.state disk.old).sectors }
+        requires greater { self.old.value < value }
+
+        ensures counts { Counts (D.state disk.old) (D.state disk.new)
+            (IsErrOf result CellFault.Device) (IsErrOf result CellFault.Device → ⊥) }
+
+        // Which answer comes when, and what it leaves.
+        // Promise: A raise to a greater value is refused in the order Broken, Device; the first leaves disk and cell as they were, the
+        // second leaves the cell broken.
+        // Also: refused, device.
+        // Refuses: device_fault_of_a_greater_value.
+        ensures answers { AnswersOr CellFault.Device (broken_refusal self.old) result }
+        ensures refused { IsSome (broken_refusal self.old)
+            → (disk.new ≡ disk.old) × (self.new ≡ self.old) }
+        ensures device { IsErrOf result CellFault.Device
+            → self.new ≡ record self.old { broken = true } }
+        ensures ok { IsOk result → self.new ≡ raised_to value self.old }
+
+        // No sector outside the spare slot changes in any image.
+        ensures run { IsTrue (D.state disk.old).honest
+            → Run (InSlot self.old.spare) (D.state disk.old) (D.state disk.new) }
+
+        // Each image since the start has the value from before or the new one.
+        // Promise: A raise to a greater value leaves for every image since its start the value from before or that one.
+        // Refuses: sealed_before_body_synced, unsealed_again, raised_past_the_value.
+        ensures images { (at : ℕ) → IsTrue (D.state disk.old).honest
+            → IsCellAt at self.old → AllStand self.old (D.state disk.old)
+            → Each (D.state disk.old) (D.state disk.new) (λ c. (cell_at c at ≡ Some self.old.value)
+            ⊎ (cell_at c at ≡ Some value)) }
+
+        // After `Ok` there is the new one alone, as the cell knows it, and nothing is unsynced.
+        // Promise: After `Ok` every image has the value that was asked for, and nothing is unsynced.
+        // Also: synced, ok.
+        // Refuses: raised_before_last_sync, raised_past_the_value.
+        ensures after { (at : ℕ) → IsTrue (D.state disk.old).honest
+            → IsCellAt at self.old → AllStand self.old (D.state disk.old) → IsOk result
+            → AllHave at value (D.state disk.new) × AllStand self.new (D.state disk.new) }
+        ensures synced { IsTrue (D.state disk.old).honest → IsOk result
+            → AllSynced (D.state disk.new) }
+    {
+        if self.broken {
+            return Err(CellFault::Broken);
+        }
+        if store(disk, self.spare, self.spare_sealed, &body_for(value)).is_err() {
             self.broken = true;
             return Err(CellFault::Device);
         }
@@ -143,9 +194,9 @@ impl SafeCell {
             present: self.spare,
             spare: self.present,
             spare_sealed: true,
-            value: next,
+            value,
             broken: false,
         };
-        Ok(next)
+        Ok(())
     }
 }

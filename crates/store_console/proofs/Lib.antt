@@ -6,6 +6,7 @@ mod Counts
 mod Finding
 mod Places
 mod Queues
+mod ReadOn
 mod Salvages
 mod Sessions
 mod Silence

@@ -1,9 +1,9 @@
 -- What the bytes of a file hold.
-use Rattle.std.specs.Prelude.{◌≡◌, ◌↔◌, ◌<◌, ℕ, ◌*◌, ◌/◌, ◌%◌, ◌==◌, ◌||◌, Bool, List, ◌∷◌, ◌++◌, length, take, drop, get_or, replicate, bytes_eq, codes, Option, Some, None, Result, Ok, Err, if◌then◌else◌}
+use Rattle.std.specs.Prelude.{◌≡◌, ◌↔◌, ◌⊎◌, ◌<◌, ℕ, ◌*◌, ◌/◌, ◌%◌, ◌==◌, ◌||◌, Bool, List, ◌∷◌, ◌++◌, length, take, drop, get_or, replicate, bytes_eq, codes, Option, Some, None, Result, Ok, Err, if◌then◌else◌}
 use Rattle.file_disk.specs.File.{bytes_of}
-use Rattle.file_disk.specs.Label.{IsSpaced}
+use Rattle.file_disk.specs.Label.{IsSpaced, mark_in, marked_label, slots_in}
 use Rattle.file_disk.specs.declared.stride.Stride.{Stride}
-use Rattle.file_disk.specs.declared.stride.Stride.TheVariants.{Spaced}
+use Rattle.file_disk.specs.declared.stride.Stride.TheVariants.{Packed, Spaced}
 use Rattle.sector_disk.specs.Disk.{Image, sector_at}
 use Rattle.safe_cell.specs.Cell.{cell_at}
 use Rattle.job_journal.specs.Areas.{area_of, sealed_prefix, slots_from}
@@ -22,16 +22,16 @@ use Rattle.store_console.specs.declared.found.Owner.TheVariants.{Store, Node, Un
 abbrev pub tail_of : List ℕ → List ℕ
 tail_of bytes = drop (512 * (length bytes / 512)) bytes
 
--- these are its label, where they are as many bytes as one has
+-- these are its label, where they are as many bytes as one has; one of version 1 has 16, and zeros are taken behind it
 abbrev pub label_by : List ℕ → Option (List ℕ)
-label_by tail = if length tail == 16 then Some tail else None
+label_by tail = if length tail == 32 then Some tail else (if length tail == 16 then Some (tail ++ replicate 16 0) else None)
 
 abbrev pub label_in : List ℕ → Option (List ℕ)
 label_in bytes = label_by (tail_of bytes)
 
 -- each sector has a block of 4,096 bytes of its own: so says the label behind the last block
 abbrev pub IsSpacedFile : List ℕ → Type 0
-IsSpacedFile bytes = (length bytes % 4096 ≡ 16) × IsSpaced (label_in bytes)
+IsSpacedFile bytes = ((length bytes % 4096 ≡ 16) ⊎ (length bytes % 4096 ≡ 32)) × IsSpaced (label_in bytes)
 
 -- The sectors of these bytes: each is the first 512 bytes at its place, and what is left at the end belongs to none.
 pub record IsHeldBy (bytes : List ℕ) (image : Image) : Type 0 where
@@ -43,13 +43,18 @@ pub record IsHeldBy (bytes : List ℕ) (image : Image) : Type 0 where
 
 -- ---- whose it is
 
--- the label of node `id` of so many; `apart` is 1 where each sector has a block of its own in the file, else 0
+-- the label of version 1 of node `id` of so many; `apart` is 1 where each sector has a block of its own in the file, else 0
 abbrev pub label_for : ℕ → ℕ → ℕ → List ℕ
-label_for id nodes apart = codes "dumgerok" ++ 1 ∷ id ∷ nodes ∷ apart ∷ replicate 4 0
+label_for id nodes apart = codes "dumgerok" ++ 1 ∷ id ∷ nodes ∷ apart ∷ replicate 20 0
+
+-- it is one of version 2 of node `id` of so many, whatever its slots and its cluster
+abbrev pub is_marked : List ℕ → ℕ → ℕ → Stride → Bool
+is_marked label id nodes stride = bytes_eq label (marked_label id nodes stride (mark_in label) (slots_in label))
 
 -- it is one of node `id` of so many
 abbrev pub is_label : List ℕ → ℕ → ℕ → Bool
-is_label label id nodes = bytes_eq label (label_for id nodes 0) || bytes_eq label (label_for id nodes 1)
+is_label label id nodes =
+    bytes_eq label (label_for id nodes 0) || bytes_eq label (label_for id nodes 1) || is_marked label id nodes Packed || is_marked label id nodes Spaced
 
 abbrev pub labelled : List ℕ → Owner
 labelled label = if is_label label (get_or label 9 0) (get_or label 10 0) then Node (get_or label 9 0) (get_or label 10 0) else Unknown

@@ -3,6 +3,7 @@ pub mod Barring
 pub mod Replies
 pub mod Explained
 pub mod Session
+pub mod Unheard
 pub mod Reasons
 pub mod Held
 pub mod Findings

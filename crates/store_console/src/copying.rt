@@ -1,11 +1,11 @@
 //! The sectors of a file, as a disk in memory.
 
-ghost use Rattle.std.specs.Prelude.{◌≡◌, ◌↔◌, ◌<◌, ◌≤◌, ◌+◌, ◌*◌, ◌/◌, ◌^◌, IfOk, OnOk, length, set, take, drop};
+ghost use Rattle.std.specs.Prelude.{◌≡◌, ◌↔◌, ◌<◌, ◌≤◌, ◌+◌, ◌*◌, ◌/◌, ◌^◌, ◌++◌, IfOk, OnOk, length, replicate, set, take, drop};
 ghost use Rattle.file_disk.specs.File.{bytes_of};
 ghost use Rattle.file_disk.specs.declared.stride.Stride.TheVariants.{Spaced};
-ghost use Rattle.store_console.specs.Held.{IsHeldBy, IsSpacedFile, label_in};
+ghost use Rattle.store_console.specs.Held.{IsHeldBy, IsSpacedFile, label_by, label_in};
 
-use file_disk::{LABEL, Stride, stride_in};
+use file_disk::{LABEL, OLDER_LABEL, Stride, stride_in};
 use sector_disk::{MemDisk, SectorDisk};
 use std::alloc::{AllocError, Global};
 
@@ -26,21 +26,40 @@ pub fn disk_of(alloc: Global, bytes: &[u8]) -> Result<MemDisk, AllocError>
 fn stride_of(bytes: &[u8]) -> Stride
     ensures { (result ≡ Spaced) ↔ IsSpacedFile bytes.now }
 {
-    if bytes.len() % 4096 != LABEL {
+    let behind = bytes.len() % 4096;
+    if behind != LABEL && behind != OLDER_LABEL {
         return Stride::Packed;
     }
     stride_in(label_in(bytes))
 }
 
-/// The bytes behind the last sector, where they are as many as a label has.
+/// The bytes behind the last sector, where they are as many as a label has. Behind one of version 1 zeros are taken.
 pub fn label_in(bytes: &[u8]) -> Option<[u8; LABEL]>
     ensures { result ≡ label_in bytes.now }
 {
     let (_, tail) = bytes.split_at(512 * (bytes.len() / 512));
-    match <[u8; LABEL]>::try_from(tail) {
-        Ok(label) => Some(label),
+    label_by(tail)
+}
+
+fn label_by(tail: &[u8]) -> Option<[u8; LABEL]>
+    ensures { result ≡ label_by tail.now }
+{
+    if let Ok(label) = <[u8; LABEL]>::try_from(tail) {
+        return Some(label);
+    }
+    match <[u8; OLDER_LABEL]>::try_from(tail) {
+        Ok(older) => Some(lengthened(older)),
         Err(_) => None,
     }
+}
+
+/// A label of version 1, with zeros behind it.
+fn lengthened(older: [u8; OLDER_LABEL]) -> [u8; LABEL]
+    ensures { result ≡ older ++ replicate 16 0 }
+{
+    let mut label = [0; LABEL];
+    label[..OLDER_LABEL].copy_from_slice(&older);
+    label
 }
 
 /// How many sectors so many bytes hold.

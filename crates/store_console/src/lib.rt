@@ -35,6 +35,7 @@ mod salvage_reading;
 mod salvaging;
 mod slot_content;
 mod text;
+mod unheard;
 mod verifying;
 
 pub use flaw::{JobFlaw, job_flaw};
@@ -43,3 +44,4 @@ pub use laws::sound_is_silent;
 pub use restoring::{no_jobs, read_jobs};
 pub use running::store;
 pub use salvaging::salvage;
+pub use unheard::has_unsealed_number;

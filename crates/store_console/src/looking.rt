@@ -6,11 +6,12 @@ ghost use Rattle.disk_sector.specs.declared.layout.TheConstants.{LEAST_SLOTS, MO
 ghost use Rattle.slot_gate.specs.Slot.{slot_at};
 ghost use Rattle.safe_cell.specs.Cell.{cell_at};
 ghost use Rattle.job_journal.specs.Areas.{first_of, sealed_prefix, slots_from};
-ghost use Rattle.store_console.specs.Held.{counter_of, found_in, is_label, journal_of, label_for, labelled, owner_of, used_in};
+ghost use Rattle.store_console.specs.Held.{counter_of, found_in, is_label, is_marked, journal_of, label_for, labelled, owner_of, used_in};
 
 use crate::copying::label_in;
 use crate::found::{Counter, Owner};
 use disk_sector::Sector;
+use file_disk::{LABEL, Stride, mark_in, marked_label, slots_in};
 use job_journal::{JobJournal, JournalFault};
 use safe_cell::CellFault;
 use sector_disk::MemDisk;
@@ -28,7 +29,7 @@ pub fn owner_of(bytes: &[u8]) -> Owner
 }
 
 /// Whose a file with this label is.
-fn labelled(label: [u8; 16]) -> Owner
+fn labelled(label: [u8; LABEL]) -> Owner
     ensures { result ≡ labelled label }
 {
     if is_label(label, label[9], label[10]) {
@@ -39,21 +40,29 @@ fn labelled(label: [u8; 16]) -> Owner
 }
 
 /// Whether this is a label of node `id` of so many.
-fn is_label(label: [u8; 16], id: u8, nodes: u8) -> bool
+fn is_label(label: [u8; LABEL], id: u8, nodes: u8) -> bool
     ensures { result ≡ is_label label id nodes }
 {
-    if label == label_for(id, nodes, 0) {
+    if label == label_for(id, nodes, 0) || label == label_for(id, nodes, 1) {
         return true;
     }
-    label == label_for(id, nodes, 1)
+    is_marked(label, id, nodes, Stride::Packed) || is_marked(label, id, nodes, Stride::Spaced)
 }
 
-/// The label of node `id` of so many; `apart` is 1 where each sector has a block of its own in the file.
-fn label_for(id: u8, nodes: u8, apart: u8) -> [u8; 16]
+/// Whether this is a label of version 2 of node `id` of so many, whatever its slots and its cluster.
+fn is_marked(label: [u8; LABEL], id: u8, nodes: u8, stride: Stride) -> bool
+    ensures { result ≡ is_marked label id nodes stride }
+{
+    label == marked_label(id, nodes, stride, mark_in(label), slots_in(label))
+}
+
+/// The label of version 1 of node `id` of so many; `apart` is 1 where each sector has a block of its own in the file.
+fn label_for(id: u8, nodes: u8, apart: u8) -> [u8; LABEL]
     ensures { result ≡ label_for id nodes apart }
 {
     [
-        b'd', b'u', b'm', b'g', b'e', b'r', b'o', b'k', 1, id, nodes, apart, 0, 0, 0, 0,
+        b'd', b'u', b'm', b'g', b'e', b'r', b'o', b'k', 1, id, nodes, apart, 0, 0, 0, 0, 0, 0, 0,
+        0, 0, 0, 0, 0, 0, 0, 0, 0, 0, 0, 0, 0,
     ]
 }
 

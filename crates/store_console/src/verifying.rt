@@ -104,7 +104,7 @@ fn number_at(disk: &mut MemDisk, slot: u64) -> Result<Option<u64>, AllocError>
 
 /// The number that the body of a cell's slot stands for.
 #[tactic(auto, unfolding(safe_cell::specs::Body::body_value))]
-fn number_in(body: &Sector) -> Option<u64>
+pub fn number_in(body: &Sector) -> Option<u64>
     ensures { result ≡ body_value body.now }
 {
     if !is_blank(body, 8) {
@@ -128,7 +128,7 @@ fn push_unsealed(findings: &mut Vec<Finding>, disk: &mut MemDisk) -> Result<(), 
     push_found(findings, unsealed_finding(counter, second))
 }
 
-fn unsealed_finding(counter: Counter, number: Option<u64>) -> Option<Finding>
+pub fn unsealed_finding(counter: Counter, number: Option<u64>) -> Option<Finding>
     ensures { result ≡ unsealed_finding counter number }
 {
     match (counter, number?) {

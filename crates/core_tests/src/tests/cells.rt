@@ -27,6 +27,21 @@ fn raise_within(rt: &impl Abort, disk: &mut MemDisk, calls: u64) -> Result<u64, 
     cell.raise(disk)
 }
 
+// The same to this value, which is greater.
+fn raise_to_within(
+    rt: &impl Abort,
+    disk: &mut MemDisk,
+    value: u64,
+    calls: u64,
+) -> Result<(), CellFault> {
+    assert!(rt; disk.sectors() == 24);
+    disk.arm(u64::MAX);
+    let mut cell = mount(disk, 4)?;
+    disk.arm(calls);
+    assert!(rt; cell.value() < value);
+    cell.raise_to(disk, value)
+}
+
 // Mounts and raises in so many device calls at most: the value that was mounted, and what the raise
 // answered.
 fn mount_and_raise_within(
@@ -107,6 +122,18 @@ fn raise_stopped_at_each_call(rt: HostRuntime) {
                 expect_stopped(&rt, rt.alloc(), before, k, fill, want);
             }
         }
+    }
+}
+
+// A raise to a greater value leaves that one or the value before it, and mounting shows which.
+#[test]
+fn raised_past_the_next_value(rt: HostRuntime) {
+    for (calls, value) in [(0, 1), (5, 1), (6, 9)] {
+        let mut disk = raised(&rt, rt.alloc(), 1);
+        let answer = raise_to_within(&rt, &mut disk, 9, calls);
+        assert!(rt; answer.is_ok() == (calls == 6));
+        disk.crash(&[]);
+        assert!(rt; mounted_value(&rt, &mut disk) == Ok(value), "{calls} calls");
     }
 }
 

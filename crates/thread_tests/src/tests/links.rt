@@ -2,8 +2,7 @@
 
 use group_task::{GroupNo, NodeId};
 use job_model::{Payload, Queue, Work};
-use link_ring::{LinkEnd, PutEnd, TakeEnd, Unpaired, gather, link};
-use message_list::MessageList;
+use link_ring::{LinkEnd, LinkLog, PutEnd, TakeEnd, Unpaired, gather, link};
 use std::alloc::Global;
 use std::process::Abort;
 use wire_msg::{Body, Message};
@@ -62,12 +61,12 @@ fn take_in_vain(rt: &impl Abort, end: &mut TakeEnd) {
 }
 
 /// Whether the message at this place is that of this job.
-fn is_about(messages: &MessageList, place: usize, id: u64) -> bool {
+fn is_about(messages: &LinkLog, place: usize, id: u64) -> bool {
     messages.get(place) == Some(about(id))
 }
 
 /// Expects the messages of these jobs, in this order.
-fn expect_about(rt: &impl Abort, messages: &MessageList, ids: &[u64]) {
+fn expect_about(rt: &impl Abort, messages: &LinkLog, ids: &[u64]) {
     assert_eq!(rt; messages.len(), ids.len());
     for (place, id) in ids.iter().enumerate() {
         assert!(rt; is_about(messages, place, *id), "message {place}");

@@ -5,8 +5,7 @@ ghost use Rattle.link_ring.specs.Sides.{unused};
 
 use group_task::NodeId;
 use histories::{HistoryEvent, NoOpKind};
-use link_ring::{PutEnd, TakeEnd, link};
-use message_list::MessageList;
+use link_ring::{LinkLog, PutEnd, TakeEnd, link};
 use node_core::{Event, Timer};
 use node_lock::{
     Gate, Held, HeldFault, HeldParts, NodeLock, Plans, Run, TurnFault, TurnLog, TurnNumbers, Worker,
@@ -159,7 +158,7 @@ fn expect_polled(
 }
 
 /// Whether this message stands at this place.
-fn is_at(messages: &MessageList, place: usize, message: Message) -> bool {
+fn is_at(messages: &LinkLog, place: usize, message: Message) -> bool {
     messages.get(place) == Some(message)
 }
 

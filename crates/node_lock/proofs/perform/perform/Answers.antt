@@ -31,4 +31,4 @@ returns-in-Ok-clause-did c =
     }
 
 pub returns-in-Ok-clause-each : goal.returns-in-Ok-clause-each
-returns-in-Ok-clause-each c = sends_few _ c.forget.new.self c.args.event.now c.in-Ok.came.event_outcome c.in-Ok.came.sent.items c.requires.stands (returns-in-Ok-clause-did c) c.in-Ok.ensures.few c.note_sets.ensures
+returns-in-Ok-clause-each c = sends_few _ c.forget.new.self c.args.event.now c.in-Ok.came.event_outcome c.in-Ok.came.sent.items c.requires.stands (returns-in-Ok-clause-did c) c.in-Ok.ensures.few c.note_sets.ensures c.note_task.ensures

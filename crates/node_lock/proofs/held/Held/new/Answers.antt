@@ -1,4 +1,5 @@
-use Rattle.std.proofs.Common.{rules}
+use Rattle.std.proofs.Common.{◌≡◌, ◌<◌, [], length, vec_len, rules, refl, sym, ◌∙◌, subst, ℕ}
+use Rattle.node_lock.proofs.Keeping.{from_nothing}
 use Rattle.node_lock.proofs.held.Held.new.Goals as goal
 
 pub invariant_of-result : goal.invariant_of-result
@@ -15,7 +16,10 @@ invariant_of-result c = rw c.in_ok-history.ensures (record {
   links = search rules;
   puts = search rules;
   take_links = search rules;
-  takes = search rules;
+  takes = λ k d lt.
+      let long : length c.args.takes.items ≡ vec_len c.args.takes = search rules in
+      let e = c.requires.take_ends k d (subst (λ (n : ℕ). k < n) long lt) in
+      (record { receiver = e.0; messages = e.1 ∙ sym (from_nothing c.args.plans.intake _ 0 [] refl) }, e.2);
   intake = search rules;
   waiting = search rules;
   few = search rules;

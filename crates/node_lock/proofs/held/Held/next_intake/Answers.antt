@@ -1,4 +1,4 @@
-use Rattle.std.proofs.Common.{◌<◌, Option, IsSome, length, refl, sym, ◌∙◌, subst}
+use Rattle.std.proofs.Common.{◌<◌, Option, IsSome, length, refl, sym, ◌∙◌, subst, arith}
 use Rattle.std.proofs.lemmas.Result.{err_from_is_err_and}
 use Rattle.wire_msg.specs.Envelope.{Envelope}
 use Rattle.node_lock.specs.declared.worker.Worker.TheVariants.{Intake}
@@ -6,11 +6,20 @@ use Rattle.node_lock.specs.declared.held.TheConstants.{MOST_ENTRIES}
 use Rattle.node_lock.specs.Asking.{asked_by}
 use Rattle.node_lock.specs.HeldView.{HeldView, Polls}
 use Rattle.node_lock.specs.Taking.{turn_of}
+use Rattle.node_lock.proofs.Counted.{few_turns}
 use Rattle.node_lock.proofs.Keeping.{gives_in, same_again}
 use Rattle.node_lock.proofs.Comings.{brought_polled}
 use Rattle.node_lock.proofs.Fetching.{fetched, entered, finds, index_of}
 use Rattle.node_lock.proofs.Taking.{takes_next, keeps_next, waits_since, unserved_by}
 use Rattle.node_lock.proofs.held.Held.next_intake.Goals as goal
+
+pub overflow_cast-index : goal.overflow_cast-index
+overflow_cast-index c =
+    let h = c.self.inside in
+    let few : length h.site.history.turns < MOST_ENTRIES = subst (λ (v : HeldView). length v.history < MOST_ENTRIES) (sym c.self.view_is) c.requires.few in
+    let all = few_turns _ c.self.invariant few in
+    let fits = all.0 in
+    omega (arith, fits)
 
 pub invariant_of-self-2 : goal.invariant_of-self-2
 invariant_of-self-2 c =

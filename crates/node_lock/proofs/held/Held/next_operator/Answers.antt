@@ -1,14 +1,23 @@
-use Rattle.std.proofs.Common.{◌<◌, Some, length, refl, ap, sym, ◌∙◌, subst, get_or}
+use Rattle.std.proofs.Common.{◌<◌, Some, length, refl, ap, sym, ◌∙◌, subst, get_or, arith}
 use Rattle.std.proofs.lemmas.Option.{slice_get-get_or}
 use Rattle.node_lock.specs.declared.worker.Worker.TheVariants.{Operator}
 use Rattle.node_lock.specs.declared.held.TheConstants.{MOST_ENTRIES}
 use Rattle.node_lock.specs.Asking.{asked_in}
 use Rattle.node_lock.specs.HeldView.{HeldView}
 use Rattle.node_lock.specs.Taking.{turn_of}
+use Rattle.node_lock.proofs.Counted.{few_turns}
 use Rattle.node_lock.proofs.Keeping.{gives_in}
 use Rattle.node_lock.proofs.Taking.{takes_next, keeps_next_past}
 use Rattle.node_lock.proofs.Comings.{none_of_order}
 use Rattle.node_lock.proofs.held.Held.next_operator.Goals as goal
+
+pub overflow_cast-index : goal.overflow_cast-index
+overflow_cast-index c =
+    let h = c.self.inside in
+    let few : length h.site.history.turns < MOST_ENTRIES = subst (λ (v : HeldView). length v.history < MOST_ENTRIES) (sym c.self.view_is) c.requires.few in
+    let all = few_turns _ c.self.invariant few in
+    let fits = all.2 in
+    omega (arith, fits)
 
 pub invariant_of-self-2 : goal.invariant_of-self-2
 invariant_of-self-2 c =

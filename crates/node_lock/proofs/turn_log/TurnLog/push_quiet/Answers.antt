@@ -12,4 +12,4 @@ returns-clause-turns c =
 pub invariant_of-self : goal.invariant_of-self
 invariant_of-self c =
     let was = c.self.inside in
-    rw c.push_reserved.ensures.items (all_stand_quiet (length was.sent.messages) (length was.events.events) was.lines.items c.args.worker c.args.index c.args.number c.args.quiet c.self.invariant)
+    rw c.push_reserved.ensures.items (all_stand_quiet (length was.sent.messages) (length was.events.events) was.lines.items c.args.worker c.args.index c.args.number c.args.quiet c.self.invariant.0, c.self.invariant.1)

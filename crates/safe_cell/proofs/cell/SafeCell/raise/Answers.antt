@@ -1,20 +1,16 @@
-use Rattle.std.proofs.Common.{◌∙◌, ap, arith, not}
-use Rattle.safe_cell.proofs.Raised.{raise_images, raise_after}
+use Rattle.std.proofs.Common.{◌+◌, inl, inr, ⊎_elim, Some, ◌∙◌, ap, refl}
+use Rattle.safe_cell.specs.Mounted.{CellState}
 use Rattle.safe_cell.proofs.cell.SafeCell.raise.Goals as goal
 
-pub returns-then-is_err-clause-images : goal.returns-then-is_err-clause-images
-returns-then-is_err-clause-images g c = λ at honest.
-    let state = g.D.SectorDisk.state in
-    rw (← c.self.view_is) (λ way all.
-    raise_images at _ (state c.args.disk.now) (state c.store.new.disk) _ c.body_for.ensures (omega (arith, c.if-self-2.false, c.self.ranges)) way all (c.store.ensures.images honest))
+pub returns-in_err-raise_to-clause-images : goal.returns-in_err-raise_to-clause-images
+returns-in_err-raise_to-clause-images g c = λ at honest way all i since.
+    ⊎_elim inl (λ next. inr (next ∙ ap (λ (s : CellState). Some (s.value + 1)) c.self.view_is)) (c.raise_to.ensures.images at honest way all i since)
 
 pub returns-clause-images : goal.returns-clause-images
-returns-clause-images g c = λ at honest.
-    let state = g.D.SectorDisk.state in
-    rw (← c.self.view_is) (λ way all.
-    raise_images at _ (state c.args.disk.now) (state c.store.new.disk) _ c.body_for.ensures (omega (arith, c.if-self-2.false, c.self.ranges)) way all (c.store.ensures.images honest))
+returns-clause-images g c = λ at honest way all i since.
+    ⊎_elim inl (λ next. inr (next ∙ ap (λ (s : CellState). Some (s.value + 1)) c.self.view_is)) (c.raise_to.ensures.images at honest way all i since)
 
 pub returns-clause-after : goal.returns-clause-after
-returns-clause-after g c = λ at honest. rw (← c.self.view_is) (λ way all ok.
-    let done = c.is_err.ensures.negation ∙ ap not c.if-is_err.false in
-    raise_after at _ (g.D.SectorDisk.state c.args.disk.now) _ c.body_for.result c.body_for.ensures (omega (arith, c.if-self-2.false, c.self.ranges)) way all (c.store.ensures.writes.run honest) (c.store.ensures.synced honest done) (c.store.ensures.sealed honest done))
+returns-clause-after g c = λ at honest way all ok.
+    let done = c.in_ok-raise_to.ensures.after at honest way all refl in
+    (λ i image. done.0 i image ∙ ap (λ (s : CellState). Some (s.value + 1)) c.self.view_is, done.1)

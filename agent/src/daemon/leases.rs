@@ -1,0 +1,394 @@
+//! The process of leases beside the node, and those who ask for leases here.
+
+use super::voters::Count;
+use super::{Daemon, PATIENCE_AT_END};
+use crate::boot_time::BootTime;
+use crate::config::Config;
+use crate::forward::of_leases;
+use crate::lease::{Claims, LeaseLine, LeaseProcess, Order, Refusal, Told};
+use crate::protocol::Reply;
+use crate::service::ClientId;
+use log::{debug, error, info, warn};
+use mio::{Registry, Token};
+use serde::Serialize;
+use std::collections::BTreeSet;
+use std::net::SocketAddr;
+use std::time::{Duration, Instant};
+
+pub(super) const LEASE_INPUT: Token = Token(6);
+pub(super) const LEASE_OUTPUT: Token = Token(7);
+
+/// A process of leases that ended is started again so much later, twice as long after each further end, and anew after one that ran for the longest pause.
+const FIRST_PAUSE: Duration = Duration::from_secs(1);
+const LONGEST_PAUSE: Duration = Duration::from_secs(60);
+
+/// A lease that this machine has, as `leases` tells it.
+#[derive(Serialize)]
+pub(super) struct Row {
+    name: String,
+    epoch: u64,
+    left_ms: u64,
+}
+
+pub(super) struct Leases {
+    process: Option<LeaseProcess>,
+    claims: Claims,
+    /// When the process wants to be told the time.
+    due: Option<BootTime>,
+    /// When it is started, and how long behind the next end it is started again.
+    start: Instant,
+    pause: Duration,
+    /// Claims that the process is to be told once more, and when.
+    again: Vec<(String, u64)>,
+    again_at: Instant,
+    pub(super) count_of_voters: Count,
+}
+
+impl Leases {
+    /// Those of a configuration that has leases.
+    pub(super) fn of(config: &Config, now: Instant) -> Option<Leases> {
+        (config.lease_ms > 0).then(|| Leases {
+            process: None,
+            claims: Claims::default(),
+            due: None,
+            start: now,
+            pause: Duration::ZERO,
+            again: Vec::new(),
+            again_at: now,
+            count_of_voters: Count::of(config, now),
+        })
+    }
+
+    pub(super) fn wake(&mut self) {
+        self.process.iter_mut().for_each(LeaseProcess::wake);
+    }
+
+    pub(super) fn flush(&mut self) {
+        self.process.iter_mut().for_each(LeaseProcess::flush);
+    }
+
+    /// How many leases this machine has.
+    pub(super) fn count(&self) -> usize {
+        let now = BootTime::now();
+        self.claims.all_held().filter(|(_, _, until)| *until > now).count()
+    }
+
+    /// Whether the process has its file and goes on.
+    pub(super) fn is_up(&self) -> bool {
+        self.process.as_ref().map_or(false, LeaseProcess::is_ready)
+    }
+
+    /// Those who ask for a lease, or have one.
+    pub(super) fn clients(&self) -> BTreeSet<ClientId> {
+        self.claims.clients()
+    }
+
+    pub(super) fn gone(&mut self, client: ClientId) {
+        self.claims.gone(client);
+    }
+
+    pub(super) fn sleep(&self, now: Instant) -> Duration {
+        let of_voters = self.count_of_voters.sleep(now);
+        let process = match &self.process {
+            None if self.count_of_voters.now().is_none() => return of_voters,
+            None => return self.start.saturating_duration_since(now).min(of_voters),
+            Some(process) => process,
+        };
+        if process.is_readable() {
+            return Duration::ZERO;
+        }
+        let tick = self.due.filter(|_| process.is_quiet());
+        let next = tick.into_iter().chain(self.claims.next_over()).min();
+        let again = if self.again.is_empty() { Duration::MAX } else { self.again_at.saturating_duration_since(now) };
+        next.map_or(Duration::MAX, |next| next.since(BootTime::now())).min(again).min(of_voters)
+    }
+
+    fn start(&mut self, config: &Config, voters: u8, registry: &Registry, now: Instant) {
+        self.start = now;
+        let (file, program) = (config.lease_file(), config.program.display());
+        let made = file.exists().then(|| LeaseProcess::start(config, voters, registry, LEASE_INPUT, LEASE_OUTPUT));
+        let why = match made {
+            Some(Ok(process)) => return self.process = Some(process),
+            Some(Err(why)) => format!("{program} can't be run: {why}"),
+            None => "there is no such file: `dumgerokctl format --lease` makes it".to_string(),
+        };
+        error!("{}: {why}. This machine has no leases", file.display());
+        self.start = now + LONGEST_PAUSE;
+    }
+
+    /// Ends the process, by the end of its input.
+    pub(super) fn end(&mut self) {
+        if let Some(Err(why)) = self.process.take().map(|mut process| process.end(PATIENCE_AT_END)) {
+            warn!("the process of leases can't be ended: {why}");
+        }
+    }
+
+    /// Ends the process, which is started again at once.
+    pub(super) fn stop(&mut self, now: Instant) {
+        self.end();
+        (self.start, self.due, self.pause) = (now, None, Duration::ZERO);
+    }
+
+    fn tell(&mut self, orders: impl IntoIterator<Item = Order>) {
+        // what isn't told now is told once the process has its file
+        if let Some(process) = self.process.as_mut().filter(|process| process.is_ready()) {
+            for order in orders {
+                match order {
+                    Order::Acquire { name, number } => process.say("acquire", &format!("{name} {number}")),
+                    Order::Release { name, number } => process.say("release", &format!("{name} {number}")),
+                }
+            }
+        }
+    }
+
+    /// Tells the process the time, where it wants to know it and has answered all else.
+    fn tick(&mut self) {
+        let is_due = self.due.map_or(false, |due| due <= BootTime::now());
+        if let Some(process) = self.process.as_mut().filter(|process| is_due && process.is_ready() && process.is_quiet()) {
+            self.due = None;
+            process.say("tick", "");
+        }
+    }
+
+    /// Tells the process once more of those whom it couldn't ask for before.
+    fn try_again(&mut self, now: Instant) {
+        if now >= self.again_at {
+            let again = std::mem::take(&mut self.again);
+            let orders: Vec<Order> = again.iter().filter_map(|(name, number)| self.claims.again(name, *number)).collect();
+            self.tell(orders);
+        }
+    }
+
+    /// These, each with its epoch and what is left of it.
+    pub(super) fn rows(&self) -> Vec<Row> {
+        let now = BootTime::now();
+        let left = |until: BootTime| u64::try_from(until.since(now).as_millis()).unwrap_or(0);
+        let rows = self.claims.all_held().map(|(name, epoch, until)| Row { name: name.to_string(), epoch, left_ms: left(until) });
+        rows.filter(|row| row.left_ms > 0).collect()
+    }
+}
+
+impl Daemon {
+    /// All that may be to be done for leases.
+    pub(super) fn keep_leases(&mut self, now: Instant) {
+        self.keep_voters(now);
+        let leases = match &mut self.leases {
+            Some(leases) => leases,
+            None => return,
+        };
+        if let Some(voters) = leases.count_of_voters.now().filter(|_| leases.process.is_none() && now >= leases.start) {
+            leases.start(&self.config, voters, self.poll.registry(), now);
+        }
+        let (mut lines, mut goes_on) = (Vec::new(), true);
+        if let Some(process) = leases.process.as_mut().filter(|process| process.is_readable()) {
+            goes_on = process.read_lines(&mut lines);
+        }
+        lines.into_iter().for_each(|line| self.take_lease_line(line, now));
+        if let Some(leases) = &mut self.leases {
+            if !goes_on {
+                leases.restart(now);
+            }
+            let orders = leases.claims.give_up_gone(BootTime::now());
+            leases.tell(orders);
+            leases.try_again(now);
+            leases.tick();
+        }
+    }
+
+    fn take_lease_line(&mut self, line: LeaseLine, now: Instant) {
+        match line {
+            LeaseLine::Send { to, hex } => {
+                let message = hex::decode(hex).unwrap_or_default();
+                let mark = self.config.key.is_none().then(|| self.introductions.mark());
+                self.metrics.lease_messages.with_label_values(&["out"]).inc();
+                self.send(to, &of_leases::with_head(&message, mark), now);
+            }
+            LeaseLine::Held { name, client: number, .. } if self.is_silent(&name, number, now) => self.leave(name, number),
+            line => {
+                if let Some(leases) = &mut self.leases {
+                    let told = leases.take(line);
+                    told.into_iter().for_each(|told| self.tell_of_lease(told));
+                }
+            }
+        }
+    }
+
+    /// Whether the client of a claim asked for nothing for so long that it may be stopped: others would wait for it without an end.
+    fn is_silent(&self, name: &str, number: u64, now: Instant) -> bool {
+        let client = self.leases.as_ref().and_then(|leases| leases.claims.client(name, number));
+        let silence = client.and_then(|client| self.clients.silence(client, now));
+        silence.map_or(false, |silence| silence > Duration::from_millis(self.config.lease_ms) * 3 / 8)
+    }
+
+    /// The client of a claim is silent: what it was told counts, and it is told nothing more.
+    fn leave(&mut self, name: String, number: u64) {
+        let client = self.leases.as_mut().and_then(|leases| {
+            let client = leases.claims.client(&name, number);
+            leases.claims.leave(&name, number);
+            client
+        });
+        warn!("lease {name}: its client asks for nothing, so it goes to another");
+        let told = client.map(|client| TellsOfLease::Refused { client, name, why: "Silent".to_string() });
+        told.into_iter().for_each(|told| self.tell_of_lease(told));
+    }
+
+    /// Tells a client of its lease, and watchers where that is new.
+    fn tell_of_lease(&mut self, told: TellsOfLease) {
+        match told {
+            TellsOfLease::Client(Told::Held { client, name, epoch, until }, is_new) => {
+                let event = Reply::event("held").with("name", &name).with("epoch", epoch).with("until_ms", until.ms());
+                self.clients.tell(client, &event);
+                if is_new {
+                    info!("lease {name}: held, epoch {epoch}");
+                    self.metrics.leases.with_label_values(&["held"]).inc();
+                    self.tell(Reply::event("lease").with("name", name).with("epoch", epoch).with("held", true));
+                }
+            }
+            TellsOfLease::Client(Told::Lost { client, name, epoch }, _) => {
+                self.clients.tell(client, &Reply::event("lost").with("name", &name).with("epoch", epoch));
+                info!("lease {name}: lost, epoch {epoch}");
+                self.metrics.leases.with_label_values(&["lost"]).inc();
+                self.tell(Reply::event("lease").with("name", name).with("epoch", epoch).with("held", false));
+            }
+            TellsOfLease::Refused { client, name, why } => {
+                self.clients.tell(client, &Reply::event("refused").with("name", name).with("why", why));
+            }
+        }
+    }
+
+    /// A datagram with a message of leases came.
+    pub(super) fn take_of_leases(&mut self, bytes: &[u8], from: SocketAddr) {
+        let (mark, message) = match of_leases::without_head(bytes, self.config.key.is_some()) {
+            Some(both) => both,
+            None => return self.metrics.dropped.with_label_values(&["Forged"]).inc(),
+        };
+        let is_known = mark.map_or(true, |mark| {
+            of_leases::sender(message).map_or(false, |sender| self.introductions.is_known(sender, mark))
+        });
+        if !is_known {
+            return self.metrics.dropped.with_label_values(&["Stranger"]).inc();
+        }
+        if self.config.key.is_none() && of_leases::sender(message).map_or(false, |sender| self.peers.is_empty_place(sender)) {
+            return self.metrics.dropped.with_label_values(&["Unnamed"]).inc();
+        }
+        let process = self.leases.as_mut().and_then(|leases| leases.process.as_mut());
+        match process.filter(|process| process.has_room()) {
+            Some(process) => {
+                process.say("deliver", &hex::encode(message));
+                self.metrics.lease_messages.with_label_values(&["in"]).inc();
+            }
+            None => {
+                debug!("a message of leases of {from} isn't taken");
+                self.metrics.dropped.with_label_values(&["NoRoom"]).inc();
+            }
+        }
+    }
+
+    /// A client asks for a lease.
+    pub(super) fn acquire(&mut self, client: ClientId, name: &str) -> Reply {
+        let leases = match &mut self.leases {
+            Some(leases) => leases,
+            None => return Reply::refused("NoLeases").with("why", "`lease_ms` isn't set: this agent has no leases"),
+        };
+        match leases.claims.acquire(client, name) {
+            Ok(order) => {
+                leases.tell(order);
+                Reply::ok().with("now_ms", BootTime::now().ms())
+            }
+            Err(refusal) => refused(refusal),
+        }
+    }
+
+    /// A client gives a lease back, or asks for it no more.
+    pub(super) fn release(&mut self, client: ClientId, name: &str) -> Reply {
+        let leases = match &mut self.leases {
+            Some(leases) => leases,
+            None => return refused(Refusal::Unclaimed),
+        };
+        let held = leases.claims.all_held().find(|(held, ..)| *held == name).map(|(_, epoch, _)| epoch);
+        match leases.claims.release(client, name) {
+            Ok(orders) => {
+                leases.tell(orders);
+                if let Some(epoch) = held {
+                    info!("lease {name}: given back, epoch {epoch}");
+                    self.metrics.leases.with_label_values(&["given_back"]).inc();
+                    self.tell(Reply::event("lease").with("name", name).with("epoch", epoch).with("held", false));
+                }
+                Reply::ok()
+            }
+            Err(refusal) => refused(refusal),
+        }
+    }
+
+    /// The leases that this machine has.
+    pub(super) fn list_leases(&self) -> Reply {
+        let rows = self.leases.as_ref().map_or_else(Vec::new, Leases::rows);
+        Reply::ok().with("lease_ms", self.config.lease_ms).with("leases", rows).with("voters", self.voting().now)
+    }
+}
+
+/// Whom something is to be told.
+enum TellsOfLease {
+    /// A client; whether that is new, and no renewal.
+    Client(Told, bool),
+    Refused { client: ClientId, name: String, why: String },
+}
+
+impl Leases {
+    /// What is to be told of a line of the process.
+    fn take(&mut self, line: LeaseLine) -> Vec<TellsOfLease> {
+        match line {
+            LeaseLine::Process { count } => {
+                info!("leases: process {count}");
+                let (told, orders) = self.claims.begin_anew();
+                self.tell(orders);
+                return told.into_iter().map(|told| TellsOfLease::Client(told, true)).collect();
+            }
+            LeaseLine::Held { name, client, epoch, until } => {
+                let is_new = !self.claims.all_held().any(|(held, old, _)| (held, old) == (name.as_str(), epoch));
+                let told = self.claims.held(&name, client, epoch, BootTime::of_ms(until));
+                return told.into_iter().map(|told| TellsOfLease::Client(told, is_new)).collect();
+            }
+            LeaseLine::Lost { name, epoch } => {
+                let told = self.claims.lost(&name, epoch);
+                return told.into_iter().map(|told| TellsOfLease::Client(told, true)).collect();
+            }
+            LeaseLine::RefusedClaim { why, name, client } if why == "Waiting" => {
+                // an earlier process may have granted for longer than this one does
+                self.again.push((name, client));
+                self.again_at = Instant::now() + FIRST_PAUSE;
+            }
+            LeaseLine::RefusedClaim { why, name, client } => {
+                warn!("lease {name}: refused: {why}");
+                let (client, order) = self.claims.refused(&name, client);
+                self.tell(order);
+                return client.map(|client| TellsOfLease::Refused { client, name, why }).into_iter().collect();
+            }
+            LeaseLine::Refused { why } => debug!("leases: a line was refused: {why}"),
+            LeaseLine::Next { at } => self.due = at.map(BootTime::of_ms),
+            LeaseLine::Send { .. } => {}
+        }
+        Vec::new()
+    }
+
+    /// The process ended: it is started again behind a pause.
+    fn restart(&mut self, now: Instant) {
+        let status = self.process.take().map(|mut process| process.end(PATIENCE_AT_END));
+        let ran = now.saturating_duration_since(self.start);
+        self.pause = if ran > LONGEST_PAUSE { FIRST_PAUSE } else { (self.pause * 2).clamp(FIRST_PAUSE, LONGEST_PAUSE) };
+        let how = match status {
+            Some(Ok(Some(status))) => status.to_string(),
+            _ => "it hangs".to_string(),
+        };
+        error!("the process of leases ended ({how}), it starts again in {} s", self.pause.as_secs());
+        (self.start, self.due) = (now + self.pause, None);
+    }
+}
+
+fn refused(refusal: Refusal) -> Reply {
+    match refusal {
+        Refusal::Claimed => Reply::refused("Claimed").with("why", "this connection asks for the name already"),
+        Refusal::Full => Reply::refused("Full").with("why", "too many names, or too many who ask for this one"),
+        Refusal::Unclaimed => Reply::refused("Unclaimed").with("why", "this connection doesn't ask for the name"),
+    }
+}

@@ -1,0 +1,106 @@
+//! A trace that the proved program has read already: so its entries have the fields that docs/SIMULATION.md says.
+
+use serde_json::Value;
+use std::collections::HashMap;
+
+/// How the mark of an entry looks: it was refused, done, its disk failed or its node crashed, or its node came back.
+#[derive(Clone, Copy, Debug, PartialEq, Eq)]
+pub enum Look {
+    Rest,
+    Done,
+    Fail,
+    Rise,
+}
+
+impl Look {
+    pub fn name(self) -> &'static str {
+        match self {
+            Look::Rest => "rest",
+            Look::Done => "done",
+            Look::Fail => "fail",
+            Look::Rise => "rise",
+        }
+    }
+}
+
+/// An entry of a history. Messages are named by their place among those of the trace.
+#[derive(Debug, PartialEq, Eq)]
+pub struct Entry {
+    /// What was done, as the trace says it.
+    pub name: String,
+    pub look: Look,
+    pub brought: Option<usize>,
+    pub sent: Vec<usize>,
+}
+
+#[derive(Default)]
+pub struct Trace {
+    pub histories: Vec<Vec<Entry>>,
+    /// The digits of each message, once each.
+    pub messages: Vec<String>,
+    /// Of each turn of the recorded order the number of the message that it was brought, where it has one.
+    pub numbers: Vec<Option<usize>>,
+}
+
+impl Trace {
+    pub fn read(text: &[u8]) -> serde_json::Result<Trace> {
+        let whole: Value = serde_json::from_slice(text)?;
+        let mut trace = Trace::default();
+        let mut places = HashMap::new();
+        for history in list(&whole["histories"]) {
+            let entries = list(history).iter().map(|entry| trace.entry(&mut places, entry)).collect();
+            trace.histories.push(entries);
+        }
+        let words = whole["order"].as_str().unwrap_or_default().split_whitespace();
+        trace.numbers = words.skip(1).step_by(2).map(|word| word.parse().ok()).collect();
+        Ok(trace)
+    }
+
+    fn entry(&mut self, places: &mut HashMap<String, usize>, entry: &Value) -> Entry {
+        let name = entry["do"].as_str().unwrap_or_default();
+        let look = match name {
+            "none" => Look::Rest,
+            "crash" => Look::Fail,
+            _ if entry.get("fault").is_some() => Look::Fail,
+            "recover" => Look::Rise,
+            _ => Look::Done,
+        };
+        let brought = if name == "deliver" { entry["msg"].as_str().map(|digits| self.place(places, digits)) } else { None };
+        let sent = list(&entry["sent"]).iter().filter_map(Value::as_str).map(|digits| self.place(places, digits)).collect();
+        Entry { name: name.to_string(), look, brought, sent }
+    }
+
+    /// The place of a message, however its digits are written.
+    fn place(&mut self, places: &mut HashMap<String, usize>, digits: &str) -> usize {
+        let messages = &mut self.messages;
+        *places.entry(digits.to_ascii_lowercase()).or_insert_with_key(|digits| {
+            messages.push(digits.clone());
+            messages.len() - 1
+        })
+    }
+}
+
+fn list(value: &Value) -> &[Value] {
+    value.as_array().map_or(&[], Vec::as_slice)
+}
+
+#[cfg(test)]
+mod tests {
+    use super::*;
+
+    #[test]
+    fn entries_of_each_look() {
+        let text = r#"{"nodes":2,"order":"0 - 1 7 0 x","histories":[[{"do":"none","fault":"device","sent":[]},{"do":"check","sent":["0A","0b"]},
+            {"do":"recover","kept":true,"sent":[]},{"do":"recover","kept":false,"fault":"mount","sent":[]},{"do":"crash","sent":[]}],
+            [{"do":"deliver","msg":"0a","msg":"0B","sent":[]},{"do":"submit","msg":"0a","fault":"device","sent":[]}]]}"#;
+        let trace = Trace::read(text.as_bytes()).unwrap();
+        let looks: Vec<Vec<&str>> = trace.histories.iter().map(|history| history.iter().map(|entry| entry.look.name()).collect()).collect();
+        assert_eq!(looks, [vec!["rest", "done", "rise", "fail", "fail"], vec!["done", "fail"]]);
+        let asks = Entry { name: "check".to_string(), look: Look::Done, brought: None, sent: vec![0, 1] };
+        assert_eq!(trace.histories[0][1], asks);
+        // of equal keys the last counts, and a message is one however it is written
+        assert_eq!((trace.histories[1][0].brought, trace.histories[1][1].brought), (Some(1), None));
+        assert_eq!(trace.messages, ["0a", "0b"]);
+        assert_eq!(trace.numbers, [None, Some(7), None]);
+    }
+}

@@ -1,0 +1,213 @@
+//! The process `invite lease`, asked and heard over pipes that never block.
+
+use super::LeaseLine;
+use crate::boot_time::BootTime;
+use crate::config::Config;
+use crate::own_session;
+use log::warn;
+use mio::unix::pipe;
+use mio::{Interest, Registry, Token};
+use std::collections::VecDeque;
+use std::io::{self, ErrorKind, Read, Write};
+use std::process::{Child, Command, ExitStatus, Stdio};
+use std::thread;
+use std::time::{Duration, Instant};
+
+/// So many bytes may wait for the process to read them; messages beyond that are lost.
+const ROOM: usize = 256 * 1024;
+
+/// Where it is behind with so many lines, and the oldest waits for longer than answers to a request are waited for, messages are lost: those that waited would
+/// come too late, and have all behind them come too late. Who sent them asks again.
+const MOST_BEHIND: usize = 16;
+
+/// Its longest line is far shorter.
+const MAX_LINE: usize = 64 * 1024;
+
+/// So many bytes are read at a time.
+const MAX_AT_A_TIME: usize = 256 * 1024;
+
+pub struct LeaseProcess {
+    child: Child,
+    input: Option<pipe::Sender>,
+    registry: Registry,
+    input_token: Token,
+    is_waiting_for_room: bool,
+    output: pipe::Receiver,
+    is_readable: bool,
+    unwritten: Vec<u8>,
+    unread: Vec<u8>,
+    /// When those lines were said that have no `next` behind them yet.
+    unanswered: VecDeque<Instant>,
+    /// How long answers to a request are waited for at least: four round trips.
+    patience: Duration,
+    /// Whether it has its file: the first time may be told it.
+    is_ready: bool,
+}
+
+/// The program as the process of leases, which so many machines grant. A lease is kept for a hundred of its round trips.
+fn lease_command(config: &Config, voters: u8) -> Command {
+    let mut command = own_session::command([&config.program]);
+    command.arg("lease").arg(config.lease_file()).arg(config.id.to_string()).arg(voters.to_string());
+    command.arg((config.lease_ms / 100).to_string());
+    if let Some(key) = &config.key {
+        command.arg("--key").arg(key).arg("--cluster").arg(&config.cluster);
+    }
+    command
+}
+
+fn is_behind(unanswered: &VecDeque<Instant>, patience: Duration, now: Instant) -> bool {
+    let is_late = unanswered.front().map_or(false, |oldest| now.saturating_duration_since(*oldest) > patience);
+    is_late && unanswered.len() >= MOST_BEHIND
+}
+
+impl LeaseProcess {
+    /// Starts it; its output wakes `output`, its input, once it was full, `input`.
+    pub fn start(config: &Config, voters: u8, registry: &Registry, input: Token, output: Token) -> io::Result<LeaseProcess> {
+        if let Some(why) = own_session::why_not(config.program.as_os_str()) {
+            return Err(io::Error::new(ErrorKind::NotFound, why));
+        }
+        let mut child = lease_command(config, voters).stdin(Stdio::piped()).stdout(Stdio::piped()).spawn()?;
+        let pipes = child.stdin.take().zip(child.stdout.take());
+        let (stdin, stdout) = pipes.ok_or_else(|| io::Error::new(ErrorKind::Other, "it has no pipes"))?;
+        let (to, mut from) = (pipe::Sender::from(stdin), pipe::Receiver::from(stdout));
+        to.set_nonblocking(true)?;
+        from.set_nonblocking(true)?;
+        registry.register(&mut from, output, Interest::READABLE)?;
+        Ok(LeaseProcess {
+            child,
+            input: Some(to),
+            registry: registry.try_clone()?,
+            input_token: input,
+            is_waiting_for_room: false,
+            output: from,
+            is_readable: false,
+            unwritten: Vec::new(),
+            unread: Vec::new(),
+            unanswered: VecDeque::new(),
+            patience: Duration::from_millis(config.lease_ms / 25),
+            is_ready: false,
+        })
+    }
+
+    pub fn is_ready(&self) -> bool {
+        self.is_ready
+    }
+
+    /// Whether a message of another machine would be taken now.
+    pub fn has_room(&self) -> bool {
+        self.is_ready && self.unwritten.len() < ROOM && !is_behind(&self.unanswered, self.patience, Instant::now())
+    }
+
+    /// Whether it has answered all that it was told.
+    pub fn is_quiet(&self) -> bool {
+        self.unanswered.is_empty()
+    }
+
+    /// Tells it something, with the time of now.
+    pub fn say(&mut self, word: &str, rest: &str) {
+        let gap = if rest.is_empty() { "" } else { " " };
+        self.unwritten.extend_from_slice(format!("{word} {}{gap}{rest}\n", BootTime::now().ms()).as_bytes());
+        self.unanswered.push_back(Instant::now());
+    }
+
+    /// Writes what the pipe takes now. One that is gone is noticed at its output.
+    pub fn flush(&mut self) {
+        while let (Some(input), false) = (self.input.as_mut(), self.unwritten.is_empty()) {
+            match input.write(&self.unwritten) {
+                Ok(count) if count > 0 => drop(self.unwritten.drain(..count)),
+                Err(error) if error.kind() == ErrorKind::Interrupted => {}
+                Err(error) if error.kind() == ErrorKind::WouldBlock => return self.wait_for_room(true),
+                _ => self.input = None,
+            }
+        }
+        self.wait_for_room(false);
+    }
+
+    fn wait_for_room(&mut self, waits: bool) {
+        if let (Some(input), true) = (self.input.as_mut(), waits != self.is_waiting_for_room) {
+            let done = match waits {
+                true => self.registry.register(input, self.input_token, Interest::WRITABLE),
+                false => self.registry.deregister(input),
+            };
+            self.is_waiting_for_room = if done.is_ok() { waits } else { self.is_waiting_for_room };
+        }
+    }
+
+    /// Something came of it, or it ended.
+    pub fn wake(&mut self) {
+        self.is_readable = true;
+    }
+
+    pub fn is_readable(&self) -> bool {
+        self.is_readable
+    }
+
+    /// Reads some of what it wrote, and answers whether it goes on.
+    pub fn read_lines(&mut self, lines: &mut Vec<LeaseLine>) -> bool {
+        let mut piece = [0; 16 * 1024];
+        for _ in 0..MAX_AT_A_TIME / piece.len() {
+            match self.output.read(&mut piece) {
+                Ok(0) => return false,
+                Ok(count) => self.unread.extend_from_slice(&piece[..count]),
+                Err(error) if error.kind() == ErrorKind::Interrupted => continue,
+                Err(error) => {
+                    self.is_readable = false;
+                    return error.kind() == ErrorKind::WouldBlock;
+                }
+            }
+            self.cut_lines(lines);
+            if self.unread.len() > MAX_LINE {
+                warn!("the process of leases wrote a line of more than {MAX_LINE} bytes");
+                return false;
+            }
+        }
+        true
+    }
+
+    fn cut_lines(&mut self, lines: &mut Vec<LeaseLine>) {
+        let whole = self.unread.iter().rposition(|byte| *byte == b'\n').map_or(0, |at| at + 1);
+        let rest = self.unread.split_off(whole);
+        let unread = std::mem::replace(&mut self.unread, rest);
+        for text in String::from_utf8_lossy(&unread).lines() {
+            let line = LeaseLine::read(text);
+            match &line {
+                Some(LeaseLine::Process { .. }) => self.is_ready = true,
+                Some(LeaseLine::Next { .. }) => drop(self.unanswered.pop_front()),
+                Some(_) => {}
+                None => warn!("a line of the process of leases can't be read: {text:.60}"),
+            }
+            lines.extend(line);
+        }
+    }
+
+    /// Ends its input, by which it ends, and kills it where it hasn't ended in time.
+    pub fn end(&mut self, within: Duration) -> io::Result<Option<ExitStatus>> {
+        self.input = None;
+        let until = Instant::now() + within;
+        loop {
+            let status = self.child.try_wait()?;
+            if status.is_some() {
+                return Ok(status);
+            }
+            if Instant::now() >= until {
+                self.child.kill()?;
+                return self.child.try_wait();
+            }
+            thread::sleep(Duration::from_millis(5));
+        }
+    }
+}
+
+#[cfg(test)]
+mod tests {
+    use super::*;
+
+    #[test]
+    fn behind_are_many_lines_of_which_one_is_old() {
+        let (ms, now) = (Duration::from_millis, Instant::now());
+        for (count, age, is_so) in [(0, 0, false), (15, 900, false), (16, 81, true), (16, 80, false), (400, 10, false)] {
+            let unanswered = (0..count).map(|_| now).collect();
+            assert_eq!(is_behind(&unanswered, ms(80), now + ms(age)), is_so, "{count} {age}");
+        }
+    }
+}

@@ -1,0 +1,322 @@
+#!/usr/bin/env python3
+"""Leases: the command of the one leader, and locks, under faults.
+
+    leases.py PROGRAM [--faults N] [--only KIND..] [--jobs N]
+
+Three agents with leases, at each `dumgerokctl lead`, or `own` of 64 shards. Each kind of fault befalls the leader N times; commands of two machines never run at a time, by a clock
+that none of them reads, epochs rise, and nobody leads for 3 s at most. With a clock that is out of its bounds two are seen to lead: so the test can fail.
+"""
+import argparse, concurrent.futures, glob, os, signal, subprocess, sys, tempfile, time, traceback
+
+HERE = os.path.dirname(os.path.abspath(__file__))
+sys.path[:0] = [HERE]
+from bed import MEMORY, Agents, Relay, is_there
+from beats import GAP, Leads, beats, clock, overlap, running, runs, spans
+
+LEASE_MS = 2000
+# Nobody leads for so long at most, at round trips of 20 ms, and a busy machine adds this.
+NOBODY, MORE = 3.0, 1.0
+# So many shards; of these less than this part moves where a third machine comes or goes.
+SHARDS, MOVE = 64, 0.5
+# What a millionth of a clock's rate is, of right clocks, of those at their bounds, and of one out of them.
+RIGHT, FAST, SLOW, OUT = 1_000_000, 1_031_250, 968_750, 700_000
+
+
+def children(pid):
+    with open("/proc/%d/task/%d/children" % (pid, pid)) as file:
+        return [int(word) for word in file.read().split()]
+
+
+def descendants(pid):
+    found = [pid]
+    for parent in found:
+        for path in glob.glob("/proc/%d/task/*/children" % parent):
+            with open(path) as file:
+                found += [int(word) for word in file.read().split()]
+    return found
+
+
+def words_of(pid):
+    with open("/proc/%d/cmdline" % pid) as file:
+        return file.read().split("\0")
+
+
+def process(agents, i, word):
+    """The process `invite WORD` of agent i."""
+    return next(pid for pid in children(agents.processes[i].pid) if word in words_of(pid)[:3])
+
+
+class Cluster:
+    """Three agents with leases and a `lead` at each; the clock of each machine has a rate."""
+
+    def __init__(self, program, programs, folder, rates=(RIGHT,) * 3, words=("lead",), of=None, count=3, delay=(0.0, 0.0), key=None, lines=None, lease_ms=LEASE_MS):
+        self.relay = Relay(count)
+        self.relay.delay = delay
+        settings = dict(record=None, lease_ms=lease_ms, round_trip_ms=lease_ms // 100, key=key)
+        self.nobody = NOBODY * lease_ms / LEASE_MS
+        self.agents = Agents(folder, program, self.relay, os.path.join(programs, "dumgerokd"), os.path.join(programs, "dumgerokctl"), settings, within=MEMORY, lines=lines)
+        self.environment = [clock_of(folder, rate) for rate in rates]
+        for i in range(count):
+            subprocess.run([program, "format", "--lease", self.agents.path(i, "node") + ".lease", str(i)], check=True)
+        self.leads = Leads(self.agents, list(words), **({"of": of} if of else {}))
+
+    def start(self):
+        for i in range(self.agents.count):
+            self.agents.start(i, **self.environment[i])
+        self.agents.one_group()
+        for i in range(self.agents.count):
+            self.lead(i)
+        return self
+
+    def lead(self, i):
+        self.leads.environment = self.environment[i]
+        self.leads.start(i)
+
+    def restart(self, i):
+        self.agents.start(i, **self.environment[i])
+
+    def stop(self):
+        self.leads.stop()
+        self.agents.stop()
+        self.relay.runs = False
+
+
+def clock_of(folder, rate):
+    """An environment in which CLOCK_BOOTTIME goes at a rate."""
+    if rate == RIGHT:
+        return {}
+    library = os.path.join(folder, "rated_clock.so")
+    if not os.path.exists(library):
+        subprocess.run(["cc", "-shared", "-fPIC", "-O1", "-o", library, os.path.join(HERE, "rated_clock.c")], check=True)
+    return dict(LD_PRELOAD=library, RATE_FROM=str(time.clock_gettime_ns(time.CLOCK_BOOTTIME)), RATE_MILLIONTHS=str(rate))
+
+
+def send(number):
+    """Sends a signal to a process, unless that ended meanwhile."""
+    def to(pid):
+        if is_there(pid):
+            os.kill(pid, number)
+    return to
+
+
+def befall(cluster, kind, leader):
+    """A fault; how it is mended."""
+    agents, leads, relay = cluster.agents, cluster.leads, cluster.relay
+    agent, client = agents.processes[leader].pid, leads.processes[leader]
+    if kind == "client stopped":
+        client.send_signal(signal.SIGSTOP)
+        return lambda: client.send_signal(signal.SIGCONT)
+    if kind in ("client killed", "client ended"):
+        client.send_signal(signal.SIGKILL if kind == "client killed" else signal.SIGTERM)
+        return lambda: (client.wait(), cluster.lead(leader))
+    if kind in ("agent killed", "agent ended"):
+        agents.kill(leader, signal.SIGKILL if kind == "agent killed" else signal.SIGTERM)
+        return lambda: cluster.restart(leader)
+    stopped = dict(zip(("agent stopped", "node stopped", "process of leases stopped"), ([agent], *([process(agents, leader, word)] for word in ("node", "lease")))))
+    stopped["machine stopped"] = descendants(agent) + descendants(client.pid)
+    if kind in stopped:
+        list(map(send(signal.SIGSTOP), stopped[kind]))
+        return lambda: list(map(send(signal.SIGCONT), stopped[kind]))
+    if kind == "process of leases killed":
+        os.kill(process(agents, leader, "lease"), signal.SIGKILL)
+        return lambda: None
+    cuts = {frozenset((leader, j)) for j in range(agents.count) if j != leader}
+    relay.cuts |= cuts
+    return lambda: relay.cuts.difference_update(cuts)
+
+
+KINDS = ["client stopped", "client killed", "client ended", "agent stopped", "agent killed", "agent ended", "node stopped", "machine stopped", "cut off",
+         "process of leases stopped", "process of leases killed"]
+
+
+def gap(paths, at):
+    """For how long behind a time nobody ran, until somebody did again, or so far; 0 where somebody ran on."""
+    rows = sorted(span for path in paths for row in beats(path) for span in spans(row) if span[1] > at)
+    if rows and rows[0][0] < at:
+        at = rows[0][1]
+        rows = [row for row in rows if row[1] > at]
+        if not rows:
+            so_far = clock() - at
+            return so_far if so_far >= GAP else 0.0
+    return max(0.0, rows[0][0] - at) if rows else float("inf")
+
+
+def one_fault(cluster, kind):
+    """One fault at the leader; for how long nobody led."""
+    leads = cluster.leads
+    leader, at = leads.wait_for_leader(), clock()
+    mend = befall(cluster, kind, leader)
+    time.sleep(cluster.nobody + 0.3)
+    # somebody leads again, be it the same one
+    leads.wait_for_leader()
+    nobody = gap(leads.paths, at)
+    mend()
+    if "agent" in kind or kind in ("cut off", "machine stopped"):
+        cluster.agents.one_group()
+    time.sleep(0.7)
+    leads.wait_for_leader()
+    return nobody
+
+
+def faults(cluster, kind, count):
+    """So many faults of a kind: for how long two led, for how long nobody did each time, and whether epochs rise."""
+    nobody = [one_fault(cluster, kind) for _ in range(count)]
+    return overlap(cluster.leads.paths), nobody, rise(cluster.leads.paths)
+
+
+def rise(paths):
+    """Whether the epochs of commands rise, by when they began; one that is started again by the same lease has the same."""
+    rows = sorted((row.times[0], row.epoch, path) for path in paths for row in beats(path))
+    return len(rows) > 0 and all(a[1] < b[1] or a[1:] == b[1:] for a, b in zip(rows, rows[1:]))
+
+
+def programs_of(given):
+    return os.environ.get("DUMGEROK_AGENT") or given
+
+
+def many(program, programs, folder, kind, count, rates=(RIGHT,) * 3, words=("lead",), lease_ms=LEASE_MS):
+    cluster = Cluster(program, programs, folder, rates, words, lease_ms=lease_ms)
+    try:
+        return faults(cluster.start(), kind, count)
+    finally:
+        cluster.stop()
+
+
+def shard_spans(paths, shards):
+    """Of each shard the times in which it was run, and by which machine."""
+    found = {shard: [] for shard in range(shards)}
+    for i, path in enumerate(paths):
+        for row in beats(path):
+            found[row.shard] += [(begin, end, i) for begin, end in spans(row)]
+    return {shard: sorted(rows) for shard, rows in found.items()}
+
+
+def owner(shard, members):
+    """The member to which a shard falls, by rendezvous hashing with splitmix64."""
+    def mixed(of):
+        of = (of + 0x9e3779b97f4a7c15) % 2 ** 64
+        of = (of ^ of >> 30) * 0xbf58476d1ce4e5b9 % 2 ** 64
+        of = (of ^ of >> 27) * 0x94d049bb133111eb % 2 ** 64
+        return of ^ of >> 31
+
+    return max(members, key=lambda member: (mixed(shard << 8 | member), member))
+
+
+def changes(program, programs, folder, count, shards=SHARDS, lease_ms=LEASE_MS):
+    """The third machine goes and comes, so many changes: for how long two ran a shard, for each change how many paused and the longest pause, and for how long
+    the machine stopped an observer at most."""
+    cluster = Cluster(program, programs, folder, words=("own", str(shards)), lease_ms=lease_ms)
+    paths, rows = cluster.leads.paths, []
+    cluster.environment = [dict(BEAT_MS="20")] * 3
+
+    def all_run(of):
+        """Whether each shard is run by the one of these to which it falls."""
+        found = {i: running(paths[i]) for i in of}
+        return all(shard in found[owner(shard, of)] for shard in range(min(shards, 64)))
+
+    try:
+        cluster.start()
+        cluster.agents.until(lambda: all_run(range(3)))
+        for change in range(count):
+            time.sleep(0.5)
+            at, goes = clock(), change % 2 == 0
+            if goes:
+                cluster.agents.kill(2)
+                cluster.agents.one_group([0, 1])
+            else:
+                cluster.restart(2)
+                cluster.agents.one_group()
+            cluster.agents.until(lambda: all_run((0, 1) if goes else range(3)))
+            pauses = []
+            for row in shard_spans(paths, shards).values():
+                behind = [span for span in row if span[1] > at]
+                pauses += [b[0] - a[1] for a, b in zip(behind, behind[1:])] or ([behind[0][0] - at] if behind[0][0] > at else [])
+            rows.append((goes, sum(pause > GAP for pause in pauses), max(pauses, default=0.0)))
+        found = shard_spans(paths, shards)
+        two = sum(max(0.0, min(a[1], b[1]) - max(a[0], b[0])) for row in found.values() for at, a in enumerate(row) for b in row[at + 1:] if a[2] != b[2])
+        return two, rows, cluster.leads.observer.longest()
+    finally:
+        cluster.stop()
+
+
+def wrong_clock(program, programs, folder, count, rate=OUT, lease_ms=LEASE_MS):
+    """The leader's clock is 30 % slow, which is out of its bounds: two are seen to lead, for how long, in one of so many tries."""
+    cluster = Cluster(program, programs, folder, (rate, RIGHT, RIGHT), ("lead", "--grace", "0"), lease_ms=lease_ms)
+    try:
+        [cluster.restart(i) for i in range(3)]
+        cluster.agents.one_group()
+        cluster.lead(0)
+        for _ in range(count):
+            cluster.agents.until(lambda: runs(cluster.leads.paths[0]))
+            [cluster.lead(i) for i in (1, 2)]
+            time.sleep(1)
+            mend = befall(cluster, "cut off", 0)
+            cluster.leads.wait_for_leader((1, 2))
+            time.sleep(cluster.nobody)
+            mend()
+            for i in (1, 2):
+                cluster.leads.processes[i].terminate()
+                cluster.leads.processes[i].wait()
+            cluster.agents.one_group()
+            if overlap(cluster.leads.paths) > 0:
+                break
+        return overlap(cluster.leads.paths)
+    finally:
+        cluster.stop()
+
+
+def main():
+    words = argparse.ArgumentParser(description=__doc__, formatter_class=argparse.RawDescriptionHelpFormatter)
+    words.add_argument("program")
+    words.add_argument("--faults", type=int, default=50, metavar="N")
+    words.add_argument("--only", nargs="*", default=KINDS + ["clocks at their bounds", "a clock out of them", "shards"])
+    words.add_argument("--shards", type=int, default=SHARDS)
+    words.add_argument("--lease-ms", type=int, default=LEASE_MS, help="with round trips of a hundredth; all bounds scale with it")
+    words.add_argument("--jobs", type=int, default=2, help="so many kinds at a time")
+    given = words.parse_args()
+    program, programs = os.path.abspath(given.program), os.path.abspath(programs_of(os.path.join(HERE, "../target/release")))
+    folder, passed, failed = tempfile.mkdtemp(prefix="dumgerok-leases-"), 0, 0
+    most = NOBODY * given.lease_ms / LEASE_MS + MORE
+
+    def play(at, kind):
+        place = os.path.join(folder, str(at))
+        try:
+            if kind == "a clock out of them":
+                return wrong_clock(program, programs, place, max(3, given.faults // 10), lease_ms=given.lease_ms)
+            if kind == "shards":
+                return changes(program, programs, place, 2 * given.faults, given.shards, given.lease_ms)
+            if kind == "clocks at their bounds":
+                return many(program, programs, place, "cut off", given.faults, (SLOW, FAST, RIGHT), lease_ms=given.lease_ms)
+            return many(program, programs, place, kind, given.faults, lease_ms=given.lease_ms)
+        except Exception:
+            traceback.print_exc(limit=-3)
+            return None
+
+    with concurrent.futures.ThreadPoolExecutor(given.jobs) as pool:
+        playing = [(kind, pool.submit(play, at, kind)) for at, kind in enumerate(given.only)]
+        for kind, one in playing:
+            result = one.result()
+            if kind == "a clock out of them":
+                is_right, told = result is not None and result > 0, "two led for %.2f s, as they may" % (result or 0)
+            elif result is None:
+                is_right, told = False, "it ended early"
+            elif kind == "shards":
+                two, rows, _ = result
+                is_right = two == 0 and all(0 < count <= MOVE * given.shards and longest <= most for _, count, longest in rows)
+                told = "%d changes, two ran a shard for %.2f s" % (len(rows), two)
+                for word, goes in (("goes", True), ("comes", False)):
+                    these = [row for row in rows if row[0] is goes]
+                    told += "; where a machine %s %d to %d of %d pause, for %.2f s at most" % (word, min(row[1] for row in these), max(row[1] for row in these), given.shards, max(row[2] for row in these))
+            else:
+                two, nobody, epochs_rise = result
+                is_right = two == 0 and epochs_rise and max(nobody) <= most
+                told = "%d faults; two led for %.2f s; nobody for %.2f s in the median and %.2f s at most; epochs %s" % (
+                    len(nobody), two, sorted(nobody)[len(nobody) // 2], max(nobody), "rise" if epochs_rise else "DON'T RISE")
+            passed, failed = passed + is_right, failed + (not is_right)
+            print("%s%s: %s" % ("" if is_right else "FAILED: ", kind, told), flush=True)
+    print("%d passed, %d failed" % (passed, failed))
+    sys.exit(0 if passed > 0 and not failed else 1)
+
+
+if __name__ == "__main__":
+    main()

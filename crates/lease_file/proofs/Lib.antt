@@ -1,0 +1,4 @@
+mod Cells
+mod Mountings
+mod Formats
+mod Clauses

@@ -1,0 +1,147 @@
+-- Turns of processes, as steps over a network.
+use Rattle.std.proofs.Common.{◌≡◌, ◌⊎◌, ℕ, ◌+◌, ◌<◌, ◌≤◌, Bool, true, false, List, [], ◌∷◌, ◌++◌, Option, Some, refl, sym, ◌∙◌, ap, subst, inl, inr, arith}
+use Rattle.std.specs.Prelude.{◌==◌, if◌then◌else◌, leb, ltb}
+use Rattle.std.proofs.lemmas.Bool.{eq-eqb}
+use Rattle.lease_runs.specs.Lists.{IsAmong}
+use Rattle.lease_runs.specs.Voter.{Client, Ask}
+use Rattle.lease_runs.specs.Candidate.{is_in_time}
+use Rattle.lease_network.specs.Network.{Name, Message, request, grant, release, Event, begins, reserves, sends, takes, Step, Sends, WasSent, IsRunning, IsNext, Terms, Machine, MayDo, AreSteps, done, last_time, machines}
+use Rattle.lease_network.specs.Laws.{Holds, up_to}
+use Rattle.lease_session.specs.Turns.{Mark, did, wrote, Who, who, Follow, IsAt, IsHad, MayMark, Runs, after_marks, sent_by, sent_in}
+use Rattle.lease_session.specs.Steps.{Adds, HeldLinesHold, RunsOrIsNew, TurnGoesOn, TurnsAreSteps, WasSentIn, steps_with}
+use Rattle.lease_session.proofs.Turns.{among_both}
+
+step : ℕ → Client → Event → Step
+step at by what = record { at = at; by = by; what = what }
+
+-- ---- one step
+
+machine_then : (terms : Terms) (past : List Step) (at : ℕ) (by : Client) (what : Event) (n : ℕ) → by.machine ≡ n
+    → machines terms (record { at = at; by = by; what = what } ∷ past) n ≡ done terms by (machines terms past n) at what
+machine_then terms past at by what n same = test (by.machine == n) refl
+  where
+    test : (b : Bool) → (by.machine == n) ≡ b → (if b then done terms by (machines terms past by.machine) at what else machines terms past n) ≡ done terms by (machines terms past n) at what
+    test true is = ap (λ (k : ℕ). done terms by (machines terms past k) at what) same
+    test false is = absurd (let bad : true ≡ false = sym (eq-eqb by.machine n same) ∙ is in cc)
+
+process_then : (terms : Terms) (at boot : ℕ) (by : Client) (m : Machine) (what : Event) → by.boot ≡ boot → Runs boot m.process what → (done terms by m at what).process ≡ Some boot
+process_then terms at boot by m (begins floor) same runs = ap (λ (n : ℕ). Some n) same
+process_then terms at boot by m (reserves bound) same runs = runs
+process_then terms at boot by m (sends (request name client number epoch)) same runs = runs
+process_then terms at boot by m (sends (grant name client number voter)) same runs = runs
+process_then terms at boot by m (sends (release name client epoch)) same runs = runs
+process_then terms at boot by m (takes (request name client number epoch)) same runs = runs
+process_then terms at boot by m (takes (grant name client number voter)) same runs = runs
+process_then terms at boot by m (takes (release name client epoch)) same runs = runs
+
+sends_by : (at : ℕ) (by : Client) (what : Event) (x : Message) → IsAmong x (sent_by by what) → Sends (record { at = at; by = by; what = what }) x
+sends_by at by (begins floor) x i = absurd i
+sends_by at by (reserves bound) x i = absurd i
+sends_by at by (sends (request name client number epoch)) x (inl e) =
+    subst (λ (y : Message). Sends (record { at = at; by = by; what = sends (request name client number epoch) }) y) (sym e) refl
+sends_by at by (sends (request name client number epoch)) x (inr i) = absurd i
+sends_by at by (sends (grant name client number voter)) x i = absurd i
+sends_by at by (sends (release name client epoch)) x (inl e) =
+    subst (λ (y : Message). Sends (record { at = at; by = by; what = sends (release name client epoch) }) y) (sym e) refl
+sends_by at by (sends (release name client epoch)) x (inr i) = absurd i
+sends_by at by (takes (request name client number epoch)) x (inl e) =
+    subst (λ (y : Message). Sends (record { at = at; by = by; what = takes (request name client number epoch) }) y) (sym e) (refl, (epoch, refl))
+sends_by at by (takes (request name client number epoch)) x (inr i) = absurd i
+sends_by at by (takes (grant name client number voter)) x i = absurd i
+sends_by at by (takes (release name client epoch)) x i = absurd i
+
+runs_so : (past : List Step) (self by : Client) (process : Option ℕ) (what : Event) → by.machine ≡ self.machine → by.boot ≡ self.boot → RunsOrIsNew past self process
+    → Runs self.boot process what → IsRunning past by process what
+runs_so past self by process (begins floor) machine boot (inl running) runs = absurd (runs running)
+runs_so past self by process (begins floor) machine boot (inr new) runs = λ s i e f. new s i (e ∙ machine) (f ∙ boot)
+runs_so past self by process (reserves bound) machine boot either runs = runs ∙ ap (λ (n : ℕ). Some n) (sym boot)
+runs_so past self by process (sends message) machine boot either runs = runs ∙ ap (λ (n : ℕ). Some n) (sym boot)
+runs_so past self by process (takes message) machine boot either runs = runs ∙ ap (λ (n : ℕ). Some n) (sym boot)
+
+was_sent : (past : List Step) (brought sent : List Message) (what : Event) → ((x : Message) → IsAmong x brought → WasSentIn past x) → ((x : Message) → IsAmong x sent → WasSentIn past x)
+    → IsHad brought sent what → WasSent past what
+was_sent past brought sent (begins floor) had before h = tt
+was_sent past brought sent (reserves bound) had before h = tt
+was_sent past brought sent (sends message) had before h = tt
+was_sent past brought sent (takes message) had before (inl i) = had message i
+was_sent past brought sent (takes message) had before (inr i) = before message i
+
+later : (past : List Step) (s : Step) (x : Message) → WasSentIn past x → WasSentIn (s ∷ past) x
+later past s x h = (h.0, inr h.1, h.2)
+
+-- ---- all of them
+
+pub go : (terms : Terms) (w : Who) (at : ℕ) (past : List Step) (brought sent : List Message) (marks : List Mark) → AreSteps terms past → last_time past ≤ at
+    → RunsOrIsNew past w.self (machines terms past w.self.machine).process → ((x : Message) → IsAmong x brought → WasSentIn past x)
+    → ((x : Message) → IsAmong x sent → WasSentIn past x) → Follow terms w at brought sent (machines terms past w.self.machine) marks → Adds terms w at past marks sent
+go terms w at past brought sent [] are last runs had before f = record { are = are; kept = refl; last = last; sends = before; runs = runs }
+go terms w at past brought sent (wrote row ∷ marks) are last runs had before f =
+    let rest = go terms w at past brought sent marks are last runs had before f.1 in
+    record { are = rest.are; kept = rest.kept; last = rest.last; sends = rest.sends; runs = rest.runs }
+go terms w at past brought sent (did by what ∷ marks) are last runs had before f =
+    let may = f.0 in
+    let s : Step = record { at = at; by = by; what = what } in
+    let made = machine_then terms past at by what w.self.machine may.machine in
+    let next : IsNext terms past s = record {
+      time = last;
+      running = subst (λ (n : ℕ). IsRunning past by (machines terms past n).process what) (sym may.machine)
+          (runs_so past w.self by (machines terms past w.self.machine).process what may.machine may.process runs may.runs);
+      may = subst (λ (n : ℕ). MayDo terms by (machines terms past n) at what) (sym may.machine) may.may;
+      sent = was_sent past brought sent what had before may.had;
+    } in
+    let running : (machines terms (s ∷ past) w.self.machine).process ≡ Some w.self.boot =
+    ap (λ (m : Machine). m.process) made ∙ process_then terms at w.self.boot by (machines terms past w.self.machine) what may.process may.runs in
+    let rest = go terms w at (s ∷ past) brought (sent_by by what ++ sent) marks (are, next) le_self (inl running) (λ x i. later past s x (had x i))
+    (λ x i. elim (among_both x (sent_by by what) sent i) [ inl j ↦ (s, inl refl, sends_by at by what x j) | inr j ↦ later past s x (before x j) ])
+    (subst (λ (m : Machine). Follow terms w at brought (sent_by by what ++ sent) m marks) (sym made) f.1) in
+    record {
+      are = rest.are;
+      kept = rest.kept ∙ ap (λ (m : Machine). after_marks terms at m marks) made;
+      last = rest.last;
+      sends = rest.sends;
+      runs = rest.runs;
+    }
+  where
+    le_self : at ≤ at
+    le_self = omega arith
+
+pub turns : TurnsAreSteps
+turns terms w at past brought marks are last runs had f = go terms w at past brought [] marks are last runs had (λ x i. absurd i) f
+
+pub turn_goes_on : TurnGoesOn
+turn_goes_on terms at now past brought old new turn clock are last runs had is =
+    let h = turn.goes terms at (machines terms past old.terms.machine) clock is in
+    let adds = turns terms (who old) at past brought turn.marks are last runs had h.0 in
+    (adds, subst (λ (m : Machine). IsAt terms now new m) (sym adds.kept) h.1)
+
+-- ---- what is told as held
+
+up_to_all : (at : ℕ) (past : List Step) → last_time past ≤ at → up_to at past ≡ past
+up_to_all at [] last = refl
+up_to_all at (s ∷ past) last = test (leb s.at at) (leb_is s.at at last)
+  where
+    leb_is : (a b : ℕ) → a ≤ b → leb a b ≡ true
+    leb_is a b less = grind (arith, less)
+
+    test : (b : Bool) → b ≡ true → (if b then s ∷ past else up_to at past) ≡ s ∷ past
+    test true is = refl
+    test false is = absurd cc
+
+ltb_is : (a b : ℕ) → a < b → ltb a b ≡ true
+ltb_is a b less = grind (arith, less)
+
+pub held_holds : HeldLinesHold
+held_holds terms w at past name epoch until last are h = (
+  record { machine = w.self.machine; boot = w.self.boot; number = h.number },
+  h.ask,
+  record {
+    running = subst (λ (l : List Step). (machines terms l w.self.machine).process ≡ Some w.self.boot) (sym (up_to_all at past last)) h.running;
+    lease = subst (λ (l : List Step). ((machines terms l w.self.machine).candidate h.number name).lease ≡ Some h.ask) (sym (up_to_all at past last)) h.lease;
+    in_time = ltb_is (terms.clock w.self.machine w.self.boot at) (terms.clock w.self.machine w.self.boot h.ask.sent + terms.relies_for)
+        (let less = h.in_time in let ends = h.ends in omega (arith, less, ends));
+  },
+  h.of_epoch,
+  refl,
+  refl,
+  h.ends,
+)

@@ -1,0 +1,299 @@
+-- Turns, of one step, of one line, and one behind another.
+use Rattle.std.proofs.Common.{◌≡◌, ◌⊎◌, ℕ, ◌<◌, ◌≤◌, List, [], ◌∷◌, ◌++◌, Option, Some, None, refl, sym, ◌∙◌, ap, subst, inl, inr, append_assoc, arith}
+use Rattle.std.proofs.lemmas.List.{append-nil}
+use Rattle.lease_runs.specs.Lists.{IsAmong}
+use Rattle.lease_runs.specs.Voter.{Client}
+use Rattle.lease_network.specs.Network.{Name, Message, request, grant, release, Event, begins, reserves, sends, takes, Terms, Machine, MayDo, done}
+use Rattle.lease_message.specs.declared.message.LeaseMessage.{LeaseMessage}
+use Rattle.lease_machine.specs.declared.terms.LeaseTerms.{LeaseTerms}
+use Rattle.lease_machine.specs.declared.state.LeaseMachine.{LeaseMachine}
+use Rattle.lease_steps.specs.StandsFor.{Did, DidNothing, StandsFor, clock_of}
+use Rattle.lease_session.specs.declared.process.LeaseProcess.{LeaseProcess}
+use Rattle.lease_session.specs.declared.process.Start.{Start}
+use Rattle.lease_session.specs.declared.refusing.Halt.TheVariants.{NoMemory}
+use Rattle.lease_session.specs.Own.{IsOwn}
+use Rattle.lease_session.specs.Rows.{Row, send, held, lost, refused, unserved, next, fault, row_text, said}
+use Rattle.lease_session.specs.Turns.{Mark, did, wrote, text_of, sent_by, sent_in, after_marks, Who, who, key_of, AreAmong, IsSent, IsGivenUp, Tells, Runs, IsHad, MayMark, Follow, Stood, IsAt, IsOut, Turn}
+
+-- ---- lists
+
+pub among_left : {A : Type 0} (x : A) (xs ys : List A) → IsAmong x xs → IsAmong x (xs ++ ys)
+among_left x [] ys i = absurd i
+among_left x (y ∷ xs) ys (inl e) = inl e
+among_left x (y ∷ xs) ys (inr i) = inr (among_left x xs ys i)
+
+pub among_right : {A : Type 0} (x : A) (xs ys : List A) → IsAmong x ys → IsAmong x (xs ++ ys)
+among_right x [] ys i = i
+among_right x (y ∷ xs) ys i = inr (among_right x xs ys i)
+
+pub among_both : {A : Type 0} (x : A) (xs ys : List A) → IsAmong x (xs ++ ys) → IsAmong x xs ⊎ IsAmong x ys
+among_both x [] ys i = inr i
+among_both x (y ∷ xs) ys (inl e) = inl (inl e)
+among_both x (y ∷ xs) ys (inr i) = elim (among_both x xs ys i) [ inl j ↦ inl (inr j) | inr j ↦ inr j ]
+
+-- more of them behind what is added
+pub among_more : (x : Message) (xs sent more : List Message) → AreAmong sent more → IsAmong x (xs ++ sent) → IsAmong x (xs ++ more)
+among_more x xs sent more wider i = elim (among_both x xs sent i) [ inl j ↦ among_left x xs more j | inr j ↦ among_right x xs more (wider x j) ]
+
+-- what was sent before is among what is sent then
+pub sent_still : (sent : List Message) (marks : List Mark) (x : Message) → IsAmong x sent → IsAmong x (sent_in sent marks)
+sent_still sent [] x i = i
+sent_still sent (did by what ∷ marks) x i = sent_still (sent_by by what ++ sent) marks x (among_right x (sent_by by what) sent i)
+sent_still sent (wrote row ∷ marks) x i = sent_still sent marks x i
+
+pub sent_more : (sent more : List Message) (marks : List Mark) → AreAmong sent more → AreAmong (sent_in sent marks) (sent_in more marks)
+sent_more sent more [] wider = wider
+sent_more sent more (did by what ∷ marks) wider = sent_more (sent_by by what ++ sent) (sent_by by what ++ more) marks (λ x i. among_more x (sent_by by what) sent more wider i)
+sent_more sent more (wrote row ∷ marks) wider = sent_more sent more marks wider
+
+-- ---- marks behind marks
+
+pub text_both : (xs ys : List Mark) → text_of (xs ++ ys) ≡ text_of xs ++ text_of ys
+text_both [] ys = refl
+text_both (did by what ∷ xs) ys = text_both xs ys
+text_both (wrote row ∷ xs) ys = ap (λ (t : List ℕ). row_text row ++ t) (text_both xs ys) ∙ sym (append_assoc (row_text row) (text_of xs) (text_of ys))
+
+pub after_both : (terms : Terms) (at : ℕ) (m : Machine) (xs ys : List Mark) → after_marks terms at m (xs ++ ys) ≡ after_marks terms at (after_marks terms at m xs) ys
+after_both terms at m [] ys = refl
+after_both terms at m (did by what ∷ xs) ys = after_both terms at (done terms by m at what) xs ys
+after_both terms at m (wrote row ∷ xs) ys = after_both terms at m xs ys
+
+pub sent_both : (sent : List Message) (xs ys : List Mark) → sent_in sent (xs ++ ys) ≡ sent_in (sent_in sent xs) ys
+sent_both sent [] ys = refl
+sent_both sent (did by what ∷ xs) ys = sent_both (sent_by by what ++ sent) xs ys
+sent_both sent (wrote row ∷ xs) ys = sent_both sent xs ys
+
+pub sends_still : (x : Message) (sent : List Message) (xs ys : List Mark) → IsAmong x (sent_in sent xs) → IsAmong x (sent_in sent (xs ++ ys))
+sends_still x sent xs ys i = subst (λ (l : List Message). IsAmong x l) (sym (sent_both sent xs ys)) (sent_still (sent_in sent xs) ys x i)
+
+-- ---- what may be taken
+
+-- all of these were brought, or sent before
+abbrev pub AreHad : List Message → List Message → List Message → Type 0
+AreHad messages brought sent = (x : Message) → IsAmong x messages → IsAmong x brought ⊎ IsAmong x sent
+
+had_more : (brought sent wider more : List Message) (what : Event) → ((x : Message) → IsAmong x brought → IsAmong x wider ⊎ IsAmong x more) → AreAmong sent more
+    → IsHad brought sent what → IsHad wider more what
+had_more brought sent wider more (begins floor) all rest h = tt
+had_more brought sent wider more (reserves bound) all rest h = tt
+had_more brought sent wider more (sends message) all rest h = tt
+had_more brought sent wider more (takes message) all rest h = elim h [ inl i ↦ all message i | inr i ↦ inr (rest message i) ]
+
+tells_more : (terms : Terms) (w : Who) (at : ℕ) (m : Machine) (sent more : List Message) (row : Row) → AreAmong sent more → Tells terms w at m sent row → Tells terms w at m more row
+tells_more terms w at m sent more (send to message bytes) wider t = record { by_step = λ x i. wider x (t.by_step x i); goes_to = t.goes_to; carried = t.carried }
+tells_more terms w at m sent more (held name user epoch until) wider t = t
+tells_more terms w at m sent more (lost name epoch) wider t =
+    record { client = t.client; up_to = t.up_to; covers = t.covers; released = wider (release name t.client t.up_to) t.released }
+tells_more terms w at m sent more (refused why) wider t = tt
+tells_more terms w at m sent more (unserved why name user) wider t = tt
+tells_more terms w at m sent more (next time) wider t = tt
+tells_more terms w at m sent more fault wider t = tt
+
+-- marks that follow where less was sent follow where more was
+pub follow_more : (terms : Terms) (w : Who) (at : ℕ) (brought sent wider more : List Message) (m : Machine) (marks : List Mark)
+    → ((x : Message) → IsAmong x brought → IsAmong x wider ⊎ IsAmong x more) → AreAmong sent more → Follow terms w at brought sent m marks → Follow terms w at wider more m marks
+follow_more terms w at brought sent wider more m [] all rest f = tt
+follow_more terms w at brought sent wider more m (did by what ∷ marks) all rest f = (
+  record { machine = f.0.machine; process = f.0.process; runs = f.0.runs; may = f.0.may; had = had_more brought sent wider more what all rest f.0.had },
+  follow_more terms w at brought (sent_by by what ++ sent) wider (sent_by by what ++ more) (done terms by m at what) marks
+      (λ x i. elim (all x i) [ inl j ↦ inl j | inr j ↦ inr (among_right x (sent_by by what) more j) ])
+      (λ x i. among_more x (sent_by by what) sent more rest i) f.1,
+)
+follow_more terms w at brought sent wider more m (wrote row ∷ marks) all rest f =
+    (tells_more terms w at m sent more row rest f.0, follow_more terms w at brought sent wider more m marks all rest f.1)
+
+pub follow_both : (terms : Terms) (w : Who) (at : ℕ) (brought sent : List Message) (m : Machine) (xs ys : List Mark) → Follow terms w at brought sent m xs
+    → Follow terms w at brought (sent_in sent xs) (after_marks terms at m xs) ys → Follow terms w at brought sent m (xs ++ ys)
+follow_both terms w at brought sent m [] ys f g = g
+follow_both terms w at brought sent m (did by what ∷ xs) ys f g = (f.0, follow_both terms w at brought (sent_by by what ++ sent) (done terms by m at what) xs ys f.1 g)
+follow_both terms w at brought sent m (wrote row ∷ xs) ys f g = (f.0, follow_both terms w at brought sent m xs ys f.1 g)
+
+-- ---- one turn behind another
+
+pub who_is : (a b : LeaseProcess) → b.terms ≡ a.terms → b.start ≡ a.start → key_of b.seal ≡ key_of a.seal → who b ≡ who a
+who_is a b terms start key = by_parts b.terms.machine a.terms.machine b.start.process a.start.process (key_of b.seal) (key_of a.seal)
+    (ap (λ (t : LeaseTerms). t.machine) terms) (ap (λ (s : Start). s.process) start) key
+  where
+    the_who : ℕ → ℕ → Option (List ℕ) → Who
+    the_who machine boot key = record { self = record { machine = machine; boot = boot; number = 0 }; key = key }
+
+    by_parts : (m n p q : ℕ) (k l : Option (List ℕ)) → m ≡ n → p ≡ q → k ≡ l → the_who m p k ≡ the_who n q l
+    by_parts m n p q k l e f g = ap (λ (x : ℕ). the_who x p k) e ∙ (ap (λ (x : ℕ). the_who n x k) f ∙ ap (λ (x : Option (List ℕ)). the_who n q x) g)
+
+abbrev pub then_had : {sent brought more took : List Message} {now : ℕ} {a b c : LeaseProcess} (t : Turn sent brought now a b) → Turn more took now b c
+    → AreAmong more (sent_in sent t.marks) → AreHad took brought (sent_in sent t.marks) → Turn sent brought now a c
+then_had {sent = sent} {brought = brought} {more = more} {took = took} {now = now} {a = a} {b = b} {c = c} t u within had = record {
+  marks = t.marks ++ u.marks;
+  terms = u.terms ∙ t.terms;
+  start = u.start ∙ t.start;
+  key = u.key ∙ t.key;
+  halts = λ out. u.halts (t.halts out);
+  text = λ goes. u.text goes ∙ (ap (λ (x : List ℕ). x ++ text_of u.marks) (t.text (λ out. goes (u.halts out)))
+      ∙ (append_assoc a.text.items (text_of t.marks) (text_of u.marks) ∙ ap (λ (x : List ℕ). a.text.items ++ x) (sym (text_both t.marks u.marks))));
+  goes = λ terms at m clock is. steps terms at m clock is;
+}
+  where
+    steps : (terms : Terms) (at : ℕ) (m : Machine) → terms.clock a.terms.machine a.start.process at ≡ now → IsAt terms now a m
+        → Follow terms (who a) at brought sent m (t.marks ++ u.marks) × IsAt terms now c (after_marks terms at m (t.marks ++ u.marks))
+    steps terms at m clock is =
+        let first = t.goes terms at m clock is in
+        let its : terms.clock b.terms.machine b.start.process at ≡ now =
+        ap (λ (x : LeaseTerms). terms.clock x.machine b.start.process at) t.terms ∙ (ap (λ (x : Start). terms.clock a.terms.machine x.process at) t.start ∙ clock) in
+        let second = u.goes terms at (after_marks terms at m t.marks) its first.1 in (
+          follow_both terms (who a) at brought sent m t.marks u.marks first.0
+              (follow_more terms (who a) at took more brought (sent_in sent t.marks) (after_marks terms at m t.marks) u.marks had within
+              (subst (λ (w : Who). Follow terms w at took more (after_marks terms at m t.marks) u.marks) (who_is a b t.terms t.start t.key) second.0)),
+          subst (λ (x : Machine). IsAt terms now c x) (sym (after_both terms at m t.marks u.marks)) second.1,
+        )
+
+pub nothing_had : (brought sent : List Message) → AreHad [] brought sent
+nothing_had brought sent x i = absurd i
+
+pub brought_had : (brought sent : List Message) → AreHad brought brought sent
+brought_had brought sent x i = inl i
+
+-- of which the second needs what the first did
+pub then_sent : {sent brought : List Message} {now : ℕ} {a b c : LeaseProcess} → Turn sent brought now a b → Turn sent [] now b c → Turn sent brought now a c
+then_sent {sent = sent} {brought = brought} t u = then_had t u (λ x i. sent_still sent t.marks x i) (nothing_had brought (sent_in sent t.marks))
+
+-- of which the second needs nothing
+pub then : {sent brought : List Message} {now : ℕ} {a b c : LeaseProcess} → Turn sent brought now a b → Turn [] [] now b c → Turn sent brought now a c
+then {sent = sent} {brought = brought} t u = then_had t u (λ x i. absurd i) (nothing_had brought (sent_in sent t.marks))
+
+-- and what a line brought may be taken by the second as well
+pub then_too : {sent brought : List Message} {now : ℕ} {a b c : LeaseProcess} → Turn sent brought now a b → Turn [] brought now b c → Turn sent brought now a c
+then_too {sent = sent} {brought = brought} t u = then_had t u (λ x i. absurd i) (brought_had brought (sent_in sent t.marks))
+
+-- ---- where the machine does nothing
+
+-- all but the text, and why it goes on no more
+pub record Same (a b : LeaseProcess) : Type 0 where
+  pub machine : b.machine ≡ a.machine
+  pub terms : b.terms ≡ a.terms
+  pub start : b.start ≡ a.start
+  pub key : key_of b.seal ≡ key_of a.seal
+
+pub is_at_same : (a b : LeaseProcess) (terms : Terms) (now : ℕ) (m : Machine) → Same a b → IsAt terms now a m → IsAt terms now b m
+is_at_same a b terms now m s is =
+    subst (λ (x : Option LeaseMachine). Stood b.terms b.start x terms now m) (sym s.machine)
+    (subst (λ (x : Start). Stood b.terms x a.machine terms now m) (sym s.start)
+    (subst (λ (x : LeaseTerms). Stood x a.start a.machine terms now m) (sym s.terms) is))
+
+pub stayed : {sent brought : List Message} {now : ℕ} {a b : LeaseProcess} → Same a b → (IsOut a → IsOut b) → b.text.items ≡ a.text.items → Turn sent brought now a b
+stayed {now = now} {a = a} {b = b} s halts text = record {
+  marks = [];
+  terms = s.terms;
+  start = s.start;
+  key = s.key;
+  halts = halts;
+  text = λ goes. text ∙ sym (append-nil a.text.items);
+  goes = λ terms at m clock is. (tt, is_at_same a b terms now m s is);
+}
+
+pub stay : {sent brought : List Message} {now : ℕ} (a : LeaseProcess) → Turn sent brought now a a
+stay a = stayed (record { machine = refl; terms = refl; start = refl; key = refl }) (λ out. out) refl
+
+-- the same process
+pub from_same : {sent brought : List Message} {now : ℕ} {a b c : LeaseProcess} → b ≡ a → Turn sent brought now b c → Turn sent brought now a c
+from_same {sent = sent} {brought = brought} {now = now} {c = c} same t = subst (λ (x : LeaseProcess). Turn sent brought now x c) same t
+
+pub to_same : {sent brought : List Message} {now : ℕ} {a b c : LeaseProcess} → c ≡ b → Turn sent brought now a b → Turn sent brought now a c
+to_same {sent = sent} {brought = brought} {now = now} {a = a} same t = subst (λ (x : LeaseProcess). Turn sent brought now a x) (sym same) t
+
+-- the line can't be written
+pub failed : {sent brought : List Message} {now : ℕ} {a b : LeaseProcess} → Same a b → IsOut b → Turn sent brought now a b
+failed {now = now} {a = a} {b = b} s out = record {
+  marks = [];
+  terms = s.terms;
+  start = s.start;
+  key = s.key;
+  halts = λ was. out;
+  text = λ goes. absurd (goes out);
+  goes = λ terms at m clock is. (tt, is_at_same a b terms now m s is);
+}
+
+pub ran_out : {sent brought : List Message} {now : ℕ} {a b : LeaseProcess} → b ≡ record a { halt = Some NoMemory } → Turn sent brought now a b
+ran_out same = to_same same (failed (record { machine = refl; terms = refl; start = refl; key = refl }) refl)
+
+pub written : {sent brought : List Message} {now : ℕ} {a b : LeaseProcess} (row : Row) → Same a b → (IsOut a → IsOut b) → b.text.items ≡ a.text.items ++ row_text row
+    → ((terms : Terms) (at : ℕ) (m : Machine) → terms.clock a.terms.machine a.start.process at ≡ now → IsAt terms now a m → Tells terms (who a) at m sent row)
+    → Turn sent brought now a b
+written {now = now} {a = a} {b = b} row s halts text tells = record {
+  marks = wrote row ∷ [];
+  terms = s.terms;
+  start = s.start;
+  key = s.key;
+  halts = halts;
+  text = λ goes. text ∙ ap (λ (t : List ℕ). a.text.items ++ t) (sym (append-nil (row_text row)));
+  goes = λ terms at m clock is. ((tells terms at m clock is, tt), is_at_same a b terms now m s is);
+}
+
+-- ---- where it does one thing
+
+-- all but the machine
+pub record Rest (a b : LeaseProcess) : Type 0 where
+  pub terms : b.terms ≡ a.terms
+  pub start : b.start ≡ a.start
+  pub seal : b.seal ≡ a.seal
+  pub text : b.text ≡ a.text
+  pub halt : b.halt ≡ a.halt
+
+pub stands : (a : LeaseProcess) (x : LeaseMachine) (terms : Terms) (now : ℕ) (m : Machine) → a.machine ≡ Some x → IsAt terms now a m → StandsFor terms now x m
+stands a x terms now m has is = subst (λ (o : Option LeaseMachine). Stood a.terms a.start o terms now m) has is
+
+pub is_there : (b : LeaseProcess) (y : LeaseMachine) (terms : Terms) (now : ℕ) (m : Machine) → b.machine ≡ Some y → StandsFor terms now y m → IsAt terms now b m
+is_there b y terms now m has s = subst (λ (o : Option LeaseMachine). Stood b.terms b.start o terms now m) (sym has) s
+
+pub shows : (a : LeaseProcess) (x : LeaseMachine) (terms : Terms) (now at : ℕ) → a.machine ≡ Some x → terms.clock a.terms.machine a.start.process at ≡ now → clock_of terms x at ≡ now
+shows a x terms now at has clock = ap (λ (t : LeaseTerms). terms.clock t.machine x.process at) (a.own x has).own_terms
+    ∙ (ap (λ (p : ℕ). terms.clock a.terms.machine p at) (a.own x has).own_process ∙ clock)
+
+pub text_same : {a b : LeaseProcess} → Rest a b → b.text.items ≡ a.text.items
+text_same r = ap (λ t. t.items) r.text
+
+abbrev pub deed : {sent brought : List Message} {now : ℕ} {a b : LeaseProcess} {x y : LeaseMachine} (by : Client) (what : Event) → Rest a b → a.machine ≡ Some x → b.machine ≡ Some y
+    → Did x y now by what → by.machine ≡ a.terms.machine → by.boot ≡ a.start.process → ((process : Option ℕ) → process ≡ Some a.start.process → Runs a.start.process process what)
+    → IsHad brought sent what → Turn sent brought now a b
+deed {now = now} {a = a} {b = b} {x = x} {y = y} by what r was is did_it of_machine of_process runs had = record {
+  marks = did by what ∷ [];
+  terms = r.terms;
+  start = r.start;
+  key = ap key_of r.seal;
+  halts = λ out. r.halt ∙ out;
+  text = λ goes. text_same r ∙ sym (append-nil a.text.items);
+  goes = λ terms at m clock at_old.
+      let s = stands a x terms now m was at_old in
+      let h = did_it terms at m (shows a x terms now at was clock) s in (
+        (
+          record {
+            machine = of_machine;
+            process = of_process;
+            runs = runs m.process (s.process ∙ ap (λ (p : ℕ). Some p) (a.own x was).own_process);
+            may = h.0;
+            had = had;
+          },
+          tt,
+        ),
+        is_there b y terms now (done terms by m at what) is h.1,
+      );
+}
+
+pub no_deed : {sent brought : List Message} {now : ℕ} {a b : LeaseProcess} {x y : LeaseMachine} → Rest a b → a.machine ≡ Some x → b.machine ≡ Some y → DidNothing x y now
+    → Turn sent brought now a b
+no_deed {now = now} {a = a} {b = b} {x = x} {y = y} r was is did_none = record {
+  marks = [];
+  terms = r.terms;
+  start = r.start;
+  key = ap key_of r.seal;
+  halts = λ out. r.halt ∙ out;
+  text = λ goes. text_same r ∙ sym (append-nil a.text.items);
+  goes = λ terms at m clock at_old. (tt, is_there b y terms now m is (did_none terms m (stands a x terms now m was at_old)));
+}
+
+-- ---- the process itself
+
+abbrev pub itself : LeaseProcess → Client
+itself p = record { machine = p.terms.machine; boot = p.start.process; number = 0 }
+
+pub its_machine : (p : LeaseProcess) (x : LeaseMachine) → p.machine ≡ Some x → p.terms.machine ≡ x.terms.machine
+its_machine p x has = sym (ap (λ (t : LeaseTerms). t.machine) (p.own x has).own_terms)

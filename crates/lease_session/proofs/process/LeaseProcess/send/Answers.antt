@@ -1,0 +1,12 @@
+use Rattle.std.proofs.Common.{refl, subst, sym, ◌∙◌, ap, List, ℕ, ◌++◌}
+use Rattle.hex.specs.Hex.{encode_lower}
+use Rattle.lease_session.specs.Rows.{send, row_text}
+use Rattle.lease_session.proofs.Turns.{written}
+use Rattle.lease_session.proofs.process.LeaseProcess.send.Goals as goal
+
+pub returns-in-Ok-push_send-clause-turn : goal.returns-in-Ok-push_send-clause-turn
+returns-in-Ok-push_send-clause-turn c = λ now.
+    written (send c.args.to c.args.message.now c.in-Ok.bytes.items) (record { machine = refl; terms = refl; start = refl; key = c.bytes_of.ensures.key }) (λ out. out)
+    (c.in-Ok-push_send.ensures c.args.message.now
+    ∙ ap (λ (b : List ℕ). c.args.self.now.text.items ++ row_text (send c.args.to c.args.message.now b)) c.deref.ensures.value)
+    (λ terms at m clock is. record { by_step = λ x i. i; goes_to = c.requires; carried = c.in-Ok.ensures.bytes })

@@ -1,0 +1,439 @@
+// How those ask for leases who want them here.
+ghost use Rattle.std.specs.Prelude.{◌≡◌, ◌<◌, ◌^◌, ℕ, [], ◌∷◌};
+ghost use Rattle.lease_runs.specs.Code.{client_of as by_code};
+ghost use Rattle.lease_network.specs.Network.{request as request_of, grant as grant_of};
+ghost use Rattle.lease_session.specs.Rows.{said};
+ghost use Rattle.lease_session.specs.Turns.{Turn};
+
+use crate::pause::{renewal, rest};
+use crate::refusing::Refusal;
+use crate::session::LeaseSession;
+use crate::store::EpochStore;
+use crate::voting::Answer;
+use crate::want::{Bound, NEVER, Stage, Want};
+use crate::writing::client_of;
+use group_task::NodeId;
+use lease_machine::NAMES;
+use lease_message::{LeaseBody, LeaseMessage, LeaseName, Reason};
+use lease_runs::{ClientId, Request};
+
+// The list of those who want a lease here.
+impl<S: EpochStore + Drop> LeaseSession<S> {
+    /// Where the one stands who wants a name.
+    fn place_of(&self, name: &LeaseName) -> Option<usize> {
+        for place in 0..self.wants.len() {
+            match self.wants.get(place) {
+                Some(want) if want.name == *name => return Some(place),
+                _ => {}
+            }
+        }
+        None
+    }
+
+    /// The one who stands there.
+    fn want_at(&self, place: usize) -> Option<Want> {
+        match self.wants.get(place) {
+            Some(want) => Some(*want),
+            None => None,
+        }
+    }
+
+    /// The one who wants a name.
+    fn want_of(&self, name: &LeaseName) -> Option<Want> {
+        self.want_at(self.place_of(name)?)
+    }
+
+    /// The one who wants this name is so far now.
+    fn keep(&mut self, want: Want)
+        ensures { (self.new.process ≡ self.old.process) × (self.new.told ≡ self.old.told) }
+    {
+        let Some(place) = self.place_of(&want.name) else {
+            return;
+        };
+        if let Some(kept) = self.wants.get_mut(place) {
+            *kept = want;
+        }
+    }
+
+    /// Nobody wants this name any more.
+    fn forget(&mut self, name: &LeaseName)
+        ensures turn { (now : ℕ) → Turn [] [] now self.old.process self.new.process }
+        ensures told { self.new.told ≡ self.old.told }
+    {
+        let Some(place) = self.place_of(name) else {
+            return;
+        };
+        if place < self.wants.len() {
+            self.wants.remove(place);
+        }
+        self.process.withdraw(name);
+    }
+
+    /// When something is due next, of one who wants a lease.
+    pub(crate) fn due(&self) -> Option<u64> {
+        let mut due = NEVER;
+        for want in &self.wants {
+            due = due.min(want.due);
+        }
+        if due < NEVER { Some(due) } else { None }
+    }
+
+    /// Does what is due by this time.
+    pub(crate) fn serve_due(&mut self, now: u64)
+        requires { now < 2 ^ 62 }
+        ensures turn { Turn [] [] now self.old.process self.new.process }
+        ensures told { self.new.told ≡ self.old.told }
+    {
+        for place in 0..self.wants.len() {
+            self.serve_at(now, place);
+        }
+    }
+
+    /// Does what is due by this time of the one who stands there.
+    fn serve_at(&mut self, now: u64, place: usize)
+        requires { now < 2 ^ 62 }
+        ensures turn { Turn [] [] now self.old.process self.new.process }
+        ensures told { self.new.told ≡ self.old.told }
+    {
+        match self.want_at(place) {
+            Some(mut want) if want.due <= now => {
+                self.serve(now, &mut want);
+                self.keep(want);
+            }
+            _ => {}
+        }
+    }
+
+    /// Lets nobody wait longer for a name that was freed.
+    pub(crate) fn wake(&mut self, now: u64, name: &LeaseName)
+        ensures { (self.new.process ≡ self.old.process) × (self.new.told ≡ self.old.told) }
+    {
+        let Some(mut want) = self.want_of(name) else {
+            return;
+        };
+        if want.stage == Stage::Resting {
+            let round_trip = self.round_trip;
+            let pause = rest(&mut self.random, round_trip, 0);
+            let due = want.due;
+            want.rest(due.min(now.saturating_add(pause)));
+            self.keep(want);
+        }
+    }
+}
+
+// What a user asks.
+impl<S: EpochStore + Drop> LeaseSession<S> {
+    /// A user wants the lease of a name from now on.
+    pub(crate) fn acquire(&mut self, now: u64, name: &LeaseName, user: u64)
+        requires { now < 2 ^ 62 }
+        ensures turn { Turn [] [] now self.old.process self.new.process }
+        ensures told { self.new.told ≡ self.old.told }
+    {
+        if let Err(why) = self.claim(now, name, user) {
+            self.process.refuse_user(why, name, user);
+            return;
+        }
+        let mut want = Want::new(*name, user);
+        self.ask(now, &mut want);
+        if self.wants.push(want).is_err() {
+            self.process.run_out();
+        }
+    }
+
+    fn claim(&mut self, now: u64, name: &LeaseName, user: u64) -> Result<(), Refusal>
+        ensures turn { Turn [] [] now self.old.process self.new.process }
+        ensures told { self.new.told ≡ self.old.told }
+    {
+        if self.wants.len() >= NAMES && !self.process.is_claimed(name) {
+            return Err(Refusal::Full);
+        }
+        self.process.claim(now, name, user)
+    }
+
+    /// A user wants it no more.
+    pub(crate) fn release(&mut self, now: u64, name: &LeaseName, user: u64)
+        ensures turn { Turn [] [] now self.old.process self.new.process }
+        ensures told { self.new.told ≡ self.old.told }
+    {
+        match self.want_of(name) {
+            Some(mut want) if want.user == user => {
+                self.stop(now, &mut want);
+                self.forget(name);
+            }
+            _ => self.process.refuse_user(Refusal::Unclaimed, name, user),
+        }
+    }
+}
+
+// What one does who wants a lease.
+impl<S: EpochStore + Drop> LeaseSession<S> {
+    /// An epoch is known of. One that is asked under next is above it.
+    pub(crate) fn know(&mut self, epoch: u64)
+        ensures { (self.new.process ≡ self.old.process) × (self.new.told ≡ self.old.told) }
+    {
+        self.greatest = self.greatest.max(epoch);
+    }
+
+    /// What is due: a lease that is over is lost, and asked for anew; another one is renewed; who asked gives up; who rested asks.
+    fn serve(&mut self, now: u64, want: &mut Want)
+        requires { now < 2 ^ 62 }
+        ensures turn { Turn [] [] now self.old.process self.new.process }
+        ensures told { self.new.told ≡ self.old.told }
+    {
+        match want.stage {
+            Stage::Holding { until } if now < until => self.renew(now, want, until),
+            Stage::Asking => self.rest(now, want),
+            Stage::Holding { .. } => {
+                self.stop(now, want);
+                self.ask(now, want);
+            }
+            Stage::Resting => self.ask(now, want),
+        }
+    }
+
+    /// Relies on its epoch no more, says so to its user and then to the voters.
+    fn stop(&mut self, now: u64, want: &mut Want)
+        ensures turn { Turn [] [] now self.old.process self.new.process }
+        ensures told { self.new.told ≡ self.old.told }
+    {
+        if want.stage == Stage::Resting {
+            return;
+        }
+        self.process.give_up(&want.name, want.epoch, want.is_told());
+        want.rest(now);
+    }
+
+    /// Asks under an epoch above all that are known of.
+    fn ask(&mut self, now: u64, want: &mut Want)
+        requires { now < 2 ^ 62 }
+        ensures turn { Turn [] [] now self.old.process self.new.process }
+        ensures told { self.new.told ≡ self.old.told }
+    {
+        let Some(epoch) = self.greatest.checked_add(1) else {
+            self.give_in(want);
+            return;
+        };
+        self.greatest = epoch;
+        want.ask(
+            epoch,
+            now.saturating_add(self.answers.patience(self.round_trip)),
+        );
+        self.request(now, want);
+    }
+
+    /// Asks for the renewal of its lease under its epoch.
+    fn renew(&mut self, now: u64, want: &mut Want, until: u64)
+        requires { now < 2 ^ 62 }
+        ensures turn { Turn [] [] now self.old.process self.new.process }
+        ensures told { self.new.told ≡ self.old.told }
+    {
+        let again = now.saturating_add(self.answers.renewed_again(self.process.terms.relies_for()));
+        want.due = again.min(until);
+        self.request(now, want);
+    }
+
+    /// Sends a request to each voter, and asks this machine's own.
+    fn request(&mut self, now: u64, want: &mut Want)
+        requires { now < 2 ^ 62 }
+        ensures turn { Turn [] [] now self.old.process self.new.process }
+        ensures told { self.new.told ≡ self.old.told }
+    {
+        match self.process.request(now, &want.name, want.epoch) {
+            Some((client, number)) => self.vote_self(now, want, client, number),
+            None => self.give_in(want),
+        }
+    }
+
+    /// This machine's vote on a request of a client here.
+    fn vote_self(&mut self, now: u64, want: &mut Want, client: ClientId, number: u64)
+        requires { now < 2 ^ 62 }
+        ensures turn { Turn (request_of want.old.name (by_code client) number want.old.epoch ∷ []) [] now self.old.process self.new.process }
+        ensures told { self.new.told ≡ self.old.told }
+    {
+        let name = want.name;
+        let voter = self.process.terms.machine();
+        match self.vote(now, &name, client, want.epoch) {
+            Answer::Granted => self.hear(now, &name, want, client, voter, number),
+            Answer::Refused(reason, lasts) => {
+                let epoch = self.greatest_of(&name);
+                let bound = self.bound_by(now, reason, epoch, lasts);
+                self.refused(now, want, voter, bound);
+            }
+        }
+    }
+
+    /// No epoch or number is left: it asks no more.
+    fn give_in(&mut self, want: &mut Want)
+        ensures turn { (now : ℕ) → Turn [] [] now self.old.process self.new.process }
+        ensures told { self.new.told ≡ self.old.told }
+    {
+        if !want.is_told() {
+            self.process
+                .refuse_user(Refusal::Exhausted, &want.name, want.user);
+            want.rest(NEVER);
+        }
+    }
+
+    /// A voter granted a request.
+    fn hear(
+        &mut self,
+        now: u64,
+        name: &LeaseName,
+        want: &mut Want,
+        client: ClientId,
+        voter: NodeId,
+        number: u64,
+    )
+        ensures turn { Turn [] (grant_of name.now (by_code client) number voter ∷ []) now self.old.process self.new.process }
+        ensures told { self.new.told ≡ self.old.told }
+    {
+        self.process.hear(now, name, client, voter, number);
+        let Some(machine) = &self.process.machine else {
+            return;
+        };
+        if let Some(request) = machine.held(now, name) {
+            self.tell_held(now, want, &request);
+        }
+    }
+
+    /// Tells a user that it holds its lease, where that is news.
+    fn tell_held(&mut self, now: u64, want: &mut Want, request: &Request)
+        ensures turn { Turn [] [] now self.old.process self.new.process }
+        ensures told { self.new.told ≡ self.old.told }
+    {
+        let relies_for = self.process.terms.relies_for();
+        let until = request.sent.saturating_add(relies_for);
+        if want.stage == (Stage::Holding { until }) {
+            return;
+        }
+        want.hold(until, request.sent.saturating_add(renewal(relies_for)));
+        self.process.tell_held(now, &want.name, want.user);
+    }
+
+    /// What binds a voter that refuses for this reason and lasts at most so long, where something does.
+    fn bound_by(&self, now: u64, reason: Reason, epoch: u64, lasts: u64) -> Option<Bound> {
+        let free_at = now.saturating_add(lasts.min(self.process.terms.keeps()));
+        match reason {
+            Reason::Waiting => Some(Bound { epoch: 0, free_at }),
+            Reason::Held => Some(Bound { epoch, free_at }),
+            Reason::Epoch | Reason::Terms | Reason::Full => None,
+        }
+    }
+
+    /// A voter refused a request.
+    fn refused(&mut self, now: u64, want: &mut Want, voter: NodeId, bound: Option<Bound>)
+        ensures turn { Turn [] [] now self.old.process self.new.process }
+        ensures told { self.new.told ≡ self.old.told }
+    {
+        want.refuse(voter, bound);
+        if want.is_hopeless(self.process.terms.machines()) {
+            self.rest(now, want);
+        }
+    }
+
+    /// One who got no majority gives up, and asks anew at a random time within the next round trips.
+    fn rest(&mut self, now: u64, want: &mut Want)
+        ensures turn { Turn [] [] now self.old.process self.new.process }
+        ensures told { self.new.told ≡ self.old.told }
+    {
+        self.stop(now, want);
+        let from = if want.is_blocked(self.process.terms.machines()) {
+            want.bound.free_at.max(now)
+        } else {
+            now
+        };
+        let round_trip = self.round_trip;
+        let pause = rest(&mut self.random, round_trip, want.tries);
+        want.tries = want.tries.saturating_add(1);
+        want.rest(from.saturating_add(pause));
+    }
+}
+
+// What comes of the voters.
+impl<S: EpochStore + Drop> LeaseSession<S> {
+    /// A grant came. One of an epoch that is given up came behind the release, or its request did: so the release is sent again.
+    pub(crate) fn take_grant(&mut self, now: u64, message: &LeaseMessage, number: u64)
+        requires { message.now.body ≡ LeaseBody.Grant number }
+        ensures turn { Turn [] (said message.now) now self.old.process self.new.process }
+        ensures told { self.new.told ≡ self.old.told }
+    {
+        let client = client_of(message.client);
+        if message.client.machine != self.process.terms.machine()
+            || message.client.process != self.process.start.process
+        {
+            return;
+        }
+        match self.want_of(&message.name) {
+            Some(mut want) if self.process.client_at(&message.name) == Some(client) => {
+                self.time_answer(now, &message.name, number);
+                if want.relies_on(message.epoch) {
+                    self.hear(now, &message.name, &mut want, client, message.voter, number);
+                    self.keep(want);
+                } else if message.epoch <= want.epoch {
+                    self.process.release_again(message);
+                }
+            }
+            _ => self.process.release_again(message),
+        }
+    }
+
+    /// How long the answer took to the request of this number of a client here, or that it came behind its time.
+    fn time_answer(&mut self, now: u64, name: &LeaseName, number: u64)
+        ensures { (self.new.process ≡ self.old.process) × (self.new.told ≡ self.old.told) }
+    {
+        let asked = match &self.process.machine {
+            Some(machine) => match machine.claimed(name) {
+                Some(claim) => claim.asked(),
+                None => None,
+            },
+            None => None,
+        };
+        match asked {
+            Some(request) if request.number == number => {
+                let after = now.saturating_sub(request.sent);
+                self.answers.answered(after, self.round_trip);
+            }
+            _ => self.answers.late(self.round_trip),
+        }
+    }
+
+    /// A refusal came. It counts where it answers the last request.
+    pub(crate) fn take_refusal(
+        &mut self,
+        now: u64,
+        message: &LeaseMessage,
+        number: u64,
+        reason: Reason,
+        lasts: u64,
+    )
+        ensures turn { Turn [] [] now self.old.process self.new.process }
+        ensures told { self.new.told ≡ self.old.told }
+    {
+        let Some(mut want) = self.want_of(&message.name) else {
+            return;
+        };
+        if !self.is_asked(&message.name, client_of(message.client), number)
+            || message.voter.number() >= self.process.terms.machines()
+        {
+            return;
+        }
+        self.know(message.epoch);
+        let bound = self.bound_by(now, reason, message.epoch, lasts);
+        self.refused(now, &mut want, message.voter, bound);
+        self.keep(want);
+    }
+
+    /// Whether this is the last request of the client that asks here for a name.
+    fn is_asked(&self, name: &LeaseName, client: ClientId, number: u64) -> bool {
+        let Some(machine) = &self.process.machine else {
+            return false;
+        };
+        let Some(claim) = machine.claimed(name) else {
+            return false;
+        };
+        match claim.asked() {
+            Some(request) => claim.client() == client && request.number == number,
+            None => false,
+        }
+    }
+}

@@ -1,0 +1,112 @@
+// How a process begins, and those that ask in it.
+ghost use Rattle.std.specs.Prelude.{◌≡◌, ◌≤◌, ℕ, [], None, Some};
+ghost use Rattle.lease_session.specs.Turns.{Turn};
+
+use crate::asked::Came;
+use crate::process::{LeaseProcess, Start};
+use crate::refusing::{Halt, Refusal};
+use lease_machine::{ClaimRefusal, LeaseMachine, LeaseTerms};
+use lease_message::{LeaseName, decode};
+use line_words::bytes;
+use std::alloc::{AllocError, Global};
+
+impl LeaseProcess {
+    pub(crate) fn new(alloc: Global, terms: LeaseTerms, start: Start) -> LeaseProcess
+        ensures machine { result.machine ≡ None }
+        ensures same { (result.terms ≡ terms) × (result.start ≡ start) × (result.seal ≡ None) × (result.text.items ≡ []) × (result.halt ≡ None) }
+    {
+        LeaseProcess {
+            alloc,
+            terms,
+            start,
+            machine: None,
+            claims: 0,
+            seal: None,
+            text: Vec::new(alloc),
+            halt: None,
+        }
+    }
+
+    /// No memory is left.
+    pub(crate) fn run_out(&mut self)
+        ensures { self.new ≡ record self.old { halt = Some Halt.NoMemory } }
+    {
+        self.halt = Some(Halt::NoMemory);
+    }
+
+    /// The device failed: nothing more is written but that.
+    pub(crate) fn stop(&mut self)
+        ensures { (now : ℕ) → Turn [] [] now self.old self.new }
+    {
+        if self.halt.is_none() {
+            self.halt = Some(Halt::Device);
+        }
+    }
+
+    /// What the bytes of a word bring. None where they are no message.
+    pub(crate) fn open(&mut self, word: &[u8]) -> Result<Option<Came>, AllocError>
+        ensures { (now : ℕ) → Turn [] [] now self.old self.new }
+    {
+        let Some(bytes) = bytes(self.alloc, word)? else {
+            return Ok(None);
+        };
+        match &mut self.seal {
+            Some(seal) => Ok(seal.open(&bytes)),
+            None => Ok(decode(&bytes).map(|message| Came::Message(message))),
+        }
+    }
+
+    /// Its machine begins, with epochs up to this bound reserved.
+    pub(crate) fn begin(&mut self, now: u64, bound: u64)
+        requires { self.old.start.floor ≤ bound }
+        ensures { Turn [] [] now self.old self.new }
+    {
+        lease_steps::votes_are_steps();
+        if self.machine.is_some() {
+            return;
+        }
+        match LeaseMachine::begin(
+            self.alloc,
+            self.terms,
+            self.start.process,
+            now,
+            self.start.floor,
+            bound,
+        ) {
+            Ok(machine) => {
+                self.claims = 0;
+                self.machine = Some(machine);
+            }
+            Err(_) => self.run_out(),
+        }
+    }
+
+    /// Whether a user asks here for a name.
+    pub(crate) fn is_claimed(&self, name: &LeaseName) -> bool {
+        match &self.machine {
+            Some(machine) => machine.is_claimed(name),
+            None => false,
+        }
+    }
+
+    /// A user begins to ask for the lease of a name.
+    pub(crate) fn claim(&mut self, now: u64, name: &LeaseName, user: u64) -> Result<(), Refusal>
+        ensures { Turn [] [] now self.old self.new }
+    {
+        lease_steps::asking_is_steps();
+        let Some(machine) = &mut self.machine else {
+            return Err(Refusal::Waiting);
+        };
+        match machine.claim(now, name, user) {
+            Ok(()) => {
+                if let Some(claim) = machine.claimed(name) {
+                    self.claims = claim.client().number;
+                }
+                Ok(())
+            }
+            Err(ClaimRefusal::Claimed) => Err(Refusal::Claimed),
+            Err(ClaimRefusal::Exhausted) => Err(Refusal::Exhausted),
+            Err(ClaimRefusal::Full) => Err(Refusal::Full),
+        }
+    }
+}

@@ -1,0 +1,37 @@
+//! A process that votes for leases and asks for them, fed with lines of text and answering by lines. A session is a value: it is fed with
+//! bytes, however they are cut, and its text is what is to be written.
+//!
+//! ```
+//! let terms = LeaseTerms::new(machine, 3, list, keeps_for(20))?;
+//! let mut session = LeaseSession::begin(alloc, terms, 20, Start { process, floor, waits }, file)?;
+//! session.feed(b"acquire 5000 backup 7\n")?;
+//! output.write_all(session.text())?;                              // send 1 .., send 2 .., next 5080
+//! session.clear();
+//! ```
+#![tactic(auto)]
+
+mod acting;
+mod asked;
+mod asking;
+mod beginning;
+mod key;
+mod laws;
+mod pause;
+mod process;
+mod refusing;
+mod seals;
+mod sending;
+mod session;
+mod store;
+mod voting;
+mod want;
+mod writing;
+
+pub use key::{lease_key, leases_are_apart};
+pub use laws::turns_are_steps;
+pub use pause::keeps_for;
+pub use process::{LeaseProcess, Start};
+pub use refusing::{Halt, Refusal};
+pub use seals::LeaseSeal;
+pub use session::LeaseSession;
+pub use store::{EpochStore, ReserveFault};

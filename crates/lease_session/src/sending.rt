@@ -1,0 +1,176 @@
+// What a process writes.
+ghost use Rattle.std.specs.Prelude.{◌≡◌, ℕ, [], IfOk};
+ghost use Rattle.lease_network.specs.Network.{Name};
+ghost use Rattle.lease_message.specs.declared.message.LeaseMessage.{LeaseMessage as Message};
+ghost use Rattle.lease_session.specs.Rows.{said};
+ghost use Rattle.lease_session.specs.Turns.{Carries, GoesTo, IsTheClients, Turn, TurnGivesUp, key_of};
+
+use crate::process::LeaseProcess;
+use crate::refusing::Refusal;
+use crate::seals::LeaseSeal;
+use crate::writing::{push_held, push_lost, push_next, push_refused, push_send, push_unserved};
+use group_task::NodeId;
+use lease_message::{LeaseBody, LeaseMessage, LeaseName, encode};
+use std::alloc::{AllocError, Global};
+
+/// The bytes of a message, sealed where there is a key, by a process of this number.
+fn bytes_of(
+    alloc: Global,
+    seal: &mut Option<LeaseSeal>,
+    process: u64,
+    message: &LeaseMessage,
+) -> Result<Vec<u8>, AllocError>
+    ensures bytes { IfOk result (λ bytes. Carries (key_of seal.old) bytes.items message.now) }
+    ensures key { key_of seal.new ≡ key_of seal.old }
+{
+    let mut bytes = encode(alloc, message)?;
+    match seal {
+        Some(seal) => match seal.seal(&mut bytes, process) {
+            Ok(()) => Ok(bytes),
+            Err(error) => Err(error),
+        },
+        None => Ok(bytes),
+    }
+}
+
+impl LeaseProcess {
+    /// Sends a message to a machine.
+    pub(crate) fn send(&mut self, to: NodeId, message: &LeaseMessage)
+        requires { GoesTo self.old.terms.machine to message.now message.now.body }
+        ensures turn { (now : ℕ) → Turn (said message.now) [] now self.old self.new }
+        ensures machine { self.new.machine ≡ self.old.machine }
+    {
+        if self.halt.is_some() {
+            return;
+        }
+        match bytes_of(self.alloc, &mut self.seal, self.start.process, message) {
+            Ok(bytes) => match push_send(&mut self.text, to, &bytes) {
+                Ok(()) => {}
+                Err(_) => self.run_out(),
+            },
+            Err(_) => self.run_out(),
+        }
+    }
+
+    /// Sends a message of a client here to each other machine.
+    pub(crate) fn send_to_others(&mut self, message: &LeaseMessage)
+        requires client { message.now.client.machine ≡ self.old.terms.machine }
+        requires body { IsTheClients message.now.body }
+        ensures turn { (now : ℕ) → Turn (said message.now) [] now self.old self.new }
+    {
+        for number in 0..self.terms.machines() {
+            self.send_to(number, message);
+        }
+    }
+
+    /// Sends it to the voter of this number, where that isn't this machine's own.
+    fn send_to(&mut self, number: u8, message: &LeaseMessage)
+        requires client { message.now.client.machine ≡ self.old.terms.machine }
+        requires body { IsTheClients message.now.body }
+        ensures turn { (now : ℕ) → Turn (said message.now) [] now self.old self.new }
+        ensures terms { self.new.terms ≡ self.old.terms }
+    {
+        match NodeId::new(number) {
+            Some(voter) if voter != self.terms.machine() => {
+                let message = LeaseMessage {
+                    client: message.client,
+                    voter,
+                    epoch: message.epoch,
+                    body: message.body,
+                    name: message.name,
+                };
+                self.send(voter, &message);
+            }
+            _ => {}
+        }
+    }
+
+    /// Answers a request of another machine's client.
+    pub(crate) fn answer(&mut self, request: &LeaseMessage, epoch: u64, body: LeaseBody)
+        requires { GoesTo self.old.terms.machine request.now.client.machine (record request.now { body = body }) body }
+        ensures turn { (now : ℕ) → Turn (said (record request.now { epoch = epoch; body = body })) [] now self.old self.new }
+    {
+        let message = LeaseMessage {
+            client: request.client,
+            voter: request.voter,
+            epoch,
+            body,
+            name: request.name,
+        };
+        self.send(request.client.machine, &message);
+    }
+
+    /// A user holds the lease that it asks for.
+    pub(crate) fn tell_held(&mut self, now: u64, name: &LeaseName, user: u64)
+        ensures turn { Turn [] [] now self.old self.new }
+    {
+        let Some(machine) = &self.machine else {
+            return;
+        };
+        let Some(request) = machine.held(now, name) else {
+            return;
+        };
+        let Some(until) = request.sent.checked_add(self.terms.relies_for()) else {
+            return;
+        };
+        if self.halt.is_some() {
+            return;
+        }
+        match push_held(&mut self.text, name, user, request.epoch, until) {
+            Ok(()) => {}
+            Err(_) => self.run_out(),
+        }
+    }
+
+    /// And holds it no more, where it was told that it does.
+    pub(crate) fn tell_lost(&mut self, name: &LeaseName, epoch: u64, is_told: bool)
+        ensures turn { (now : ℕ) → TurnGivesUp name.now epoch now self.old self.new }
+    {
+        if !is_told || self.halt.is_some() {
+            return;
+        }
+        match push_lost(&mut self.text, name, epoch) {
+            Ok(()) => {}
+            Err(_) => self.run_out(),
+        }
+    }
+
+    /// Something isn't taken.
+    pub(crate) fn refuse(&mut self, why: Refusal)
+        ensures turn { (now : ℕ) → Turn [] [] now self.old self.new }
+    {
+        if self.halt.is_some() {
+            return;
+        }
+        match push_refused(&mut self.text, why) {
+            Ok(()) => {}
+            Err(_) => self.run_out(),
+        }
+    }
+
+    /// A user's request isn't taken.
+    pub(crate) fn refuse_user(&mut self, why: Refusal, name: &LeaseName, user: u64)
+        ensures turn { (now : ℕ) → Turn [] [] now self.old self.new }
+    {
+        if self.halt.is_some() {
+            return;
+        }
+        match push_unserved(&mut self.text, why, name, user) {
+            Ok(()) => {}
+            Err(_) => self.run_out(),
+        }
+    }
+
+    /// When something is due next, where anything will be.
+    pub(crate) fn tell_next(&mut self, due: Option<u64>)
+        ensures turn { (now : ℕ) → Turn [] [] now self.old self.new }
+    {
+        if self.halt.is_some() {
+            return;
+        }
+        match push_next(&mut self.text, due) {
+            Ok(()) => {}
+            Err(_) => self.run_out(),
+        }
+    }
+}

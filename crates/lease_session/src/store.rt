@@ -1,0 +1,25 @@
+// What keeps the epochs that a process reserves.
+ghost use Rattle.std.specs.Prelude.{◌≡◌, ◌≤◌, ℕ, IsOk};
+
+/// Why no epoch was reserved.
+#[derive(Clone, Copy, Debug, PartialEq, Eq)]
+pub enum ReserveFault {
+    /// The device failed. Nothing more is granted by this process.
+    Device,
+    /// No epoch so great is left.
+    Exhausted,
+}
+
+/// What keeps the epochs that a process reserves, so that after any restart the floor is at or above each epoch that was granted.
+pub trait EpochStore {
+    ghost bound: { Self → ℕ };
+
+    /// No epoch above this is reserved.
+    fn bound(&self) -> u64
+        ensures { result ≡ bound self.now };
+
+    /// Reserves epochs up to this one at least.
+    fn reserve(&mut self, epoch: u64) -> Result<(), ReserveFault>
+        ensures rises { bound self.old ≤ bound self.new }
+        ensures reserves { IsOk result → epoch ≤ bound self.new };
+}

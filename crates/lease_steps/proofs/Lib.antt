@@ -1,0 +1,4 @@
+mod Entries
+mod Voting
+mod Asking
+mod Holding

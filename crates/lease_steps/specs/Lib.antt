@@ -1,0 +1,2 @@
+pub mod StandsFor
+pub mod Laws

@@ -1,0 +1,6 @@
+mod Lists
+mod NodeCursors
+mod Wholes
+mod Joins
+mod Looks
+mod Stages

@@ -1,0 +1,91 @@
+-- What the command `turns` prints.
+use Rattle.std.specs.Prelude.{ℕ, ◌≡◌, ◌⊎◌, List, [], ◌∷◌, ◌++◌, reverse, codes, decimal, Bool, true, false, Option, Some, None, Result, Ok, Err}
+use Rattle.std.specs.List.{flat_map}
+use Rattle.console_text.specs.Ends.{Printout, refused}
+use Rattle.node_words.specs.Words.{group_text, ids_text, phase_text}
+use Rattle.trace_check.specs.declared.leftover.Leftover.{Leftover}
+use Rattle.trace_check.specs.declared.trace.Verdict.{Verdict}
+use Rattle.trace_check.specs.declared.trace.Verdict.TheVariants.{Run, NotARun}
+use Rattle.trace_check.specs.Claims.{Claim}
+use Rattle.trace_check.specs.Leftovers.{AreLeftovers}
+use Rattle.trace_check.specs.Orders.{IsLegal, IsComplete}
+use Rattle.trace_check.specs.Verdicts.{IsVerdict, DecidesRun, AreTaken}
+use Rattle.trace_text.specs.declared.fault.Location.{Location}
+use Rattle.trace_text.specs.Ordered.{Ordered, order_of}
+use Rattle.trace_text.specs.Wholes.{trace_of}
+use Rattle.trace_console.specs.declared.turn.Stand.{Stand}
+use Rattle.trace_console.specs.declared.turn.Turn.{Turn}
+use Rattle.trace_console.specs.Judged.{bad_trace, words}
+use Rattle.trace_console.specs.Reported.{leftover_text}
+use Rattle.trace_console.specs.Turns.{AreTurns}
+
+-- ---- the text
+
+-- in which order the turns are
+abbrev pub order_text : Bool → List ℕ
+order_text true = codes "recorded"
+order_text false = codes "possible"
+
+unfoldable pub members_text : Stand → List ℕ
+members_text s = words (s.coordinator ∷ []) ++ codes " " ++ ids_text s.members
+
+unfoldable pub stand_text : Stand → List ℕ
+stand_text s = codes " " ++ phase_text s.phase ++ codes " " ++ group_text s.group ++ members_text s
+
+-- how the node stands after a turn
+abbrev pub after_text : Option Stand → List ℕ
+after_text None = codes " Down"
+after_text (Some s) = stand_text s
+
+-- a turn, behind the end of the line before: its node, the index of its entry, and how the node stands then
+unfoldable pub turn_text : Turn → List ℕ
+turn_text t = codes "\nturn" ++ words (t.node ∷ t.index ∷ []) ++ after_text t.stand
+
+-- all turns, and what is left
+unfoldable pub turns_text : List (List Claim) → Bool → List Turn → List Leftover → List ℕ
+turns_text hs recorded turns left = order_text recorded ++ flat_map turn_text turns ++ flat_map (leftover_text hs) left ++ codes "\n"
+
+-- ---- what is printed of a trace
+
+-- the turns of this order, and the entries that are left
+pub record Tells (hs : List (List Claim)) (order : List ℕ) (recorded : Bool) (left : List Leftover) (text : List ℕ) : Type 0 where
+  pub turns : List Turn
+  pub are_turns : AreTurns hs order turns
+  pub is_text : text ≡ turns_text hs recorded turns left
+
+-- all entries can be taken in this order
+abbrev pub IsRunIn : List (List Claim) → List ℕ → Type 0
+IsRunIn hs order = IsLegal hs (reverse order) × IsComplete hs (reverse order)
+
+-- the run that was recorded
+pub record TellsRecorded (hs : List (List Claim)) (order : List ℕ) (printout : Printout) : Type 0 where
+  pub good : printout.good ≡ true
+  pub tells : Tells hs order true [] printout.text
+
+abbrev pub is_run : Verdict → Bool
+is_run (Run order) = true
+is_run (NotARun node index) = false
+
+-- what can be taken, in the order in which the checker takes it, and what is left
+pub record TellsTaken (hs : List (List Claim)) (printout : Printout) : Type 0 where
+  pub verdict : Verdict
+  pub order : List ℕ
+  pub left : List Leftover
+  pub is_verdict : IsVerdict hs verdict
+  pub decides : DecidesRun hs verdict
+  pub taken : AreTaken hs verdict order
+  pub are_left : AreLeftovers hs left
+  pub good : printout.good ≡ is_run verdict
+  pub tells : Tells hs order false left printout.text
+
+-- the order that the text gives is taken where all entries can be taken in it, and only there
+abbrev pub IsTelling : List (List Claim) → Option Ordered → Printout → Type 0
+IsTelling hs None printout = TellsTaken hs printout
+IsTelling hs (Some given) printout = (IsRunIn hs given.0 × TellsRecorded hs given.0 printout) ⊎ ((IsRunIn hs given.0 → ⊥) × TellsTaken hs printout)
+
+abbrev pub IsToldBy : Option Ordered → Result (List (List Claim)) (Option Location) → Printout → Type 0
+IsToldBy given (Ok hs) printout = IsTelling hs given printout
+IsToldBy given (Err location) printout = printout ≡ refused (bad_trace location)
+
+abbrev pub AreToldOf : List ℕ → Printout → Type 0
+AreToldOf text printout = IsToldBy (order_of text) (trace_of text) printout

@@ -1,0 +1,20 @@
+//! The commands of traces. `trace`: a trace in, or several files that make one, the verdict on it out, and why no order takes all entries where none
+//! does. `turns`: a trace in, the turns of the run out, and how the node of each stands then.
+//!
+//! ```
+//! let ended = trace(alloc, Stage::Over, &mut input, &mut output); // a line: Run, or NotARun with the place of an entry
+//! ```
+#![tactic(auto)]
+
+mod files;
+mod judging;
+mod ongoing;
+mod reporting;
+mod turn;
+mod turning;
+mod walk;
+
+pub use files::{TraceFile, trace_files};
+pub use judging::{Stage, trace};
+pub use turn::{Stand, Turn};
+pub use turning::turns;

@@ -1,6 +1,0 @@
-use Rattle.std.proofs.Common.{◌≡◌, drop}
-use Rattle.trace_draw.specs.Files.{behind, histories_of}
-use Rattle.trace_draw.proofs.files.judge_files.Given as goal
-
-abbrev pub invariant-loop-file : goal.invariant-loop-file
-invariant-loop-file l = histories_of l.files ≡ behind l.histories.items (histories_of (drop l.file-index l.files))

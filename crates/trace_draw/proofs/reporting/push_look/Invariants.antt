@@ -1,6 +1,0 @@
-use Rattle.std.proofs.Common.{◌≡◌, drop}
-use Rattle.trace_draw.specs.Reported.{look_text}
-use Rattle.trace_draw.proofs.reporting.push_look.Given as goal
-
-abbrev pub invariant-loop-leftover : goal.invariant-loop-leftover
-invariant-loop-leftover l = (l.text.items ≡ l.fn.text.items) × (look_text l.left ≡ look_text (drop l.leftover-index l.left))

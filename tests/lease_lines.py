@@ -1,0 +1,301 @@
+#!/usr/bin/env python3
+"""`invite format --lease` and `invite lease`, line by line: the rows follow from the rules of leases by hand. A voter keeps a grant for V = 100
+round trips (2,000 ms by default), its client relies for H = (31 V - 128) / 33 = 1,874 ms of it from when it asked, a process waits V when it
+begins, and its floor is the last epoch of the blocks that were taken before it. Called with the program; its last line counts the checks."""
+import os, signal, subprocess, sys, tempfile
+
+PROGRAM = os.path.abspath(sys.argv[1] if len(sys.argv) > 1 else "crates/invite/out/invite")
+BLOCK = 2 ** 32
+KEPT, RELIES = 2000, 1874
+passed, failed = 0, 0
+
+
+def check(name, good, seen=""):
+    global passed, failed
+    if good:
+        passed += 1
+    else:
+        failed += 1
+        print("FAILED", name, seen)
+
+
+def run(*words, given=""):
+    return subprocess.run([PROGRAM, *words], input=given, capture_output=True, text=True)
+
+
+class Process:
+    """A process of leases, asked a line at a time: each line is answered by lines of which the last is `next`."""
+
+    def __init__(self, path, machine, machines=3, *more):
+        self.machine = machine
+        self.run = subprocess.Popen([PROGRAM, "lease", path, str(machine), str(machines), *more], stdin=subprocess.PIPE,
+                                    stdout=subprocess.PIPE, stderr=subprocess.PIPE, text=True, bufsize=1)
+        self.first = self.run.stdout.readline().split()
+
+    def ask(self, line):
+        self.run.stdin.write(line + "\n")
+        self.run.stdin.flush()
+        said = []
+        while True:
+            words = self.run.stdout.readline().split()
+            if not words:
+                return said + [["ended"]]
+            if words[0] == "next":
+                self.next = int(words[1]) if len(words) > 1 else None
+                return said
+            said.append(words)
+
+    def end(self):
+        self.run.stdin.close()
+        return self.run.wait()
+
+    def kill(self):
+        self.run.send_signal(signal.SIGKILL)
+        self.run.wait()
+
+
+class Cluster:
+    """Three processes on one clock. Messages go at once, but to those that are cut off."""
+
+    def __init__(self, room, first=100):
+        self.paths = ["%s/leases%d" % (room, n) for n in range(3)]
+        for n, path in enumerate(self.paths):
+            done = run("format", "--lease", path, str(n), str(first))
+            check("format %d" % n, done.returncode == 0 and not done.stdout and not done.stderr, done)
+        self.nodes = [Process(path, n) for n, path in enumerate(self.paths)]
+        self.cut = set()
+        self.told = [[], [], []]  # held and lost of each, with the time
+
+    def line(self, n, now, line):
+        """Gives a line to a process, and delivers what it sends, and what is sent on that, at the same time."""
+        waiting = [(n, line)]
+        while waiting:
+            to, text = waiting.pop(0)
+            if to in self.cut and text.startswith("deliver"):
+                continue
+            for words in self.nodes[to].ask(text):
+                if words[0] == "send":
+                    if to not in self.cut:
+                        waiting.append((int(words[1]), "deliver %d %s" % (now, words[2])))
+                else:
+                    self.told[to].append((now, words))
+
+    def all(self, now):
+        for n in range(3):
+            self.line(n, now, "tick %d" % now)
+
+    def of(self, n, kind):
+        return [(now, words) for now, words in self.told[n] if words[0] == kind]
+
+
+def begins(room):
+    """The number of each process, over the life of a file."""
+    path = room + "/begun"
+    check("made", run("format", "--lease", path, "1", "7").returncode == 0)
+    for number in (8, 9, 10):
+        done = run("lease", path, "1", "3")
+        check("begins as %d" % number, (done.returncode, done.stdout) == (0, "process %d\n" % number), done)
+    one = Process(path, 1)
+    check("begins as 11", one.first == ["process", "11"], one.first)
+    other = run("lease", path, "1", "3")
+    check("locked", other.returncode == 4 and not other.stdout, other)
+    one.kill()
+    two = Process(path, 1)
+    check("after kill -9 begins as 12", two.first == ["process", "12"], two.first)
+    check("ends with its input", two.end() == 0)
+
+
+def last_block(room):
+    """The last block of epochs is given once."""
+    path = room + "/last"
+    check("made", run("format", "--lease", path, "0", str(BLOCK - 2)).returncode == 0)
+    done = run("lease", path, "0", "3")
+    check("the last block is given", (done.returncode, done.stdout) == (0, "process %d\n" % (BLOCK - 1)), done)
+    done = run("lease", path, "0", "3")
+    check("no epochs are left", done.returncode == 5 and not done.stdout and done.stderr == "invite: %s: no epochs are left\n" % path, done)
+
+
+def kinds(room):
+    """A node's file isn't one of leases, and the other way round; nor is what isn't made to its end, or another machine's."""
+    leases, node, text = room + "/kind.leases", room + "/kind.node", room + "/kind.text"
+    run("format", "--lease", leases, "2")
+    run("format", node, "4", "0", "3")
+    with open(text, "w") as file:
+        file.write("a text\n")
+    rows = [
+        (["lease", node, "0", "3"], 5, "it is the file of node 0 of 3"),
+        (["node", leases, "2", "3"], 5, "it is the file of the leases of machine 2"),
+        (["lease", leases, "1", "3"], 5, "it is the file of the leases of machine 2"),
+        (["lease", text, "1", "3"], 5, "it is no file of leases: it was never formatted, or its end was cut off"),
+        (["lease", room + "/none", "1", "3"], 7, "there is no such file or folder: No such file or directory (os error 2)"),
+        (["format", "--lease", leases, "2"], 1, "there is something of this name: File exists (os error 17): it is the file of the leases of machine 2"),
+    ]
+    for words, status, why in rows:
+        done = run(*words)
+        check(" ".join(words), done.returncode == status and not done.stdout and done.stderr == "invite: %s: %s\n" % (words[2] if words[1] == "--lease" else words[1], why), done)
+    with open(leases, "r+b") as file:
+        file.truncate(os.path.getsize(leases) - 1)
+    done = run("lease", leases, "2", "3")
+    check("a label that was cut off", done.returncode == 5 and "it is no file of leases" in done.stderr, done)
+    spoiled = room + "/kind.spoiled"
+    run("format", "--lease", spoiled, "2")
+    with open(spoiled, "r+b") as file:
+        file.seek(20)
+        file.write(b"\x01")
+    done = run("lease", spoiled, "2", "3")
+    check("a damaged cell", done.returncode == 5 and done.stderr == "invite: %s: the body in sector 0 is damaged\n" % spoiled, done)
+
+
+def words(room):
+    """What can't be read as a command line."""
+    for given in (["format", "--lease", room + "/w"], ["format", "--lease", room + "/w", "128"], ["format", "--lease", room + "/w", "0", "x"],
+                  ["format", "--lease", room + "/w", "0", "1", "3"], ["format", "--lease", room + "/w", "0", "--stride", "512"],
+                  ["format", room + "/w", "4"], ["lease", room + "/w", "3", "3"], ["lease", room + "/w", "0", "3", "0"],
+                  ["lease", room + "/w", "0", "3", "--key", "k"]):
+        done = run(*given)
+        check(" ".join(given), done.returncode == 2 and not os.path.exists(room + "/w"), done)
+
+
+def life_of_a_lease(room):
+    """Acquired once voters have waited, renewed after a third of H, given up by release, and had by another under a greater epoch."""
+    three = Cluster(room)
+    check("the first line is the number of the process", all(p.first == ["process", "101"] for p in three.nodes), [p.first for p in three.nodes])
+    for n in range(3):
+        three.line(n, 1000, "tick 1000")
+    three.line(0, 1500, "acquire 1500 backup 7")
+    now = 1500
+    while now < 1000 + KEPT:
+        three.all(now)
+        check("nobody holds at %d, before voters waited" % now, not three.of(0, "held"), three.told[0])
+        now += 100
+    while not three.of(0, "held") and now < 6000:
+        three.all(now)
+        now += 5
+    held = three.of(0, "held")
+    check("held soon behind the wait", len(held) == 1 and held[0][0] <= 3000 + 8 * 20 + 5, three.told)
+    when, said = held[0]
+    epoch, until = int(said[3]), int(said[4])
+    check("held NAME CLIENT", said[1:3] == ["backup", "7"], said)
+    check("an epoch of the blocks behind the file's number", epoch >= 101 * BLOCK, epoch)
+    check("until H behind the request", until == when + RELIES, (when, until))
+    three.line(1, now, "acquire %d backup 9" % now)
+    end = now + 3 * RELIES
+    while now < end:
+        three.all(now)
+        now += 5
+    renewed = three.of(0, "held")
+    check("one client alone holds it", not three.of(1, "held"), three.told[1])
+    check("renewed by the same epoch", len(renewed) > 5 and all(int(w[3]) == epoch for _, w in renewed), renewed)
+    check("each renewal moves UNTIL to H behind it, before the last one's end",
+          all(int(b[1][4]) > int(a[1][4]) and b[0] < int(a[1][4]) and int(b[1][4]) <= b[0] + RELIES for a, b in zip(renewed, renewed[1:])), renewed)
+    three.line(0, now, "release %d backup 7" % now)
+    check("lost once", [w for _, w in three.of(0, "lost")] == [["lost", "backup", str(epoch)]], three.told[0])
+    at = now
+    while not three.of(1, "held") and now < at + KEPT:
+        now += 5
+        three.all(now)
+    other = three.of(1, "held")
+    check("the other one gets it, within ten round trips or so", other and other[0][0] <= at + KEPT and int(other[0][1][3]) > epoch, three.told[1])
+    # The holder is cut off: it says lost by its UNTIL, and another gets it no sooner.
+    epoch = int(other[0][1][3])
+    three.cut = {1}
+    cut_at = now
+    three.line(2, now, "acquire %d backup 3" % now)
+    while not three.of(2, "held") and now < cut_at + 3 * KEPT:
+        now += 5
+        three.all(now)
+    until = max(int(w[4]) for _, w in three.of(1, "held"))
+    lost = three.of(1, "lost")
+    third = three.of(2, "held")
+    check("a holder that is cut off says lost once its time is over", lost and until <= lost[0][0] <= until + 5, (until, lost))
+    check("and only then another one holds, under a greater epoch", third and third[0][0] >= until and int(third[0][1][3]) > epoch, (until, third))
+    check("within V and some round trips", third and third[0][0] <= cut_at + KEPT + 12 * 20 + 5, (cut_at, third))
+    for process in three.nodes:
+        check("ends with its input", process.end() == 0)
+
+
+def restart_waits(room):
+    """A process that begins anew grants nothing for V, or for the longer time for which one before it kept grants, and no epoch twice."""
+    folder = room + "/restart"
+    os.mkdir(folder)
+    three = Cluster(folder)
+    now = 0
+    three.line(0, now, "acquire 0 a 1")
+    while not three.of(0, "held") and now < 6000:
+        now += 5
+        three.all(now)
+    epoch = int(three.of(0, "held")[0][1][3])
+    begun = now
+    for n in (0, 1, 2):
+        three.nodes[n].kill()
+        three.nodes[n] = Process(three.paths[n], n)
+        check("one more", three.nodes[n].first == ["process", "102"], three.nodes[n].first)
+    three.told = [[], [], []]
+    three.line(2, now, "acquire %d a 5" % now)
+    while not three.of(2, "held") and now < begun + 3 * KEPT:
+        now += 5
+        three.all(now)
+    held = three.of(2, "held")
+    check("held behind the wait", held and held[0][0] >= begun + KEPT, (begun, held))
+    check("an epoch above all before the kill", held and int(held[0][1][3]) > epoch and int(held[0][1][3]) >= 102 * BLOCK, (epoch, held))
+    for process in three.nodes:
+        process.end()
+
+
+def longer_time_kept(room):
+    """The file keeps the greatest time: who begins with a shorter one waits for it."""
+    path = room + "/longer"
+    run("format", "--lease", path, "0")
+    long = Process(path, 0, 1, "100")  # V of 10,000 ms
+    long.ask("tick 0")
+    long.kill()
+    short = Process(path, 0, 1, "20")
+    now, held = 0, []
+    while not held and now < 20000:
+        held = [w for w in short.ask("acquire 0 a 1" if now == 0 else "tick %d" % now) if w[0] == "held"]
+        if not held and now % 1000 == 0 and now:
+            held = [w for w in short.ask("acquire %d a 1" % now) if w[0] == "held"]
+        now += 50
+    check("waits for the greatest time that was kept", held and 10000 <= now - 50 <= 11500, (now, held))
+    short.end()
+
+
+def slow_answers(room):
+    """Where messages take six round trips of the setting each way, a lease is had all the same, and its renewals come through."""
+    folder = room + "/slow"
+    os.mkdir(folder)
+    three = Cluster(folder)
+    for n in range(3):
+        three.line(n, 0, "tick 0")
+    taken, under_way = 120, []  # how long a message takes; when each comes, to whom, its line
+
+    def give(n, now, line):
+        for words in three.nodes[n].ask(line):
+            if words[0] == "send":
+                under_way.append((now + taken, int(words[1]), "deliver %d %s" % (now + taken, words[2])))
+            else:
+                three.told[n].append((now, words))
+
+    begun = KEPT + 5
+    for now in range(begun, begun + 10000, 5):
+        for message in [m for m in under_way if m[0] <= now]:
+            under_way.remove(message)
+            give(message[1], now, message[2])
+        for n in range(3):
+            give(n, now, "acquire %d far 1" % now if (n, now) == (0, begun) else "tick %d" % now)
+    held, lost = three.of(0, "held"), three.of(0, "lost")
+    check("a lease is had over slow answers, within V", held and held[0][0] <= begun + KEPT, held[:1])
+    check("and renewed until the end", held and not lost and int(held[-1][1][4]) > begun + 10000 - 5, (held[-1:], lost))
+    for process in three.nodes:
+        process.end()
+
+
+def main():
+    with tempfile.TemporaryDirectory() as room:
+        for part in (begins, last_block, kinds, words, life_of_a_lease, restart_waits, longer_time_kept, slow_answers):
+            part(room)
+    print("%d passed, %d failed" % (passed, failed))
+    sys.exit(1 if failed else 0)
+
+
+main()
