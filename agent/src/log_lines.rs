@@ -70,28 +70,40 @@ impl Write for LogLines {
 #[cfg(test)]
 mod tests {
     use super::*;
-    use std::io::Read;
-    use std::os::unix::net::UnixStream;
+    use std::sync::mpsc::{channel, Sender};
+
+    /// Takes nothing before `begin` is dropped, and tells of all that it took.
+    struct SlowReader {
+        begin: Receiver<()>,
+        took: Sender<Vec<u8>>,
+    }
+
+    impl Write for SlowReader {
+        fn write(&mut self, bytes: &[u8]) -> io::Result<usize> {
+            let _dropped = self.begin.recv();
+            self.took.send(bytes.to_vec()).map_err(|_| io::ErrorKind::BrokenPipe)?;
+            Ok(bytes.len())
+        }
+
+        fn flush(&mut self) -> io::Result<()> {
+            Ok(())
+        }
+    }
 
     #[test]
     fn nobody_is_waited_for_and_what_is_left_out_is_said() {
-        let (mut reader, out) = UnixStream::pair().unwrap();
-        let mut lines = LogLines::start(out).unwrap();
+        let ((begin, begun), (took, all)) = (channel(), channel());
+        let mut lines = LogLines::start(SlowReader { begin: begun, took }).unwrap();
         let count = 40_000;
         (0..count).for_each(|_| lines.write_all(b"twenty bytes of text\n").unwrap());
         lines.finish();
         assert!(lines.waiting.load(Ordering::SeqCst) > 0, "it ends though nobody reads");
-        let took = thread::spawn(move || {
-            let mut text = String::new();
-            reader.read_to_string(&mut text).map(|_| text)
-        });
-        thread::sleep(Duration::from_millis(50));
-        lines.finish();
+        drop(begin);
         drop(lines);
-        let text = took.join().unwrap().unwrap();
+        let text = String::from_utf8(all.iter().flatten().collect()).unwrap();
         let number = |line: &str| line.strip_prefix("dumgerokd: ")?.split(' ').next()?.parse::<usize>().ok();
         let left_out: usize = text.lines().filter_map(number).sum();
-        assert!(left_out > 0);
+        assert!((count - MAX_WAITING - 1..=count - MAX_WAITING).contains(&left_out), "{left_out}");
         assert_eq!(left_out + text.matches("twenty").count(), count);
     }
 }

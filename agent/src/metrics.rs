@@ -181,7 +181,7 @@ impl Metrics {
             (&self.messages_in, &KINDS),
             (&self.messages_out, &KINDS),
             (&self.refused, &REFUSALS),
-            (&self.dropped, &["NoRoom", "NotSent", "Forged", "Empty", "Version", "Kernel", "Down", "Stranger", "Obsolete", "Draining"]),
+            (&self.dropped, &["NoRoom", "NotSent", "Forged", "Empty", "Version", "Kernel", "Down", "Stranger", "Obsolete", "Draining", "Unmet"]),
             (&self.forwarded, &["taken", "again"]),
             (&self.farewells, &["taken", "copy", "drained", "refused"]),
             (&self.jobs, &["kept", "gone", "taken", "dropped", "failed", "aside"]),

@@ -60,7 +60,7 @@ class Relay:
         self.count, self.chance = count, random.Random(seed)
         self.loss, self.twice, self.delay, self.cuts, self.one_way = 0.0, 0.0, (0.0, 0.0), set(), set()
         self.carried = self.lost = 0
-        self.kept = []                       # datagrams, to be sent again much later
+        self.kept, self.senders = [], []     # datagrams, to be sent again much later, and whose each is
         self.real = [("127.0.0.1", free_port()) for _ in range(count)]
         self.out = datagram_socket()
         self.links = {(i, j): datagram_socket() for i in range(count) for j in range(count) if i != j}
@@ -89,6 +89,7 @@ class Relay:
             return
         if len(self.kept) < 20000:
             self.kept.append((pair[1], datagram))
+            self.senders.append(pair[0])
         for _ in range(2 if self.chance.random() < self.twice else 1):
             self.carried += 1
             heapq.heappush(self.later, (time.monotonic() + self.chance.uniform(*self.delay), self.carried, pair[1], datagram))

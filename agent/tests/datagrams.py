@@ -267,3 +267,57 @@ def recorded(agents, timed):
         at += 1
     timed("recorded datagrams sent again add no job", [agents.ask(i, do="jobs")["total"] for i in range(3)] == jobs)
     timed("and change no group", changes(agents) == begin, (at, changes(agents) - begin))
+
+
+
+def delivered(agents, i):
+    """The messages that the node of agent i was given in each of its lives, as digits, with the first and the last word of what it answered."""
+    parts = sorted((name for name in os.listdir(agents.folder) if name.startswith("%d.record." % i)), key=lambda name: int(name.rsplit(".", 1)[1]))
+    lives, message = [], None
+    for name in parts:
+        with open(os.path.join(agents.folder, name)) as file:
+            for words in map(str.split, file):
+                if words[0] == "start":
+                    lives.append([])
+                elif words[0] == ">":
+                    message = words[2] if words[1] == "deliver" else None
+                elif message and words[0] in ("ok", "refused", "bad", "fault"):
+                    lives[-1].append((message, words[0], words[-1]))
+    return lives
+
+
+def again(agents, i, sender):
+    """What the node of agent i, since it began, answered to messages in the name of a node that it was given before."""
+    *before, now = delivered(agents, i)
+    old = {message for life in before for message, _, _ in life if int(message[4:6], 16) == sender}
+    return [how for message, *how in now if message in old]
+
+
+def of_the_gone(bed):
+    """Under a key a node that began takes nothing that was recorded before: neither of a machine that is gone for good nor of one that lives."""
+    agents, check, timed = bed.agents("of_the_gone", key=bed.key("ab")), bed.tally.check, bed.tally.timed
+    agents.start_all()
+    agents.one_group()
+    others, turn = (1, 2), 0
+    while min(sum(int(message[4:6], 16) == i for life in delivered(agents, 0) for message, *_ in life) for i in others) < 120:
+        # nodes that begin anew have much to say
+        agents.ask(1, do="submit", queue=turn % 8, text="recorded")
+        agents.kill(others[turn % 2])
+        agents.start(others[turn % 2])
+        agents.one_group()
+        turn += 1
+    agents.kill(1)
+    agents.kill(0)
+    agents.start(0)
+    agents.one_group([0, 2])
+    kept = list(zip(list(agents.relay.kept), agents.relay.senders))
+    groups = agents.groups()
+    for i in others:
+        agents.send_all(0, [datagram for (to, datagram), sender in kept if (to, sender) == (0, i)])
+        agents.until(lambda: len(again(agents, 0, i)) >= 100)
+        answers = again(agents, 0, i)
+        check("no recorded message of node %d is taken by a node that began later" % i, all(how == ["refused", "Forged"] for how in answers), answers)
+    timed("no group is changed by them", agents.groups() == groups, (groups, agents.groups()))
+    agents.start(1)
+    check("a machine that comes back is heard", agents.one_group() >= 0)
+    judged(bed, agents, "recorded datagrams", are_sealed=True)

@@ -41,6 +41,7 @@ impl Daemon {
             self.take_line(line, now);
         }
         if let Some(refusal) = answer.closing.refusal().filter(|_| !matches!(answer.closing, Closing::Bad | Closing::Fault)) {
+            let refusal = if is_of_earlier(&answer) { Refusal::Stale } else { refusal };
             self.metrics.refused.with_label_values(&[&refusal.to_string()]).inc();
         }
         if let Closing::Ok(Some(id)) = answer.closing {
@@ -142,7 +143,10 @@ impl Daemon {
         match answer.asker {
             Asker::Start => self.started(&answer.closing),
             Asker::Tick => self.clock.ticked(due_of(&answer.lines), now),
-            Asker::Datagram { sender, from, kind } => self.delivered((sender, from), kind, &answer.closing, now),
+            Asker::Datagram { sender, from, kind, .. } if is_of_earlier(&answer) => {
+                self.delivered((sender, from), kind, &Closing::Refused(Refusal::Stale), now);
+            }
+            Asker::Datagram { sender, from, kind, .. } => self.delivered((sender, from), kind, &answer.closing, now),
             Asker::Submission { serial, key } => {
                 self.outbox.own_answered(serial);
                 self.settled(key, &answer.closing, now);
@@ -224,6 +228,11 @@ impl Daemon {
             self.unusable = unmounted(closing);
         }
     }
+}
+
+/// Whether the node was given a message that a machine which has the key sealed for another process of it, since gone.
+fn is_of_earlier(answer: &Answer<Asker>) -> bool {
+    matches!((&answer.asker, &answer.closing), (Asker::Datagram { was_encrypted: true, .. }, Closing::Refused(Refusal::Forged)))
 }
 
 /// When the node says that something is due next.

@@ -10,10 +10,11 @@ use std::net::SocketAddr;
 pub enum Asker {
     Start,
     Tick,
-    /// A message that names `sender` and came from this address, of this kind.
+    /// A message that names `sender` and came from this address, of this kind; where it was encrypted, from a machine that has the key.
     Datagram {
         sender: u8,
         from: SocketAddr,
+        was_encrypted: bool,
         kind: &'static str,
     },
     /// A submission of a local client, by its number in the outbox.

@@ -19,7 +19,7 @@ const MAX_AT_A_TIME: usize = 256;
 
 /// What waits until the node has room for it.
 pub(super) enum Waiting {
-    Message(Vec<u8>, SocketAddr),
+    Message { message: Vec<u8>, from: SocketAddr, was_encrypted: bool },
     OfAgent(Datagram),
 }
 
@@ -43,7 +43,7 @@ impl Daemon {
         }
         while self.node.has_room(Lane::Network) {
             match self.backlog.take() {
-                Some(Waiting::Message(message, from)) => self.deliver(&message, from),
+                Some(Waiting::Message { message, from, was_encrypted }) => self.deliver(&message, (from, was_encrypted)),
                 Some(Waiting::OfAgent(datagram)) => self.obey_agent(datagram, now),
                 None => break,
             }
@@ -63,26 +63,26 @@ impl Daemon {
     /// What came, encrypted or not: whether a key was needed to say it, its seal tells.
     fn take_datagram(&mut self, datagram: Vec<u8>, from: SocketAddr, now: Instant) {
         if !is_encrypted(&datagram) {
-            return self.take_clear(datagram, from, now);
+            return self.take_clear(datagram, (from, false), now);
         }
         if let Some(clear) = self.cipher.decrypt(&datagram) {
-            return self.take_clear(clear, from, now);
+            return self.take_clear(clear, (from, true), now);
         }
         let reason = if self.cipher.encrypts() { "Forged" } else { "Version" };
         self.metrics.dropped.with_label_values(&[reason]).inc();
         self.doubt(sender_of(&datagram), from, now);
     }
 
-    fn take_clear(&mut self, datagram: Vec<u8>, from: SocketAddr, now: Instant) {
+    fn take_clear(&mut self, datagram: Vec<u8>, (from, was_encrypted): (SocketAddr, bool), now: Instant) {
         if is_of_agents(&datagram) {
             self.take_of_agent(&datagram, from, now);
         } else {
-            self.take_sealed(datagram, from, now);
+            self.take_sealed(datagram, (from, was_encrypted), now);
         }
     }
 
     /// A message without a mark: under a key its seal says of which cluster it is, and without one nothing does.
-    fn take_sealed(&mut self, message: Vec<u8>, from: SocketAddr, now: Instant) {
+    fn take_sealed(&mut self, message: Vec<u8>, (from, was_encrypted): (SocketAddr, bool), now: Instant) {
         let sender = sender_of(&message);
         if message.is_empty() {
             return self.metrics.dropped.with_label_values(&["Empty"]).inc();
@@ -97,7 +97,7 @@ impl Daemon {
         if self.introductions.is_stranger(sender) {
             return self.metrics.dropped.with_label_values(&["Stranger"]).inc();
         }
-        self.take_message(message, from, now);
+        self.take_message(message, (from, was_encrypted), now);
     }
 
     /// A message without a seal. One by a mark that isn't known is of another cluster, or of one whose list is another one for a while.
@@ -107,12 +107,12 @@ impl Daemon {
             self.metrics.dropped.with_label_values(&["Stranger"]).inc();
             return self.ask_stranger(from, sender, now);
         }
-        self.take_message(message.to_vec(), from, now);
+        self.take_message(message.to_vec(), (from, false), now);
     }
 
     /// Half of the node's room is for those who are where the other nodes are, and they alone may wait: a flood from elsewhere keeps none of them from the
     /// node.
-    fn take_message(&mut self, message: Vec<u8>, from: SocketAddr, now: Instant) {
+    fn take_message(&mut self, message: Vec<u8>, (from, was_encrypted): (SocketAddr, bool), now: Instant) {
         if self.opening.is_some() {
             return self.metrics.dropped.with_label_values(&["Down"]).inc();
         }
@@ -126,10 +126,10 @@ impl Daemon {
         }
         let peer = self.peers.at(from);
         if self.node.has_half_its_room(Lane::Network) || (peer.is_some() && self.node.has_room(Lane::Network)) {
-            return self.deliver(&message, from);
+            return self.deliver(&message, (from, was_encrypted));
         }
         let length = message.len();
-        self.put_off(peer, Waiting::Message(message, from), length);
+        self.put_off(peer, Waiting::Message { message, from, was_encrypted }, length);
     }
 
     /// Has something of a node wait, where there is room for so many bytes more of it.
@@ -139,11 +139,11 @@ impl Daemon {
         }
     }
 
-    fn deliver(&mut self, message: &[u8], from: SocketAddr) {
+    fn deliver(&mut self, message: &[u8], (from, was_encrypted): (SocketAddr, bool)) {
         if message.is_empty() {
             return self.metrics.dropped.with_label_values(&["Empty"]).inc();
         }
-        let asker = Asker::Datagram { sender: sender_of(message), from, kind: kind_of(message) };
+        let asker = Asker::Datagram { sender: sender_of(message), from, was_encrypted, kind: kind_of(message) };
         self.ask(asker, format!("deliver {}", hex::encode(message)));
     }
 
@@ -161,6 +161,11 @@ impl Daemon {
         self.metrics.messages_out.with_label_values(&[kind]).inc();
         if QUESTIONS.contains(&kind) {
             self.peers.asked(to, now);
+        }
+        if !self.has_met(to) {
+            // what it asks is asked again
+            self.metrics.dropped.with_label_values(&["Unmet"]).inc();
+            return self.greet(to, now);
         }
         let group = if kind == "Work" { group_of(&message) } else { None };
         let message = if self.config.key.is_some() { message } else { marked(&message, self.introductions.mark()) };

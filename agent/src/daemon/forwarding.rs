@@ -111,6 +111,12 @@ impl Daemon {
     }
 
     pub(super) fn obey_agent(&mut self, datagram: Datagram, now: Instant) {
+        let from = datagram.from;
+        self.obey_word(datagram, now);
+        self.seal_for(from);
+    }
+
+    fn obey_word(&mut self, datagram: Datagram, now: Instant) {
         let (from, token) = (datagram.from, datagram.token);
         if !matches!(datagram.what, What::Reply(_) | What::Says { .. } | What::SaysVoting(_)) {
             // one that began anew may be heard never again, as a member by another one
@@ -155,6 +161,21 @@ impl Daemon {
                 }
             }
         }
+    }
+
+    /// Under a key, has what the node says to another one sealed for the life that its agent said last: it opens nothing else.
+    fn seal_for(&mut self, node: u8) {
+        let life = self.outbox.life(node).filter(|_| self.config.key.is_some());
+        if let (Some(life), Some(told)) = (life, self.lives.get_mut(usize::from(node))) {
+            if told.replace(life) != Some(life) {
+                self.node.tell_life(node, life);
+            }
+        }
+    }
+
+    /// Whether another node can open what this one says to it.
+    pub(super) fn has_met(&self, node: u8) -> bool {
+        self.config.key.is_none() || self.lives.get(usize::from(node)).map_or(false, Option::is_some)
     }
 
     /// Another agent asks for the stamps by which it is taken, and says what its node gave. It is told what it said of that in each of its lives.

@@ -93,6 +93,8 @@ pub struct Daemon {
     path: PathBuf,
     poll: Poll,
     node: NodeProcess<Asker>,
+    /// Under a key, the lives of the others that the node was told.
+    lives: Vec<Option<u64>>,
     /// None where the configuration has none.
     leases: Option<Leases>,
     guard: Guard,
@@ -167,7 +169,8 @@ impl Daemon {
         Ok(Daemon {
             guard: Guard::start(&config.file, Arc::clone(&waker))?,
             socket_guard: Guard::start(&config.socket, Arc::clone(&waker))?,
-            node: node_of(&config, registry, begin)?,
+            node: node_of(&config, life, registry, begin)?,
+            lives: vec![None; nodes],
             leases: Leases::of(&config, now),
             clock: Clock::new(config.round_trip_ms, now),
             peers: Peers::new(config.id, &config.nodes, link.is_ipv6(), round_trip),
@@ -478,8 +481,8 @@ fn http_of(config: &Config, waker: &Arc<Waker>) -> anyhow::Result<Option<Server>
 }
 
 /// The node, and its record where the configuration has one.
-fn node_of(config: &Config, registry: &Registry, begin: SystemTime) -> anyhow::Result<NodeProcess<Asker>> {
-    let mut node = NodeProcess::start(config, registry, NODE_INPUT, NODE_OUTPUT)
+fn node_of(config: &Config, life: u64, registry: &Registry, begin: SystemTime) -> anyhow::Result<NodeProcess<Asker>> {
+    let mut node = NodeProcess::start(config, life, registry, NODE_INPUT, NODE_OUTPUT)
         .with_context(|| format!("program {}", config.program.display()))?;
     if let Some(path) = &config.record {
         node.begin_record(Record::open(path, config).with_context(|| format!("record {}", path.display()))?);

@@ -189,6 +189,11 @@ impl Outbox {
         self.stamps.is_known(node)
     }
 
+    /// The life that an agent said last.
+    pub fn life(&self, node: u8) -> Option<u64> {
+        self.stamps.life(node)
+    }
+
     /// An agent asked something in this life.
     pub fn seen(&mut self, from: u8, life: u64) {
         self.stamps.seen(from, life);

@@ -75,13 +75,22 @@ pub fn node_command(config: &Config) -> Command {
     command
 }
 
+/// A life as the node takes it: 16 bytes.
+fn digits_of(life: u64) -> String {
+    format!("{life:032x}")
+}
+
 impl<A> NodeProcess<A> {
-    /// Starts the node; its output wakes `output`, its input, once it was full, `input`.
-    pub fn start(config: &Config, registry: &Registry, input: Token, output: Token) -> io::Result<NodeProcess<A>> {
+    /// Starts the node, under a key in this life; its output wakes `output`, its input, once it was full, `input`.
+    pub fn start(config: &Config, life: u64, registry: &Registry, input: Token, output: Token) -> io::Result<NodeProcess<A>> {
         if let Some(why) = own_session::why_not(config.program.as_os_str()) {
             return Err(io::Error::new(ErrorKind::NotFound, why));
         }
-        let mut child = node_command(config).stdin(Stdio::piped()).stdout(Stdio::piped()).spawn()?;
+        let mut command = node_command(config);
+        if config.key.is_some() {
+            command.arg("--life").arg(digits_of(life));
+        }
+        let mut child = command.stdin(Stdio::piped()).stdout(Stdio::piped()).spawn()?;
         let pipes = child.stdin.take().zip(child.stdout.take());
         let (stdin, stdout) = pipes.ok_or_else(|| io::Error::new(ErrorKind::Other, "the node has no pipes"))?;
         let (to, mut from) = (pipe::Sender::from(stdin), pipe::Receiver::from(stdout));
@@ -131,6 +140,11 @@ impl<A> NodeProcess<A> {
         self.on_the_way[lane as usize] += text.len() + 1;
         self.waiting.push_back(Request { asker, lane, text, is_recorded: false });
         self.go_on();
+    }
+
+    /// Tells the node in which life another one opens what is sealed: it answers nothing.
+    pub fn tell_life(&mut self, other: u8, life: u64) {
+        self.unwritten.extend_from_slice(format!("life {other} {}\n", digits_of(life)).as_bytes());
     }
 
     /// Hands on the requests that may be asked now. With a record each waits for the answer before it, so that after a kill one is in doubt at most.
