@@ -17,6 +17,7 @@ mod closing;
 mod due;
 mod fired;
 mod laws;
+mod sealing_keys;
 mod seals;
 mod sending;
 mod session;
