@@ -198,6 +198,7 @@ fn told_life(alloc: Global, line: &[u8]) -> Result<Option<ToldLife>, AllocError>
 }
 
 /// The words of the node and its life, of a line that tells it.
+#[tactic(auto, using(crate::proofs::Reading::tells_more))]
 fn life_words(line: &[u8]) -> Option<(&[u8], &[u8])>
     ensures some { IfSome result (λ it. life_words (words_of line.now) ≡ Some (it.0.now, it.1.now)) }
     ensures none { IsNone result → life_words (words_of line.now) ≡ None }

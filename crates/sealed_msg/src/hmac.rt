@@ -49,6 +49,7 @@ impl Key {
         }
     }
 
+    #[tactic(auto, using(crate::proofs::Cuts::block_again))]
     pub(crate) fn copied(&self) -> Key
         ensures { result ≡ self.now }
     {

@@ -1,6 +1,6 @@
 // The key of what is sealed for one process.
 ghost use Rattle.std.specs.Prelude.{◌≡◌, IfOk};
-ghost use Rattle.sealed_msg.specs.Lives.{life_key};
+ghost use Rattle.sealed_msg.specs.Lives.{bound_key, life_key};
 
 use crate::hmac::Key;
 use std::alloc::{AllocError, Global};
@@ -21,6 +21,12 @@ impl Key {
         if life.is_empty() {
             return Ok(self.copied());
         }
+        self.bound_to(alloc, life)
+    }
+
+    fn bound_to(&self, alloc: Global, life: &[u8]) -> Result<Key, AllocError>
+        ensures { IfOk result (λ key. key ≡ bound_key self.now life.now) }
+    {
         let mut text = Vec::from_slice(alloc, b"dumgerok life 1")?;
         text.extend_from_slice(life)?;
         Ok(Key::new(self.tag(&text).as_slice()))
