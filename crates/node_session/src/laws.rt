@@ -100,7 +100,7 @@ pub fn own_life_alone()
 /// Once the life of a node's process was told, what is sealed for this node is sealed for this life, and for the others nothing changes.
 pub fn told_life_alone()
     // Promise: A message is sealed for the life that was told last of its receiver, whatever was told of others.
-    // Refuses: sealed_for_another_life, life_of_the_next_node_told.
+    // Refuses: sealed_for_another_life, told_life_forgotten.
     ensures { ToldLifeAlone }
 {}
 
