@@ -1,6 +1,7 @@
 #!/usr/bin/env python3
 """Nodes under a key: what they send is sealed byte for byte as Python's hmac seals it, which the vectors of RFC 4231 try first; what comes is taken where a member of
-the cluster sealed it, once, and leaves the node as it was otherwise; keys are changed by three rolling restarts; key files are refused that are wrong or open to others.
+the cluster sealed it, once, and leaves the node as it was otherwise; a process with a life takes what was sealed for that life, and nothing recorded before it began; keys
+are changed by three rolling restarts; key files are refused that are wrong or open to others.
 
     sealed.py PROGRAM
 
@@ -27,6 +28,11 @@ def tag(key, text):
 
 def key_of(secret, nodes=NODES, name=NAME):
     return tag(secret, b"dumgerok sealed 1" + bytes([nodes]) + name)
+
+
+def key_for(key, life):
+    """The key of what is sealed for a process of this life."""
+    return tag(key, b"dumgerok life 1" + life) if life else key
 
 
 def sealed(key, message, life, number):
@@ -63,10 +69,12 @@ class Tried:
 class Node:
     """A process of a node. Each line is answered by lines of which the last one closes it."""
 
-    def __init__(self, tried, file, own, keys=None, name=NAME, nodes=NODES):
+    def __init__(self, tried, file, own, keys=None, name=NAME, nodes=NODES, life=b""):
         words = [tried.program, "node", file, str(own), str(nodes)]
         if keys is not None:
             words += ["--key", keys, "--cluster", name.decode()]
+        if life:
+            words += ["--life", life.hex()]
         self.own, self.process, self.sent = own, subprocess.Popen(words, stdin=subprocess.PIPE, stdout=subprocess.PIPE, bufsize=0), []
         self.lines, self.output = 0, os.fdopen(os.dup(self.process.stdout.fileno()), "rb")
         self.recovered = self.ask("recover")
@@ -85,6 +93,10 @@ class Node:
             answer.append(" ".join(words))
             if words[0] == "send":
                 self.sent.append((int(words[1]), bytes.fromhex(words[2])))
+
+    def tell(self, node, life):
+        """The life of a node's process. It is no request: nothing answers it, and it has no number."""
+        self.process.stdin.write(f"life {node} {life.hex() or '-'}\n".encode())
 
     def deliver(self, message):
         return self.ask("deliver " + message.hex())
@@ -156,13 +168,19 @@ def try_coming(tried):
 class Cluster:
     """Three nodes whose messages are carried at once. The time is this script's own."""
 
-    def __init__(self, tried, texts):
+    def __init__(self, tried, texts, lives=(b"",) * NODES):
         self.tried, self.files, self.now, self.answers, self.recorded = tried, [tried.file(own) for own in range(NODES)], 0, [], []
-        self.nodes = [Node(tried, self.files[own], own, tried.key_file(texts)) for own in range(NODES)]
+        self.nodes = [Node(tried, self.files[own], own, tried.key_file(texts), life=lives[own]) for own in range(NODES)]
 
-    def restart(self, own, text):
+    def restart(self, own, text, life=b""):
         self.nodes[own].end()
-        self.nodes[own] = Node(self.tried, self.files[own], own, self.tried.key_file(text))
+        self.nodes[own] = Node(self.tried, self.files[own], own, self.tried.key_file(text), life=life)
+
+    def tell(self, lives, of=range(NODES)):
+        """Tells all nodes the lives of these."""
+        for node in self.nodes:
+            for own in of:
+                node.tell(own, lives[own])
 
     def carry(self):
         waiting = [(to, bytes_) for node in self.nodes for to, bytes_ in node.taken()]
@@ -219,6 +237,109 @@ def try_cluster(tried):
     tried.that("all end well", cluster.end() == [0] * NODES)
 
 
+LIVES = [hashlib.sha256(bytes([n])).digest()[:16] for n in range(8)]
+
+
+def try_told(tried):
+    """What goes to a node is sealed for the life that was told last of it, and for none before; a line that can't be read tells nothing."""
+    node, key, told, number = Node(tried, tried.file(0), 0, tried.key_file(SECRETS[0].hex()), life=LIVES[0]), key_of(SECRETS[0]), {1: b"", 2: b""}, 0
+
+    def seals(what):
+        nonlocal number
+        node.ask("check")
+        sent = node.taken()
+        tried.that("a message goes to each", [to for to, _ in sent] == [1, 2], sent)
+        for to, bytes_ in sent:
+            number += 1
+            count = int.from_bytes(bytes_[-48:-40], "big")
+            tried.that(what, bytes_ == sealed(key_for(key, told[to]), bytes_[:-48], count, number), (to, told, bytes_.hex()))
+
+    seals("before a life was told, a message is sealed for none")
+    for to, life in ((1, LIVES[1]), (2, LIVES[2]), (1, LIVES[3]), (0, LIVES[4]), (2, b""), (127, LIVES[5]), (1, LIVES[1]), (2, LIVES[1]), (1, b"")):
+        node.tell(to, life)
+        told[to] = life
+        seals("a message is sealed for the life that was told last")
+    node.tell(1, LIVES[6])
+    told[1] = LIVES[6]
+    good = LIVES[7].hex()
+    for line in ("life", "life 1", "life  " + good, f"life 1  {good}", f"life 1 {good} ", f" life 1 {good}", f"life 1 {good} 1", f"life 128 {good}", f"life 256 {good}", f"life -1 {good}",
+                 f"life 01 {good}", f"life {good} 1", f"life - {good}", f"life 1 {good[:-1]}", f"life 1 {good[:-2]}", f"life 1 {good}0", f"life 1 {good}00", f"life 1 {good[:-1]}g",
+                 "life 1 --", "life 1 0", "life 1 00", f"Life 1 {good}", f"lives 1 {good}"):
+        tried.that("a line that tells no life", node.ask(line) == ["bad"], line)
+    seals("a line that can't be read tells nothing")
+    node.ask(f"life 1 {good.upper()}\nstate")
+    told[1] = LIVES[7]
+    seals("upper case is read too")
+    node.end()
+    node = Node(tried, tried.file(0), 0)
+    tried.that("without a key no life is told", node.ask(f"life 1 {good}") == ["bad"])
+    node.end()
+
+
+def try_own_life(tried):
+    """A process with a life takes what either key sealed for this life, and nothing that was sealed for another one or for none."""
+    keys, message = [key_of(secret) for secret in SECRETS], bytes.fromhex("010101000000")
+    node = Node(tried, tried.file(0), 0, tried.key_file("\n".join(secret.hex() for secret in SECRETS)), life=LIVES[0])
+    state = node.ask("state")
+    others = [b"", LIVES[1], LIVES[0][:-1], LIVES[0] + b"\0"] + [LIVES[0][:at] + bytes([LIVES[0][at] ^ 1]) + LIVES[0][at + 1:] for at in range(16)]
+    forged = [sealed(key_for(key, life), message, 7, 1) for key in keys for life in others]
+    forged += [sealed(tag(key, b"dumgerok life 2" + LIVES[0]), message, 7, 1) for key in keys] + [sealed(key, message, 7, 1)[:-32] + tag(key, message + LIVES[0]) for key in keys]
+    forged += [sealed(key_for(key_of(SECRETS[0], *other), LIVES[0]), message, 7, 1) for other in ((4,), (NODES, b"test"))] + [sealed(key_for(SECRETS[0], LIVES[0]), message, 7, 1)]
+    for bytes_ in forged:
+        tried.that("what was sealed for another life, or for none", node.deliver(bytes_) == ["refused Forged"], bytes_.hex())
+    tried.that("it leaves the node as it was", node.ask("state") == state and not node.taken())
+    for number, key in enumerate(keys, 1):
+        good = sealed(key_for(key, LIVES[0]), message, 7, number)
+        tried.that("what either key sealed for the own life is taken, once", node.deliver(good)[-1] == "ok" and node.deliver(good) == ["refused Stale"])
+    node.end()
+
+
+def try_recorded(tried):
+    """100 recorded messages of a node that is gone, to a process that began later: a process with a life takes none of them. One without takes them, so they are good."""
+    text, state = SECRETS[0].hex(), "state"
+    for life in (LIVES[1], b""):
+        gone = Node(tried, tried.file(1), 1, tried.key_file(text))
+        gone.tell(0, life)
+        for _check in range(100):
+            gone.ask("check")
+        recorded = [bytes_ for to, bytes_ in gone.taken() if to == 0]
+        gone.end()
+        tried.that("100 messages were recorded", len(recorded) == 100, len(recorded))
+        file, taken = tried.file(0), []
+        for own in (life, LIVES[2]):
+            node = Node(tried, file, 0, tried.key_file(text), life=own)
+            before = node.ask(state)
+            taken.append([node.deliver(bytes_)[-1] for bytes_ in recorded])
+            if own != life:
+                tried.that("nothing came of them", node.ask(state) == before and not node.taken())
+            node.end()
+        tried.that("the process that they were sealed for takes them", taken[0] == ["ok"] * 100, taken[0])
+        tried.that("one that began later takes none", taken[1] == ["refused Forged"] * 100, taken[1])
+
+
+def try_lives(tried):
+    """Three nodes with lives become one group once they are told; one that was started anew is heard again when its life is told, and what its last process got is worth nothing."""
+    text, lives = SECRETS[0].hex(), LIVES[:NODES]
+    cluster = Cluster(tried, text, lives)
+    cluster.pass_time(1000)
+    tried.that("nothing is taken before the lives are told", cluster.answers and set(cluster.answers) == {"refused Forged"}, set(cluster.answers))
+    cluster.tell(lives)
+    cluster.answers.clear()
+    tried.that("three nodes become one group", cluster.unite())
+    tried.that("no message was refused", not any("refused" in answer for answer in cluster.answers))
+    recorded = [bytes_ for to, bytes_ in cluster.recorded if to == 1]
+    lives[1] = LIVES[NODES]
+    cluster.restart(1, text, lives[1])
+    state = cluster.nodes[1].ask("state")
+    tried.that("what came to its last process is refused", recorded and all(cluster.nodes[1].deliver(bytes_) == ["refused Forged"] for bytes_ in recorded))
+    tried.that("nothing came of it", cluster.nodes[1].ask("state") == state)
+    cluster.nodes[1].tell(0, lives[0])
+    cluster.nodes[1].tell(2, lives[2])
+    cluster.tell(lives, of=[1])
+    tried.that("one group, where its life is told", cluster.unite())
+    tried.that("all end well", cluster.end() == [0] * NODES)
+
+
 def try_rotation(tried):
     """The new key is added, comes first, and is alone, each by a rolling restart; all that is sent meanwhile is taken."""
     one, two = (secret.hex() for secret in SECRETS)
@@ -268,6 +389,12 @@ def try_files(tried):
             print("sealed.py: the program can't be run as another user, so no key file was denied")
     for words in (["--key", tried.key_file(good)], ["--cluster"], ["--key"], ["--key", "a", "--cluster"]):
         tried.that("a key is given with a cluster's name", status(tried, [*place, *words])[0] == 2, words)
+    given = [*place, "--key", tried.key_file(good), "--cluster", "c", "--life"]
+    tried.that("a life", status(tried, [*given, LIVES[0].hex()]) == (0, "") and status(tried, [*given, LIVES[0].hex().upper()]) == (0, ""))
+    for life in ("", "-", "00", LIVES[0].hex()[:-1], LIVES[0].hex()[:-2], LIVES[0].hex() + "0", LIVES[0].hex() + "00", LIVES[0].hex()[:-1] + "g"):
+        tried.that("what is no life", status(tried, [*given, life])[0] == 2, life)
+    for words in ([*given], [*place, "--life", LIVES[0].hex()], [*place, "--cluster", "c", "--life", LIVES[0].hex()]):
+        tried.that("a life is given with a key", status(tried, words)[0] == 2, words)
     tried.that("a cluster's name may stand alone", status(tried, [*place, "--cluster", "c"]) == (0, ""))
     tried.that("options may stand in front", status(tried, ["--cluster", "c", "--key", tried.key_file(good), *place]) == (0, ""))
 
@@ -287,7 +414,7 @@ def main():
     folder = tempfile.mkdtemp()
     tried = Tried(os.path.abspath(sys.argv[1]), folder)
     try:
-        for one in (try_vectors, try_going, try_coming, try_cluster, try_rotation, try_files, try_none):
+        for one in (try_vectors, try_going, try_coming, try_told, try_own_life, try_recorded, try_cluster, try_lives, try_rotation, try_files, try_none):
             one(tried)
     finally:
         shutil.rmtree(folder)

@@ -1,11 +1,12 @@
 -- What the words of a command line ask for.
-use Rattle.std.specs.Prelude.{ℕ, List, [], map, ◌==◌, nat_le, nat_lt, Bool, true, false, bytes_eq, codes, if◌then◌else◌, option_map, Option, Some, None, string_bytes}
+use Rattle.std.specs.Prelude.{ℕ, List, [], length, map, ◌==◌, nat_le, nat_lt, Bool, true, false, bytes_eq, codes, if◌then◌else◌, option_map, Option, Some, None, string_bytes}
 use Rattle.clap.specs.Words.{matched_of, raw_values}
 use Rattle.clap.specs.declared.parser.matches.Found.{Found}
 use Rattle.file_disk.specs.declared.stride.Stride.{Stride}
 use Rattle.file_disk.specs.declared.stride.Stride.TheVariants.{Packed, Spaced}
 use Rattle.group_task.specs.declared.node.TheConstants.{NODES}
 use Rattle.disk_sector.specs.declared.layout.TheConstants.{LEAST_SLOTS, MOST_SLOTS}
+use Rattle.line_words.specs.Lines.{bytes_of}
 use Rattle.line_words.specs.Words.{number_of}
 use Rattle.trace_console.specs.declared.judging.Stage.{Stage}
 use Rattle.trace_console.specs.declared.judging.Stage.TheVariants.{Over, Ongoing}
@@ -50,8 +51,8 @@ pub data Asked : Type 0 where
   tells_turns : Asked
   -- with the file of its jobs, and the name of its cluster
   makes : List ℕ → Made → Option (List ℕ) → Option (List ℕ) → Asked
-  -- the name of the cluster is said under a key and without one
-  serves : List ℕ → ℕ × ℕ → ℕ → Option Sealed → Option (List ℕ) → Asked
+  -- the name of the cluster is said under a key and without one; its process has this life, or none
+  serves : List ℕ → ℕ × ℕ → ℕ → Option Sealed → Option (List ℕ) → List ℕ → Asked
   -- the file of a machine's leases, and the number that its processes begin behind
   makes_leases : List ℕ → ℕ → ℕ → Asked
   serves_leases : List ℕ → ℕ × ℕ → ℕ → Option Sealed → Asked
@@ -97,8 +98,8 @@ looks show.Jobs path = exports false path
 abbrev pub asked : Invocation → Asked
 asked (invocation.Batch batch) = asked_batch batch
 asked (invocation.Format path making jobs cluster) = makes (string_bytes path) (made making) (option_map string_bytes jobs) (option_map string_bytes cluster)
-asked (invocation.Node path place round_trip sealing cluster) =
-    serves (string_bytes path) (placed place) round_trip (option_map sealed sealing) (option_map string_bytes cluster)
+asked (invocation.Node path place round_trip sealing cluster life) =
+    serves (string_bytes path) (placed place) round_trip (option_map sealed sealing) (option_map string_bytes cluster) life.items
 asked (invocation.FormatLeases path machine first) = makes_leases (string_bytes path) machine first
 asked (invocation.Lease path place round_trip sealing) = serves_leases (string_bytes path) (placed place) round_trip (option_map sealed sealing)
 asked (invocation.Look path shown) = looks shown (string_bytes path)
@@ -208,11 +209,21 @@ keyed_by None cluster = Some None
 keyed_by (Some key) None = None
 keyed_by (Some key) (Some cluster) = Some (Some (record { key = key; cluster = cluster }))
 
-abbrev pub serves_by : Option (List ℕ) → Option (ℕ × ℕ) → Option ℕ → Option (Option Sealed) → Option (List ℕ) → Option Asked
-serves_by None place round_trip sealing cluster = None
-serves_by (Some path) None round_trip sealing cluster = None
-serves_by (Some path) (Some place) None sealing cluster = None
-serves_by (Some path) (Some place) (Some ms) sealing cluster = option_map (λ s. serves path place ms s cluster) sealing
+abbrev pub life_by : Option (List ℕ) → Option (List ℕ)
+life_by None = None
+life_by (Some bytes) = if length bytes == 16 then Some bytes else None
+
+-- the life of a process: 16 bytes, as 32 hex digits, or none
+abbrev pub life_of : Option (List ℕ) → Option (List ℕ)
+life_of None = Some []
+life_of (Some word) = life_by (bytes_of word)
+
+abbrev pub serves_by : Option (List ℕ) → Option (ℕ × ℕ) → Option ℕ → Option (Option Sealed) → Option (List ℕ) → Option (List ℕ) → Option Asked
+serves_by None place round_trip sealing cluster life = None
+serves_by (Some path) None round_trip sealing cluster life = None
+serves_by (Some path) (Some place) None sealing cluster life = None
+serves_by (Some path) (Some place) (Some ms) None cluster life = None
+serves_by (Some path) (Some place) (Some ms) (Some sealing) cluster life = option_map (serves path place ms sealing cluster) life
 
 abbrev pub lease_by : Option (List ℕ) → Option (ℕ × ℕ) → Option ℕ → Option (Option Sealed) → Option Asked
 lease_by None place round_trip sealing = None
@@ -226,7 +237,7 @@ lease_of arguments = lease_by (arguments (codes "FILE")) (place_of arguments) (r
 
 abbrev pub node_of : Arguments → Option Asked
 node_of arguments = serves_by (arguments (codes "FILE")) (place_of arguments) (round_trip_of (arguments (codes "ROUND_TRIP_MS")))
-    (keyed_by (arguments (codes "key")) (arguments (codes "cluster"))) (arguments (codes "cluster"))
+    (keyed_by (arguments (codes "key")) (arguments (codes "cluster"))) (arguments (codes "cluster")) (life_of (arguments (codes "life")))
 
 -- the turns of a trace, or the verdict on it
 abbrev pub trace_of : Arguments → Lists → Asked

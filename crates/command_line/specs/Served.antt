@@ -15,20 +15,20 @@ use Rattle.command_line.specs.declared.status.Status.{Status}
 use Rattle.command_line.specs.declared.status.Status.TheVariants as status
 
 -- what seals and opens, by these secrets, the messages of a node of so many in the cluster of this name
-abbrev pub seals_by : List ℕ × Option (List ℕ) → ℕ → List ℕ → Seals
-seals_by secrets nodes cluster = new_seals (cluster_key secrets.0 nodes cluster) (option_map (λ other. cluster_key other nodes cluster) secrets.1)
+abbrev pub seals_by : List ℕ × Option (List ℕ) → ℕ → List ℕ → List ℕ → Seals
+seals_by secrets nodes cluster life = new_seals (cluster_key secrets.0 nodes cluster) (option_map (λ other. cluster_key other nodes cluster) secrets.1) life
 
 -- some text of a file of keys spells them
 abbrev pub AreSpelled : List ℕ × Option (List ℕ) → Type 0
 AreSpelled secrets = (text : List ℕ) × (secrets_of (lines_of text) ≡ Some secrets)
 
-abbrev pub IsSealBy : ℕ → List ℕ → Seals → Type 0
-IsSealBy nodes cluster seals = (secrets : List ℕ × Option (List ℕ)) × AreSpelled secrets × (seals ≡ seals_by secrets nodes cluster)
+abbrev pub IsSealBy : ℕ → List ℕ → List ℕ → Seals → Type 0
+IsSealBy nodes cluster life seals = (secrets : List ℕ × Option (List ℕ)) × AreSpelled secrets × (seals ≡ seals_by secrets nodes cluster life)
 
 -- messages are sealed where there are keys, and nowhere else
 abbrev pub IsSealUnder : Option Keys → ℕ → Option Seals → Type 0
 IsSealUnder None nodes seal = seal ≡ None
-IsSealUnder (Some keys) nodes seal = (seals : Seals) × IsSealBy nodes keys.cluster.now seals × (seal ≡ Some seals)
+IsSealUnder (Some keys) nodes seal = (seals : Seals) × IsSealBy nodes keys.cluster.now keys.life.now seals × (seal ≡ Some seals)
 
 -- The node of this id, of so many, was served over some disk to this end.
 abbrev pub ServesTo : Option Keys → ℕ → ℕ → TimerSettings → Option (List ℕ) → Option (List ℕ) → Option (List ℕ) → Option (List ℕ) → ServingEnd → Type 0

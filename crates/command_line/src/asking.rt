@@ -1,7 +1,7 @@
 // From the words of the command line to what they ask for.
 ghost use Rattle.std.specs.Prelude.{◌≡◌, IfOk, Some, bytes_eq, codes, map, option_map, string_bytes};
 ghost use Rattle.clap.specs.Words.{first_value, found_of};
-ghost use Rattle.command_line.specs.Asked.{answers, asked, asked_by, exports, format_leases_of, format_of, first_of, inspects, is_ongoing, is_ordered, is_set, keyed_by, lease_of, machine_of, made, making_of, node_of, number_in, placed, place_of, round_trip_of, sealed, sealed_by, stores, stride_of, trace_of, values_of};
+ghost use Rattle.command_line.specs.Asked.{answers, asked, asked_by, exports, format_leases_of, format_of, first_of, inspects, is_ongoing, is_ordered, is_set, keyed_by, lease_of, life_of, machine_of, made, making_of, node_of, number_in, placed, place_of, round_trip_of, sealed, sealed_by, stores, stride_of, trace_of, values_of};
 
 use crate::invocation::{
     Batch, Invocation, MOST_ROUND_TRIP, Making, NodePlace, ROUND_TRIP, Sealing,
@@ -11,7 +11,8 @@ use disk_sector::{LEAST_SLOTS, MOST_SLOTS};
 use file_disk::Stride;
 use group_task::{NODES, NodeId};
 use invite_console::Details;
-use line_words::number;
+use line_words::{bytes, number};
+use sealed_msg::LIFE;
 use std::alloc::{AllocError, Global};
 use store_console::Shown;
 use threads_console::TraceKind;
@@ -227,9 +228,25 @@ fn node(alloc: Global, words: &ArgMatches<'_>) -> Result<Option<Invocation>, All
     let Some(sealing) = node_sealing(alloc, words)? else {
         return Ok(None);
     };
+    let Some(life) = life(alloc, words)? else {
+        return Ok(None);
+    };
     let cluster = named(alloc, words, "cluster")?;
     let path = String::from_str(alloc, path)?;
-    Ok(Some(Invocation::Node(path, place, round_trip, sealing, cluster)))
+    Ok(Some(Invocation::Node(path, place, round_trip, sealing, cluster, life)))
+}
+
+/// The life of the process, which is empty where it has none; None where it isn't one.
+fn life(alloc: Global, words: &ArgMatches<'_>) -> Result<Option<Vec<u8>>, AllocError>
+    ensures { IfOk result (λ life. option_map (λ life. life.items) life ≡ life_of (first_value (found_of words.now) (codes "life"))) }
+{
+    let Some(word) = words.get_str("life") else {
+        return Ok(Some(Vec::new(alloc)));
+    };
+    match bytes(alloc, word.as_bytes())? {
+        Some(life) if life.len() == LIFE => Ok(Some(life)),
+        _ => Ok(None),
+    }
 }
 
 /// A file of keys and the name of a cluster, or no keys; None where keys are given without a name.

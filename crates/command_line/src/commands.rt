@@ -144,6 +144,12 @@ const CLUSTER: Argument = Argument {
     help: "The name of the cluster, which the key is bound to",
 };
 
+const LIFE: Argument = Argument {
+    name: "life",
+    kind: ArgumentKind::Beside("HEX", "key"),
+    help: "What was drawn for this process, 32 hex digits that no other had: only what is sealed for it is taken",
+};
+
 const NODE_CLUSTER: Argument = Argument {
     name: "cluster",
     kind: ArgumentKind::Called("NAME"),
@@ -250,7 +256,7 @@ const COMMANDS: [Described; 12] = [
         name: "node",
         about: "Reads lines that ask something of the node over its file, and answers each at once",
         more: "Its lines are events such as check, deliver HEX, submit, finish, tick MS, and state and jobs (docs/FORMATS.md).\n\nExit status: 0 the input ended; 1 reading or writing failed, or there was no memory; 2 the command line can't be read, or asks for help; 3 the device failed; 4 another process has the file open; 5 the file isn't this node's; 6 the keys can't be used; 7 the file can't be opened, or was removed, replaced, cut off or written over meanwhile.\n\nExample: printf 'state\\n' | invite node /tmp/node0 0 3",
-        arguments: &[FILE, SELF, NODES, ROUND_TRIP_MS, KEY, NODE_CLUSTER],
+        arguments: &[FILE, SELF, NODES, ROUND_TRIP_MS, KEY, NODE_CLUSTER, LIFE],
     },
     Described {
         name: "lease",

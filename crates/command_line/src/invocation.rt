@@ -23,8 +23,8 @@ pub enum Invocation {
     /// The file of this path is to be made, with the jobs of the lines of another one, where that is named, for the cluster of this name.
     Format(String, Making, Option<String>, Option<String>),
     /// A node is to be served, over the file of this path, where a round trip takes so many milliseconds, with its messages sealed where
-    /// there are keys, in the cluster of this name.
-    Node(String, NodePlace, u16, Option<Sealing>, Option<String>),
+    /// there are keys, in the cluster of this name, by a process of this life, or of none.
+    Node(String, NodePlace, u16, Option<Sealing>, Option<String>, Vec<u8>),
     /// The file of this path is to be made for the leases of a machine, numbered from behind this on.
     FormatLeases(String, NodeId, u64),
     /// A process of leases is to be served, as a node is.

@@ -21,12 +21,13 @@ const SECRET: usize = 32;
 /// A file of two secrets has fewer bytes.
 const MOST: usize = 256;
 
-/// Where a node's keys stand, and the name of its cluster.
+/// Where a node's keys stand, the name of its cluster, and the life of its process, which is empty where it has none.
 #[derive(Clone, Copy)]
 pub struct Keys<'a> {
     /// A file of one line of 64 hex digits, or of two. Nobody but its owner may read it.
     pub path: &'a str,
     pub cluster: &'a str,
+    pub life: &'a [u8],
 }
 
 /// The secret whose key seals and opens, and one whose key only opens.
@@ -43,24 +44,31 @@ pub(crate) fn read_seal(
     keys: Keys<'_>,
     nodes: u8,
 ) -> io::Result<Option<Seal>>
-    ensures { IfOk result (λ seal. IfSome seal (λ seals. IsSealBy nodes keys.entry.cluster.now seals)) }
+    ensures { IfOk result (λ seal. IfSome seal (λ seals. IsSealBy nodes keys.entry.cluster.now keys.entry.life.now seals)) }
 {
     let Some(secrets) = read_secrets(rt, alloc, keys.path)? else {
         return Ok(None);
     };
-    Ok(Some(seal_by(alloc, &secrets, nodes, keys.cluster.as_bytes())?))
+    Ok(Some(seal_by(alloc, &secrets, nodes, keys.cluster.as_bytes(), keys.life)?))
 }
 
-/// What seals and opens the messages of a node of so many, in the cluster of this name, by these secrets.
+/// What seals and opens the messages of a node of so many, in the cluster of this name, by these secrets, in a process of this life.
 #[tactic(auto, unfolding(crate::specs::Served::seals_by, crate::specs::Keys::pair_of, crate::specs::Keys::items_of))]
-fn seal_by(alloc: Global, secrets: &Secrets, nodes: u8, cluster: &[u8]) -> Result<Seal, AllocError>
-    // Promise: Under keys a node seals by the first secret of its file and opens by either, each bound to the cluster's name and the number of its nodes.
-    // Refuses: name_of_the_cluster_not_bound.
-    ensures { IfOk result (λ seals. seals ≡ seals_by (pair_of secrets.now) nodes cluster.now) }
+fn seal_by(
+    alloc: Global,
+    secrets: &Secrets,
+    nodes: u8,
+    cluster: &[u8],
+    life: &[u8],
+) -> Result<Seal, AllocError>
+    // Promise: Under keys a node seals by the first secret of its file and opens by either, each bound to the cluster's name and the number of its nodes;
+    // where its process has a life, it opens only what is sealed for that.
+    // Refuses: name_of_the_cluster_not_bound, life_of_the_command_line_ignored.
+    ensures { IfOk result (λ seals. seals ≡ seals_by (pair_of secrets.now) nodes cluster.now life.now) }
 {
     let own = cluster_key(alloc, &secrets.own, nodes, cluster)?;
     let other = other_key(alloc, &secrets.other, nodes, cluster)?;
-    Ok(Seal::new(alloc, own, other))
+    Seal::new(alloc, own, other, life)
 }
 
 fn other_key(

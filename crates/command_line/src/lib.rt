@@ -94,13 +94,14 @@ fn obey<T: Threads + Wait + Sync>(rt: &HostRuntime, threads: &T) -> io::Result<u
             &jobs,
             &cluster,
         ),
-        Ok(Invocation::Node(path, place, round_trip, sealing, cluster)) => node(
+        Ok(Invocation::Node(path, place, round_trip, sealing, cluster, life)) => node(
             rt,
             path.as_str(),
             place,
             round_trip,
             &sealing,
             &cluster,
+            &life,
         ),
         Ok(Invocation::FormatLeases(path, machine, first)) => {
             make_leases(rt, path.as_str(), machine, first)
@@ -215,6 +216,7 @@ fn node(
     round_trip: u16,
     sealing: &Option<Sealing>,
     cluster: &Option<String>,
+    life: &[u8],
 ) -> io::Result<u8> {
     let mut input = rt.stdin();
     let mut output = Sink::new(rt.stdout());
@@ -225,7 +227,7 @@ fn node(
         place.id,
         place.nodes,
         round_trip,
-        keys_of(sealing),
+        keys_of(sealing, life),
         mark_of(cluster),
         &mut input,
         &mut output,
@@ -234,12 +236,13 @@ fn node(
     tell_served(rt, path, sealing, status, output.fault())
 }
 
-/// Where the keys stand, if messages are sealed.
-fn keys_of(sealing: &Option<Sealing>) -> Option<Keys<'_>> {
+/// Where the keys stand, if messages are sealed, for a process of this life.
+fn keys_of<'a>(sealing: &'a Option<Sealing>, life: &'a [u8]) -> Option<Keys<'a>> {
     match sealing {
         Some(sealing) => Some(Keys {
             path: sealing.key.as_str(),
             cluster: sealing.cluster.as_str(),
+            life,
         }),
         None => None,
     }
@@ -288,7 +291,7 @@ fn lease(
         path,
         terms,
         round_trip,
-        keys_of(sealing),
+        keys_of(sealing, &[]),
         &mut rt.stdin(),
         &mut output,
     );

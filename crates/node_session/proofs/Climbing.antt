@@ -21,7 +21,7 @@ use Rattle.wire_msg.specs.Envelope.{Envelope}
 use Rattle.node_session.specs.Turns.{Turn, Goes, Unmounted, Begins}
 use Rattle.node_session.specs.Chains.{LineOutcome, AllGoing, AreGoing, after_turns}
 use Rattle.node_session.specs.Lines.{At, AreOf, Comes, after_by, after_line, after_lines, plain_answer}
-use Rattle.node_session.specs.Seals.{Brought, NoBytes, Strange, Garbled, Opened, Seals, asked_under, brought_by, brought_word, is_fresh, life_by, life_of, message_in, no_stamp, number_by, numbered, sealed_behind, taken_brought, taken_fresh, taken_under, taken_words}
+use Rattle.node_session.specs.Seals.{Brought, NoBytes, Strange, Garbled, Opened, Seals, asked_under, brought_by, brought_word, is_fresh, life_by, life_of, message_in, no_stamp, number_by, numbered, sealed_behind, taken_brought, taken_fresh, taken_told, taken_under, taken_words, told_life}
 use Rattle.node_session.specs.Stamping.{Climbs, Life, AreLives, NoStampTwice, life_begun, life_left, stamps_asked, stamps_by, stamps_given, stamps_in, stamps_of, stamps_over}
 use Rattle.node_session.proofs.Histories.{ArePossible, asked_possible}
 
@@ -178,8 +178,12 @@ taken_number (Some q) line = by_word (brought_word (words_of line))
     by_brought Garbled = refl
     by_brought (Opened m stamp) = by_fresh (is_fresh q m stamp) m stamp
 
-    by_word : (o : Option (List ℕ)) → (taken_words q o).number ≡ q.number
-    by_word None = refl
+    by_told : (o : Option (ℕ × List ℕ)) → (taken_told q o).number ≡ q.number
+    by_told None = refl
+    by_told (Some it) = refl
+
+    by_word : (o : Option (List ℕ)) → (taken_words q line o).number ≡ q.number
+    by_word None = by_told (told_life line)
     by_word (Some word) = by_brought (brought_by q word)
 
 -- ---- lines, and lives

@@ -41,11 +41,11 @@ use Rattle.node_words.specs.Words.{core_name, event_word, group_part, group_text
 use Rattle.node_session.specs.Turns.{Turn, after_turn, cause, end_of, sent_in}
 use Rattle.node_session.specs.Chains.{LineOutcome, IsNone, MayCome, after_turns, event_line_end, line_end, next}
 use Rattle.node_session.specs.Lines.{At, Comes, after_by, answer_by, plain_answer}
-use Rattle.node_session.specs.Seals.{Seals, Brought, NoBytes, Strange, Garbled, Opened, asked_under, brought_by, brought_word, is_fresh, life_of, numbered, sealed_behind, sealed_lines, taken_brought, taken_fresh, taken_sealed, taken_under, taken_words, written}
+use Rattle.node_session.specs.Seals.{Seals, Brought, NoBytes, Strange, Garbled, Opened, asked_under, brought_by, brought_word, is_fresh, life_of, numbered, sealed_behind, sealed_lines, taken_brought, taken_fresh, taken_sealed, taken_told, taken_under, taken_words, told_life, written}
 use Rattle.node_session.specs.Sending.{SendsSealed, again, counted_under, handed_by, is_send, plain_sends, sealed_sends, sealed_so_far, send_of, sends_in, sends_under, sent_turns}
 use Rattle.node_session.specs.Text.{answer, answer_text, asks_part, bad_line, closing, denial_line, event_closing, event_end, fault_name, fired_by, fired_news, hand_line, jobs_by, jobs_lines, jobs_part, keeps_by, keeps_news, next_line, no_news, ok_line, pending_line, refused_line, send_line, send_lines, sets_part, state_by, state_line, tick_end, turn_text, turns_text, up_line}
 use Rattle.node_session.proofs.Rows.{both_lines, none_first, none_of, number_line, one_line, other_word, work_line}
-use Rattle.node_session.proofs.Sends.{Piece, Quiet, Sends, AreQuiet, messages_of, none_so, numbered_so, plain_so, sealed_so, text_of}
+use Rattle.node_session.proofs.Sends.{Piece, Quiet, Sends, AreQuiet, Reads, messages_of, none_so, numbered_so, plain_so, sealed_so, text_of}
 
 -- ---- texts that are made of lines
 
@@ -382,77 +382,89 @@ answer_made self nodes slots n a (ask.Refused why) came may = quiet_answer self 
 -- ---- as it is written
 
 record AreWritten (q : Seals) (life : Option ℕ) (text : List ℕ) (ms : List Envelope) : Type 0 where
-  pub lines : sends_in (sealed_lines q.own life q.number (lines_of text)) ≡ sealed_sends q.own life q.number ms
+  pub lines : sends_in (sealed_lines q.keys life q.number (lines_of text)) ≡ sealed_sends q.keys life q.number ms
   pub number : numbered life q.number (lines_of text) ≡ counted_under (Some q) life ms
 
-written_so : (q : Seals) (life : Option ℕ) (text : List ℕ) (ms : List Envelope) → IsMade text ms → All IsMessage ms → AreWritten q life text ms
-written_so q None text ms made all =
-    let none = none_so q.own q.number made.pieces made.quiet (subst (λ (x : List Envelope). All IsMessage x) made.messages all) in
+written_so : Reads → (q : Seals) (life : Option ℕ) (text : List ℕ) (ms : List Envelope) → IsMade text ms → All IsMessage ms → AreWritten q life text ms
+written_so reads q None text ms made all =
+    let none = none_so q.keys q.number made.pieces made.quiet (subst (λ (x : List Envelope). All IsMessage x) made.messages all) in
     record {
-      lines = ap (λ (t : List ℕ). sends_in (sealed_lines q.own None q.number (lines_of t))) made.text_so ∙ none.0;
+      lines = ap (λ (t : List ℕ). sends_in (sealed_lines q.keys None q.number (lines_of t))) made.text_so ∙ none.0;
       number = ap (λ (t : List ℕ). numbered None q.number (lines_of t)) made.text_so ∙ none.1;
     }
-written_so q (Some life) text ms made all =
+written_so reads q (Some life) text ms made all =
     let all' = subst (λ (x : List Envelope). All IsMessage x) made.messages all in
     record {
-      lines = ap (λ (t : List ℕ). sends_in (sealed_lines q.own (Some life) q.number (lines_of t))) made.text_so
-          ∙ (sealed_so q.own life q.number made.pieces made.quiet all' ∙ ap (sealed_sends q.own (Some life) q.number) (sym made.messages));
+      lines = ap (λ (t : List ℕ). sends_in (sealed_lines q.keys (Some life) q.number (lines_of t))) made.text_so
+          ∙ (sealed_so reads q.keys life q.number made.pieces made.quiet all' ∙ ap (sealed_sends q.keys (Some life) q.number) (sym made.messages));
       number = ap (λ (t : List ℕ). numbered (Some life) q.number (lines_of t)) made.text_so
           ∙ (numbered_so life q.number made.pieces made.quiet all' ∙ ap (λ (x : List Envelope). q.number + length x) (sym made.messages));
     }
 
--- what is taken changes neither the key nor the number
-same_key : (q : Seals) (line : List ℕ) → taken_sealed q line ≡ record q { last = (taken_sealed q line).last }
-same_key q line = by_word (brought_word (words_of line))
+-- what is taken is not sealed
+same_number : (q : Seals) (line : List ℕ) → (taken_sealed q line).number ≡ q.number
+same_number q line = by_word (brought_word (words_of line))
   where
-    by_fresh : (b : Bool) (m : Envelope) (stamp : Stamp) → taken_fresh b q m stamp ≡ record q { last = (taken_fresh b q m stamp).last }
+    by_fresh : (b : Bool) (m : Envelope) (stamp : Stamp) → (taken_fresh b q m stamp).number ≡ q.number
     by_fresh true m stamp = refl
     by_fresh false m stamp = refl
 
-    by_brought : (brought : Brought) → taken_brought q brought ≡ record q { last = (taken_brought q brought).last }
+    by_brought : (brought : Brought) → (taken_brought q brought).number ≡ q.number
     by_brought NoBytes = refl
     by_brought Strange = refl
     by_brought Garbled = refl
     by_brought (Opened m stamp) = by_fresh (is_fresh q m stamp) m stamp
 
-    by_word : (o : Option (List ℕ)) → taken_words q o ≡ record q { last = (taken_words q o).last }
-    by_word None = refl
+    by_told : (o : Option (ℕ × List ℕ)) → (taken_told q o).number ≡ q.number
+    by_told None = refl
+    by_told (Some it) = refl
+
+    by_word : (o : Option (List ℕ)) → (taken_words q line o).number ≡ q.number
+    by_word None = by_told (told_life line)
     by_word (Some word) = by_brought (brought_by q word)
 
 -- the same of what a session keeps or doesn't
 record AreUnder (seal taken : Option Seals) (life : Option ℕ) (text : List ℕ) (ms : List Envelope) : Type 0 where
-  pub lines : sends_in (written taken life text) ≡ sends_under seal life ms
+  pub lines : sends_in (written taken life text) ≡ sends_under taken life ms
   pub number : sealed_so_far (sealed_behind taken life text) ≡ counted_under seal life ms
 
-under_so : (seal : Option Seals) (line : List ℕ) (life : Option ℕ) (text : List ℕ) (ms : List Envelope) → IsMade text ms → All IsMessage ms → AreUnder seal (taken_under seal line) life text ms
-under_so None line life text ms made all =
+counted_same : (q r : Seals) (life : Option ℕ) (ms : List Envelope) → r.number ≡ q.number → counted_under (Some r) life ms ≡ counted_under (Some q) life ms
+counted_same q r None ms same = same
+counted_same q r (Some life) ms same = ap (λ (n : ℕ). n + length ms) same
+
+under_so : Reads → (seal : Option Seals) (line : List ℕ) (life : Option ℕ) (text : List ℕ) (ms : List Envelope) → IsMade text ms → All IsMessage ms → AreUnder seal (taken_under seal line) life text ms
+under_so reads None line life text ms made all =
     record { lines = ap sends_in made.text_so ∙ (plain_so made.pieces made.quiet ∙ ap plain_sends (sym made.messages)); number = refl }
-under_so (Some q) line life text ms made all =
-    let is = written_so q life text ms made all in
-    let same = same_key q line in
-    record {
-      lines = ap (λ (r : Seals). sends_in (sealed_lines r.own life r.number (lines_of text))) same ∙ is.lines;
-      number = ap (λ (r : Seals). numbered life r.number (lines_of text)) same ∙ is.number;
-    }
+under_so reads (Some q) line life text ms made all =
+    let is = written_so reads (taken_sealed q line) life text ms made all in
+    record { lines = is.lines; number = is.number ∙ counted_same q (taken_sealed q line) life ms (same_number q line) }
 
 -- a session that was stopped answers nothing
-none_under : (seal : Option Seals) (life : Option ℕ) → ([] ≡ sends_under seal life []) × (sealed_so_far seal ≡ counted_under seal life [])
-none_under None life = (refl, refl)
-none_under (Some q) None = (refl, refl)
-none_under (Some q) (Some life) = (refl, omega arith)
+none_under : (seal taken : Option Seals) (life : Option ℕ) → ([] ≡ sends_under taken life []) × (sealed_so_far seal ≡ counted_under seal life [])
+none_under seal taken life = (none_sent taken life, none_counted seal life)
+  where
+    none_sent : (taken : Option Seals) (life : Option ℕ) → ([] ≡ sends_under taken life [])
+    none_sent None life = refl
+    none_sent (Some q) None = refl
+    none_sent (Some q) (Some life) = refl
+
+    none_counted : (seal : Option Seals) (life : Option ℕ) → sealed_so_far seal ≡ counted_under seal life []
+    none_counted None life = refl
+    none_counted (Some q) None = refl
+    none_counted (Some q) (Some life) = omega arith
 
 record AreSentBy (self nodes : ℕ) (b : Bool) (a : At) (line : List ℕ) (came : LineOutcome) : Type 0 where
-  pub lines : sends_in (answer_by self nodes b a line came) ≡ sends_under a.seal (life_of (after_by self nodes b a line came).state) (handed_by self nodes b a (asked_under a.seal line) came)
+  pub lines : sends_in (answer_by self nodes b a line came) ≡ sends_under (taken_under a.seal line) (life_of (after_by self nodes b a line came).state) (handed_by self nodes b a (asked_under a.seal line) came)
   pub number : sealed_so_far (after_by self nodes b a line came).seal ≡ counted_under a.seal (life_of (after_by self nodes b a line came).state) (handed_by self nodes b a (asked_under a.seal line) came)
 
-sent_by : (self nodes slots : ℕ) (b : Bool) (a : At) (line : List ℕ) (came : LineOutcome) → Comes self nodes slots b a.state (asked_under a.seal line) came
+sent_by : Reads → (self nodes slots : ℕ) (b : Bool) (a : At) (line : List ℕ) (came : LineOutcome) → Comes self nodes slots b a.state (asked_under a.seal line) came
     → All IsMessage (handed_by self nodes b a (asked_under a.seal line) came) → AreSentBy self nodes b a line came
-sent_by self nodes slots true a line came comes all = (let none = none_under a.seal (life_of a.state) in record { lines = none.0; number = none.1 })
-sent_by self nodes slots false a line came comes all =
+sent_by reads self nodes slots true a line came comes all = (let none = none_under a.seal (taken_under a.seal line) (life_of a.state) in record { lines = none.0; number = none.1 })
+sent_by reads self nodes slots false a line came comes all =
     let asked = asked_under a.seal line in
     let made = answer_made self nodes slots (next a.count asked) a asked came comes.0 in
-    let is = under_so a.seal line (life_of (after_turns self nodes a.state came.turns)) (plain_answer self nodes a asked came) (handed_by self nodes false a asked came) made all in
+    let is = under_so reads a.seal line (life_of (after_turns self nodes a.state came.turns)) (plain_answer self nodes a asked came) (handed_by self nodes false a asked came) made all in
     record { lines = is.lines; number = is.number }
 
-pub sends_sealed : SendsSealed
-sends_sealed self nodes slots a line came comes all = (let is = sent_by self nodes slots a.stopped a line came comes all in record { lines = is.lines; number = is.number })
+pub sends_sealed : Reads → SendsSealed
+sends_sealed reads self nodes slots a line came comes all = (let is = sent_by reads self nodes slots a.stopped a line came comes all in record { lines = is.lines; number = is.number })

@@ -18,3 +18,4 @@ mod Pieces
 mod Rows
 mod Sends
 mod Handed
+mod Told

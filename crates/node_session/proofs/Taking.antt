@@ -28,7 +28,7 @@ use Rattle.node_session.specs.Turns.{Turn, Goes, Unmounted, Begins, IsFired, May
 use Rattle.node_words.specs.Words.{event_word}
 use Rattle.node_session.specs.Chains.{LineOutcome, AreTimely, IsNone, IsOne, IsWrittenAnew, MayCome, after_turns, brought_up}
 use Rattle.node_session.specs.Lines.{At, Comes, after_by, after_line, plain_answer}
-use Rattle.node_session.specs.Seals.{Brought, NoBytes, Strange, Garbled, Opened, Seals, asked_brought, asked_fresh, asked_sealed, asked_under, asked_words_under, brought_bytes, brought_by, brought_message, brought_opened, brought_word, is_fresh, life_of, no_stamp, opened_under, sealed_behind, taken_brought, taken_fresh, taken_under, taken_words}
+use Rattle.node_session.specs.Seals.{Brought, NoBytes, Strange, Garbled, Opened, Seals, asked_brought, asked_fresh, asked_sealed, asked_told, asked_under, asked_words_under, brought_bytes, brought_by, brought_message, brought_opened, brought_word, is_fresh, life_of, no_stamp, opened_under, sealed_behind, taken_brought, taken_fresh, taken_told, taken_under, taken_words, told_life}
 use Rattle.node_session.specs.Stamping.{Climbs, Delivers, IsOpened, IsWide, OpenedAlone, TakenRises, last_by, stamp_brought, stamp_fresh, stamp_taken, stamp_worded, stamps_taken}
 use Rattle.node_session.proofs.Happens.{caused}
 
@@ -111,8 +111,12 @@ opened_so q line m asks = by_word (brought_word (words_of line)) refl asks
     by_bytes word None brought spelled asks = absurd cc
     by_bytes word (Some bytes) brought spelled asks = by_opened word bytes (opened_under q bytes) brought spelled refl asks
 
+    by_told : (o : Option (ℕ × List ℕ)) → brought_word (words_of line) ≡ None → asked_told line o ≡ ask.Event (on.Deliver m) → IsOpened q line m
+    by_told None none asks = absurd (let bad : false ≡ true = sym (line_no line none) ∙ ap is_delivery asks in cc)
+    by_told (Some it) none asks = absurd cc
+
     by_word : (o : Option (List ℕ)) → brought_word (words_of line) ≡ o → asked_words_under q line o ≡ ask.Event (on.Deliver m) → IsOpened q line m
-    by_word None none asks = absurd (let bad : false ≡ true = sym (line_no line none) ∙ ap is_delivery asks in cc)
+    by_word None none asks = by_told (told_life line) none asks
     by_word (Some word) brought asks = by_bytes word (bytes_of word) brought refl asks
 
 none_delivers : (m : Envelope) (turns : List Turn) → IsNone turns → Delivers m turns → ⊥
@@ -214,16 +218,20 @@ sender_within q word m stamp is = by_bytes (bytes_of word) is
     by_bytes None is = absurd cc
     by_bytes (Some bytes) is = by_opened (opened_under q bytes) is
 
-adds_word : (sender : ℕ) (q : Seals) (o : Option (List ℕ)) → length q.last ≡ 128 → Adds sender q (taken_words q o) (stamp_worded sender q o)
-adds_word sender q None wide = adds_none sender q wide
-adds_word sender q (Some word) wide = adds_brought sender q (brought_by q word) wide (λ m stamp is. sender_within q word m stamp is)
+adds_told : (sender : ℕ) (q : Seals) (o : Option (ℕ × List ℕ)) → length q.last ≡ 128 → Adds sender q (taken_told q o) []
+adds_told sender q None wide = adds_none sender q wide
+adds_told sender q (Some it) wide = record { wide = wide; climbs = λ later climbs. climbs }
+
+adds_word : (sender : ℕ) (q : Seals) (line : List ℕ) (o : Option (List ℕ)) → length q.last ≡ 128 → Adds sender q (taken_words q line o) (stamp_worded sender q o)
+adds_word sender q line None wide = adds_told sender q (told_life line) wide
+adds_word sender q line (Some word) wide = adds_brought sender q (brought_by q word) wide (λ m stamp is. sender_within q word m stamp is)
 
 -- what is sealed goes changes no stamp that is kept
 seal_rises : (sender : ℕ) (line : List ℕ) (life : Option ℕ) (plain : List ℕ) (seal : Option Seals) (later : List Stamp) → IsWide seal
     → (IsWide (sealed_behind (taken_under seal line) life plain) → Climbs (last_by sender (sealed_behind (taken_under seal line) life plain)) later)
     → Climbs (last_by sender seal) (stamp_taken sender false seal line ++ later)
 seal_rises sender line life plain None later wide goes = goes tt
-seal_rises sender line life plain (Some q) later wide goes = (let adds = adds_word sender q (brought_word (words_of line)) wide in adds.climbs later (goes adds.wide))
+seal_rises sender line life plain (Some q) later wide goes = (let adds = adds_word sender q line (brought_word (words_of line)) wide in adds.climbs later (goes adds.wide))
 
 line_rises : (sender self nodes : ℕ) (b : Bool) (a : At) (line : List ℕ) (came : LineOutcome) (later : List Stamp) → IsWide a.seal
     → (IsWide (after_by self nodes b a line came).seal → Climbs (last_by sender (after_by self nodes b a line came).seal) later) → Climbs (last_by sender a.seal) (stamp_taken sender b a.seal line ++ later)

@@ -12,3 +12,4 @@ pub mod Sending
 pub mod Ticks
 pub mod Timing
 pub mod Serving
+pub mod Told

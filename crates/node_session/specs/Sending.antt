@@ -14,7 +14,7 @@ use Rattle.node_session.specs.declared.asked.Asked.TheVariants as ask
 use Rattle.node_session.specs.Turns.{Turn, after_turn, sent_in}
 use Rattle.node_session.specs.Chains.{LineOutcome}
 use Rattle.node_session.specs.Lines.{At, ComesOf, after_line, answer_at}
-use Rattle.node_session.specs.Seals.{Seals, asked_under, life_of}
+use Rattle.node_session.specs.Seals.{SealKeys, Seals, asked_under, key_to, life_of, taken_under}
 
 -- ---- what is handed out
 
@@ -54,11 +54,12 @@ send_of m bytes = codes "send " ++ decimal m.receiver ++ codes " " ++ encode_low
 abbrev pub stamp_behind : ℕ → ℕ → Stamp
 stamp_behind life n = record { life = life; number = n + 1 }
 
--- each message is sealed, with a stamp of its own; without a life none goes
-abbrev pub sealed_sends : List ℕ → Option ℕ → ℕ → List Envelope → List (List ℕ)
-sealed_sends key None n ms = []
-sealed_sends key (Some life) n [] = []
-sealed_sends key (Some life) n (m ∷ ms) = send_of m (sealed key (spelling m) (stamp_behind life n)) ∷ sealed_sends key (Some life) (n + 1) ms
+-- each message is sealed for its receiver, with a stamp of its own; without a count none goes
+abbrev pub sealed_sends : SealKeys → Option ℕ → ℕ → List Envelope → List (List ℕ)
+sealed_sends keys None n ms = []
+sealed_sends keys (Some life) n [] = []
+sealed_sends keys (Some life) n (m ∷ ms) =
+    send_of m (sealed (key_to keys (Some m.receiver)) (spelling m) (stamp_behind life n)) ∷ sealed_sends keys (Some life) (n + 1) ms
 
 abbrev pub plain_sends : List Envelope → List (List ℕ)
 plain_sends ms = map (λ m. send_of m (spelling m)) ms
@@ -66,7 +67,7 @@ plain_sends ms = map (λ m. send_of m (spelling m)) ms
 -- without a key each goes as it is spelled
 abbrev pub sends_under : Option Seals → Option ℕ → List Envelope → List (List ℕ)
 sends_under None life ms = plain_sends ms
-sends_under (Some q) life ms = sealed_sends q.own life q.number ms
+sends_under (Some q) life ms = sealed_sends q.keys life q.number ms
 
 -- how many messages were sealed
 abbrev pub sealed_so_far : Option Seals → ℕ
@@ -81,9 +82,10 @@ counted_under (Some q) (Some life) ms = q.number + length ms
 -- ---- the law
 
 -- The `send` lines of an answer are those of the messages that the step hands out, one for each and in their order: each message sealed
--- under the key, with the life that the node has behind the line and the next number of the session; without a key, as it is spelled.
+-- under the key of its receiver's life, with the count that the node has behind the line and the next number of the session; without a key, as
+-- it is spelled.
 pub record AreSent (self nodes : ℕ) (a : At) (line : List ℕ) (came : LineOutcome) : Type 0 where
-  pub lines : sends_in (answer_at self nodes a line came) ≡ sends_under a.seal (life_of (after_line self nodes a line came).state) (handed_out self nodes a line came)
+  pub lines : sends_in (answer_at self nodes a line came) ≡ sends_under (taken_under a.seal line) (life_of (after_line self nodes a line came).state) (handed_out self nodes a line came)
   pub number : sealed_so_far (after_line self nodes a line came).seal ≡ counted_under a.seal (life_of (after_line self nodes a line came).state) (handed_out self nodes a line came)
 
 abbrev pub SendsSealed : Type 0

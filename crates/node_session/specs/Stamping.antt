@@ -52,10 +52,11 @@ stamps_given self nodes a [] all = []
 stamps_given self nodes a (line ∷ lines) [] = []
 stamps_given self nodes a (line ∷ lines) (came ∷ all) = stamps_at self nodes a line came ++ stamps_given self nodes (after_line self nodes a line came) lines all
 
--- a process of the node: the keys that it was given, its lines, and what came of them
+-- a process of the node: the keys that it was given and what was drawn for it, its lines, and what came of them
 pub record Life : Type 0 where
   pub own : List ℕ
   pub other : Option (List ℕ)
+  pub drawn : List ℕ
   pub unit : ℕ
   pub lines : List (List ℕ)
   pub all : List LineOutcome
@@ -67,7 +68,7 @@ life_begun self nodes s life = record {
   count = 0;
   state = after self nodes s Crashed;
   waits = none_waited life.unit;
-  seal = Some (new_seals life.own life.other);
+  seal = Some (new_seals life.own life.other life.drawn);
 }
 
 abbrev pub life_left : ℕ → ℕ → NodeState → Life → NodeState

@@ -3,8 +3,10 @@ ghost use Rattle.node_session.specs.Exact.{DeviceWhereFailed, ExhaustedWhereNone
 ghost use Rattle.node_session.specs.Lives.{LivesFollow};
 ghost use Rattle.node_session.specs.Stamping.{NoStampTwice, OpenedAlone, TakenRises};
 ghost use Rattle.node_session.specs.Sending.{SendsSealed};
+ghost use Rattle.node_session.specs.Told.{OwnLifeAlone, ToldLifeAlone};
 ghost use Rattle.node_session.specs.Serving.{AnyClearing, AnyCutting, AnyTaking, AtOnceIsFed, BeginsAnywhere, BegunHistory, OneHistory, StopsWhereFailed};
 
+use line_words::numbers;
 use sector_disk::SectorDisk;
 
 /// What was fed decides what is answered, and not how it was cut.
@@ -70,12 +72,14 @@ pub fn no_stamp_twice()
 /// Under a key each `send` line of an answer is the sealing of a message that the step hands out, with a stamp of its own.
 pub fn sends_sealed()
     // Promise: The `send` lines of an answer are those of the messages that the step hands out, in their order, where what is handed out
-    // are messages of the protocol: each is the sealing of its message under the first key, with this life and the next number; without a
-    // key it is the message itself.
+    // are messages of the protocol: each is the sealing of its message under the first key, for the life of its receiver that was told, with the
+    // node's count and the next number; without a key it is the message itself.
     // Also: Session::feed.
-    // Refuses: another_message_sealed, stamp_used_twice, fallen_node_sends.
+    // Refuses: another_message_sealed, stamp_used_twice, fallen_node_sends, sealed_for_another_life.
     ensures { SendsSealed }
-{}
+{
+    numbers();
+}
 
 /// Under a key a node is delivered what a key of the session opened, above all that was taken of its sender.
 pub fn opened_alone()
@@ -83,6 +87,21 @@ pub fn opened_alone()
     // was taken of its sender.
     // Refuses: stale_message_taken, unsealed_message_taken.
     ensures { OpenedAlone }
+{}
+
+/// What a process with a life delivers to its node was sealed for this life, whatever it was told before.
+pub fn own_life_alone()
+    // Promise: Each message that a node is delivered was sealed for the life of its process, under a key that the process was given: by somebody who
+    // knew this life, so not before it was drawn.
+    // Refuses: recorded_message_taken.
+    ensures { OwnLifeAlone }
+{}
+
+/// Once the life of a node's process was told, what is sealed for this node is sealed for this life, and for the others nothing changes.
+pub fn told_life_alone()
+    // Promise: A message is sealed for the life that was told last of its receiver, whatever was told of others.
+    // Refuses: sealed_for_another_life, told_life_forgotten.
+    ensures { ToldLifeAlone }
 {}
 
 /// The stamps of what is taken of one node rise.

@@ -17,6 +17,7 @@ mod closing;
 mod due;
 mod fired;
 mod laws;
+mod sealing_keys;
 mod seals;
 mod sending;
 mod session;
@@ -29,7 +30,7 @@ pub use call_outcome::CallOutcome;
 pub use laws::{
     any_clearing, any_cutting, any_taking, at_once_is_fed, begins_anywhere, begun_history,
     device_where_failed, exhausted_where_none_left, lives_follow, no_stamp_twice, one_history,
-    opened_alone, sends_sealed, stops_where_failed, taken_rises,
+    opened_alone, own_life_alone, sends_sealed, stops_where_failed, taken_rises, told_life_alone,
 };
 pub use seals::Seal;
 pub use session::Session;

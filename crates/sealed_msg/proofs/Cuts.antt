@@ -1,11 +1,13 @@
 -- Where lists of bytes are cut, and lists whose elements were changed one after the other.
-use Rattle.std.proofs.Common.{◌≡◌, ◌++◌, ◌-◌, ◌<◌, List, ℕ, map, take, drop, length, get_or, replicate, arith, inl, inr}
-use Rattle.std.specs.Prelude.{All}
+use Rattle.std.proofs.Common.{◌≡◌, ◌++◌, ◌-◌, ◌<◌, ◌∙◌, List, ℕ, map, take, drop, length, get_or, replicate, ap, append-nil, arith, inl, inr}
+use Rattle.std.specs.Prelude.{All, nat_lt, if◌then◌else◌}
 use Rattle.std.proofs.lemmas.Bool.{cases_lt}
 use Rattle.std.proofs.lemmas.List.Elements.{All-get_or}
 use Rattle.std.proofs.lemmas.List.{length-append, get_or_past, drop-replicate}
 use Rattle.std.proofs.lemmas.Grind.{common_steps}
 use Rattle.std.proofs.Math.Seq.{take-append_seam, drop-append_seam}
+use Rattle.sha2.specs.Sha256.{sha256}
+use Rattle.sealed_msg.specs.Hmac.{block_of, filled}
 use Rattle.sealed_msg.specs.Sealing.{front, back}
 
 -- an element that is there is read whatever stands for one that isn't
@@ -36,3 +38,8 @@ reads_byte bytes fit i =
 -- the zeros that stand behind n of them
 pub zeros_left : (n : ℕ) → drop {A = ℕ} n (replicate 64 0) ≡ replicate (64 - n) 0
 zeros_left n = drop-replicate n 64 0
+
+-- a block is the block of itself
+pub block_again : (block : List ℕ) → length block ≡ 64 → block_of block ≡ block
+block_again block long =
+    ap (λ (n : ℕ). filled (if nat_lt 64 n then sha256 block else block)) long ∙ (ap (λ (n : ℕ). block ++ replicate (64 - n) 0) long ∙ append-nil block)

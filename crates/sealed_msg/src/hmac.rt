@@ -49,6 +49,13 @@ impl Key {
         }
     }
 
+    #[tactic(auto, using(crate::proofs::Cuts::block_again))]
+    pub(crate) fn copied(&self) -> Key
+        ensures { result ≡ self.now }
+    {
+        Key::new(self.block.as_slice())
+    }
+
     /// The tag of a text.
     pub fn tag(&self, text: &[u8]) -> [u8; TAG]
         ensures { result ≡ hmac_by self.now text.now }

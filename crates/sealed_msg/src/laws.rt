@@ -2,6 +2,7 @@
 ghost use Rattle.std.specs.Prelude.{◌≡◌, ◌↔◌, ◌<◌, ◌^◌, List, ℕ, Some};
 ghost use Rattle.sealed_msg.specs.Sealing.{opened, sealed, AreBytes};
 ghost use Rattle.sealed_msg.specs.Cluster.{context};
+ghost use Rattle.sealed_msg.specs.Lives.{life_text};
 ghost use Rattle.sealed_msg.specs.declared.stamp.Stamp.{Stamp};
 
 /// Bytes are opened to a message and a stamp exactly where these are sealed to them under the key; so they are the sealing of one message
@@ -13,4 +14,9 @@ pub fn opened_as_sealed()
 /// What the key of a cluster is bound to tells clusters apart: one context is of one name, and of one number of nodes.
 pub fn clusters_are_apart()
     ensures { (m n : ℕ) (one other : List ℕ) → context m one ≡ context n other → (m ≡ n) × (one ≡ other) }
+{}
+
+/// What the key of a life is bound to tells lives apart.
+pub fn lives_are_apart()
+    ensures { (one other : List ℕ) → life_text one ≡ life_text other → one ≡ other }
 {}

@@ -12,12 +12,14 @@
 mod cluster;
 mod hmac;
 mod laws;
+mod life;
 mod number;
 mod sealing;
 mod stamp;
 
 pub use cluster::cluster_key;
 pub use hmac::{Key, TAG};
-pub use laws::{clusters_are_apart, opened_as_sealed};
+pub use laws::{clusters_are_apart, lives_are_apart, opened_as_sealed};
+pub use life::LIFE;
 pub use sealing::OpenedMessage;
 pub use stamp::{STAMP, Stamp};

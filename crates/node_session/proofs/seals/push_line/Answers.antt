@@ -7,6 +7,6 @@ use Rattle.node_session.proofs.seals.push_line.Goals as goal
 pub returns-clause-text : goal.returns-clause-text
 returns-clause-text c =
     on_ok_weaker c.push_sealed.result
-    (λ said. said ∙ ap (λ (x : List ℕ). c.args.text.now.items ++ x) (sym (line_so c.args.key.now c.args.life c.in-Some.life c.args.number.now c.in-Some-checked_add.next c.args.line.now (message_in c.args.line.now)
+    (λ said. said ∙ ap (λ (x : List ℕ). c.args.text.now.items ++ x) (sym (line_so c.args.keys.now c.args.life c.in-Some.life c.args.number.now c.in-Some-checked_add.next c.args.line.now (message_in c.args.line.now)
     c.read_message.new.bytes.items (search rules) (search rules) (search rules))))
     c.push_sealed.ensures
