@@ -5,6 +5,7 @@ use crate::node::{JobKey, Lane};
 use crate::protocol::Tag;
 use crate::service::ClientId;
 use std::net::SocketAddr;
+use std::time::Instant;
 
 #[derive(Clone, Debug)]
 pub enum Asker {
@@ -35,6 +36,7 @@ pub enum Asker {
     Compact {
         client: ClientId,
         tag: Tag,
+        since: Instant,
     },
     Jobs {
         client: ClientId,
