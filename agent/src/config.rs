@@ -1,5 +1,7 @@
 //! The configuration: a file of TOML, one node of a cluster.
 
+use crate::http::Hosts;
+use crate::names::group_number;
 use serde::{Deserialize, Deserializer};
 use std::collections::BTreeMap;
 use std::fs;
@@ -39,8 +41,12 @@ pub struct Config {
     /// Where local services ask.
     #[serde(default = "default_socket")]
     pub socket: PathBuf,
-    /// An address of the loopback for probes, metrics and the page.
+    /// An address for probes, metrics and the page: of the loopback, or, by `http_anywhere`, of any network.
     pub http: Option<SocketAddr>,
+    #[serde(default)]
+    pub http_anywhere: bool,
+    /// Whose members may ask for what changes the machine for all its clients, beside root and the agent's user; else whoever may use the socket.
+    pub admin_group: Option<String>,
     /// What a round trip between nodes takes at most, in milliseconds.
     #[serde(default = "default_round_trip")]
     pub round_trip_ms: u64,
@@ -148,7 +154,7 @@ impl Config {
             ("id", usize::from(self.id) < self.nodes.len(), format!("is a number below {}", self.nodes.len())),
             ("id", self.has_machine(usize::from(self.id)), format!("is a place of `nodes` that has a machine, and {} has none", self.id)),
             ("cluster", is_name(&self.cluster), "is a name of 1 to 64 bytes, without control characters".to_string()),
-            ("http", self.http.map_or(true, is_served), "is an address of the loopback with a port".to_string()),
+            ("http", self.http.map_or(true, |at| self.is_served(at)), "is an address of the loopback with a port; with `http_anywhere = true` another one, too".to_string()),
             ("round_trip_ms", (1..=60_000).contains(&self.round_trip_ms), "is a number from 1 to 60000".to_string()),
             ("lease_ms", self.lease_ms == 0 || (100..=60_000).contains(&self.lease_ms), "is 0, or a number from 100 to 60000".to_string()),
             ("tags", are_tags(&self.tags), format!("is a table of texts, {MAX_TAGS} bytes in all, without control characters")),
@@ -169,6 +175,30 @@ impl Config {
             }
         }
         Ok(())
+    }
+
+    fn is_served(&self, at: SocketAddr) -> bool {
+        (self.http_anywhere || at.ip().is_loopback()) && at.port() != 0
+    }
+
+    /// In the name of which hosts the pages may be asked for.
+    pub fn page_hosts(&self) -> Hosts {
+        if !self.http.map_or(false, |at| !at.ip().is_loopback()) {
+            return Hosts::Loopback;
+        }
+        let own = fs::read_to_string(HOSTNAME).unwrap_or_default().trim().to_string();
+        let named = self.nodes.iter().filter_map(|node| node.rsplit_once(':')).map(|(host, _)| host.to_string());
+        Hosts::Anywhere(named.chain([own]).collect())
+    }
+
+    /// The group of `admin_group`, and its number.
+    pub fn admin(&self) -> Result<Option<(String, u32)>, ConfigError> {
+        let name = match &self.admin_group {
+            Some(name) => name,
+            None => return Ok(None),
+        };
+        let number = group_number(name).ok_or_else(|| ConfigError::Setting { setting: "admin_group", why: format!("there is no group {name}") })?;
+        Ok(Some((name.clone(), number)))
     }
 
     /// Each path names a file: the parts of a record, say, are named after it.
@@ -282,10 +312,6 @@ fn are_tags(tags: &BTreeMap<String, String>) -> bool {
     is_named && texts().map(|text| text.len()).sum::<usize>() <= MAX_TAGS && !texts().any(|text| text.chars().any(char::is_control))
 }
 
-fn is_served(at: SocketAddr) -> bool {
-    at.ip().is_loopback() && at.port() != 0
-}
-
 /// Whether a path ends with the name of a file, and not as that of a folder.
 fn names_file(path: &Path) -> bool {
     path.file_name().is_some() && !path.as_os_str().as_bytes().ends_with(b"/")
@@ -384,6 +410,26 @@ mod tests {
         assert!(said.starts_with("nodes: has 5 places, and /f#1 is the file of a node of 4. One of more is made so"), "{said}");
         let own = Config::parse(&text.replace("id = 2", "id = 0")).unwrap_err().to_string();
         assert_eq!(own, "id: is a place of `nodes` that has a machine, and 0 has none");
+    }
+
+    #[test]
+    fn pages_are_served_elsewhere_by_a_setting_of_its_own() {
+        let elsewhere = format!("{WHOLE}http = \"[::]:7080\"\nhttp_anywhere = true\n");
+        let config = Config::parse(&elsewhere).unwrap();
+        match config.page_hosts() {
+            Hosts::Anywhere(names) => assert_eq!(names[..2], ["a", "[::1]"]),
+            Hosts::Loopback => panic!("at any address"),
+        }
+        let at_home = Config::parse(&elsewhere.replace("[::]", "[::1]")).unwrap();
+        assert_eq!((at_home.page_hosts(), Config::parse(WHOLE).unwrap().page_hosts()), (Hosts::Loopback, Hosts::Loopback));
+    }
+
+    #[test]
+    fn a_group_of_admins_is_one_that_is_there() {
+        let of = |name: &str| Config::parse(&format!("{WHOLE}admin_group = \"{name}\"\n")).unwrap().admin();
+        assert_eq!(of("root").unwrap(), Some(("root".to_string(), 0)));
+        assert_eq!(of("no such group").unwrap_err().to_string(), "admin_group: there is no group no such group");
+        assert_eq!(Config::parse(WHOLE).unwrap().admin().unwrap(), None);
     }
 
     #[test]

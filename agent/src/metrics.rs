@@ -3,7 +3,7 @@
 use crate::net::Peers;
 use crate::node::Phase;
 use crate::view::View;
-use prometheus::{Encoder, Gauge, IntCounter, IntCounterVec, IntGauge, IntGaugeVec, Opts, Registry, TextEncoder};
+use prometheus::{Counter, Encoder, Gauge, IntCounter, IntCounterVec, IntGauge, IntGaugeVec, Opts, Registry, TextEncoder};
 use std::collections::HashMap;
 use std::time::Instant;
 
@@ -87,6 +87,10 @@ pub struct Metrics {
     pub pending_max: IntGauge,
     pub clients: IntGauge,
     pub waiting: IntGauge,
+    waiting_for: IntGaugeVec,
+    pub stale: IntCounterVec,
+    pub compactions: IntCounter,
+    pub compacting: Counter,
     pub recorded: IntGauge,
     pub record_wanted: IntGauge,
     pub unheld: Gauge,
@@ -99,6 +103,18 @@ struct Maker(Registry);
 impl Maker {
     fn counters(&self, name: &str, help: &str, label: &str) -> prometheus::Result<IntCounterVec> {
         let made = IntCounterVec::new(Opts::new(format!("dumgerok_{name}_total"), help), &[label])?;
+        self.0.register(Box::new(made.clone()))?;
+        Ok(made)
+    }
+
+    fn counter(&self, name: &str, help: &str) -> prometheus::Result<IntCounter> {
+        let made = IntCounter::with_opts(Opts::new(format!("dumgerok_{name}_total"), help))?;
+        self.0.register(Box::new(made.clone()))?;
+        Ok(made)
+    }
+
+    fn count_of_seconds(&self, name: &str, help: &str) -> prometheus::Result<Counter> {
+        let made = Counter::with_opts(Opts::new(format!("dumgerok_{name}_seconds_total"), help))?;
         self.0.register(Box::new(made.clone()))?;
         Ok(made)
     }
@@ -127,8 +143,6 @@ impl Metrics {
     pub fn new(cluster: &str, keys: &[String]) -> prometheus::Result<Metrics> {
         let of_cluster = HashMap::from([("cluster".to_string(), cluster.to_string())]);
         let maker = Maker(Registry::new_custom(None, Some(of_cluster))?);
-        let groups = IntCounter::new("dumgerok_groups_total", "Changes of the node's group or phase.")?;
-        maker.0.register(Box::new(groups.clone()))?;
         maker.gauges("build_info", "1, with the version of the agent.", "version")?.with_label_values(&[VERSION]).set(1);
         maker.gauge("sealed", "Whether messages are sealed by a key.")?.set(i64::from(!keys.is_empty()));
         let named = maker.gauges("key", "1 for the name of the key that seals, 2 for one that only opens.", "name")?;
@@ -143,6 +157,10 @@ impl Metrics {
             farewells: maker.counters("farewells", "What agents said that their nodes end: taken, taken of one that began from a copy of its file, or refused as recorded.", "event")?,
             jobs: maker.counters("jobs", "Jobs, by what happened to them.", "event")?,
             durable: maker.counters("commands_durable", DURABLE, "command")?,
+            groups: maker.counter("groups", "Changes of the node's group or phase.")?,
+            stale: maker.counters("stale", "Messages that the node refused as older than what their sender had said, by sender.", "node")?,
+            compactions: maker.counter("compactions", "Compactions of the journal that a client asked for.")?,
+            compacting: maker.count_of_seconds("compactions", "How long these took in all.")?,
             leases: maker.counters("leases", "Leases of this machine, by what happened to them.", "event")?,
             lease_messages: maker.counters("lease_messages", "Messages of leases, by their way.", "way")?,
             lease_up: maker.gauge("lease_up", "Whether the process of leases is at work.")?,
@@ -162,11 +180,11 @@ impl Metrics {
             pending_max: maker.gauge("jobs_pending_max", "So many of them fit into its journal.")?,
             clients: maker.gauge("clients", "Local clients.")?,
             waiting: maker.gauge("clients_waiting", "Requests of clients that wait for a job.")?,
+            waiting_for: maker.gauges("clients_waiting_for", "Of these, those that would take a job of a queue.", "queue")?,
             recorded: maker.gauge("recorded", "Whether the node is recorded.")?,
             record_wanted: maker.gauge("record_wanted", "Whether it is to be recorded.")?,
             unheld: maker.seconds("jobs_unheld", "For how long a job in hand has had nobody who works on it, at most.")?,
             group_age: maker.seconds("group_age", "Since the node's group last changed.")?,
-            groups,
             registry: maker.0,
         };
         metrics.begin_at_zero();
@@ -198,6 +216,11 @@ impl Metrics {
         counter.inc_by(drops.saturating_sub(counter.get()));
     }
 
+    /// So many requests wait for a job of this queue.
+    pub fn wait_for(&self, queue: u8, count: usize) {
+        self.waiting_for.with_label_values(&[&queue.to_string()]).set(count as i64);
+    }
+
     /// The text of all, as of now.
     pub fn text(&self, view: &View, peers: &Peers, now: Instant) -> String {
         self.up.set(i64::from(view.is_ready && view.is_alive(now)));
@@ -210,6 +233,8 @@ impl Metrics {
         self.majority.set(i64::from(view.is_majority(peers, now)));
         self.members.set(view.group.members.len() as i64);
         self.nodes.set(view.nodes as i64);
+        // a machine may be named later than the agent began
+        peers.others().for_each(|node| self.stale.with_label_values(&[&node.to_string()]).inc_by(0));
         self.group_age.set(now.saturating_duration_since(view.changed).as_secs_f64());
         let mut text = Vec::new();
         match TextEncoder::new().encode(&self.registry.gather(), &mut text) {

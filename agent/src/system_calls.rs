@@ -3,7 +3,12 @@
 
 use rustix::process::{Pid, RawPid};
 use std::io;
-use std::mem::MaybeUninit;
+use std::mem::{size_of, size_of_val, MaybeUninit};
+use std::os::unix::io::AsRawFd;
+use std::slice;
+
+/// A process is of no more groups than the kernel has room for (NGROUPS_MAX).
+const MAX_GROUPS: usize = 65_536;
 
 /// Whatever descends from this process, and loses its parent, becomes a child of it.
 pub fn adopt_orphans() -> io::Result<()> {
@@ -37,6 +42,29 @@ pub fn is_clock_synchronized() -> bool {
     // SAFETY: zeros are a `timex`, whose fields are numbers; with `modes` zero the call sets nothing, and it writes into this one alone
     let (state, said) = unsafe { (libc::adjtimex(asked.as_mut_ptr()), asked.assume_init()) };
     state < 0 || said.status & libc::STA_UNSYNC == 0
+}
+
+/// The user, the group and the process at the other end of a Unix socket, as it connected.
+pub fn peer_of(socket: &impl AsRawFd) -> io::Result<libc::ucred> {
+    let mut found = libc::ucred { pid: 0, uid: 0, gid: 0 };
+    option_of(socket, libc::SO_PEERCRED, slice::from_mut(&mut found))?;
+    Ok(found)
+}
+
+/// The further groups of that process.
+pub fn groups_of_peer(socket: &impl AsRawFd) -> io::Result<Vec<u32>> {
+    let mut groups = vec![0; MAX_GROUPS];
+    let count = option_of(socket, libc::SO_PEERGROUPS, &mut groups)?;
+    groups.truncate(count);
+    Ok(groups)
+}
+
+/// Reads an option of a socket; how many numbers, or structures of numbers, it has.
+fn option_of<T>(socket: &impl AsRawFd, option: libc::c_int, into: &mut [T]) -> io::Result<usize> {
+    let mut size = libc::socklen_t::try_from(size_of_val(into)).map_err(|_| io::Error::from(io::ErrorKind::InvalidInput))?;
+    // SAFETY: the kernel writes no more than `size` bytes into `into`; it is called for numbers alone, of which any bytes are some
+    done(unsafe { libc::getsockopt(socket.as_raw_fd(), libc::SOL_SOCKET, option, into.as_mut_ptr().cast(), &mut size) })?;
+    Ok(size as usize / size_of::<T>())
 }
 
 fn done(status: i32) -> io::Result<()> {

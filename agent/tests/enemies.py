@@ -138,9 +138,25 @@ def odd_pages(bed):
                                  ("/status", "evil.example", 421), ("http://evil.example/status", "localhost", 421)):
         said = asked("GET %s HTTP/1.1" % target, "Host: " + host)
         check("%s of %s is answered with %d" % (target, host, status), said.startswith("HTTP/1.1 %d " % status), said[:200])
+    elsewhere(agents, check, asked)
     said = asked("DELETE / HTTP/1.1")
     check("another method is told which there are", said.startswith("HTTP/1.1 405 ") and "\r\nAllow: GET, HEAD\r\n" in said, said[:300])
     agents.stop()
+
+
+def elsewhere(agents, check, asked):
+    """Pages beyond the loopback, which a setting of its own asks for."""
+    agents.kill(0, signal.SIGTERM)
+    agents.write(0, http="0.0.0.0:%d" % agents.http[0], record=None)
+    done = subprocess.run([agents.daemon, agents.path(0, "toml")], stderr=subprocess.PIPE, text=True, timeout=PATIENCE)
+    check("an address beyond the loopback alone is refused: 2", done.returncode == 2 and "with `http_anywhere = true` another one" in done.stderr, done)
+    agents.write(0, http="0.0.0.0:%d" % agents.http[0], http_anywhere=True, record=None)
+    agents.start(0)
+    agents.one_group()
+    check("with a setting of its own it is served, and the log says who may read it", logged(agents, 0, "HTTP at 0.0.0.0:%d: whoever reaches it may read" % agents.http[0]))
+    for host, status in (("10.1.2.3:7080", 200), ("[fe80::1]", 200), ("localhost", 200), ("evil.example", 421), ("10.1.2.3.evil.example", 421)):
+        said = asked("GET /healthz HTTP/1.1", "Host: " + host)
+        check("of %s it is answered with %d" % (host, status), said.startswith("HTTP/1.1 %d " % status), said[:200])
 
 
 def old_messages(bed):

@@ -114,7 +114,8 @@ fn format_command(config: &Path) -> String {
 fn with_places_of_file(config: Config, path: &Path) -> Result<Config, u8> {
     let count = if config.file.is_file() { places(&config.file) } else { None };
     let count = count.unwrap_or(config.nodes.len());
-    config.with_places(count).map_err(|why| {
+    let has_group = config.admin().map(|_| ());
+    has_group.and_then(|()| config.with_places(count)).map_err(|why| {
         error!("{}: {why}", path.display());
         CONFIG
     })

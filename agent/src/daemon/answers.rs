@@ -163,7 +163,13 @@ impl Daemon {
                 }
                 self.clients.answer(client, &reply_of(&answer.closing).tagged(&tag));
             }
-            Asker::Compact { client, tag } => self.clients.answer(client, &reply_of(&answer.closing).tagged(&tag)),
+            Asker::Compact { client, tag, since } => {
+                if let Closing::Ok(_) = answer.closing {
+                    self.metrics.compactions.inc();
+                    self.metrics.compacting.inc_by(now.saturating_duration_since(since).as_secs_f64());
+                }
+                self.clients.answer(client, &reply_of(&answer.closing).tagged(&tag));
+            }
             Asker::Jobs { client, tag, queue, skip, limit } => {
                 self.listings -= 1;
                 let reply = jobs_of(&answer.lines, &self.hand, queue, skip, limit).tagged(&tag);
@@ -200,8 +206,11 @@ impl Daemon {
                 }
             }
             Closing::Refused(Refusal::Forged) => self.doubt(sender, from, now),
-            Closing::Refused(Refusal::Stale) if self.peers.is_stale(sender, now) => {
-                warn!("node {sender}: all that comes in its name from {from} is older than what it said before: is this recorded, or was its file put back from a copy?");
+            Closing::Refused(Refusal::Stale) => {
+                self.metrics.stale.with_label_values(&[&sender.to_string()]).inc();
+                if self.peers.is_stale(sender, now) {
+                    warn!("node {sender}: all that comes in its name from {from} is older than what it said before: is this recorded, or was its file put back from a copy?");
+                }
             }
             _ => {}
         }

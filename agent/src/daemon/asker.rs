@@ -5,6 +5,7 @@ use crate::node::{JobKey, Lane};
 use crate::protocol::Tag;
 use crate::service::ClientId;
 use std::net::SocketAddr;
+use std::time::Instant;
 
 #[derive(Clone, Debug)]
 pub enum Asker {
@@ -36,6 +37,7 @@ pub enum Asker {
     Compact {
         client: ClientId,
         tag: Tag,
+        since: Instant,
     },
     Jobs {
         client: ClientId,

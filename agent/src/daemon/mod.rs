@@ -1,5 +1,6 @@
 //! The agent: one loop over all that comes. Nothing in it blocks.
 
+mod admin;
 mod announcing;
 mod answers;
 mod asker;
@@ -52,6 +53,7 @@ use pages::PendingJobs;
 use signals::Signals;
 use std::collections::{BTreeMap, BTreeSet, HashMap};
 use std::io::ErrorKind;
+use std::net::SocketAddr;
 use std::ops::RangeInclusive;
 use std::os::unix::process::ExitStatusExt;
 use std::path::PathBuf;
@@ -114,6 +116,8 @@ pub struct Daemon {
     peers: Peers,
     resolver: Resolver,
     clients: Clients,
+    /// The group whose members may ask for what changes the machine for all: its name and number.
+    admin: Option<(String, u32)>,
     hand: Hand,
     changes: Changes,
     seal: Seal,
@@ -181,6 +185,7 @@ impl Daemon {
             resolver: Resolver::start(Arc::clone(&waker))?,
             waker,
             clients,
+            admin: config.admin()?,
             hand: Hand::default(),
             changes: Changes::new(life),
             wants_record: config.record.is_some(),
@@ -476,7 +481,12 @@ fn cipher_of(config: &Config) -> anyhow::Result<Cipher> {
 }
 
 fn http_of(config: &Config, waker: &Arc<Waker>) -> anyhow::Result<Option<Server>> {
-    let start = |at| Server::start(at, Arc::clone(waker)).with_context(|| format!("HTTP at {at}"));
+    let start = |at: SocketAddr| {
+        if !at.ip().is_loopback() {
+            warn!("HTTP at {at}: whoever reaches it may read names, addresses, groups and counts");
+        }
+        Server::start(at, config.page_hosts(), Arc::clone(waker)).with_context(|| format!("HTTP at {at}"))
+    };
     config.http.map(start).transpose()
 }
 

@@ -5,6 +5,7 @@ use super::leases::Leases;
 use super::{Asker, Daemon};
 use crate::http::{Page, Response, PAGE, THREADS};
 use crate::node::{Lane, Line};
+use crate::protocol::QUEUES;
 use serde_json::json;
 use std::time::{Duration, Instant};
 
@@ -49,6 +50,7 @@ impl Daemon {
                 self.metrics.aside.set(self.hand.count_aside() as i64);
                 self.metrics.clients.set(self.clients.count() as i64);
                 self.metrics.waiting.set(self.clients.waiting_count() as i64);
+                (0..QUEUES).for_each(|queue| self.metrics.wait_for(queue, self.clients.waiting_for(queue)));
                 self.metrics.unheld.set(self.hand.unheld(now).as_secs_f64());
                 self.metrics.recorded.set(i64::from(self.node.is_recorded()));
                 self.metrics.record_wanted.set(i64::from(self.wants_record));
@@ -79,6 +81,9 @@ impl Daemon {
             "pending_by_queue": self.pending_jobs.by_queue,
             "in_hand": self.hand.count(),
             "held": self.hand.count_held(),
+            "unheld_ms": self.hand.unheld(now).as_millis() as u64,
+            "recorded": self.node.is_recorded(),
+            "record_wanted": self.wants_record,
             "lease_ms": self.config.lease_ms,
             "leases": self.leases.as_ref().map_or_else(Vec::new, Leases::rows),
         });

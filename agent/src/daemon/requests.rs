@@ -1,5 +1,6 @@
 //! What local services ask.
 
+use super::admin::what_is_changed;
 use super::leases::Leases;
 use super::{busy, Asker, Daemon, NOT_IN_HAND};
 use crate::forward::{Client, Submission};
@@ -90,6 +91,9 @@ impl Daemon {
         now: Instant,
     ) -> Result<Option<Reply>, RequestError> {
         let tag = tag.clone();
+        if let Some(refusal) = what_is_changed(&request).and_then(|what| self.refuses(client, what)) {
+            return Ok(Some(refusal));
+        }
         Ok(match request {
             Request::Status {} => Some(self.status(now)),
             Request::Members {} => Some(Reply::ok().with("members", self.view.members(&self.peers, now))),
@@ -132,7 +136,7 @@ impl Daemon {
             }
             Request::Compact {} => {
                 self.clients.owe(client);
-                self.ask(Asker::Compact { client, tag }, "compact".to_string());
+                self.ask(Asker::Compact { client, tag, since: now }, "compact".to_string());
                 None
             }
             Request::Record { on } => Some(self.record(on)),
@@ -231,9 +235,14 @@ impl Daemon {
 
     /// The work on a job is over: it is done, or given back.
     fn end_job(&mut self, (client, tag): (ClientId, Tag), key: JobKey, back: Option<Back>, force: bool, now: Instant) -> Option<Reply> {
-        let other = self.hand.other_holder(key, client).filter(|_| !force);
+        let other = self.hand.other_holder(key, client);
         if other.map_or(false, |holder| self.clients.is_there(holder)) {
-            return Some(Reply::refused("NotYours").with("why", "another client works on it"));
+            if !force {
+                return Some(Reply::refused("NotYours").with("why", "another client works on it"));
+            }
+            if let Some(refusal) = self.refuses(client, "finish of another client's job") {
+                return Some(refusal);
+            }
         }
         if let Some(back) = back {
             return Some(self.give_back(client, key, back, now));

@@ -1,8 +1,9 @@
-//! HTTP on the loopback: probes, Prometheus, and a page for a look at the cluster.
+//! HTTP on the loopback, or where the configuration wants it: probes, Prometheus, and a page for a look at the cluster.
 
 mod request;
 mod server;
 
+pub use request::Hosts;
 pub use server::{Page, Response, Server, THREADS};
 
 /// The page that `/` shows: one file, which asks `/state` for all that it draws.

@@ -8,6 +8,32 @@ use std::net::IpAddr;
 const MAX_BYTES: usize = 8 * 1024;
 const MAX_HEADERS: usize = 64;
 
+/// In the name of which hosts the pages may be asked for: a page elsewhere whose own name was bound to this machine's address is none of them.
+#[derive(Clone, Debug, PartialEq, Eq)]
+pub enum Hosts {
+    /// This machine's loopback.
+    Loopback,
+    /// Any address as such, the loopback, and these names.
+    Anywhere(Vec<String>),
+}
+
+impl Hosts {
+    /// Whether HOST[:PORT] is one of them.
+    fn has(&self, host: &str) -> bool {
+        let name = match host.rsplit_once(':') {
+            Some((name, port)) if port.bytes().all(|byte| byte.is_ascii_digit()) && !name.ends_with(':') => name,
+            _ => host,
+        };
+        let bare = name.strip_prefix('[').and_then(|name| name.strip_suffix(']')).unwrap_or(name);
+        let address = bare.parse::<IpAddr>();
+        let is_local = bare.eq_ignore_ascii_case("localhost") || address.as_ref().map_or(false, IpAddr::is_loopback);
+        match self {
+            Hosts::Loopback => is_local,
+            Hosts::Anywhere(names) => is_local || address.is_ok() || names.iter().any(|name| name.eq_ignore_ascii_case(bare)),
+        }
+    }
+}
+
 /// What is asked for.
 #[derive(Debug, PartialEq, Eq)]
 pub enum Head {
@@ -15,13 +41,13 @@ pub enum Head {
     Get { path: String, is_head: bool },
     /// By another method.
     Other,
-    /// In the name of a host that isn't this machine's loopback: of a page elsewhere, say, whose name was bound to it.
+    /// In the name of another host.
     Elsewhere,
     Unreadable,
 }
 
 /// Reads until the head is whole. An error where the connection ends before, or nothing comes in time.
-pub fn read_head(from: &mut impl Read) -> io::Result<Head> {
+pub fn read_head(from: &mut impl Read, hosts: &Hosts) -> io::Result<Head> {
     let (mut bytes, mut piece) = (Vec::new(), [0; 1024]);
     loop {
         let count = match from.read(&mut piece) {
@@ -31,24 +57,24 @@ pub fn read_head(from: &mut impl Read) -> io::Result<Head> {
             Err(error) => return Err(error),
         };
         bytes.extend_from_slice(&piece[..count]);
-        if let Some(head) = head_of(&bytes) {
+        if let Some(head) = head_of(&bytes, hosts) {
             return Ok(head);
         }
     }
 }
 
 /// None where it isn't whole.
-fn head_of(bytes: &[u8]) -> Option<Head> {
+fn head_of(bytes: &[u8], hosts: &Hosts) -> Option<Head> {
     let mut headers = [EMPTY_HEADER; MAX_HEADERS];
     let mut request = Request::new(&mut headers);
     match request.parse(bytes) {
         Ok(Status::Partial) if bytes.len() < MAX_BYTES => None,
-        Ok(Status::Complete(_)) => Some(asked(&request)),
+        Ok(Status::Complete(_)) => Some(asked(&request, hosts)),
         _ => Some(Head::Unreadable),
     }
 }
 
-fn asked(request: &Request) -> Head {
+fn asked(request: &Request, hosts: &Hosts) -> Head {
     let is_head = match request.method {
         Some("GET") => false,
         Some("HEAD") => true,
@@ -59,7 +85,7 @@ fn asked(request: &Request) -> Head {
         (Some(host), path) => (Some(host.to_string()), path),
         (None, path) => (host_of(request), path),
     };
-    if host.map_or(false, |host| !is_loopback(&host)) {
+    if host.map_or(false, |host| !hosts.has(&host)) {
         return Head::Elsewhere;
     }
     Head::Get { path: path.split('?').next().unwrap_or_default().to_string(), is_head }
@@ -82,23 +108,13 @@ fn host_of(request: &Request) -> Option<String> {
     named.map(|header| String::from_utf8_lossy(header.value).trim().to_string())
 }
 
-/// Whether HOST[:PORT] is this machine itself.
-fn is_loopback(host: &str) -> bool {
-    let name = match host.rsplit_once(':') {
-        Some((name, port)) if port.bytes().all(|byte| byte.is_ascii_digit()) && !name.ends_with(':') => name,
-        _ => host,
-    };
-    let bare = name.strip_prefix('[').and_then(|name| name.strip_suffix(']')).unwrap_or(name);
-    bare.eq_ignore_ascii_case("localhost") || bare.parse::<IpAddr>().map_or(false, |address| address.is_loopback())
-}
-
 #[cfg(test)]
 mod tests {
     use super::*;
 
     #[test]
     fn heads() {
-        let read = |text: &str| read_head(&mut text.as_bytes()).map_err(|error| error.kind());
+        let read = |text: &str| read_head(&mut text.as_bytes(), &Hosts::Loopback).map_err(|error| error.kind());
         let get = |path: &str| Ok(Head::Get { path: path.to_string(), is_head: false });
         assert_eq!(read("GET /a?b=1 HTTP/1.1\r\nHost: localhost\r\n\r\nmore"), get("/a"));
         assert_eq!(read("GET / HTTP/1.0\n\n"), get("/"));
@@ -121,6 +137,15 @@ mod tests {
     }
 
     #[test]
+    fn beyond_the_loopback_addresses_and_named_hosts_are_answered() {
+        let hosts = Hosts::Anywhere(vec!["db-1.example".to_string()]);
+        let all = ["10.0.0.1:7080", "[fe80::1]:7080", "localhost", "DB-1.example:7080", "db-1.example"];
+        assert!(all.iter().all(|host| hosts.has(host)));
+        assert!(["evil.example", "evil.db-1.example", "db-1.example.evil:7080", "10.0.0.1.evil", ""].iter().all(|host| !hosts.has(host)));
+        assert!(!Hosts::Loopback.has("db-1.example") && !Hosts::Loopback.has("10.0.0.1"));
+    }
+
+    #[test]
     fn a_head_may_come_in_pieces() {
         struct Slow<'a>(&'a [u8]);
         impl Read for Slow<'_> {
@@ -128,7 +153,7 @@ mod tests {
                 self.0.read(&mut bytes[..1])
             }
         }
-        let head = read_head(&mut Slow(b"GET /metrics HTTP/1.1\r\nHost: [::1]\r\n\r\n")).unwrap();
+        let head = read_head(&mut Slow(b"GET /metrics HTTP/1.1\r\nHost: [::1]\r\n\r\n"), &Hosts::Loopback).unwrap();
         assert_eq!(head, Head::Get { path: "/metrics".to_string(), is_head: false });
     }
 }

@@ -1,7 +1,7 @@
 //! The server: a few threads, each for one request at a time, which the loop answers. It reads no more of a request than its head, for so long at most,
 //! and ends the connection behind each answer: so however many come, they take no more than these threads.
 
-use super::request::{read_head, Head};
+use super::request::{read_head, Head, Hosts};
 use log::warn;
 use mio::Waker;
 use std::io::{self, Read, Write};
@@ -84,12 +84,12 @@ pub struct Server {
 }
 
 impl Server {
-    pub fn start(at: SocketAddr, waker: Arc<Waker>) -> io::Result<Server> {
-        let listener = Arc::new(TcpListener::bind(at)?);
+    pub fn start(at: SocketAddr, hosts: Hosts, waker: Arc<Waker>) -> io::Result<Server> {
+        let (listener, hosts) = (Arc::new(TcpListener::bind(at)?), Arc::new(hosts));
         let (to, from) = sync_channel(THREADS);
         for _ in 0..THREADS {
-            let (listener, to, waker) = (Arc::clone(&listener), to.clone(), Arc::clone(&waker));
-            thread::Builder::new().spawn(move || serve(&listener, &to, &waker))?;
+            let (listener, hosts, to, waker) = (Arc::clone(&listener), Arc::clone(&hosts), to.clone(), Arc::clone(&waker));
+            thread::Builder::new().spawn(move || serve(&listener, &hosts, &to, &waker))?;
         }
         Ok(Server { from })
     }
@@ -100,11 +100,11 @@ impl Server {
     }
 }
 
-fn serve(listener: &TcpListener, to: &SyncSender<Page>, waker: &Waker) {
+fn serve(listener: &TcpListener, hosts: &Hosts, to: &SyncSender<Page>, waker: &Waker) {
     loop {
         match listener.accept() {
             // one that went away isn't told
-            Ok((stream, _)) => drop(serve_one(&stream, to, waker)),
+            Ok((stream, _)) => drop(serve_one(&stream, hosts, to, waker)),
             Err(error) if matches!(error.kind(), io::ErrorKind::Interrupted | io::ErrorKind::ConnectionAborted) => {}
             Err(error) => {
                 warn!("HTTP: {error}");
@@ -114,12 +114,12 @@ fn serve(listener: &TcpListener, to: &SyncSender<Page>, waker: &Waker) {
     }
 }
 
-fn serve_one(stream: &TcpStream, to: &SyncSender<Page>, waker: &Waker) -> io::Result<()> {
+fn serve_one(stream: &TcpStream, hosts: &Hosts, to: &SyncSender<Page>, waker: &Waker) -> io::Result<()> {
     let until = Instant::now() + PATIENCE;
-    let (response, is_head) = match read_head(&mut Timed { stream, until })? {
+    let (response, is_head) = match read_head(&mut Timed { stream, until }, hosts)? {
         Head::Get { path, is_head } => (response_to(path, to, waker), is_head),
         Head::Other => (Response::text(405, "GET and HEAD alone"), false),
-        Head::Elsewhere => (Response::text(421, "this is asked of another host: ask 127.0.0.1, localhost or [::1]"), false),
+        Head::Elsewhere => (Response::text(421, "this is asked of another host: ask an address, localhost, or a host that `nodes` names"), false),
         Head::Unreadable => (Response::text(400, "this is no request"), false),
     };
     let until = Instant::now() + PATIENCE;

@@ -1,6 +1,6 @@
 //! One client: what it wrote and wasn't read yet, and what it wasn't told yet.
 
-use super::Beats;
+use super::{Beats, Peer};
 use mio::net::UnixStream;
 use std::io::{self, ErrorKind, Read, Write};
 use std::time::Instant;
@@ -63,6 +63,10 @@ impl Client {
 
     pub fn stream(&mut self) -> &mut UnixStream {
         &mut self.stream
+    }
+
+    pub fn peer(&self) -> io::Result<Peer> {
+        Peer::of(&self.stream)
     }
 
     /// Something came of it, it takes more, or it hung up.

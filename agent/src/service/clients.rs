@@ -1,7 +1,7 @@
 //! All clients.
 
 use super::client::{Client, Next};
-use super::Beats;
+use super::{Beats, Peer};
 use crate::protocol::{Reply, Tag, Wanted};
 use log::{debug, warn};
 use mio::net::{UnixListener, UnixStream};
@@ -90,6 +90,11 @@ impl Clients {
         (self.listener, self.own) = bound(&self.path, registry, token)?;
         self.has_more = true;
         Ok(())
+    }
+
+    /// Who a client is; None where the system doesn't say so.
+    pub fn peer(&self, id: ClientId) -> Option<Peer> {
+        self.all.get(&id)?.peer().ok()
     }
 
     pub fn count(&self) -> usize {
@@ -332,6 +337,11 @@ impl Clients {
     pub fn waiting_count(&self) -> usize {
         self.waiting.len()
     }
+
+    /// How many of the requests that wait would take a job of this queue.
+    pub fn waiting_for(&self, queue: u8) -> usize {
+        self.waiting.iter().filter(|one| one.wanted.has(queue)).count()
+    }
 }
 
 impl Drop for Clients {
@@ -423,5 +433,7 @@ mod tests {
         clients.wait_on(waiting);
         assert_eq!(clients.take_first_waiting(2).map(|one| one.client), Some(FIRST + 1));
         assert_eq!(clients.waiting_count(), 0);
+        [(FIRST + 1, 2), (FIRST + 1, 3)].into_iter().for_each(|(id, queue)| wait(&mut clients, id, queue));
+        assert_eq!([2, 3, 4].map(|queue| clients.waiting_for(queue)), [1, 1, 0]);
     }
 }

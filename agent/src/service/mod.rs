@@ -4,9 +4,11 @@ mod attempts;
 mod client;
 mod clients;
 mod hand;
+mod peer;
 mod watch;
 
 pub use client::Client;
 pub use clients::{is_left, ClientId, Clients, Waiting};
 pub use hand::{Back, Given, Hand, Taken};
+pub use peer::Peer;
 pub use watch::{Beats, Changes};
