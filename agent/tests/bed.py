@@ -47,6 +47,12 @@ def is_there(pid):
         return False
 
 
+def command(pid):
+    """The first word behind the program's name."""
+    with open("/proc/%d/cmdline" % pid) as file:
+        return (file.read().split("\0") + [""])[1]
+
+
 def datagram_socket():
     link = socket.socket(socket.AF_INET, socket.SOCK_DGRAM)
     link.bind(("127.0.0.1", 0))
@@ -219,9 +225,11 @@ class Agents:
                 process.wait()
 
     def figures(self, i):
-        """Of agent and node: seconds of processor, kB of memory, voluntary switches (wakes)."""
-        rows = {}
-        for who, pid in (("agent", self.processes[i].pid), ("node", self.node(i))):
+        """Of the agent and of each process of the program, which is named by its command: seconds of processor, kB of memory, voluntary switches (wakes)."""
+        rows, own = {}, self.processes[i].pid
+        with open("/proc/%d/task/%d/children" % (own, own)) as file:
+            pids = {command(pid): pid for pid in map(int, file.read().split())}
+        for who, pid in dict(agent=own, **pids).items():
             switches = kb = 0
             for task in os.listdir("/proc/%d/task" % pid):
                 with open("/proc/%d/task/%s/status" % (pid, task)) as file:

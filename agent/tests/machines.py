@@ -245,6 +245,13 @@ def voters(bed):
         for i in range(4):
             tell(agents, i, {0, 1, 2, 3})
         tally.note("four vote after %.2f s" % agents.until(lambda: among() == [4] * 4))
+        # one that begins while another is away goes by what its disk has: who never voted would wait for all
+        agents.kill(2)
+        agents.kill(3)
+        agents.start(3)
+        agents.until(lambda: among()[3] == 4)
+        agents.start(2)
+        agents.until(lambda: among() == [4] * 4)
         leads.processes[4].kill()
         tally.check("one of them leads", leads.wait_for_leader(range(4)) in range(4))
         leads.judge(tally)("no two lead at a time", overlap(leads.paths) == 0, overlap(leads.paths))
@@ -272,6 +279,7 @@ def places(bed):
     said = logged(agents, 0, "nothing was taken of it")[0]
     check("more places than its file has aren't taken, and it says what is to be done", "nodes: has 4 places, and" in said and "is the file of a node of 3. One of more is made so" in said and "format --places N --jobs jobs" in said, said)
     check("and all goes on", agents.one_group() >= 0)
+    left_out_at_once(bed, agents)
     agents.kill(0, signal.SIGTERM)
     status, said = ends(agents, 0)
     check("nor at a start: 2", status == 2 and "is the file of a node of 3" in said, (status, said))
@@ -286,6 +294,22 @@ def places(bed):
     bed.tally.steady(agents)("a machine is taken away from three places, too", agents.ask(1, do="submit", queue=1, text="x")["ok"] and agents.status(2)["majority"])
     formatted(bed, agents)
     agents.stop()
+
+
+def left_out_at_once(bed, agents):
+    """A member that is at work is taken off the lists: the others go on without it at once, and not only once three checks found it silent."""
+    peers = agents.relay.peers
+    for i in (1, 2):
+        agents.write(i, nodes=["-", *peers(i)[1:]], record=None)
+    for i in (1, 2):
+        agents.processes[i].send_signal(signal.SIGHUP)
+    took = agents.one_group([1, 2])
+    bed.tally.timed("a member that is taken off the lists is left out at once", took < 50 * bed.round_trip / 1000, took)
+    bed.tally.check("and the log says so", logged(agents, 1, "node 0: its machine was taken away"))
+    for i in (1, 2):
+        agents.write(i, nodes=peers(i), record=None)
+        agents.processes[i].send_signal(signal.SIGHUP)
+    agents.one_group()
 
 
 def formatted(bed, agents):

@@ -5,6 +5,7 @@ use super::arguments::{Arguments, Command, OnOff};
 use super::worker::{self, Worker};
 use super::format::{make_leases, Format};
 use super::{drain, event, file, key, program, show, Failure};
+use crate::judge::Trace;
 use clap::CommandFactory;
 use dumgerok_client::{JobKey, Request, Submission};
 use serde_json::Value;
@@ -22,7 +23,16 @@ const MAX_INPUT: u64 = 4096;
 /// Writes text; a reader that went away ends the command without a word.
 fn print(text: &str) -> Result<(), Failure> {
     let mut out = io::stdout().lock();
-    match out.write_all(text.as_bytes()).and_then(|()| out.flush()) {
+    printed(out.write_all(text.as_bytes()).and_then(|()| out.flush()))
+}
+
+fn print_trace(trace: &Trace) -> Result<(), Failure> {
+    let mut out = io::BufWriter::new(io::stdout().lock());
+    printed(trace.write(&mut out).and_then(|()| writeln!(out)).and_then(|()| out.flush()))
+}
+
+fn printed(written: io::Result<()>) -> Result<(), Failure> {
+    match written {
         Err(why) if why.kind() == ErrorKind::BrokenPipe => std::process::exit(0),
         written => written.map_err(Failure::Output),
     }
@@ -55,7 +65,7 @@ pub fn run(arguments: Arguments) -> Result<(), Failure> {
         Command::Key { file } => print(&key::make(file)?),
         Command::Inspect { look, verify } => shown(program::look(look, "inspect", verify.then_some("--verify"))?, look.json || before.json, file::inspected),
         Command::Export { look, salvage } => shown(program::look(look, "export", salvage.then_some("--salvage"))?, look.json || before.json, file::exported),
-        Command::Judge { files, program: _, trace: true } => print(&format!("{}\n", program::trace_of(files)?)),
+        Command::Judge { files, program: _, trace: true } => print_trace(&program::trace_of(files)?),
         Command::Judge { files, program, trace: false } => program::judge(files, program),
         Command::Draw { file, to, program } => {
             let (text, status) = program::drawn(file.as_deref(), *to, program)?;

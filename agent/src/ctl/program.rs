@@ -5,7 +5,6 @@ use super::Failure;
 use crate::config::Config;
 use crate::draw::{draw, DrawError, Form};
 use crate::judge;
-use serde_json::Value;
 use std::fs;
 use std::io::{self, Read};
 use std::path::{Path, PathBuf};
@@ -27,8 +26,8 @@ pub fn look(look: &Look, word: &str, option: Option<&str>) -> Result<(String, Ex
 }
 
 /// One trace of the records of all nodes.
-pub fn trace_of(files: &[PathBuf]) -> Result<Value, Failure> {
-    let read = judge::read(files).and_then(|records| judge::trace_of(&records));
+pub fn trace_of(files: &[PathBuf]) -> Result<judge::Trace, Failure> {
+    let read = judge::read(files).and_then(judge::trace_of);
     read.map_err(|why| Failure::Usage(why.to_string()))
 }
 
@@ -39,7 +38,7 @@ pub fn judge(files: &[PathBuf], program: &Path) -> Result<(), Failure> {
     let mut child = Command::new(program).arg("trace").stdin(Stdio::piped()).spawn().map_err(named)?;
     if let Some(input) = child.stdin.take() {
         // where it doesn't read to the end its status says why
-        let _unread = serde_json::to_writer(std::io::BufWriter::new(input), &trace);
+        let _unread = trace.write(&mut io::BufWriter::new(input));
     }
     Failure::of_status(child.wait().map_err(named)?)
 }

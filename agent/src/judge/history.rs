@@ -1,7 +1,7 @@
 //! What one node did, as the entries of a trace.
 
 use super::message::{message_of, Begin};
-use super::order::Turn;
+use super::order::{Message, Sent, Turn};
 use super::{NodeRecord, RecordError};
 use crate::node::{Closing, Group, Phase};
 use serde_json::{json, Map, Value};
@@ -36,7 +36,8 @@ struct Kept {
 pub struct History<'a> {
     own: u8,
     begins: &'a [Begin],
-    entries: Vec<Value>,
+    /// The entries as JSON, with commas between them.
+    entries: String,
     /// What an order needs to know of each entry.
     turns: Vec<Turn>,
     /// The node's clock as it was told last: the time of the machine where the record has it, else what its processes took.
@@ -45,8 +46,8 @@ pub struct History<'a> {
     began: u64,
     /// From this turn on they have no time yet: the node is told it behind all else that it is asked.
     untimed: usize,
-    /// Of each message that was sent the last turn that sent it, and its place there.
-    sent: HashMap<String, (usize, usize)>,
+    /// Of each message that was sent, as the trace has it, the last turn that sent it, and its place there.
+    sent: HashMap<Message, (usize, usize)>,
     kept: Kept,
     is_up: bool,
     leads: bool,
@@ -64,7 +65,7 @@ impl<'a> History<'a> {
         let mut history = History {
             own,
             begins,
-            entries: Vec::new(),
+            entries: String::new(),
             turns: Vec::new(),
             time: 0,
             began: 0,
@@ -79,7 +80,7 @@ impl<'a> History<'a> {
             recoveries: 0,
         };
         let (mut request, mut answer): (Option<&str>, Vec<&str>) = (None, Vec::new());
-        for line in &record.lines {
+        for line in record.lines() {
             if let Some(asked) = line.strip_prefix("> ") {
                 request = Some(asked);
                 answer.clear();
@@ -89,7 +90,7 @@ impl<'a> History<'a> {
                 history.untimed = history.turns.len();
                 history.killed(request.take());
             } else if let Some(closing) = Closing::read(line) {
-                let fault = || RecordError::Line { node: record.node, line: line.clone() };
+                let fault = || RecordError::Line { node: record.node, line: line.to_string() };
                 history.answered(request.take().ok_or_else(fault)?, &answer, &closing).ok_or_else(fault)?;
             } else {
                 answer.push(line);
@@ -99,7 +100,7 @@ impl<'a> History<'a> {
     }
 
     /// The entries, and what an order needs to know of each.
-    pub fn entries(self) -> (Vec<Value>, Vec<Turn>) {
+    pub fn entries(self) -> (String, Vec<Turn>) {
         (self.entries, self.turns)
     }
 
@@ -117,25 +118,28 @@ impl<'a> History<'a> {
         let mut entry = fields;
         let messages: Vec<String> = sent.iter().map(|digits| message_of(digits, self.begins)).collect();
         let turn = self.turns.len();
-        self.sent.extend(messages.iter().cloned().zip((0..).map(|place| (turn, place))));
+        self.sent.extend(messages.iter().map(|digits| Message::of(digits)).zip((0..).map(|place| (turn, place))));
         entry.insert("do".to_string(), json!(name));
         entry.insert("sent".to_string(), json!(messages));
-        self.entries.push(Value::Object(entry));
+        if !self.entries.is_empty() {
+            self.entries.push(',');
+        }
+        self.entries.push_str(&Value::Object(entry).to_string());
         let brought = if name == "deliver" { request.split(' ').nth(1) } else { None };
         self.turns.push(Turn {
             time: self.time,
-            sent: sent.iter().map(|digits| vec![digits.to_string()]).collect(),
-            brought: brought.map(str::to_string),
+            sent: sent.iter().map(|digits| Sent { first: Message::of(digits), again: Vec::new() }).collect(),
+            brought: brought.map(Message::of),
         });
     }
 
     /// A message that is sent again, under another seal, is that of the turn that sent it.
     fn sent_again(&mut self, event: &Event) {
         for digits in event.sent() {
-            if let Some((turn, place)) = self.sent.get(&message_of(digits, self.begins)) {
-                let copies = &mut self.turns[*turn].sent[*place];
-                if copies[0] != digits {
-                    copies.push(digits.to_string());
+            if let Some((turn, place)) = self.sent.get(&Message::of(&message_of(digits, self.begins))) {
+                let (sent, copy) = (&mut self.turns[*turn].sent[*place], Message::of(digits));
+                if sent.first != copy {
+                    sent.again.push(copy);
                 }
             }
         }
@@ -328,11 +332,14 @@ impl<'a> History<'a> {
 mod tests {
     use super::*;
 
+    fn values(entries: &str) -> Vec<Value> {
+        serde_json::from_str(&format!("[{entries}]")).unwrap()
+    }
+
     fn entries(lines: &str) -> Vec<String> {
-        let record = NodeRecord { node: 0, is_there: true, lines: lines.lines().map(str::to_string).collect() };
         let begins = [Begin { count: 100, id: 5 }];
-        let (entries, _) = History::of(0, &record, &begins).unwrap().entries();
-        entries.iter().map(Value::to_string).collect()
+        let (entries, _) = History::of(0, &NodeRecord::of_text(0, lines), &begins).unwrap().entries();
+        values(&entries).iter().map(Value::to_string).collect()
     }
 
     const START: &str = "start\n> recover\ngroup Normal 0 0:101 0\nkeeps 101 5 0\nok 1\n";
@@ -371,8 +378,9 @@ mod tests {
             (90_000, [5009, 90_001, 90_001, 91_900]),
         ] {
             let lines = START.replace("start", "start 5000") + &tick(9) + &again(second) + &tick(1) + &tick(1900);
-            let record = NodeRecord { node: 0, is_there: true, lines: lines.lines().map(str::to_string).collect() };
-            let (entries, turns) = History::of(0, &record, &[Begin { count: 100, id: 5 }]).unwrap().entries();
+            let begins = [Begin { count: 100, id: 5 }];
+            let (entries, turns) = History::of(0, &NodeRecord::of_text(0, &lines), &begins).unwrap().entries();
+            let entries = values(&entries);
             let seen: Vec<(&str, u64)> =
                 entries.iter().zip(&turns).map(|(entry, turn)| (entry["do"].as_str().unwrap(), turn.time)).collect();
             let what = ["check", "crash", "recover", "check", "check"];
@@ -385,8 +393,7 @@ mod tests {
     #[test]
     fn counts_that_no_node_reaches_are_refused() {
         let lines = format!("{START}> merge\nstart\n> recover\nkeeps 18446744073709551615 5 0\nok 1\n");
-        let record = NodeRecord { node: 0, is_there: true, lines: lines.lines().map(str::to_string).collect() };
-        assert!(History::of(0, &record, &[Begin { count: 100, id: 5 }]).is_err());
+        assert!(History::of(0, &NodeRecord::of_text(0, &lines), &[Begin { count: 100, id: 5 }]).is_err());
     }
 
     #[test]

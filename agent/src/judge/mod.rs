@@ -9,18 +9,40 @@ pub use records::{read, NodeRecord, RecordError};
 
 use history::History;
 use message::Begin;
-use serde_json::{json, Value};
+use std::io::{self, Write};
 
-/// The trace of the records of all nodes, in their order, and the order of their turns where one is found.
-pub fn trace_of(records: &[NodeRecord]) -> Result<Value, RecordError> {
-    let begins = records.iter().map(begin_of).collect::<Result<Vec<Begin>, _>>()?;
-    let histories = (0..).zip(records).map(|(own, record)| History::of(own, record, &begins).map(History::entries));
-    let (histories, turns): (Vec<_>, Vec<_>) = histories.collect::<Result<Vec<_>, _>>()?.into_iter().unzip();
-    let mut trace = json!({"nodes": records.len(), "histories": histories});
-    if let Some(order) = order::of(&turns) {
-        trace["order"] = json!(order);
+/// The trace of a cluster: the text of each node's history, and the order of all turns where one is found.
+pub struct Trace {
+    histories: Vec<String>,
+    order: Option<String>,
+}
+
+impl Trace {
+    /// Writes it as JSON, without a copy of it.
+    pub fn write(&self, out: &mut impl Write) -> io::Result<()> {
+        write!(out, "{{\"histories\":[")?;
+        for (node, entries) in self.histories.iter().enumerate() {
+            write!(out, "{}[{entries}]", if node == 0 { "" } else { "," })?;
+        }
+        write!(out, "],\"nodes\":{}", self.histories.len())?;
+        if let Some(order) = &self.order {
+            write!(out, ",\"order\":\"{order}\"")?;
+        }
+        write!(out, "}}")?;
+        out.flush()
     }
-    Ok(trace)
+}
+
+/// The trace of the records of all nodes, in their order. Each record is let go of once its history is made: it is about as large.
+pub fn trace_of(records: Vec<NodeRecord>) -> Result<Trace, RecordError> {
+    let begins = records.iter().map(begin_of).collect::<Result<Vec<Begin>, _>>()?;
+    let (mut histories, mut turns) = (Vec::new(), Vec::new());
+    for (own, record) in (0..).zip(records) {
+        let (entries, its_turns) = History::of(own, &record, &begins)?.entries();
+        histories.push(entries);
+        turns.push(its_turns);
+    }
+    Ok(Trace { histories, order: order::of(&turns) })
 }
 
 /// What the file of a node kept when its record began: a trace begins with count 1 and id 0.
@@ -29,13 +51,13 @@ fn begin_of(record: &NodeRecord) -> Result<Begin, RecordError> {
         return Ok(Begin::default());
     }
     let fault = |what| RecordError::NoBegin { node: record.node, what };
-    if record.lines.first().map_or(false, |first| !first.starts_with("start")) {
+    if record.lines().next().map_or(false, |first| !first.starts_with("start")) {
         return Err(fault("the node ran already"));
     }
-    if record.lines.iter().any(|line| line == "off") {
+    if record.lines().any(|line| line == "off") {
         return Err(RecordError::Ended { node: record.node });
     }
-    let keeps = record.lines.iter().find_map(|line| line.strip_prefix("keeps "));
+    let keeps = record.lines().find_map(|line| line.strip_prefix("keeps "));
     let numbers: Vec<u64> = keeps.unwrap_or_default().split(' ').filter_map(|word| word.parse().ok()).collect();
     match numbers.as_slice() {
         [count, next, 0] => Ok(Begin { count: count.saturating_sub(1), id: *next }),
@@ -48,10 +70,17 @@ fn begin_of(record: &NodeRecord) -> Result<Begin, RecordError> {
 mod tests {
     use super::*;
 
+    fn written(trace: &Trace) -> serde_json::Value {
+        let mut bytes = Vec::new();
+        trace.write(&mut bytes).unwrap();
+        serde_json::from_slice(&bytes).unwrap()
+    }
+
     fn said(lines: &str) -> String {
-        let record = NodeRecord { node: 0, is_there: true, lines: lines.lines().map(str::to_string).collect() };
-        let empty = NodeRecord { node: 1, is_there: false, lines: Vec::new() };
-        trace_of(&[record, empty]).map_or_else(|why| why.to_string(), |trace| trace["nodes"].to_string())
+        let record = NodeRecord::of_text(0, lines);
+        let mut empty = NodeRecord::of_text(1, "");
+        empty.is_there = false;
+        trace_of(vec![record, empty]).map_or_else(|why| why.to_string(), |trace| written(&trace)["nodes"].to_string())
     }
 
     #[test]

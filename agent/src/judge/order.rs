@@ -1,30 +1,96 @@
 //! An order in which the turns of all nodes can have come.
 
+use sha2::{Digest, Sha256};
 use std::cmp::Reverse;
 use std::collections::{BinaryHeap, HashMap};
+use std::fmt::Write;
 
 /// A message that was sent more than once comes so many milliseconds later than the record says, where each that was sent by then has come already: the
 /// nodes' clocks differ by less.
 const SLACK: u64 = 10;
 
-/// What an order needs to know of an entry. Messages are the digits of the record, with their seals.
+/// A message, told from others by so much of the hash of its digits that no two have the same.
+#[derive(Clone, Copy, Debug, PartialEq, Eq, Hash)]
+pub struct Message([u8; 16]);
+
+impl Message {
+    pub fn of(digits: &str) -> Message {
+        let mut first = [0; 16];
+        first.copy_from_slice(&Sha256::digest(digits.as_bytes())[..16]);
+        Message(first)
+    }
+}
+
+/// A message that was sent, and what it was when it was sent again, under other seals.
+pub struct Sent {
+    pub first: Message,
+    pub again: Vec<Message>,
+}
+
+impl Sent {
+    fn all(&self) -> impl Iterator<Item = Message> + '_ {
+        std::iter::once(self.first).chain(self.again.iter().copied())
+    }
+}
+
+/// What an order needs to know of an entry. Messages are those of the record, with their seals.
 pub struct Turn {
     /// The node's clock by then.
     pub time: u64,
-    /// Of each message its digits, and those that it had when it was sent again.
-    pub sent: Vec<Vec<String>>,
-    pub brought: Option<String>,
+    pub sent: Vec<Sent>,
+    pub brought: Option<Message>,
+}
+
+/// What is known of a message so far.
+#[derive(Default)]
+struct Known {
+    /// How often it is sent in all.
+    sendings: u32,
+    /// How many more of it were sent than came.
+    under_way: i32,
+    /// The number of its first sending.
+    number: Option<u64>,
 }
 
 /// What was sent so far, and who waits.
-#[derive(Default)]
-struct Post<'a> {
-    /// The number of the first sending of each message.
-    numbers: HashMap<&'a str, u64>,
-    /// How many more of it were sent than came.
-    under_way: HashMap<&'a str, i64>,
-    waiting: HashMap<&'a str, Vec<usize>>,
+struct Post {
+    known: HashMap<Message, Known>,
+    waiting: HashMap<Message, Vec<usize>>,
     count: u64,
+}
+
+impl Post {
+    fn of(histories: &[Vec<Turn>]) -> Post {
+        let mut known: HashMap<Message, Known> = HashMap::new();
+        for message in histories.iter().flatten().flat_map(|turn| &turn.sent).flat_map(Sent::all) {
+            known.entry(message).or_default().sendings += 1;
+        }
+        Post { known, waiting: HashMap::new(), count: 0 }
+    }
+
+    fn was_sent(&self, message: Message) -> bool {
+        self.known.get(&message).map_or(false, |known| known.number.is_some())
+    }
+
+    /// Whether more of a message that is sent more than once came than were sent by now.
+    fn is_early(&self, message: Message) -> bool {
+        self.known.get(&message).map_or(false, |known| known.sendings > 1 && known.under_way <= 0)
+    }
+
+    /// A message comes: the number of its sending, where there is one alone.
+    fn comes(&mut self, message: Message) -> Option<u64> {
+        let known = self.known.get_mut(&message)?;
+        known.under_way -= 1;
+        known.number.filter(|_| known.sendings == 1)
+    }
+
+    /// A message is sent, with the next number; the nodes that waited for it.
+    fn sends(&mut self, message: Message) -> Vec<usize> {
+        let known = self.known.entry(message).or_default();
+        known.number.get_or_insert(self.count);
+        known.under_way += 1;
+        self.waiting.remove(&message).unwrap_or_default()
+    }
 }
 
 /// When a node's next turn may come: of equal times first one that was brought nothing; and whether it was put off.
@@ -35,33 +101,23 @@ type Ready = BinaryHeap<Reverse<(u64, bool, usize, bool)>>;
 /// where it was sent more than once, since which of these came isn't known. A message under a seal is sent once. None where a message that
 /// was brought was never sent.
 pub fn of(histories: &[Vec<Turn>]) -> Option<String> {
-    let mut sendings: HashMap<&str, u64> = HashMap::new();
-    for digits in histories.iter().flatten().flat_map(|turn| &turn.sent).flatten() {
-        *sendings.entry(digits).or_default() += 1;
-    }
-    let mut post = Post::default();
+    let mut post = Post::of(histories);
     let mut places = vec![0; histories.len()];
-    let mut ready = Ready::new();
-    let mut words: Vec<String> = Vec::new();
+    let (mut ready, mut words) = (Ready::new(), String::new());
     (0..histories.len()).for_each(|node| wait(&mut post, &mut ready, histories, &places, node));
     while let Some(Reverse((time, _, node, was_put_off))) = ready.pop() {
         let turn = &histories[node][places[node]];
-        let brought = turn.brought.as_deref();
-        let is_early = |digits: &str| sendings[digits] > 1 && post.under_way[digits] <= 0;
-        if !was_put_off && brought.map_or(false, is_early) {
+        if !was_put_off && turn.brought.map_or(false, |message| post.is_early(message)) {
             ready.push(Reverse((time.saturating_add(SLACK), true, node, true)));
             continue;
         }
-        let number = brought.filter(|digits| sendings[digits] == 1).map(|digits| post.numbers[digits]);
-        words.push(node.to_string());
-        words.push(number.map_or_else(|| "-".to_string(), |number| number.to_string()));
+        let number = turn.brought.and_then(|message| post.comes(message));
+        let number = number.map_or_else(|| "-".to_string(), |number| number.to_string());
+        write!(words, "{}{node} {number}", if words.is_empty() { "" } else { " " }).ok()?;
         places[node] += 1;
-        brought.into_iter().for_each(|digits| *post.under_way.entry(digits).or_default() -= 1);
-        for copies in &turn.sent {
-            for digits in copies {
-                post.numbers.entry(digits).or_insert(post.count);
-                *post.under_way.entry(digits).or_default() += 1;
-                for woken in post.waiting.remove(digits.as_str()).unwrap_or_default() {
+        for sent in &turn.sent {
+            for message in sent.all() {
+                for woken in post.sends(message) {
                     wait(&mut post, &mut ready, histories, &places, woken);
                 }
             }
@@ -70,17 +126,17 @@ pub fn of(histories: &[Vec<Turn>]) -> Option<String> {
         wait(&mut post, &mut ready, histories, &places, node);
     }
     let is_whole = places.iter().zip(histories).all(|(place, turns)| *place == turns.len());
-    is_whole.then(|| words.join(" "))
+    is_whole.then_some(words)
 }
 
 /// The node's next turn can come, or waits for its message.
-fn wait<'a>(post: &mut Post<'a>, ready: &mut Ready, histories: &'a [Vec<Turn>], places: &[usize], node: usize) {
+fn wait(post: &mut Post, ready: &mut Ready, histories: &[Vec<Turn>], places: &[usize], node: usize) {
     let turn = match histories[node].get(places[node]) {
         Some(turn) => turn,
         None => return,
     };
-    match turn.brought.as_deref() {
-        Some(digits) if !post.numbers.contains_key(digits) => post.waiting.entry(digits).or_default().push(node),
+    match turn.brought {
+        Some(message) if !post.was_sent(message) => post.waiting.entry(message).or_default().push(node),
         brought => ready.push(Reverse((turn.time, brought.is_some(), node, false))),
     }
 }
@@ -89,11 +145,16 @@ fn wait<'a>(post: &mut Post<'a>, ready: &mut Ready, histories: &'a [Vec<Turn>], 
 mod tests {
     use super::*;
 
+    fn sent_of(digits: &str) -> Sent {
+        let mut all = digits.split('+').map(Message::of);
+        Sent { first: all.next().unwrap(), again: all.collect() }
+    }
+
     fn turn(time: u64, brought: &str, sent: &[&str]) -> Turn {
         Turn {
             time,
-            sent: sent.iter().map(|digits| digits.split('+').map(str::to_string).collect()).collect(),
-            brought: Some(brought).filter(|digits| !digits.is_empty()).map(str::to_string),
+            sent: sent.iter().map(|digits| sent_of(digits)).collect(),
+            brought: Some(brought).filter(|digits| !digits.is_empty()).map(Message::of),
         }
     }
 

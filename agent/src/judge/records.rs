@@ -36,7 +36,37 @@ pub struct NodeRecord {
     pub node: usize,
     /// Whether there is a file of it.
     pub is_there: bool,
-    pub lines: Vec<String>,
+    /// What stands in its files behind their first lines. They are kept as they are, without a copy of each line: records may be larger than half of the memory.
+    parts: Vec<Text>,
+}
+
+impl NodeRecord {
+    fn new(node: usize) -> NodeRecord {
+        NodeRecord { node, is_there: false, parts: Vec::new() }
+    }
+
+    pub fn lines(&self) -> impl Iterator<Item = &str> {
+        self.parts.iter().flat_map(Text::lines)
+    }
+
+    #[cfg(test)]
+    pub fn of_text(node: usize, text: &str) -> NodeRecord {
+        let whole = Text { text: text.to_string(), begin: 0, end: text.len() };
+        NodeRecord { node, is_there: true, parts: vec![whole] }
+    }
+}
+
+/// The lines of a file that count: those between two places of its text.
+struct Text {
+    text: String,
+    begin: usize,
+    end: usize,
+}
+
+impl Text {
+    fn lines(&self) -> std::str::Lines<'_> {
+        self.text[self.begin..self.end].lines()
+    }
 }
 
 /// Where a message has its sender, in hex digits.
@@ -53,24 +83,25 @@ struct Part {
     nodes: usize,
     part: u64,
     cluster: String,
-    lines: Vec<String>,
+    text: Text,
 }
 
 impl Part {
-    fn of(path: &Path, bytes: &[u8]) -> Result<Part, RecordError> {
-        let text = String::from_utf8_lossy(bytes);
+    fn of(path: &Path, bytes: Vec<u8>) -> Result<Part, RecordError> {
+        let text = String::from_utf8(bytes).unwrap_or_else(|why| String::from_utf8_lossy(why.as_bytes()).into_owned());
         // a last line without a line feed was cut off where the agent was killed
-        let whole = text.rsplit_once('\n').map_or("", |(whole, _)| whole);
-        let mut lines = whole.lines();
-        let words: Vec<&str> = lines.next().unwrap_or_default().split(' ').collect();
-        let begin = ["#", "dumgerok", "record", "1", "node"];
+        let end = text.rfind('\n').unwrap_or(0);
+        let end_of_head = text[..end].find('\n').unwrap_or(end);
+        let begin = (end_of_head + 1).min(end);
+        let words: Vec<&str> = text[..end_of_head].split(' ').collect();
+        let first = ["#", "dumgerok", "record", "1", "node"];
         if let (true, [_, _, _, _, _, node, "of", nodes, "part", part, "cluster", cluster @ ..]) =
-            (words.starts_with(&begin), words.as_slice())
+            (words.starts_with(&first), words.as_slice())
         {
             if let (Ok(node), Ok(nodes), Ok(part)) = (node.parse(), nodes.parse(), part.parse()) {
                 if (1..=MAX_NODES).contains(&nodes) && node < nodes {
-                    let lines = lines.map(str::to_string).collect();
-                    return Ok(Part { node, nodes, part, cluster: cluster.join(" "), lines });
+                    let cluster = cluster.join(" ");
+                    return Ok(Part { node, nodes, part, cluster, text: Text { text, begin, end } });
                 }
             }
         }
@@ -93,9 +124,9 @@ pub fn read(paths: &[PathBuf]) -> Result<Vec<NodeRecord>, RecordError> {
     };
     let files = paths.iter().map(|path| opened(path).map_err(unreadable(path))).collect::<Result<Vec<_>, _>>()?;
     let part = |(path, mut file): (&PathBuf, io::Take<File>)| {
-        let mut bytes = Vec::new();
+        let mut bytes = Vec::with_capacity(usize::try_from(file.limit()).unwrap_or(0));
         file.read_to_end(&mut bytes).map_err(unreadable(path))?;
-        Part::of(path, &bytes)
+        Part::of(path, bytes)
     };
     let mut parts = paths.iter().zip(files).map(part).collect::<Result<Vec<_>, _>>()?;
     if let Some(two) = parts.windows(2).find(|two| two[0].cluster != two[1].cluster) {
@@ -103,7 +134,7 @@ pub fn read(paths: &[PathBuf]) -> Result<Vec<NodeRecord>, RecordError> {
     }
     parts.sort_by_key(|part| (part.node, part.part));
     let nodes = parts.iter().map(|part| part.nodes).max().unwrap_or(0);
-    let mut records: Vec<NodeRecord> = (0..nodes).map(|node| NodeRecord { node, is_there: false, lines: Vec::new() }).collect();
+    let mut records: Vec<NodeRecord> = (0..nodes).map(NodeRecord::new).collect();
     let mut last: Vec<u64> = vec![0; nodes];
     for part in parts {
         let record = match records.get_mut(part.node) {
@@ -119,10 +150,10 @@ pub fn read(paths: &[PathBuf]) -> Result<Vec<NodeRecord>, RecordError> {
         }
         last[part.node] = part.part;
         record.is_there = true;
-        record.lines.extend(part.lines);
+        record.parts.push(part.text);
     }
     // a place that nobody heard had no machine, or one that did nothing that the others saw
-    let heard: BTreeSet<usize> = records.iter().flat_map(|record| &record.lines).filter_map(|line| sender_of(line)).collect();
+    let heard: BTreeSet<usize> = records.iter().flat_map(NodeRecord::lines).filter_map(sender_of).collect();
     match records.iter().find(|record| !record.is_there && heard.contains(&record.node)) {
         Some(missing) => Err(RecordError::Missing { nodes, missing: missing.node }),
         None => Ok(records),
@@ -146,7 +177,7 @@ mod tests {
             ("node 0 of 2 part 18446744073709551616", false),
         ] {
             let text = format!("# dumgerok record 1 {head} cluster c\nstart\n");
-            assert_eq!(Part::of(&path, text.as_bytes()).is_ok(), is_read, "{head}");
+            assert_eq!(Part::of(&path, text.into_bytes()).is_ok(), is_read, "{head}");
         }
     }
 
