@@ -1,13 +1,13 @@
 -- The processes of a node, one after another, are one history.
-use Rattle.std.proofs.Common.{◌≡◌, ℕ, List, [], ◌∷◌, ◌++◌, refl, sym, ◌∙◌, subst}
+use Rattle.std.proofs.Common.{◌≡◌, ℕ, List, [], ◌∷◌, ◌++◌, refl, sym, subst}
 use Rattle.histories.specs.NodeState.{NodeState}
 use Rattle.histories.specs.HistoryEvent.{Entry}
 use Rattle.histories.specs.declared.history_event.HistoryEvent.TheVariants.{Crashed}
 use Rattle.histories.specs.After.{after}
 use Rattle.histories.specs.History.{Follows, FollowsSlots, replay}
 use Rattle.node_session.specs.Chains.{entries_in}
-use Rattle.node_session.specs.Stamping.{Life, AreLives, life_begun, life_left}
-use Rattle.node_session.specs.Lives.{LivesFollow, entries_over, left_over}
+use Rattle.node_session.specs.Stamping.{life_begun, life_left}
+use Rattle.node_session.specs.Lives.{LivesFollow, entries_over}
 use Rattle.node_session.proofs.Histories.{one}
 
 abbrev IsHistory : ℕ → ℕ → ℕ → NodeState → List Entry → NodeState → Type 0

@@ -2,14 +2,13 @@
 use Rattle.std.proofs.Common.{◌≡◌, ℕ, List, [], ◌∷◌, ◌++◌, refl, sym, ap, ◌∙◌, append_assoc, subst}
 use Rattle.sector_disk.specs.Disk.{DiskState}
 use Rattle.line_words.specs.Lines.{lines_of}
-use Rattle.durable_node.specs.Node.{Stands}
 use Rattle.histories.specs.NodeState.{NodeState}
 use Rattle.node_core.specs.State.{State}
 use Rattle.node_session.specs.Timing.{Timers, AreSpent, AreTimedIn, Nothing, OwnTime, Spends}
 use Rattle.node_session.specs.Lines.{At, after_line, after_lines}
 use Rattle.node_session.specs.Chains.{LineOutcome}
-use Rattle.node_session.specs.Serving.{Progress, Serves, Fed, FedAtOnce, IsFed, at_of}
-use Rattle.node_session.proofs.Lines.{timed_so, timed_both}
+use Rattle.node_session.specs.Serving.{Progress, Serves, Fed, FedAtOnce, at_of}
+use Rattle.node_session.proofs.Lines.{timed_so}
 use Rattle.node_session.proofs.Servings.{serves_none, serves_then}
 use Rattle.node_session.proofs.Cutting.{lines_further}
 

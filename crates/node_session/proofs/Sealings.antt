@@ -4,7 +4,7 @@ use Rattle.std.proofs.lemmas.List.Splits.{length-slice_split}
 use Rattle.line_words.specs.Lines.{is_line_feed, lines_of}
 use Rattle.std.specs.Prelude.{codes}
 use Rattle.hex.specs.Hex.{encode_lower}
-use Rattle.node_session.specs.Seals.{SealKeys, key_of_line, line_by, message_in, number_by, numbered, seal_of, sealed_lines}
+use Rattle.node_session.specs.Seals.{SealKeys, Seals, key_of_line, line_by, message_in, number_by, numbered, seal_of, sealed_lines, taken_told, with_life}
 
 -- a text has a line
 pub some_line : (text : List ℕ) → 0 < length (lines_of text)
@@ -36,9 +36,14 @@ numbered_further life n m left line behind all cut is counts =
     ap (λ (k : ℕ). numbered life k (lines_of behind)) counts
     ∙ (sym (numbered_more life n line (lines_of behind) (some_line behind)) ∙ (ap (numbered life n) (sym cut) ∙ is))
 
-pub line_so : (keys : SealKeys) (life : Option ℕ) (l n next : ℕ) (line : List ℕ) (m : Option (List ℕ)) (message : List ℕ) → life ≡ Some l → m ≡ Some message → next ≡ n + 1
-    → line_by keys life n line m ≡ line ++ encode_lower (seal_of (key_of_line keys line) message (record { life = l; number = next })) ++ codes "\n"
-line_so keys life l n next line m message lives is counts =
+pub line_so : (keys : SealKeys) (life : Option ℕ) (l n next : ℕ) (line : List ℕ) (m : Option (List ℕ)) (message key : List ℕ) → life ≡ Some l → m ≡ Some message → next ≡ n + 1 → key ≡ key_of_line keys line
+    → line_by keys life n line m ≡ line ++ encode_lower (seal_of key message (record { life = l; number = next })) ++ codes "\n"
+line_so keys life l n next line m message key lives is counts same =
     ap (λ (o : Option ℕ). line_by keys o n line m) lives
     ∙ (ap (λ (o : Option (List ℕ)). line_by keys (Some l) n line o) is
-    ∙ ap (λ (k : ℕ). line ++ encode_lower (seal_of (key_of_line keys line) message (record { life = l; number = k })) ++ codes "\n") (sym counts))
+    ∙ (ap (λ (k : ℕ). line ++ encode_lower (seal_of (key_of_line keys line) message (record { life = l; number = k })) ++ codes "\n") (sym counts)
+    ∙ ap (λ (k : List ℕ). line ++ encode_lower (seal_of k message (record { life = l; number = next })) ++ codes "\n") (sym same)))
+
+-- what a line tells is kept
+pub told_by_line : (q new : Seals) (o : Option (ℕ × List ℕ)) (node : ℕ) (life : List ℕ) → Some (node, life) ≡ o → new ≡ record q { keys = with_life q.keys node life } → new ≡ taken_told q o
+told_by_line q new o node life is tells = tells ∙ ap (taken_told q) is

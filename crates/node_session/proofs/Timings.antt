@@ -1,9 +1,9 @@
 -- The events that a tick or a loss makes, one behind another.
-use Rattle.std.proofs.Common.{◌≡◌, ◌≤◌, ◌<◌, ◌+◌, ◌⊎◌, inl, inr, ℕ, List, [], ◌∷◌, ◌++◌, length, length-append, refl, sym, ap, ◌∙◌, subst, arith, Option, Some, None}
+use Rattle.std.proofs.Common.{◌≡◌, ◌≤◌, ◌+◌, inl, inr, ℕ, List, [], ◌∷◌, ◌++◌, length, length-append, refl, sym, ap, ◌∙◌, subst, arith, Option, Some, None}
 use Rattle.sector_disk.specs.Disk.{DiskState}
 use Rattle.node_core.specs.State.{State}
 use Rattle.node_core.specs.declared.event.Event.{Event}
-use Rattle.durable_node.specs.Node.{Node, Stands}
+use Rattle.durable_node.specs.Node.{Stands}
 use Rattle.histories.specs.NodeState.{NodeState}
 use Rattle.pace.specs.Retransmission.{Waits}
 use Rattle.node_session.specs.declared.call_outcome.CallOutcome.{CallOutcome}

@@ -1,8 +1,9 @@
 -- What is delivered was sealed for the own life, and what is sealed for a node is sealed for the life that was told of it.
-use Rattle.std.proofs.Common.{◌≡◌, ◌≢◌, ◌<◌, ◌==◌, ◌&&◌, inl, ◌⊎◌, inr, ℕ, Bool, true, false, List, [], ◌∷◌, get_or, set, length, refl, sym, ap, ◌∙◌, arith, Option, Some, None, Ok, tt}
-use Rattle.std.specs.Prelude.{All, if◌then◌else◌, option_map}
+use Rattle.std.proofs.Common.{◌≡◌, ◌<◌, ◌==◌, ◌&&◌, inl, ◌⊎◌, inr, ℕ, Bool, true, false, List, [], ◌∷◌, length, refl, sym, ap, ◌∙◌, Option, Some, None, Result, Ok, Err}
+use Rattle.std.specs.Prelude.{if◌then◌else◌, option_map}
 use Rattle.std.specs.Result.{result_ok}
 use Rattle.std.proofs.lemmas.List.{get_or-set_same, get_or-set_other}
+use Rattle.std.proofs.lemmas.List.Elements.{All-nil}
 use Rattle.hex.specs.Hex.{decode_of}
 use Rattle.hex.proofs.HexLemmas.{decode_of-ok}
 use Rattle.wire_msg.specs.Envelope.{Envelope}
@@ -11,13 +12,12 @@ use Rattle.line_words.specs.Words.{words_of}
 use Rattle.line_words.specs.Lines.{bytes_of}
 use Rattle.sealed_msg.specs.declared.stamp.Stamp.{Stamp}
 use Rattle.sealed_msg.specs.Lives.{life_key}
-use Rattle.sealed_msg.specs.Sealing.{AreBytes, opened, sealed}
+use Rattle.sealed_msg.specs.Sealing.{AreBytes, opened}
 use Rattle.sealed_msg.proofs.Openings.{opened_sealed}
 use Rattle.node_session.specs.Chains.{LineOutcome, after_turns}
-use Rattle.node_session.specs.Lines.{At, ComesOf, after_by, after_line, after_lines, plain_answer}
-use Rattle.node_session.specs.Seals.{Brought, NoBytes, Strange, Garbled, Opened, SealKeys, Seals, asked_under, brought_by, brought_word, is_fresh, key_else, key_to, life_of, new_seals, opened_else, opened_other, sealed_behind, taken_brought, taken_fresh, taken_sealed, taken_told, taken_under, taken_words, told_life, with_life}
-use Rattle.node_session.specs.Stamping.{Delivers, IsOpened}
-use Rattle.node_session.specs.Told.{IsSealedFor, OwnLifeAlone, ToldLifeAlone}
+use Rattle.node_session.specs.Lines.{At, after_by, after_line, after_lines, plain_answer}
+use Rattle.node_session.specs.Seals.{Brought, NoBytes, Strange, Garbled, Opened, Seals, asked_under, brought_by, brought_word, is_fresh, key_else, life_of, new_seals, opened_else, opened_other, sealed_behind, taken_brought, taken_fresh, taken_sealed, taken_told, taken_under, taken_words, told_life}
+use Rattle.node_session.specs.Told.{OwnLifeAlone, ToldLifeAlone}
 use Rattle.node_session.proofs.Taking.{opened_alone}
 
 -- ---- the keys that open never change
@@ -75,21 +75,22 @@ lines_open self nodes opens other a (line ∷ lines) (came ∷ all) so =
 
 -- ---- what one of them opens was sealed with it
 
+read_empty : (bytes : List ℕ) → Some [] ≡ Some bytes → AreBytes bytes
+read_empty [] is = All-nil (λ (b : ℕ). b < 256)
+read_empty (b ∷ bytes) is = absurd cc
+
+read_ok : {E : Type 0} (d : Result (List ℕ) E) (bytes : List ℕ) → result_ok d ≡ Some bytes → d ≡ Ok bytes
+read_ok (Ok it) bytes is = (let same : Some it ≡ Some bytes = is in cc)
+read_ok (Err e) bytes is = absurd (let bad : None ≡ Some bytes = is in cc)
+
 -- a word spells bytes
 spells_bytes : (word bytes : List ℕ) → bytes_of word ≡ Some bytes → AreBytes bytes
 spells_bytes [] bytes is = absurd cc
 spells_bytes (c ∷ rest) bytes is = by_dash (c == 45 && length rest == 0) is
   where
-    by_read : (r : Option (List ℕ)) → result_ok (decode_of (c ∷ rest)) ≡ r → r ≡ Some bytes → AreBytes bytes
-    by_read r read is = AreBytes-from_index bytes (decode_of-ok (c ∷ rest) bytes (ok_of (decode_of (c ∷ rest)) (read ∙ is))).1.1.1
-      where
-        ok_of : {E : Type 0} (d : Result (List ℕ) E) → result_ok d ≡ Some bytes → d ≡ Ok bytes
-        ok_of (Ok it) e = (let same : it ≡ bytes = (let f : Some it ≡ Some bytes = e in cc) in ap (λ (x : List ℕ). Ok x) same)
-        ok_of (Err e) f = absurd (let bad : None ≡ Some bytes = f in cc)
-
     by_dash : (b : Bool) → (if b then Some [] else result_ok (decode_of (c ∷ rest))) ≡ Some bytes → AreBytes bytes
-    by_dash true is = (let same : [] ≡ bytes = (let f : Some {A = List ℕ} [] ≡ Some bytes = is in cc) in subst (λ (x : List ℕ). AreBytes x) same tt)
-    by_dash false is = by_read (result_ok (decode_of (c ∷ rest))) refl is
+    by_dash true is = read_empty bytes is
+    by_dash false is = AreBytes-from_index bytes (decode_of-ok (c ∷ rest) bytes (read_ok (decode_of (c ∷ rest)) bytes is)).3
 
 record OpenedBy (own : List ℕ) (other : Option (List ℕ)) (life bytes : List ℕ) (it : List ℕ × Stamp) : Type 0 where
   pub key : List ℕ
@@ -113,8 +114,8 @@ own_life_alone self nodes slots own other life a lines all line came m begun com
     let so = lines_open self nodes (life_key own life) (option_map (λ key. life_key key life) other) a lines all (record { q = new_seals own other life; is = begun; opens_so = refl; other_so = refl }) in
     let it = opened_alone self nodes slots (after_lines self nodes a lines all) line came so.q m so.is comes delivers in
     let by = opened_by own other life it.bytes (it.spelling, it.stamp)
-        (ap (λ (o : Option (List ℕ)). opened_else (opened (life_key own life) it.bytes) o it.bytes) (sym so.other_so)
-        ∙ (ap (λ (k : List ℕ). opened_else (opened k it.bytes) so.q.other it.bytes) (sym so.opens_so) ∙ it.opened)) in
+    (ap (λ (o : Option (List ℕ)). opened_else (opened (life_key own life) it.bytes) o it.bytes) (sym so.other_so)
+    ∙ (ap (λ (k : List ℕ). opened_else (opened k it.bytes) so.q.other it.bytes) (sym so.opens_so) ∙ it.opened)) in
     record {
       word = it.word;
       bytes = it.bytes;

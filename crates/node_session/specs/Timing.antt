@@ -25,7 +25,7 @@ use Rattle.node_session.specs.declared.call_outcome.CallOutcome.TheVariants as e
 use Rattle.node_session.specs.declared.timers.TheConstants.{MOST_FIRED}
 use Rattle.node_session.specs.Ticks.{IsNext, Ticks}
 use Rattle.node_session.specs.Turns.{Turn, after_turn, cause, end_of}
-use Rattle.node_session.specs.Chains.{AreTimely, IsOne, LineOutcome, after_turns, line_end, waits_turn, waits_turns}
+use Rattle.node_session.specs.Chains.{AreTimely, LineOutcome, after_turns, line_end, waits_turn, waits_turns}
 use Rattle.node_session.specs.Lines.{At, after_line}
 use Rattle.node_session.specs.Seals.{asked_under}
 

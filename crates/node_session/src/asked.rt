@@ -38,7 +38,7 @@ pub enum Asked {
 /// Why a message isn't taken under a key.
 #[derive(Clone, Copy, Debug, PartialEq, Eq, Error)]
 pub enum Unsealed {
-    /// No member of the cluster sealed it.
+    /// No member of the cluster sealed it for this process.
     #[error("no member of the cluster sealed the message")]
     Forged,
     /// As late or later a message of its sender was taken.

@@ -1,5 +1,5 @@
 // The keys that seal messages.
-ghost use Rattle.std.specs.Prelude.{◌≡◌, IfOk, OnOk};
+ghost use Rattle.std.specs.Prelude.{◌≡◌, replicate, IfOk, OnOk, None};
 ghost use Rattle.node_session.specs.Seals.{key_to, new_keys, with_life};
 
 use group_task::{NODES, NodeId};
@@ -31,10 +31,7 @@ impl SealingKeys {
     pub(crate) fn new(alloc: Global, own: Key) -> Result<SealingKeys, AllocError>
         ensures { IfOk result (λ keys. keys ≡ new_keys own) }
     {
-        let mut lives = Vec::new(alloc);
-        for _node in 0..NODES {
-            lives.push(None)?;
-        }
+        let lives = no_lives(alloc)?;
         Ok(SealingKeys { own, lives })
     }
 
@@ -64,4 +61,14 @@ impl SealingKeys {
             None => &self.own,
         }
     }
+}
+
+fn no_lives(alloc: Global) -> Result<Vec<Option<Key>>, AllocError>
+    ensures { IfOk result (λ lives. lives.items ≡ replicate 128 None) }
+{
+    let mut lives = Vec::new(alloc);
+    for _node in 0..NODES {
+        lives.push(None)?;
+    }
+    Ok(lives)
 }

@@ -5,7 +5,8 @@ ghost use Rattle.sealed_msg.specs.Lives.{life_key};
 ghost use Rattle.line_words.specs.Words.{words_of};
 ghost use Rattle.line_words.specs.Lines.{lines_of};
 ghost use Rattle.wire_msg.specs.Reading.{message_of};
-ghost use Rattle.node_session.specs.Seals.{asked_brought, asked_fresh, asked_sealed, asked_told, brought_by, brought_word, is_fresh, life_words, line_by, message_in, new_seals, number_by, numbered, opened_under, receiver_in, seal_of, sealed_lines, sent_word, taken_brought, taken_fresh, taken_sealed, taken_told, told_life};
+ghost use Rattle.node_session.specs.declared.asked.Asked.TheVariants as ask;
+ghost use Rattle.node_session.specs.Seals.{asked_brought, asked_fresh, asked_sealed, asked_told, brought_by, brought_word, is_fresh, life_words, line_by, message_in, new_seals, number_by, numbered, opened_under, receiver_in, seal_of, sealed_lines, sent_word, taken_brought, taken_fresh, taken_sealed, taken_told, told_life, with_life};
 
 use crate::asked::{Asked, Unsealed, read_line};
 use crate::sealing_keys::SealingKeys;
@@ -46,12 +47,7 @@ impl Model for Seal {
 
 impl Seal {
     /// Seals by the first key, and opens by this and by the other what was sealed for a process of this life, or for one of none where it is empty.
-    pub fn new(
-        alloc: Global,
-        own: Key,
-        other: Option<Key>,
-        life: &[u8],
-    ) -> Result<Seal, AllocError>
+    pub fn new(alloc: Global, own: Key, other: Option<Key>, life: &[u8]) -> Result<Seal, AllocError>
         ensures { IfOk result (λ seal. seal ≡ new_seals own other life.now) }
     {
         let none = Stamp { life: 0, number: 0 };
@@ -79,17 +75,23 @@ impl Seal {
         }
     }
 
+    #[tactic(auto, using(crate::proofs::Sealings::told_by_line))]
     fn listen(&mut self, alloc: Global, line: &[u8]) -> Result<Asked, AllocError>
         ensures asked { IfOk result (λ asked. asked ≡ asked_told line.now (told_life line.now)) }
         ensures told { OnOk result (self.new ≡ taken_told self.old (told_life line.now)) }
     {
         match told_life(alloc, line)? {
-            Some(told) => {
-                self.keys.tell(alloc, told.node, &told.life)?;
-                Ok(Asked::Nothing)
-            }
+            Some(told) => self.learn(alloc, &told),
             None => read_line(alloc, line),
         }
+    }
+
+    fn learn(&mut self, alloc: Global, told: &ToldLife) -> Result<Asked, AllocError>
+        ensures asked { IfOk result (λ asked. asked ≡ ask.Nothing) }
+        ensures told { OnOk result (self.new ≡ record self.old { keys = with_life self.old.keys told.now.node told.now.life.items }) }
+    {
+        self.keys.tell(alloc, told.node, &told.life)?;
+        Ok(Asked::Nothing)
     }
 
     fn bring(&mut self, alloc: Global, word: &[u8]) -> Result<Asked, AllocError>

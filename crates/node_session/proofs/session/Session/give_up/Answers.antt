@@ -1,4 +1,4 @@
-use Rattle.std.proofs.Common.{ap, refl, ◌∙◌}
+use Rattle.std.proofs.Common.{ap, ◌∙◌}
 use Rattle.node_core.specs.State.{state_of}
 use Rattle.node_session.proofs.Calls.{if_ok}
 use Rattle.node_session.proofs.Timings.{loss_call, loss_none}

@@ -1,6 +1,4 @@
-use Rattle.std.proofs.Common.{◌≡◌, refl, sym, subst, inl, inr, true, false, is_some}
-use Rattle.pace.specs.Policy.{Policy}
-use Rattle.node_session.specs.Ticks.{Ticks}
+use Rattle.std.proofs.Common.{inl, inr}
 use Rattle.node_session.proofs.Looks.{ends_there, goes_on, looks_so}
 use Rattle.node_session.proofs.timers.Timers.due.Goals.{then-is_some-via-then-is_some, then-is_some-via-else-is_some+then-not-is_answered}
 use Rattle.node_session.proofs.timers.Timers.due.Goals as goal
