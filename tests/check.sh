@@ -166,8 +166,8 @@ expect 'no program' 0
 has 'no program: it is built without proofs' <(head -n 1 "$room/log") '--unproved show'
 has 'no program: it is said' <(grep '^the program: ' "$room/out") 'the program: crates/invite/out/unproved, which is not proved: checks at run time stand in place of the proofs'
 has 'no program: what has bounds is left out' <(grep '^left out' "$room/out" | cut -d : -f 1-3) \
-    'left out of tests: python3 tests/endless.py, python3 tests/slow_disks.py, bash tests/traces.sh, python3 tests/trace_growth.py: no proved program is built of these sources'
-has 'no program: all else is run' <(grep -c '^tests/.*crates/invite/out/unproved' "$room/log") "$(grep '^tests/.* PROGRAM' "$room/gate" | grep -vcE 'hostile|endless|slow_disks|traces|growth|pictures')"
+    'left out of tests: python3 tests/endless.py, python3 tests/slow_disks.py, bash tests/traces.sh, python3 tests/trace_growth.py, python3 tests/lease_explorer.py, python3 tests/leases.py: no proved program is built of these sources'
+has 'no program: all else is run' <(grep -c '^tests/.*crates/invite/out/unproved' "$room/log") "$(grep '^tests/.* PROGRAM' "$room/gate" | grep -vcE 'hostile|endless|slow_disks|traces|growth|pictures|lease_explorer|leases')"
 call "$check" agent
 has 'no program, for none that takes one without proofs' <(grep -c unproved "$room/log") 0
 OPEN=yes call "$check" tests
