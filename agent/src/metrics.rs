@@ -233,8 +233,8 @@ impl Metrics {
         self.majority.set(i64::from(view.is_majority(peers, now)));
         self.members.set(view.group.members.len() as i64);
         self.nodes.set(view.nodes as i64);
-        // a machine may be named later than the agent began
-        peers.others().for_each(|node| self.stale.with_label_values(&[&node.to_string()]).inc_by(0));
+        // a machine may be named later than the agent began; one without others tells it of itself
+        peers.others().chain([view.own]).for_each(|node| self.stale.with_label_values(&[&node.to_string()]).inc_by(0));
         self.group_age.set(now.saturating_duration_since(view.changed).as_secs_f64());
         let mut text = Vec::new();
         match TextEncoder::new().encode(&self.registry.gather(), &mut text) {

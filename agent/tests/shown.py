@@ -22,14 +22,14 @@ ASK = """<script>
     const wrong = [...at("wrong").children].map(item => [item.className, ...[...item.children].map(child => child.textContent)]);
     // what is wider than the page, or than the part of it that it stands in
     const wide = [...document.querySelectorAll("html, section, .card, li")].filter(part => part.scrollWidth > part.clientWidth + 1).map(part => part.outerHTML.slice(0, 99));
-    const width = document.documentElement.clientWidth;
+    const width = window.innerWidth;
     seen.push({ isTimed, lost: at("lost").textContent, cards, nodes, jobs, wrong, wide, width });
   }
   parent.document.getElementById("seen").textContent = JSON.stringify(seen);
 })();
 </script>"""
 # In a frame, whose width the page takes for that of the screen.
-FRAME = """<!doctype html><pre id="seen"></pre><iframe style="border:0;width:%dpx;height:1500px" srcdoc="%s"></iframe>"""
+FRAME = """<!doctype html><pre id="seen"></pre><iframe style="border:0;width:%dpx;height:4000px" srcdoc="%s"></iframe>"""
 # In a frame without scripts, of which the page around tells what can be read there.
 BARE = """<!doctype html><pre id="seen"></pre><iframe sandbox="allow-same-origin" style="width:390px;height:1500px" srcdoc="%s"
 onload="document.getElementById('seen').textContent = JSON.stringify(this.contentDocument.body.innerText)"></iframe>"""
@@ -80,12 +80,12 @@ def in_a_browser(bed):
 
     is_group = lambda state, members: state["status"]["phase"] == "Normal" and state["status"]["members"] == members
     agents.start_all()
-    keep(lambda state: is_group(state, [0, 1, 2]))
+    keep(lambda state: is_group(state, [0, 1, 2]) and state["status"]["majority"])
     lead = states[0]["status"]["coordinator"]
     agents.kill(2)
-    keep(lambda state: is_group(state, [0, 1]) and state["members"][2]["heard_ms"] > 3000)
+    keep(lambda state: is_group(state, [0, 1]) and state["status"]["majority"] and state["members"][2]["heard_ms"] > 3000)
     agents.relay.cuts.add(frozenset((0, 1)))
-    keep(lambda state: is_group(state, [0]))
+    keep(lambda state: is_group(state, [0]) and not state["status"]["majority"])
     agents.relay.cuts.clear()
     agents.start(2)
     agents.one_group()
