@@ -221,6 +221,10 @@ class Part:
     def until_due(self, state, own):
         return self.move(self.move(state, ("pause", self.clocks[own].shows(state.locals[own].due))), ("tick", own))
 
+    def until_ended(self, state, *voters):
+        """The last grants of these end."""
+        return self.move(state, ("pause", max(self.clocks[own].shows(max(state.locals[own].ends)) for own in voters)))
+
     def settle(self, state):
         """All have waited behind their start."""
         return self.move(state, ("pause", max(clock.shows(clock.at(0) + KEEPS) for clock in self.clocks)))
@@ -336,17 +340,20 @@ class Part:
 
 
 # Of each part the rates of its clocks, how it begins, and the bound: acquires, releases, kills, repeats, pauses.
-ASKED = [("settle",), ("acquire", 0), ("deliver", 0, 2)]
-HELD = [*ASKED, ("deliver", 2, 0)]
 BOUND = (2, 1, 1, 1, 3)
+ASKED = [("settle",), ("acquire", 0), ("deliver", 0, 2)]
+LATE = [*ASKED, ("deliver", 0, 1), ("before_due", 0)]
+HELD = [("settle",), ("acquire", 0), ("deliver", 0, 1), ("deliver", 1, 0)]
 PARTS = [
     ("all begin", (SLOW, FAST, FAST), [], BOUND),
     ("all vote", (SLOW, FAST, FAST), [("settle",)], BOUND),
     ("all vote, by other clocks", (FAST, SLOW, FAST), [("settle",)], BOUND),
-    ("one asked, and its answer is late", (SLOW, FAST, FAST), [*ASKED, ("before_due", 0)], BOUND),
+    ("one asked, and its answers are late", (SLOW, FAST, FAST), LATE, BOUND),
+    ("one held by a late answer, and the grants ended", (SLOW, FAST, FAST), [*LATE, ("deliver", 2, 0), ("until_ended", 1, 2)], BOUND),
     ("one holds", (SLOW, FAST, FAST), HELD, BOUND),
+    ("one holds, and who voted for it begins anew", (SLOW, FAST, FAST), [*HELD, ("kill", 1)], BOUND),
     ("one asks for its renewal", (SLOW, FAST, FAST), [*HELD, ("until_due", 0)], BOUND),
-    ("one released", (FAST, SLOW, FAST), [*HELD, ("release", 0)], BOUND),
+    ("one released", (FAST, SLOW, FAST), [*ASKED, ("deliver", 2, 0), ("release", 0)], BOUND),
     ("one gave up, and asked anew", (SLOW, FAST, FAST), [*ASKED, ("until_due", 0), ("until_due", 0)], BOUND),
     ("two machines", (SLOW, FAST), [("settle",)], BOUND),
     ("four machines", (SLOW, FAST, FAST, FAST), [("settle",)], BOUND),

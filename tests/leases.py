@@ -2,8 +2,8 @@
 """Processes `invite lease` over a network and clocks of lease_cluster.py: who holds a lease, for how long, and under which epoch.
 
     leases.py PROGRAM [RUNS [SEED]]     random runs
-    leases.py PROGRAM times             how long an acquisition takes, in round trips: medians
-    leases.py PROGRAM broken [RUNS]     clocks out of their bound: two holders have to be found
+    leases.py PROGRAM times [RUNS]      how long an acquisition takes, in round trips, and whether that is too long
+    leases.py PROGRAM broken [SETS]     clocks out of their bound: two holders have to be found
 
 A run has three names, and lasts three times as long as a grant is kept. At each of five machines (in every fourth set three) users acquire and release them at
 random, while one of five messages is lost, some come twice or are very late, machines are cut off, and processes are killed and begin anew; in every fourth set
@@ -166,10 +166,20 @@ def replaced(program, seed):
     return of.took("a", holder)
 
 
-def times(program, runs=60):
-    for what, of in (("alone", alone), ("three ask at a time", contended), ("handed over by a release", handed_over), ("a dead holder replaced", replaced)):
+# What is measured, and the most round trips that its median, or all, may take.
+TIMES = [("alone", alone, 1.5, None), ("three ask at a time", contended, 10, None), ("handed over by a release", handed_over, 10, None),
+         ("a dead holder replaced", replaced, None, KEEPS * 1000 / TRIP + 3)]
+
+
+def times(program, runs=20):
+    passed = 0
+    for what, of, median_most, all_most in TIMES:
         took = sorted(of(program, seed) for seed in range(runs))
-        print("%s: median %.1f round trips, 90 of 100 within %.1f, all within %.1f" % (what, statistics.median(took), took[runs * 9 // 10 - 1], took[-1]))
+        median, longest = statistics.median(took), took[-1]
+        print("%s: median %.1f round trips, 90 of 100 within %.1f, all within %.1f" % (what, median, took[runs * 9 // 10 - 1], longest))
+        passed += median <= (median_most or longest) and longest <= (all_most or longest)
+    print("%d passed, %d failed" % (passed, len(TIMES) - passed))
+    sys.exit(passed < len(TIMES))
 
 
 def random_runs(program, runs, first):
