@@ -1,6 +1,9 @@
+pub mod Feeding
 pub mod Key
 pub mod Lines
+pub mod Opening
 pub mod Own
+pub mod Reading
 pub mod Rows
 pub mod Steps
 pub mod Turns

@@ -168,6 +168,13 @@ IsAt terms now p m = Stood p.terms p.start p.machine terms now m
 abbrev pub IsOut : LeaseProcess → Type 0
 IsOut p = p.halt ≡ Some NoMemory
 
+-- its machine does nothing
+pub record IsStill (old new : LeaseProcess) : Type 0 where
+  pub machine : new.machine ≡ old.machine
+  pub terms : new.terms ≡ old.terms
+  pub start : new.start ≡ old.start
+  pub key : key_of new.seal ≡ key_of old.seal
+
 -- A process went on: at one time of its clock it made these steps and wrote these lines, where these messages were sent by steps before, and a line brought those. Once
 -- no memory is left, its text isn't to be written.
 pub record Turn (sent brought : List Message) (now : ℕ) (old new : LeaseProcess) : Type 0 where

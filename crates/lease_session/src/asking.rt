@@ -5,9 +5,9 @@ ghost use Rattle.lease_network.specs.Network.{request as request_of, grant as gr
 ghost use Rattle.lease_session.specs.Rows.{said};
 ghost use Rattle.lease_session.specs.Turns.{Turn};
 
+use crate::participant::Participant;
 use crate::pause::{renewal, rest};
 use crate::refusing::Refusal;
-use crate::session::LeaseSession;
 use crate::store::EpochStore;
 use crate::voting::Answer;
 use crate::want::{Bound, NEVER, Stage, Want};
@@ -18,7 +18,7 @@ use lease_message::{LeaseBody, LeaseMessage, LeaseName, Reason};
 use lease_runs::{ClientId, Request};
 
 // The list of those who want a lease here.
-impl<S: EpochStore + Drop> LeaseSession<S> {
+impl<S: EpochStore + Drop> Participant<S> {
     /// Where the one stands who wants a name.
     fn place_of(&self, name: &LeaseName) -> Option<usize> {
         for place in 0..self.wants.len() {
@@ -122,7 +122,7 @@ impl<S: EpochStore + Drop> LeaseSession<S> {
 }
 
 // What a user asks.
-impl<S: EpochStore + Drop> LeaseSession<S> {
+impl<S: EpochStore + Drop> Participant<S> {
     /// A user wants the lease of a name from now on.
     pub(crate) fn acquire(&mut self, now: u64, name: &LeaseName, user: u64)
         requires { now < 2 ^ 62 }
@@ -166,7 +166,7 @@ impl<S: EpochStore + Drop> LeaseSession<S> {
 }
 
 // What one does who wants a lease.
-impl<S: EpochStore + Drop> LeaseSession<S> {
+impl<S: EpochStore + Drop> Participant<S> {
     /// An epoch is known of. One that is asked under next is above it.
     pub(crate) fn know(&mut self, epoch: u64)
         ensures { (self.new.process ≡ self.old.process) × (self.new.told ≡ self.old.told) }
@@ -350,7 +350,7 @@ impl<S: EpochStore + Drop> LeaseSession<S> {
 }
 
 // What comes of the voters.
-impl<S: EpochStore + Drop> LeaseSession<S> {
+impl<S: EpochStore + Drop> Participant<S> {
     /// A grant came. One of an epoch that is given up came behind the release, or its request did: so the release is sent again.
     pub(crate) fn take_grant(&mut self, now: u64, message: &LeaseMessage, number: u64)
         requires { message.now.body ≡ LeaseBody.Grant number }

@@ -2,13 +2,16 @@
 ghost use Rattle.std.specs.Prelude.{◌≡◌, ℕ, [], IfOk};
 ghost use Rattle.lease_network.specs.Network.{Name};
 ghost use Rattle.lease_message.specs.declared.message.LeaseMessage.{LeaseMessage as Message};
-ghost use Rattle.lease_session.specs.Rows.{said};
-ghost use Rattle.lease_session.specs.Turns.{Carries, GoesTo, IsTheClients, Turn, TurnGivesUp, key_of};
+ghost use Rattle.lease_session.specs.Lines.{IsEnded, Says};
+ghost use Rattle.lease_session.specs.Rows.{refused, said};
+ghost use Rattle.lease_session.specs.Turns.{Carries, GoesTo, IsStill, IsTheClients, Turn, TurnGivesUp, key_of};
 
 use crate::process::LeaseProcess;
-use crate::refusing::Refusal;
+use crate::refusing::{Halt, Refusal};
 use crate::seals::LeaseSeal;
-use crate::writing::{push_held, push_lost, push_next, push_refused, push_send, push_unserved};
+use crate::writing::{
+    push_fault, push_held, push_lost, push_next, push_refused, push_send, push_unserved,
+};
 use group_task::NodeId;
 use lease_message::{LeaseBody, LeaseMessage, LeaseName, encode};
 use std::alloc::{AllocError, Global};
@@ -138,6 +141,8 @@ impl LeaseProcess {
     /// Something isn't taken.
     pub(crate) fn refuse(&mut self, why: Refusal)
         ensures turn { (now : ℕ) → Turn [] [] now self.old self.new }
+        ensures still { IsStill self.old self.new }
+        ensures says { Says (refused why) self.old self.new }
     {
         if self.halt.is_some() {
             return;
@@ -161,16 +166,20 @@ impl LeaseProcess {
         }
     }
 
-    /// When something is due next, where anything will be.
-    pub(crate) fn tell_next(&mut self, due: Option<u64>)
-        ensures turn { (now : ℕ) → Turn [] [] now self.old self.new }
+    /// The line ends: when something is due next, or that the device failed, which is the last that is told. Whether it is.
+    pub(crate) fn end_line(&mut self, due: Option<u64>) -> Result<bool, AllocError>
+        ensures { IfOk result (λ stops. IsEnded due stops self.old self.new) }
     {
-        if self.halt.is_some() {
-            return;
-        }
-        match push_next(&mut self.text, due) {
-            Ok(()) => {}
-            Err(_) => self.run_out(),
+        match self.halt {
+            None => {
+                push_next(&mut self.text, due)?;
+                Ok(false)
+            }
+            Some(Halt::Device) => {
+                push_fault(&mut self.text)?;
+                Ok(true)
+            }
+            Some(Halt::NoMemory) => Err(AllocError),
         }
     }
 }

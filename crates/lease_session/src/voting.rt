@@ -4,8 +4,8 @@ ghost use Rattle.lease_runs.specs.Code.{client_of as by_code};
 ghost use Rattle.lease_session.specs.Rows.{said};
 ghost use Rattle.lease_session.specs.Turns.{Turn, Voted, vote_of};
 
+use crate::participant::Participant;
 use crate::refusing::Refusal;
-use crate::session::LeaseSession;
 use crate::store::{EpochStore, ReserveFault};
 use crate::writing::client_of;
 use lease_machine::Vote;
@@ -19,7 +19,7 @@ pub(crate) enum Answer {
     Refused(Reason, u64),
 }
 
-impl<S: EpochStore + Drop> LeaseSession<S> {
+impl<S: EpochStore + Drop> Participant<S> {
     /// A message came.
     pub(crate) fn take(&mut self, now: u64, message: &LeaseMessage)
         requires { now < 2 ^ 62 }
