@@ -4,6 +4,7 @@ pub mod Lines
 pub mod Opening
 pub mod Own
 pub mod Reading
+pub mod Replies
 pub mod Rows
 pub mod Steps
 pub mod Turns

@@ -11,6 +11,7 @@ use Rattle.lease_session.specs.declared.refusing.Refusal.{Refusal as Refused}
 use Rattle.lease_session.specs.declared.refusing.Refusal.TheVariants as why
 use Rattle.lease_session.specs.Reading.{Meaning, Bad, Tick, Deliver, Acquire, Release}
 use Rattle.lease_session.specs.Opening.{BringsBy}
+use Rattle.lease_session.specs.Replies.{RepliesTo}
 use Rattle.lease_session.specs.Rows.{Row, refused, next, fault, row_text, said}
 use Rattle.lease_session.specs.Turns.{IsOut, IsStill, Turn}
 
@@ -44,7 +45,7 @@ Comes now brought told then old new = ComesBy (goes_on told now) now brought tol
 
 abbrev pub DeliversIt : Option Came → ℕ → ℕ → ℕ → LeaseProcess → LeaseProcess → Type 0
 DeliversIt None now told then old new = Refuses why.Bad told then old new
-DeliversIt (Some it) now told then old new = Turn [] (brought_by it) now old new × (then ≡ now)
+DeliversIt (Some it) now told then old new = Turn [] (brought_by it) now old new × (then ≡ now) × RepliesTo old.terms it new
 
 abbrev pub DeliversBy : Bool → ℕ → List ℕ → ℕ → ℕ → LeaseProcess → LeaseProcess → Type 0
 DeliversBy true now word told then old new = (IsOut new → ⊥) → (it : Option Came) × BringsBy old.seal (bytes_of word) it × DeliversIt it now told then old new

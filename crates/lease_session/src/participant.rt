@@ -2,6 +2,7 @@
 ghost use Rattle.std.specs.Prelude.{◌≡◌, ◌<◌, ◌^◌, [], true};
 ghost use Rattle.lease_session.specs.Turns.{Turn};
 ghost use Rattle.lease_session.specs.Reading.{meaning_of};
+ghost use Rattle.lease_session.specs.Replies.{RepliesTo};
 ghost use Rattle.lease_session.specs.Lines.{Comes, ComesOf, Delivers, brought_by, goes_on};
 
 use crate::asked::{Asked, Came, read_line};
@@ -106,7 +107,8 @@ impl<S: EpochStore + Drop> Participant<S> {
         // Also: LeaseProcess::send, LeaseProcess::tell_held, LeaseProcess::give_up, LeaseProcess::request, LeaseProcess::release_again.
         // Refuses: held_line_without_a_lease, until_of_the_voter, send_to_another_machine, release_not_passed_on, request_numbered_as_its_epoch,
         // release_of_a_client_to_come.
-        ensures { Comes now (brought_by came) self.old.told self.new.told self.old.process self.new.process }
+        ensures comes { Comes now (brought_by came) self.old.told self.new.told self.old.process self.new.process }
+        ensures replies { goes_on self.old.told now ≡ true → RepliesTo self.old.process.terms came self.new.process }
     {
         if !self.goes_on(now) {
             self.process.refuse(Refusal::Time);
@@ -120,6 +122,7 @@ impl<S: EpochStore + Drop> Participant<S> {
     fn take_came(&mut self, now: u64, came: Came)
         requires { now < 2 ^ 62 }
         ensures turn { Turn [] (brought_by came) now self.old.process self.new.process }
+        ensures replies { RepliesTo self.old.process.terms came self.new.process }
         ensures told { self.new.told ≡ self.old.told }
     {
         self.begin_where_due(now);

@@ -1,9 +1,10 @@
 // What a process writes.
-ghost use Rattle.std.specs.Prelude.{◌≡◌, ℕ, [], IfOk};
+ghost use Rattle.std.specs.Prelude.{◌≡◌, ◌++◌, ℕ, List, [], IfOk, None};
 ghost use Rattle.lease_network.specs.Network.{Name};
 ghost use Rattle.lease_message.specs.declared.message.LeaseMessage.{LeaseMessage as Message};
 ghost use Rattle.lease_session.specs.Lines.{IsEnded, Says};
-ghost use Rattle.lease_session.specs.Rows.{refused, said};
+ghost use Rattle.lease_session.specs.Replies.{IsReplied, IsReply};
+ghost use Rattle.lease_session.specs.Rows.{refused, row_text, said, send};
 ghost use Rattle.lease_session.specs.Turns.{Carries, GoesTo, IsStill, IsTheClients, Turn, TurnGivesUp, key_of};
 
 use crate::process::LeaseProcess;
@@ -42,6 +43,8 @@ impl LeaseProcess {
         requires { GoesTo self.old.terms.machine to message.now message.now.body }
         ensures turn { (now : ℕ) → Turn (said message.now) [] now self.old self.new }
         ensures machine { self.new.machine ≡ self.old.machine }
+        ensures writes { self.new.halt ≡ None → (bytes : List ℕ) × Carries (key_of self.new.seal) bytes message.now
+            × (self.new.text.items ≡ self.old.text.items ++ row_text (send to message.now bytes)) }
     {
         if self.halt.is_some() {
             return;
@@ -92,6 +95,7 @@ impl LeaseProcess {
     pub(crate) fn answer(&mut self, request: &LeaseMessage, epoch: u64, body: LeaseBody)
         requires { GoesTo self.old.terms.machine request.now.client.machine (record request.now { body = body }) body }
         ensures turn { (now : ℕ) → Turn (said (record request.now { epoch = epoch; body = body })) [] now self.old self.new }
+        ensures replies { (number : ℕ) → IsReply number body → self.new.halt ≡ None → IsReplied request.now number self.new }
     {
         let message = LeaseMessage {
             client: request.client,

@@ -1,3 +1,7 @@
+use Rattle.std.proofs.Common.{subst, sym, ◌∙◌}
+use Rattle.lease_machine.specs.declared.terms.LeaseTerms.{LeaseTerms}
+use Rattle.lease_session.specs.declared.asked.Came.{Came}
+use Rattle.lease_session.specs.Replies.{Replies, RepliesTo}
 use Rattle.lease_session.proofs.Turns.{then, then_too}
 use Rattle.lease_session.proofs.Votes.{as_brought, brought_is}
 use Rattle.lease_session.proofs.participant.Participant.take_came.Goals as goal
@@ -21,3 +25,9 @@ returns-in-Acquire-clause-turn g c =
 pub returns-in-Release-clause-turn : goal.returns-in-Release-clause-turn
 returns-in-Release-clause-turn g c =
     brought_is c.args.came c.in-Release.is (then (then c.begin_where_due.ensures.turn c.serve_due.ensures.turn) c.release.ensures.turn)
+
+pub returns-in-Message-clause-replies : goal.returns-in-Message-clause-replies
+returns-in-Message-clause-replies g c =
+    let p = c.take.new.self.process in
+    subst (λ (it : Came). RepliesTo c.args.self.now.process.terms it p) (sym c.in-Message.is)
+    (subst (λ (t : LeaseTerms). Replies t c.in-Message.message p) (c.serve_due.ensures.turn.terms ∙ c.begin_where_due.ensures.turn.terms) c.take.ensures.replies)

@@ -10,27 +10,27 @@ use Rattle.lease_session.proofs.participant.Participant.take_request.Goals as go
 
 pub refuse_request-requires : goal.refuse_request-requires
 refuse_request-requires g c =
-    c.is_for_voter.ensures c.if-not-is_for_voter.false ∙ ap (λ (t : LeaseTerms). t.machine) (sym (c.refuse.ensures.turn 0).terms)
+    c.is_for_voter.ensures.voter c.if-not-is_for_voter.false ∙ ap (λ (t : LeaseTerms). t.machine) (sym (c.refuse.ensures.turn 0).terms)
 
 pub returns-then-keeps-clause-turn : goal.returns-then-keeps-clause-turn
 returns-then-keeps-clause-turn g c = then (as_brought (c.refuse.ensures.turn c.args.now)) (c.refuse_request.ensures.turn c.args.now)
 
 pub answer-requires : goal.answer-requires
 answer-requires g c = (
-  c.is_for_voter.ensures c.if-not-is_for_voter.false
+  c.is_for_voter.ensures.voter c.if-not-is_for_voter.false
       ∙ ap (λ (t : LeaseTerms). t.machine) (sym ((c.vote.ensures.vote 0).turn.terms ∙ ap (λ (p : LeaseProcess). p.terms) c.know.ensures.0)),
   refl,
 )
 
 pub refuse_request-requires-in-Refused : goal.refuse_request-requires-in-Refused
-refuse_request-requires-in-Refused g c = c.is_for_voter.ensures c.if-not-is_for_voter.false
+refuse_request-requires-in-Refused g c = c.is_for_voter.ensures.voter c.if-not-is_for_voter.false
     ∙ ap (λ (t : LeaseTerms). t.machine) (sym ((c.vote.ensures.vote 0).turn.terms ∙ ap (λ (p : LeaseProcess). p.terms) c.know.ensures.0))
 
 pub returns-in-Granted-clause-turn : goal.returns-in-Granted-clause-turn
 returns-in-Granted-clause-turn g c =
     let m = c.args.message.now in
     let client = client_of c.client_of.result in
-    let voter = c.is_for_voter.ensures c.if-not-is_for_voter.false ∙ ap (λ (p : LeaseProcess). p.terms.machine) (sym c.know.ensures.0) in
+    let voter = c.is_for_voter.ensures.voter c.if-not-is_for_voter.false ∙ ap (λ (p : LeaseProcess). p.terms.machine) (sym c.know.ensures.0) in
     from_same c.know.ensures.0 (said_is m (request_said m c.args.number c.args.keeps c.args.list c.requires.body client c.client_of.ensures)
     (answered m client c.client_of.ensures voter (ap (λ (a : Answer). vote_of a) c.in-Granted.is) (c.vote.ensures.vote c.args.number) (c.answer.ensures.turn c.args.now)))
 
@@ -40,3 +40,12 @@ returns-in-Refused-clause-turn g c =
     let client = client_of c.client_of.result in
     from_same c.know.ensures.0 (said_is m (request_said m c.args.number c.args.keeps c.args.list c.requires.body client c.client_of.ensures)
     (then (c.vote.ensures.vote c.args.number).turn (c.refuse_request-in-Refused.ensures.turn c.args.now)))
+
+pub returns-then-keeps-clause-replies : goal.returns-then-keeps-clause-replies
+returns-then-keeps-clause-replies g c = λ is none. c.refuse_request.ensures.replies none
+
+pub returns-in-Granted-clause-replies : goal.returns-in-Granted-clause-replies
+returns-in-Granted-clause-replies g c = λ is none. c.answer.ensures.replies c.args.number refl none
+
+pub returns-in-Refused-clause-replies : goal.returns-in-Refused-clause-replies
+returns-in-Refused-clause-replies g c = λ is none. c.refuse_request-in-Refused.ensures.replies none
