@@ -1,27 +1,25 @@
 -- Answers to lines, as steps over a network.
-use Rattle.std.proofs.Common.{◌≡◌, ℕ, ◌<◌, ◌≤◌, Bool, true, false, List, [], ◌∷◌, ◌++◌, Option, Some, None, refl, sym, ◌∙◌, ap, subst, append_assoc, arith}
+use Rattle.std.proofs.Common.{◌≡◌, ℕ, ◌≤◌, Bool, true, false, List, [], ◌∷◌, ◌++◌, Option, Some, None, refl, sym, ◌∙◌, ap, subst, append_assoc, arith}
 use Rattle.std.specs.Prelude.{◌&&◌, ◌^◌, leb, ltb}
 use Rattle.std.proofs.lemmas.List.{append-nil}
 use Rattle.line_words.specs.Lines.{bytes_of}
 use Rattle.lease_runs.specs.Lists.{IsAmong}
 use Rattle.lease_network.specs.Network.{Message, Step, Terms, Machine, AreSteps, last_time, machines}
 use Rattle.lease_machine.specs.declared.state.LeaseMachine.{LeaseMachine}
-use Rattle.lease_machine.specs.declared.terms.LeaseTerms.{LeaseTerms}
 use Rattle.lease_steps.specs.Laws.{StandsOn}
 use Rattle.lease_session.specs.declared.asked.Came.{Came}
 use Rattle.lease_session.specs.declared.process.LeaseProcess.{LeaseProcess}
-use Rattle.lease_session.specs.declared.process.Start.{Start}
 use Rattle.lease_session.specs.declared.refusing.Halt.{Halt}
 use Rattle.lease_session.specs.declared.refusing.Halt.TheVariants.{Device, NoMemory}
 use Rattle.lease_session.specs.declared.refusing.Refusal.{Refusal as Refused}
 use Rattle.lease_session.specs.declared.refusing.Refusal.TheVariants as why
-use Rattle.lease_session.specs.Feeding.{Answers, AnswersBy, At, IsAnswer}
+use Rattle.lease_session.specs.Feeding.{AnswersBy, At}
 use Rattle.lease_session.specs.Lines.{Comes, ComesBy, ComesOf, DeliversBy, DeliversIt, IsEnded, IsHalted, Refuses, brought_by, goes_on, last_row}
 use Rattle.lease_session.specs.Opening.{BringsBy}
 use Rattle.lease_session.specs.Reading.{Meaning, Bad, Tick, Deliver, Acquire, Release, meaning_of}
-use Rattle.lease_session.specs.Rows.{Row, refused, row_text}
-use Rattle.lease_session.specs.Steps.{Adds, AreSent, GoesOn, IsDelivered, IsSound, LinesAreSteps, RunsOrIsNew, TellsTime, WasSentIn, steps_with}
-use Rattle.lease_session.specs.Turns.{Mark, wrote, Who, who, IsAt, IsOut, IsStill, Stood, Tells, Turn, key_of}
+use Rattle.lease_session.specs.Rows.{refused, row_text}
+use Rattle.lease_session.specs.Steps.{GoesOn, IsDelivered, IsSound, LinesAreSteps, RunsOrIsNew, TellsTime, WasSentIn, steps_with}
+use Rattle.lease_session.specs.Turns.{Mark, wrote, Who, who, IsAt, IsStill, Stood, Tells, Turn, key_of}
 use Rattle.lease_session.proofs.Steps.{go, turn_goes_on}
 use Rattle.lease_session.proofs.Turns.{is_at_same, then, who_is, written}
 
@@ -147,7 +145,7 @@ by_meaning : {due : Option ℕ} (later : StandsOn) (terms : Terms) (at : ℕ) (p
 by_meaning later terms at past old new behind Bad g clock had came e = refuses terms at past why.Bad old new behind g came e
 by_meaning later terms at past old new behind (Tick now) g clock had came e = timed later terms at now past old new behind g clock came e
 by_meaning later terms at past old new behind (Deliver now word) g clock had came e = delivered later terms at now word past old new behind g clock had came e
-by_meaning later terms at past old new behind (Acquire now name user) g clock had came e = timed later terms at now past old new behind g clock came e
+by_meaning later terms at past old new behind (Acquire now name user) g clock had came e = timed later terms at now past old new behind g clock came.0 e
 by_meaning later terms at past old new behind (Release now name user) g clock had came e = timed later terms at now past old new behind g clock came e
 
 -- nothing is answered

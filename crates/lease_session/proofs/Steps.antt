@@ -1,15 +1,14 @@
 -- Turns of processes, as steps over a network.
-use Rattle.std.proofs.Common.{◌≡◌, ◌⊎◌, ℕ, ◌+◌, ◌<◌, ◌≤◌, Bool, true, false, List, [], ◌∷◌, ◌++◌, Option, Some, refl, sym, ◌∙◌, ap, subst, inl, inr, arith}
+use Rattle.std.proofs.Common.{◌≡◌, ℕ, ◌+◌, ◌<◌, ◌≤◌, Bool, true, false, List, [], ◌∷◌, ◌++◌, Option, Some, refl, sym, ◌∙◌, ap, subst, inl, inr, arith}
 use Rattle.std.specs.Prelude.{◌==◌, if◌then◌else◌, leb, ltb}
 use Rattle.std.proofs.lemmas.Bool.{eq-eqb}
 use Rattle.lease_runs.specs.Lists.{IsAmong}
-use Rattle.lease_runs.specs.Voter.{Client, Ask}
-use Rattle.lease_runs.specs.Candidate.{is_in_time}
-use Rattle.lease_network.specs.Network.{Name, Message, request, grant, release, Event, begins, reserves, sends, takes, Step, Sends, WasSent, IsRunning, IsNext, Terms, Machine, MayDo, AreSteps, done, last_time, machines}
-use Rattle.lease_network.specs.Laws.{Holds, up_to}
+use Rattle.lease_runs.specs.Voter.{Client}
+use Rattle.lease_network.specs.Network.{Message, request, grant, release, Event, begins, reserves, sends, takes, Step, Sends, WasSent, IsRunning, IsNext, Terms, Machine, MayDo, AreSteps, done, last_time, machines}
+use Rattle.lease_network.specs.Laws.{up_to}
 use Rattle.lease_session.specs.Rows.{Row, send, held, lost, refused, unserved, next, fault}
-use Rattle.lease_session.specs.Turns.{Mark, did, wrote, Who, who, Follow, IsAt, IsHad, MayMark, Runs, Tells, after_marks, sent_by, sent_in}
-use Rattle.lease_session.specs.Steps.{Adds, HeldLinesHold, HoldsThen, RunsOrIsNew, TurnGoesOn, TurnsAreSteps, WasSentIn, steps_with}
+use Rattle.lease_session.specs.Turns.{Mark, did, wrote, Who, who, Follow, IsAt, IsHad, Runs, Tells, after_marks, sent_by}
+use Rattle.lease_session.specs.Steps.{Adds, HeldLinesHold, HoldsThen, RunsOrIsNew, TurnGoesOn, TurnsAreSteps, WasSentIn}
 use Rattle.lease_session.proofs.Turns.{among_both}
 
 step : ℕ → Client → Event → Step

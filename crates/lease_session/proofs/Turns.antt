@@ -1,19 +1,17 @@
 -- Turns, of one step, of one line, and one behind another.
-use Rattle.std.proofs.Common.{◌≡◌, ◌⊎◌, ℕ, ◌<◌, ◌≤◌, List, [], ◌∷◌, ◌++◌, Option, Some, None, refl, sym, ◌∙◌, ap, subst, inl, inr, append_assoc, arith}
+use Rattle.std.proofs.Common.{◌≡◌, ◌⊎◌, ℕ, List, [], ◌∷◌, ◌++◌, Option, Some, refl, sym, ◌∙◌, ap, subst, inl, inr, append_assoc}
 use Rattle.std.proofs.lemmas.List.{append-nil}
 use Rattle.lease_runs.specs.Lists.{IsAmong}
 use Rattle.lease_runs.specs.Voter.{Client}
-use Rattle.lease_network.specs.Network.{Name, Message, request, grant, release, Event, begins, reserves, sends, takes, Terms, Machine, MayDo, done}
-use Rattle.lease_message.specs.declared.message.LeaseMessage.{LeaseMessage}
+use Rattle.lease_network.specs.Network.{Message, release, Event, begins, reserves, sends, takes, Terms, Machine, done}
 use Rattle.lease_machine.specs.declared.terms.LeaseTerms.{LeaseTerms}
 use Rattle.lease_machine.specs.declared.state.LeaseMachine.{LeaseMachine}
 use Rattle.lease_steps.specs.StandsFor.{Did, DidNothing, StandsFor, clock_of}
 use Rattle.lease_session.specs.declared.process.LeaseProcess.{LeaseProcess}
 use Rattle.lease_session.specs.declared.process.Start.{Start}
 use Rattle.lease_session.specs.declared.refusing.Halt.TheVariants.{NoMemory}
-use Rattle.lease_session.specs.Own.{IsOwn}
-use Rattle.lease_session.specs.Rows.{Row, send, held, lost, refused, unserved, next, fault, row_text, said}
-use Rattle.lease_session.specs.Turns.{Mark, did, wrote, text_of, sent_by, sent_in, after_marks, Who, who, key_of, AreAmong, IsSent, IsGivenUp, Tells, Runs, IsHad, MayMark, Follow, Stood, IsAt, IsOut, IsStill, Turn}
+use Rattle.lease_session.specs.Rows.{Row, send, held, lost, refused, unserved, next, fault, row_text}
+use Rattle.lease_session.specs.Turns.{Mark, did, wrote, text_of, sent_by, sent_in, after_marks, Who, who, key_of, AreAmong, Tells, Runs, IsHad, Follow, Stood, IsAt, IsOut, IsStill, Turn}
 
 -- ---- lists
 

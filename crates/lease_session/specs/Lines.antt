@@ -1,5 +1,5 @@
 -- What comes of the lines that a process is told.
-use Rattle.std.specs.Prelude.{ℕ, ◌≡◌, ◌<◌, ◌≤◌, ◌^◌, ◌&&◌, ◌++◌, leb, ltb, Bool, true, false, List, [], Option, Some, None}
+use Rattle.std.specs.Prelude.{ℕ, ◌≡◌, ◌^◌, ◌&&◌, ◌++◌, leb, ltb, Bool, true, false, List, [], Option, Some, None}
 use Rattle.line_words.specs.Lines.{bytes_of}
 use Rattle.lease_network.specs.Network.{Message}
 use Rattle.lease_session.specs.declared.asked.Came.{Came}
@@ -11,7 +11,7 @@ use Rattle.lease_session.specs.declared.refusing.Refusal.{Refusal as Refused}
 use Rattle.lease_session.specs.declared.refusing.Refusal.TheVariants as why
 use Rattle.lease_session.specs.Reading.{Meaning, Bad, Tick, Deliver, Acquire, Release}
 use Rattle.lease_session.specs.Opening.{BringsBy}
-use Rattle.lease_session.specs.Replies.{RepliesTo}
+use Rattle.lease_session.specs.Replies.{Asks, RepliesTo}
 use Rattle.lease_session.specs.Rows.{Row, refused, next, fault, row_text, said}
 use Rattle.lease_session.specs.Turns.{IsOut, IsStill, Turn}
 
@@ -60,7 +60,7 @@ abbrev pub ComesOf : Meaning → ℕ → ℕ → LeaseProcess → LeaseProcess �
 ComesOf Bad told then old new = Refuses why.Bad told then old new
 ComesOf (Tick now) told then old new = Comes now [] told then old new
 ComesOf (Deliver now word) told then old new = Delivers now word told then old new
-ComesOf (Acquire now name user) told then old new = Comes now [] told then old new
+ComesOf (Acquire now name user) told then old new = Comes now [] told then old new × (goes_on told now ≡ true → Asks name user now old new)
 ComesOf (Release now name user) told then old new = Comes now [] told then old new
 
 -- ---- how its answer ends

@@ -1,5 +1,8 @@
--- How the requests of other machines' clients are answered.
-use Rattle.std.specs.Prelude.{ℕ, ◌≡◌, ◌==◌, ◌&&◌, nat_lt, not, true, Bool, List, ◌++◌, None}
+-- How requests are answered: those of other machines' clients, and of users here.
+use Rattle.std.specs.Prelude.{ℕ, ◌≡◌, ◌⊎◌, ◌==◌, ◌&&◌, nat_lt, not, true, Bool, List, [], ◌++◌, None}
+use Rattle.lease_runs.specs.Lists.{IsAmong}
+use Rattle.lease_runs.specs.Voter.{Client}
+use Rattle.lease_network.specs.Network.{Name, request}
 use Rattle.lease_message.specs.declared.message.LeaseBody.{LeaseBody}
 use Rattle.lease_message.specs.declared.message.LeaseBody.TheVariants.{Request, Grant, Refusal, Release}
 use Rattle.lease_message.specs.declared.message.LeaseMessage.{LeaseMessage}
@@ -7,8 +10,9 @@ use Rattle.lease_session.specs.declared.asked.Came.{Came}
 use Rattle.lease_session.specs.declared.asked.Came.TheVariants as came
 use Rattle.lease_session.specs.declared.process.LeaseProcess.{LeaseProcess}
 use Rattle.lease_machine.specs.declared.terms.LeaseTerms.{LeaseTerms}
-use Rattle.lease_session.specs.Rows.{row_text, send}
-use Rattle.lease_session.specs.Turns.{Carries, key_of}
+use Rattle.lease_session.specs.declared.refusing.Refusal.{Refusal as Refused}
+use Rattle.lease_session.specs.Rows.{row_text, send, unserved}
+use Rattle.lease_session.specs.Turns.{Carries, Turn, key_of, sent_in}
 
 -- whether a message is for the voter of this machine, of another machine's client
 abbrev pub is_for : ℕ → ℕ → LeaseMessage → Bool
@@ -42,3 +46,27 @@ Replies t m p = RepliesBy t m p m.body
 abbrev pub RepliesTo : LeaseTerms → Came → LeaseProcess → Type 0
 RepliesTo t (came.Message m) p = Replies t m p
 RepliesTo t other p = Unit {0}
+
+-- ---- users
+
+-- a request of a client here for the name was sent
+pub record AsksFor (name : Name) (now : ℕ) (old new : LeaseProcess) : Type 0 where
+  pub turn : Turn [] [] now old new
+  pub client : Client
+  pub number : ℕ
+  pub epoch : ℕ
+  pub sends : IsAmong (request name client number epoch) (sent_in [] turn.marks)
+
+-- the text ends with the line that says why the user isn't served
+pub record IsToldWhy (name : Name) (user : ℕ) (p : LeaseProcess) : Type 0 where
+  pub before : List ℕ
+  pub reason : Refused
+  pub ends : p.text.items ≡ before ++ row_text (unserved reason name user)
+
+-- who begins to ask is asked for at once, or is told why not, as long as the process goes on
+abbrev pub Asks : Name → ℕ → ℕ → LeaseProcess → LeaseProcess → Type 0
+Asks name user now old new = AsksFor name now old new ⊎ (new.halt ≡ None → IsToldWhy name user new)
+
+abbrev pub AsksTo : Came → ℕ → LeaseProcess → LeaseProcess → Type 0
+AsksTo (came.Acquire name user) now old new = Asks name user now old new
+AsksTo other now old new = Unit {0}

@@ -3,7 +3,7 @@ use Rattle.std.specs.Prelude.{ℕ, ◌≡◌, ◌⊎◌, ◌≤◌, List, [], �
 use Rattle.line_words.specs.Lines.{bytes_of}
 use Rattle.lease_runs.specs.Lists.{IsAmong}
 use Rattle.lease_runs.specs.Voter.{Client, Ask}
-use Rattle.lease_network.specs.Network.{Name, Message, Step, Sends, Terms, Machine, AreSteps, last_time, machines}
+use Rattle.lease_network.specs.Network.{Name, Message, Step, Sends, Terms, AreSteps, last_time, machines}
 use Rattle.lease_network.specs.Laws.{Holds}
 use Rattle.lease_session.specs.declared.asked.Came.{Came}
 use Rattle.lease_session.specs.declared.process.LeaseProcess.{LeaseProcess}

@@ -2,7 +2,7 @@
 ghost use Rattle.std.specs.Prelude.{◌≡◌, ◌<◌, ◌^◌, [], true};
 ghost use Rattle.lease_session.specs.Turns.{Turn};
 ghost use Rattle.lease_session.specs.Reading.{meaning_of};
-ghost use Rattle.lease_session.specs.Replies.{RepliesTo};
+ghost use Rattle.lease_session.specs.Replies.{AsksTo, RepliesTo};
 ghost use Rattle.lease_session.specs.Lines.{Comes, ComesOf, Delivers, brought_by, goes_on};
 
 use crate::asked::{Asked, Came, read_line};
@@ -108,7 +108,15 @@ impl<S: EpochStore + Drop> Participant<S> {
         // Refuses: held_line_without_a_lease, until_of_the_voter, send_to_another_machine, release_not_passed_on, request_numbered_as_its_epoch,
         // release_of_a_client_to_come.
         ensures comes { Comes now (brought_by came) self.old.told self.new.told self.old.process self.new.process }
+        // Promise: A request to this voter of another machine's client is answered by a grant or a refusal of its number, as long as memory
+        // is left and the device doesn't fail.
+        // Also: Participant::take_request, LeaseProcess::answer, LeaseProcess::send.
+        // Refuses: grant_never_answered.
         ensures replies { goes_on self.old.told now ≡ true → RepliesTo self.old.process.terms came self.new.process }
+        // Promise: For a user that begins to ask for a lease a request is sent at once, or the user is told why not.
+        // Also: Participant::acquire, Participant::ask_or_tell, Participant::request.
+        // Refuses: acquire_never_asked.
+        ensures asks { goes_on self.old.told now ≡ true → AsksTo came now self.old.process self.new.process }
     {
         if !self.goes_on(now) {
             self.process.refuse(Refusal::Time);
@@ -123,6 +131,7 @@ impl<S: EpochStore + Drop> Participant<S> {
         requires { now < 2 ^ 62 }
         ensures turn { Turn [] (brought_by came) now self.old.process self.new.process }
         ensures replies { RepliesTo self.old.process.terms came self.new.process }
+        ensures asks { AsksTo came now self.old.process self.new.process }
         ensures told { self.new.told ≡ self.old.told }
     {
         self.begin_where_due(now);

@@ -3,7 +3,7 @@ ghost use Rattle.std.specs.Prelude.{◌≡◌, ◌++◌, ℕ, List, [], IfOk, No
 ghost use Rattle.lease_network.specs.Network.{Name};
 ghost use Rattle.lease_message.specs.declared.message.LeaseMessage.{LeaseMessage as Message};
 ghost use Rattle.lease_session.specs.Lines.{IsEnded, Says};
-ghost use Rattle.lease_session.specs.Replies.{IsReplied, IsReply};
+ghost use Rattle.lease_session.specs.Replies.{IsReplied, IsReply, IsToldWhy};
 ghost use Rattle.lease_session.specs.Rows.{refused, row_text, said, send};
 ghost use Rattle.lease_session.specs.Turns.{Carries, GoesTo, IsStill, IsTheClients, Turn, TurnGivesUp, key_of};
 
@@ -160,6 +160,7 @@ impl LeaseProcess {
     /// A user's request isn't taken.
     pub(crate) fn refuse_user(&mut self, why: Refusal, name: &LeaseName, user: u64)
         ensures turn { (now : ℕ) → Turn [] [] now self.old self.new }
+        ensures says { self.new.halt ≡ None → IsToldWhy name.now user self.new }
     {
         if self.halt.is_some() {
             return;

@@ -1,9 +1,9 @@
 use Rattle.std.proofs.Common.{subst, sym, ◌∙◌}
 use Rattle.lease_machine.specs.declared.terms.LeaseTerms.{LeaseTerms}
 use Rattle.lease_session.specs.declared.asked.Came.{Came}
-use Rattle.lease_session.specs.Replies.{Replies, RepliesTo}
+use Rattle.lease_session.specs.Replies.{AsksTo, Replies, RepliesTo}
 use Rattle.lease_session.proofs.Turns.{then, then_too}
-use Rattle.lease_session.proofs.Votes.{as_brought, brought_is}
+use Rattle.lease_session.proofs.Votes.{as_brought, asks_behind, brought_is}
 use Rattle.lease_session.proofs.participant.Participant.take_came.Goals as goal
 
 pub returns-in-Nothing-clause-turn : goal.returns-in-Nothing-clause-turn
@@ -31,3 +31,8 @@ returns-in-Message-clause-replies g c =
     let p = c.take.new.self.process in
     subst (λ (it : Came). RepliesTo c.args.self.now.process.terms it p) (sym c.in-Message.is)
     (subst (λ (t : LeaseTerms). Replies t c.in-Message.message p) (c.serve_due.ensures.turn.terms ∙ c.begin_where_due.ensures.turn.terms) c.take.ensures.replies)
+
+pub returns-in-Acquire-clause-asks : goal.returns-in-Acquire-clause-asks
+returns-in-Acquire-clause-asks g c =
+    subst (λ (it : Came). AsksTo it c.args.now c.args.self.now.process c.acquire.new.self.process) (sym c.in-Acquire.is)
+    (asks_behind (then c.begin_where_due.ensures.turn c.serve_due.ensures.turn) c.acquire.ensures.asks)

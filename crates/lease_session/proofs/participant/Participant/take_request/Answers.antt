@@ -1,4 +1,4 @@
-use Rattle.std.proofs.Common.{ℕ, ap, sym, refl, ◌∙◌}
+use Rattle.std.proofs.Common.{ap, sym, refl, ◌∙◌}
 use Rattle.lease_runs.specs.Code.{client_of}
 use Rattle.lease_machine.specs.declared.terms.LeaseTerms.{LeaseTerms}
 use Rattle.lease_session.specs.declared.process.LeaseProcess.{LeaseProcess}

@@ -1,5 +1,4 @@
 use Rattle.std.proofs.Common.{refl, subst, sym, ◌∙◌, ap, List, ℕ, ◌++◌, Option}
-use Rattle.hex.specs.Hex.{encode_lower}
 use Rattle.lease_session.specs.Rows.{send, row_text}
 use Rattle.lease_session.specs.Turns.{Carries}
 use Rattle.lease_session.proofs.Turns.{written}
