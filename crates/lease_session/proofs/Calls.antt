@@ -1,5 +1,5 @@
 -- Calls of a process's machine, as turns.
-use Rattle.std.proofs.Common.{◌≡◌, ℕ, ◌+◌, ◌<◌, ◌≤◌, Bool, true, false, List, [], ◌∷◌, ◌++◌, Option, Some, None, refl, sym, ◌∙◌, ap, subst, inl, inr, arith}
+use Rattle.std.proofs.Common.{◌≡◌, ℕ, ◌+◌, ◌<◌, ◌≤◌, Bool, true, false, List, [], ◌∷◌, Option, Some, None, refl, sym, ◌∙◌, ap, subst, inl, inr, arith}
 use Rattle.std.proofs.lemmas.List.{append-nil}
 use Rattle.std.specs.Prelude.{is_some}
 use Rattle.lease_runs.specs.Lists.{IsAmong}
@@ -10,7 +10,7 @@ use Rattle.lease_runs.specs.Candidate.{Candidate, beginning}
 use Rattle.lease_runs.specs.CandidateCode.{IsSent, Shows, by_clock, shown}
 use Rattle.lease_runs.specs.Code.{client_of, view}
 use Rattle.lease_runs.specs.Run.{stops}
-use Rattle.lease_network.specs.Network.{Name, Message, request, grant, release, Event, begins, reserves, sends, takes, Terms, Machine, MayDo, at_name, candidate_then, done}
+use Rattle.lease_network.specs.Network.{Name, Message, request, release, begins, reserves, sends, takes, Terms, Machine, MayDo, at_name, candidate_then, done}
 use Rattle.lease_message.specs.declared.message.LeaseBody.TheVariants as body
 use Rattle.lease_message.specs.declared.message.LeaseBody.{LeaseBody}
 use Rattle.lease_message.specs.declared.message.LeaseClient.{LeaseClient}

@@ -1,5 +1,9 @@
 pub mod Calls
+pub mod Cutting
+pub mod Feeding
+pub mod Lines
 pub mod Machines
+pub mod Reading
 pub mod Steps
 pub mod Turns
 pub mod Votes

@@ -1,14 +1,14 @@
 -- Turns of processes, as steps over a network.
-use Rattle.std.proofs.Common.{◌≡◌, ◌⊎◌, ℕ, ◌+◌, ◌<◌, ◌≤◌, Bool, true, false, List, [], ◌∷◌, ◌++◌, Option, Some, refl, sym, ◌∙◌, ap, subst, inl, inr, arith}
+use Rattle.std.proofs.Common.{◌≡◌, ℕ, ◌+◌, ◌<◌, ◌≤◌, Bool, true, false, List, [], ◌∷◌, ◌++◌, Option, Some, refl, sym, ◌∙◌, ap, subst, inl, inr, arith}
 use Rattle.std.specs.Prelude.{◌==◌, if◌then◌else◌, leb, ltb}
 use Rattle.std.proofs.lemmas.Bool.{eq-eqb}
 use Rattle.lease_runs.specs.Lists.{IsAmong}
-use Rattle.lease_runs.specs.Voter.{Client, Ask}
-use Rattle.lease_runs.specs.Candidate.{is_in_time}
-use Rattle.lease_network.specs.Network.{Name, Message, request, grant, release, Event, begins, reserves, sends, takes, Step, Sends, WasSent, IsRunning, IsNext, Terms, Machine, MayDo, AreSteps, done, last_time, machines}
-use Rattle.lease_network.specs.Laws.{Holds, up_to}
-use Rattle.lease_session.specs.Turns.{Mark, did, wrote, Who, who, Follow, IsAt, IsHad, MayMark, Runs, after_marks, sent_by, sent_in}
-use Rattle.lease_session.specs.Steps.{Adds, HeldLinesHold, RunsOrIsNew, TurnGoesOn, TurnsAreSteps, WasSentIn, steps_with}
+use Rattle.lease_runs.specs.Voter.{Client}
+use Rattle.lease_network.specs.Network.{Message, request, grant, release, Event, begins, reserves, sends, takes, Step, Sends, WasSent, IsRunning, IsNext, Terms, Machine, MayDo, AreSteps, done, last_time, machines}
+use Rattle.lease_network.specs.Laws.{up_to}
+use Rattle.lease_session.specs.Rows.{Row, send, held, lost, refused, unserved, next, fault}
+use Rattle.lease_session.specs.Turns.{Mark, did, wrote, Who, who, Follow, IsAt, IsHad, Runs, Tells, after_marks, sent_by}
+use Rattle.lease_session.specs.Steps.{Adds, HeldLinesHold, HoldsThen, RunsOrIsNew, TurnGoesOn, TurnsAreSteps, WasSentIn}
 use Rattle.lease_session.proofs.Turns.{among_both}
 
 step : ℕ → Client → Event → Step
@@ -69,15 +69,65 @@ was_sent past brought sent (takes message) had before (inr i) = before message i
 later : (past : List Step) (s : Step) (x : Message) → WasSentIn past x → WasSentIn (s ∷ past) x
 later past s x h = (h.0, inr h.1, h.2)
 
+-- ---- what is told as held
+
+up_to_all : (at : ℕ) (past : List Step) → last_time past ≤ at → up_to at past ≡ past
+up_to_all at [] last = refl
+up_to_all at (s ∷ past) last = test (leb s.at at) (leb_is s.at at last)
+  where
+    leb_is : (a b : ℕ) → a ≤ b → leb a b ≡ true
+    leb_is a b less = grind (arith, less)
+
+    test : (b : Bool) → b ≡ true → (if b then s ∷ past else up_to at past) ≡ s ∷ past
+    test true is = refl
+    test false is = absurd cc
+
+ltb_is : (a b : ℕ) → a < b → ltb a b ≡ true
+ltb_is a b less = grind (arith, less)
+
+pub held_holds : HeldLinesHold
+held_holds terms w at past name user epoch until last are h = (
+  record { machine = w.self.machine; boot = w.self.boot; number = h.number },
+  h.ask,
+  record {
+    running = subst (λ (l : List Step). (machines terms l w.self.machine).process ≡ Some w.self.boot) (sym (up_to_all at past last)) h.running;
+    lease = subst (λ (l : List Step). ((machines terms l w.self.machine).candidate h.number name).lease ≡ Some h.ask) (sym (up_to_all at past last)) h.lease;
+    in_time = ltb_is (terms.clock w.self.machine w.self.boot at) (terms.clock w.self.machine w.self.boot h.ask.sent + terms.relies_for)
+        (let less = h.in_time in let ends = h.ends in omega (arith, less, ends));
+  },
+  h.of_epoch,
+  refl,
+  refl,
+  h.ends,
+)
+
+-- so it is of each line
+holds_then : (terms : Terms) (w : Who) (at : ℕ) (past : List Step) (had : List Message) (row : Row) → last_time past ≤ at → AreSteps terms past
+    → Tells terms w at (machines terms past w.self.machine) had row → HoldsThen terms w at past row
+holds_then terms w at past had (held name user epoch until) last are h = held_holds terms w at past name user epoch until last are h
+holds_then terms w at past had (send to message bytes) last are h = tt
+holds_then terms w at past had (lost name epoch) last are h = tt
+holds_then terms w at past had (refused why) last are h = tt
+holds_then terms w at past had (unserved why name user) last are h = tt
+holds_then terms w at past had (next time) last are h = tt
+holds_then terms w at past had fault last are h = tt
+
 -- ---- all of them
 
 pub go : (terms : Terms) (w : Who) (at : ℕ) (past : List Step) (brought sent : List Message) (marks : List Mark) → AreSteps terms past → last_time past ≤ at
     → RunsOrIsNew past w.self (machines terms past w.self.machine).process → ((x : Message) → IsAmong x brought → WasSentIn past x)
     → ((x : Message) → IsAmong x sent → WasSentIn past x) → Follow terms w at brought sent (machines terms past w.self.machine) marks → Adds terms w at past marks sent
-go terms w at past brought sent [] are last runs had before f = record { are = are; kept = refl; last = last; sends = before; runs = runs }
+go terms w at past brought sent [] are last runs had before f = record { are = are; kept = refl; last = last; sends = before; runs = runs; held = tt }
 go terms w at past brought sent (wrote row ∷ marks) are last runs had before f =
     let rest = go terms w at past brought sent marks are last runs had before f.1 in
-    record { are = rest.are; kept = rest.kept; last = rest.last; sends = rest.sends; runs = rest.runs }
+    record {
+      are = rest.are;
+      kept = rest.kept;
+      last = rest.last;
+      sends = rest.sends;
+      runs = rest.runs;
+      held = (holds_then terms w at past sent row last are f.0, rest.held);
+    }
 go terms w at past brought sent (did by what ∷ marks) are last runs had before f =
     let may = f.0 in
     let s : Step = record { at = at; by = by; what = what } in
@@ -100,6 +150,7 @@ go terms w at past brought sent (did by what ∷ marks) are last runs had before
       last = rest.last;
       sends = rest.sends;
       runs = rest.runs;
+      held = rest.held;
     }
   where
     le_self : at ≤ at
@@ -113,35 +164,3 @@ turn_goes_on terms at now past brought old new turn clock are last runs had is =
     let h = turn.goes terms at (machines terms past old.terms.machine) clock is in
     let adds = turns terms (who old) at past brought turn.marks are last runs had h.0 in
     (adds, subst (λ (m : Machine). IsAt terms now new m) (sym adds.kept) h.1)
-
--- ---- what is told as held
-
-up_to_all : (at : ℕ) (past : List Step) → last_time past ≤ at → up_to at past ≡ past
-up_to_all at [] last = refl
-up_to_all at (s ∷ past) last = test (leb s.at at) (leb_is s.at at last)
-  where
-    leb_is : (a b : ℕ) → a ≤ b → leb a b ≡ true
-    leb_is a b less = grind (arith, less)
-
-    test : (b : Bool) → b ≡ true → (if b then s ∷ past else up_to at past) ≡ s ∷ past
-    test true is = refl
-    test false is = absurd cc
-
-ltb_is : (a b : ℕ) → a < b → ltb a b ≡ true
-ltb_is a b less = grind (arith, less)
-
-pub held_holds : HeldLinesHold
-held_holds terms w at past name epoch until last are h = (
-  record { machine = w.self.machine; boot = w.self.boot; number = h.number },
-  h.ask,
-  record {
-    running = subst (λ (l : List Step). (machines terms l w.self.machine).process ≡ Some w.self.boot) (sym (up_to_all at past last)) h.running;
-    lease = subst (λ (l : List Step). ((machines terms l w.self.machine).candidate h.number name).lease ≡ Some h.ask) (sym (up_to_all at past last)) h.lease;
-    in_time = ltb_is (terms.clock w.self.machine w.self.boot at) (terms.clock w.self.machine w.self.boot h.ask.sent + terms.relies_for)
-        (let less = h.in_time in let ends = h.ends in omega (arith, less, ends));
-  },
-  h.of_epoch,
-  refl,
-  refl,
-  h.ends,
-)

@@ -1,19 +1,17 @@
 -- Turns, of one step, of one line, and one behind another.
-use Rattle.std.proofs.Common.{◌≡◌, ◌⊎◌, ℕ, ◌<◌, ◌≤◌, List, [], ◌∷◌, ◌++◌, Option, Some, None, refl, sym, ◌∙◌, ap, subst, inl, inr, append_assoc, arith}
+use Rattle.std.proofs.Common.{◌≡◌, ◌⊎◌, ℕ, List, [], ◌∷◌, ◌++◌, Option, Some, refl, sym, ◌∙◌, ap, subst, inl, inr, append_assoc}
 use Rattle.std.proofs.lemmas.List.{append-nil}
 use Rattle.lease_runs.specs.Lists.{IsAmong}
 use Rattle.lease_runs.specs.Voter.{Client}
-use Rattle.lease_network.specs.Network.{Name, Message, request, grant, release, Event, begins, reserves, sends, takes, Terms, Machine, MayDo, done}
-use Rattle.lease_message.specs.declared.message.LeaseMessage.{LeaseMessage}
+use Rattle.lease_network.specs.Network.{Message, release, Event, begins, reserves, sends, takes, Terms, Machine, done}
 use Rattle.lease_machine.specs.declared.terms.LeaseTerms.{LeaseTerms}
 use Rattle.lease_machine.specs.declared.state.LeaseMachine.{LeaseMachine}
 use Rattle.lease_steps.specs.StandsFor.{Did, DidNothing, StandsFor, clock_of}
 use Rattle.lease_session.specs.declared.process.LeaseProcess.{LeaseProcess}
 use Rattle.lease_session.specs.declared.process.Start.{Start}
 use Rattle.lease_session.specs.declared.refusing.Halt.TheVariants.{NoMemory}
-use Rattle.lease_session.specs.Own.{IsOwn}
-use Rattle.lease_session.specs.Rows.{Row, send, held, lost, refused, unserved, next, fault, row_text, said}
-use Rattle.lease_session.specs.Turns.{Mark, did, wrote, text_of, sent_by, sent_in, after_marks, Who, who, key_of, AreAmong, IsSent, IsGivenUp, Tells, Runs, IsHad, MayMark, Follow, Stood, IsAt, IsOut, Turn}
+use Rattle.lease_session.specs.Rows.{Row, send, held, lost, refused, unserved, next, fault, row_text}
+use Rattle.lease_session.specs.Turns.{Mark, did, wrote, text_of, sent_by, sent_in, after_marks, Who, who, key_of, AreAmong, Tells, Runs, IsHad, Follow, Stood, IsAt, IsOut, IsStill, Turn}
 
 -- ---- lists
 
@@ -166,20 +164,13 @@ then_too {sent = sent} {brought = brought} t u = then_had t u (λ x i. absurd i)
 
 -- ---- where the machine does nothing
 
--- all but the text, and why it goes on no more
-pub record Same (a b : LeaseProcess) : Type 0 where
-  pub machine : b.machine ≡ a.machine
-  pub terms : b.terms ≡ a.terms
-  pub start : b.start ≡ a.start
-  pub key : key_of b.seal ≡ key_of a.seal
-
-pub is_at_same : (a b : LeaseProcess) (terms : Terms) (now : ℕ) (m : Machine) → Same a b → IsAt terms now a m → IsAt terms now b m
+pub is_at_same : (a b : LeaseProcess) (terms : Terms) (now : ℕ) (m : Machine) → IsStill a b → IsAt terms now a m → IsAt terms now b m
 is_at_same a b terms now m s is =
     subst (λ (x : Option LeaseMachine). Stood b.terms b.start x terms now m) (sym s.machine)
     (subst (λ (x : Start). Stood b.terms x a.machine terms now m) (sym s.start)
     (subst (λ (x : LeaseTerms). Stood x a.start a.machine terms now m) (sym s.terms) is))
 
-pub stayed : {sent brought : List Message} {now : ℕ} {a b : LeaseProcess} → Same a b → (IsOut a → IsOut b) → b.text.items ≡ a.text.items → Turn sent brought now a b
+pub stayed : {sent brought : List Message} {now : ℕ} {a b : LeaseProcess} → IsStill a b → (IsOut a → IsOut b) → b.text.items ≡ a.text.items → Turn sent brought now a b
 stayed {now = now} {a = a} {b = b} s halts text = record {
   marks = [];
   terms = s.terms;
@@ -201,7 +192,7 @@ pub to_same : {sent brought : List Message} {now : ℕ} {a b c : LeaseProcess} �
 to_same {sent = sent} {brought = brought} {now = now} {a = a} same t = subst (λ (x : LeaseProcess). Turn sent brought now a x) (sym same) t
 
 -- the line can't be written
-pub failed : {sent brought : List Message} {now : ℕ} {a b : LeaseProcess} → Same a b → IsOut b → Turn sent brought now a b
+pub failed : {sent brought : List Message} {now : ℕ} {a b : LeaseProcess} → IsStill a b → IsOut b → Turn sent brought now a b
 failed {now = now} {a = a} {b = b} s out = record {
   marks = [];
   terms = s.terms;
@@ -215,7 +206,7 @@ failed {now = now} {a = a} {b = b} s out = record {
 pub ran_out : {sent brought : List Message} {now : ℕ} {a b : LeaseProcess} → b ≡ record a { halt = Some NoMemory } → Turn sent brought now a b
 ran_out same = to_same same (failed (record { machine = refl; terms = refl; start = refl; key = refl }) refl)
 
-pub written : {sent brought : List Message} {now : ℕ} {a b : LeaseProcess} (row : Row) → Same a b → (IsOut a → IsOut b) → b.text.items ≡ a.text.items ++ row_text row
+pub written : {sent brought : List Message} {now : ℕ} {a b : LeaseProcess} (row : Row) → IsStill a b → (IsOut a → IsOut b) → b.text.items ≡ a.text.items ++ row_text row
     → ((terms : Terms) (at : ℕ) (m : Machine) → terms.clock a.terms.machine a.start.process at ≡ now → IsAt terms now a m → Tells terms (who a) at m sent row)
     → Turn sent brought now a b
 written {now = now} {a = a} {b = b} row s halts text tells = record {

@@ -1,10 +1,10 @@
 -- Votes and grants, as turns.
-use Rattle.std.proofs.Common.{◌≡◌, ℕ, List, [], ◌∷◌, ◌++◌, refl, sym, ◌∙◌, ap, subst, inl, inr}
+use Rattle.std.proofs.Common.{◌≡◌, ℕ, List, [], ◌∷◌, sym, ◌∙◌, ap, subst, inl, inr}
 use Rattle.lease_runs.specs.Lists.{IsAmong}
 use Rattle.lease_runs.specs.declared.client_id.ClientId.{ClientId}
 use Rattle.lease_runs.specs.Voter.{Client}
 use Rattle.lease_runs.specs.Code.{client_of}
-use Rattle.lease_network.specs.Network.{Name, Message, request, grant, Terms, Machine}
+use Rattle.lease_network.specs.Network.{Name, Message, request, grant}
 use Rattle.lease_message.specs.declared.message.LeaseBody.{LeaseBody}
 use Rattle.lease_message.specs.declared.message.LeaseBody.TheVariants as body
 use Rattle.lease_message.specs.declared.message.LeaseMessage.{LeaseMessage}
@@ -14,9 +14,10 @@ use Rattle.lease_machine.specs.declared.voting.Vote.TheVariants as vote
 use Rattle.lease_session.specs.declared.process.LeaseProcess.{LeaseProcess}
 use Rattle.lease_session.specs.declared.asked.Came.{Came}
 use Rattle.lease_session.specs.Lines.{brought_by}
+use Rattle.lease_session.specs.Replies.{Asks, AsksFor}
 use Rattle.lease_session.specs.Rows.{asker, said, said_by}
-use Rattle.lease_session.specs.Turns.{AreAmong, Requested, Turn, Voted, after_marks, sent_in, who}
-use Rattle.lease_session.proofs.Turns.{follow_more, nothing_had, sent_both, sent_more, then, then_had}
+use Rattle.lease_session.specs.Turns.{Requested, Turn, Voted, sent_in, who}
+use Rattle.lease_session.proofs.Turns.{follow_more, nothing_had, sends_still, sent_both, sent_more, then, then_had}
 
 one_of : {message : Message} (sent : List Message) → IsAmong message sent → (x : Message) → IsAmong x (message ∷ []) → IsAmong x sent
 one_of sent h x (inl e) = subst (λ (y : Message). IsAmong y sent) (sym e) h
@@ -100,3 +101,34 @@ answered {number = number} {a = a} m client same voter granted v t =
 
 pub brought_is : {a b : LeaseProcess} {now : ℕ} (x : Came) {y : Came} → x ≡ y → Turn [] (brought_by y) now a b → Turn [] (brought_by x) now a b
 brought_is {a = a} {b = b} {now = now} x same t = subst (λ (c : Came). Turn [] (brought_by c) now a b) (sym same) t
+
+-- ---- who asks
+
+-- a request, and what follows it
+pub asked_voted : {name : Name} {asks : ClientId} {number epoch now : ℕ} {a b c : LeaseProcess} → Requested name asks number epoch now a b
+    → Turn (request name (client_of asks) number epoch ∷ []) [] now b c → AsksFor name now a c
+asked_voted {name = name} {asks = asks} {number = number} {epoch = epoch} r t = record {
+  turn = then_had r.turn t (one_of (sent_in [] r.turn.marks) r.sends) (nothing_had [] (sent_in [] r.turn.marks));
+  client = client_of asks;
+  number = number;
+  epoch = epoch;
+  sends = sends_still (request name (client_of asks) number epoch) [] r.turn.marks t.marks r.sends;
+}
+
+pub asked_behind : {name : Name} {now : ℕ} {a b c : LeaseProcess} → Turn [] [] now a b → AsksFor name now b c → AsksFor name now a c
+asked_behind {name = name} t q = record {
+  turn = then_had t q.turn (λ x i. absurd i) (nothing_had [] (sent_in [] t.marks));
+  client = q.client;
+  number = q.number;
+  epoch = q.epoch;
+  sends = subst (λ (l : List Message). IsAmong (request name q.client q.number q.epoch) l) (sym (sent_both [] t.marks q.turn.marks))
+      (sent_more [] (sent_in [] t.marks) q.turn.marks (λ x i. absurd i) (request name q.client q.number q.epoch) q.sends);
+}
+
+pub asks_behind : {name : Name} {user now : ℕ} {a b c : LeaseProcess} → Turn [] [] now a b → Asks name user now b c → Asks name user now a c
+asks_behind t (inl q) = inl (asked_behind t q)
+asks_behind t (inr told) = inr told
+
+pub asks_same : {name other : Name} {user also now : ℕ} {a b : LeaseProcess} → name ≡ other → user ≡ also → Asks name user now a b → Asks other also now a b
+asks_same {other = other} {user = user} {now = now} {a = a} {b = b} named used q =
+    subst (λ (u : ℕ). Asks other u now a b) used (subst (λ (n : Name). Asks n user now a b) named q)

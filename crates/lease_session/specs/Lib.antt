@@ -1,6 +1,10 @@
+pub mod Feeding
 pub mod Key
 pub mod Lines
+pub mod Opening
 pub mod Own
+pub mod Reading
+pub mod Replies
 pub mod Rows
 pub mod Steps
 pub mod Turns

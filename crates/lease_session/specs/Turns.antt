@@ -4,7 +4,7 @@ use Rattle.sealed_msg.specs.declared.stamp.Stamp.{Stamp}
 use Rattle.sealed_msg.specs.Sealing.{sealed}
 use Rattle.lease_runs.specs.Lists.{IsAmong}
 use Rattle.lease_runs.specs.Voter.{Client, Ask}
-use Rattle.lease_network.specs.Network.{Name, Message, request, grant, release, Event, begins, reserves, sends, takes, Terms, Machine, MayDo, done}
+use Rattle.lease_network.specs.Network.{Name, Message, request, grant, release, Event, begins, sends, takes, Terms, Machine, MayDo, done}
 use Rattle.lease_message.specs.declared.message.LeaseBody.{LeaseBody}
 use Rattle.lease_message.specs.declared.message.LeaseBody.TheVariants.{Request, Grant, Refusal, Release}
 use Rattle.lease_message.specs.declared.message.LeaseMessage.{LeaseMessage}
@@ -18,14 +18,13 @@ use Rattle.lease_machine.specs.declared.name_entry.Claim.{Claim}
 use Rattle.lease_machine.specs.declared.state.LeaseMachine.{LeaseMachine}
 use Rattle.lease_machine.specs.Machine.{claim_at}
 use Rattle.lease_steps.specs.StandsFor.{AreOf, StandsFor}
-use Rattle.lease_session.specs.declared.refusing.Halt.{Halt}
 use Rattle.lease_session.specs.declared.refusing.Halt.TheVariants.{NoMemory}
 use Rattle.lease_session.specs.declared.process.LeaseProcess.{LeaseProcess}
 use Rattle.lease_session.specs.declared.process.Start.{Start}
 use Rattle.lease_session.specs.declared.seals.LeaseSeal.{LeaseSeal}
 use Rattle.lease_session.specs.declared.voting.Answer.{Answer}
 use Rattle.lease_session.specs.declared.voting.Answer.TheVariants as answer
-use Rattle.lease_session.specs.Rows.{Row, send, held, lost, refused, unserved, next, fault, row_text, said}
+use Rattle.lease_session.specs.Rows.{Row, send, held, lost, row_text, said}
 
 -- ---- marks
 
@@ -167,6 +166,13 @@ IsAt terms now p m = Stood p.terms p.start p.machine terms now m
 -- no memory was left
 abbrev pub IsOut : LeaseProcess → Type 0
 IsOut p = p.halt ≡ Some NoMemory
+
+-- its machine does nothing
+pub record IsStill (old new : LeaseProcess) : Type 0 where
+  pub machine : new.machine ≡ old.machine
+  pub terms : new.terms ≡ old.terms
+  pub start : new.start ≡ old.start
+  pub key : key_of new.seal ≡ key_of old.seal
 
 -- A process went on: at one time of its clock it made these steps and wrote these lines, where these messages were sent by steps before, and a line brought those. Once
 -- no memory is left, its text isn't to be written.

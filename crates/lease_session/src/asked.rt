@@ -1,4 +1,8 @@
 // What a line asks for.
+ghost use Rattle.std.specs.Prelude.{◌≡◌};
+ghost use Rattle.std.specs.List.{list_all};
+ghost use Rattle.line_words.specs.Words.{words_of};
+ghost use Rattle.lease_session.specs.Reading.{is_printable, meaning_of, meaning_words, meant, name_of, one_field, three_fields, two_fields, user_asks};
 
 use lease_message::{LeaseMessage, LeaseName};
 use line_words::{cut_word, is_word, number};
@@ -6,8 +10,6 @@ use line_words::{cut_word, is_word, number};
 /// What a line asks for, and the time that it tells, in milliseconds of the machine's clock.
 #[derive(Clone, Copy, Debug)]
 pub(crate) enum Asked<'a> {
-    /// The line is empty: it is no request.
-    Nothing,
     /// The line can't be read.
     Bad,
     Tick(u64),
@@ -30,48 +32,61 @@ pub(crate) enum Came {
 }
 
 /// What a line asks for.
-pub(crate) fn read_line(line: &[u8]) -> Asked<'_> {
-    if line.is_empty() {
-        return Asked::Nothing;
+#[tactic(auto, using(crate::proofs::Reading::too_many))]
+pub(crate) fn read_line(line: &[u8]) -> Asked<'_>
+    ensures { meant result ≡ meaning_of line.now }
+{
+    let Some((name, fields)) = cut_word(line) else {
+        return Asked::Bad;
+    };
+    let Some((time, more)) = cut_word(fields) else {
+        return one_field(name, fields);
+    };
+    let Some((second, third)) = cut_word(more) else {
+        return two_fields(name, time, more);
+    };
+    match cut_word(third) {
+        None => three_fields(name, time, second, third),
+        Some(_) => Asked::Bad,
     }
-    match cut_word(line) {
-        Some((name, fields)) => fields_of(name, fields),
+}
+
+fn one_field<'a>(name: &[u8], time: &[u8]) -> Asked<'a>
+    ensures { meant result ≡ one_field name.now time.now }
+{
+    if !is_word(name, "tick") {
+        return Asked::Bad;
+    }
+    match number(time) {
+        Some(now) => Asked::Tick(now),
         None => Asked::Bad,
     }
 }
 
-fn fields_of<'a>(name: &[u8], fields: &'a [u8]) -> Asked<'a> {
-    let Some((time, more)) = cut_word(fields) else {
-        return one_field(name, fields);
-    };
-    let Some(now) = number(time) else {
+fn two_fields<'a>(name: &[u8], time: &[u8], word: &'a [u8]) -> Asked<'a>
+    ensures { meant result ≡ two_fields name.now time.now word.now }
+{
+    if !is_word(name, "deliver") {
         return Asked::Bad;
-    };
-    let Some((second, third)) = cut_word(more) else {
-        return two_fields(name, now, more);
-    };
-    three_fields(name, now, second, third)
+    }
+    match number(time) {
+        Some(now) => Asked::Deliver(now, word),
+        None => Asked::Bad,
+    }
 }
 
-fn one_field<'a>(name: &[u8], time: &[u8]) -> Asked<'a> {
-    match number(time) {
-        Some(now) if is_word(name, "tick") => Asked::Tick(now),
+fn three_fields<'a>(name: &[u8], time: &[u8], lease: &[u8], user: &[u8]) -> Asked<'a>
+    ensures { meant result ≡ three_fields name.now time.now lease.now user.now }
+{
+    match (number(time), lease_name(lease), number(user)) {
+        (Some(now), Some(lease), Some(user)) => user_asks(name, now, lease, user),
         _ => Asked::Bad,
     }
 }
 
-fn two_fields<'a>(name: &[u8], now: u64, word: &'a [u8]) -> Asked<'a> {
-    if is_word(name, "deliver") {
-        Asked::Deliver(now, word)
-    } else {
-        Asked::Bad
-    }
-}
-
-fn three_fields<'a>(name: &[u8], now: u64, lease: &[u8], user: &[u8]) -> Asked<'a> {
-    let (Some(lease), Some(user)) = (lease_name(lease), number(user)) else {
-        return Asked::Bad;
-    };
+fn user_asks<'a>(name: &[u8], now: u64, lease: LeaseName, user: u64) -> Asked<'a>
+    ensures { meant result ≡ user_asks name.now now lease user }
+{
     if is_word(name, "acquire") {
         Asked::Acquire(now, lease, user)
     } else if is_word(name, "release") {
@@ -82,11 +97,28 @@ fn three_fields<'a>(name: &[u8], now: u64, lease: &[u8], user: &[u8]) -> Asked<'
 }
 
 /// The name that a word is: 1 to 64 printable letters of ASCII.
-fn lease_name(word: &[u8]) -> Option<LeaseName> {
-    for letter in word {
-        if !(b'!'..=b'~').contains(letter) {
-            return None;
-        }
+fn lease_name(word: &[u8]) -> Option<LeaseName>
+    ensures { result ≡ name_of word.now }
+{
+    if !is_printable(word) {
+        return None;
     }
     LeaseName::new(word)
+}
+
+fn is_printable(word: &[u8]) -> bool
+    ensures { result ≡ list_all is_printable word.now }
+{
+    let mut all = true;
+    for letter in word {
+        all &= is_letter(*letter);
+    }
+    all
+}
+
+#[inline]
+fn is_letter(byte: u8) -> bool
+    ensures { result ≡ is_printable byte }
+{
+    b'!' <= byte && byte <= b'~'
 }

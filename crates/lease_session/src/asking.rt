@@ -1,13 +1,14 @@
 // How those ask for leases who want them here.
-ghost use Rattle.std.specs.Prelude.{◌≡◌, ◌<◌, ◌^◌, ℕ, [], ◌∷◌};
+ghost use Rattle.std.specs.Prelude.{◌≡◌, ◌<◌, ◌^◌, ℕ, [], ◌∷◌, true};
 ghost use Rattle.lease_runs.specs.Code.{client_of as by_code};
 ghost use Rattle.lease_network.specs.Network.{request as request_of, grant as grant_of};
+ghost use Rattle.lease_session.specs.Replies.{Asks, AsksFor};
 ghost use Rattle.lease_session.specs.Rows.{said};
 ghost use Rattle.lease_session.specs.Turns.{Turn};
 
+use crate::participant::Participant;
 use crate::pause::{renewal, rest};
 use crate::refusing::Refusal;
-use crate::session::LeaseSession;
 use crate::store::EpochStore;
 use crate::voting::Answer;
 use crate::want::{Bound, NEVER, Stage, Want};
@@ -18,7 +19,7 @@ use lease_message::{LeaseBody, LeaseMessage, LeaseName, Reason};
 use lease_runs::{ClientId, Request};
 
 // The list of those who want a lease here.
-impl<S: EpochStore + Drop> LeaseSession<S> {
+impl<S: EpochStore + Drop> Participant<S> {
     /// Where the one stands who wants a name.
     fn place_of(&self, name: &LeaseName) -> Option<usize> {
         for place in 0..self.wants.len() {
@@ -122,19 +123,20 @@ impl<S: EpochStore + Drop> LeaseSession<S> {
 }
 
 // What a user asks.
-impl<S: EpochStore + Drop> LeaseSession<S> {
+impl<S: EpochStore + Drop> Participant<S> {
     /// A user wants the lease of a name from now on.
     pub(crate) fn acquire(&mut self, now: u64, name: &LeaseName, user: u64)
         requires { now < 2 ^ 62 }
         ensures turn { Turn [] [] now self.old.process self.new.process }
         ensures told { self.new.told ≡ self.old.told }
+        ensures asks { Asks name.now user now self.old.process self.new.process }
     {
         if let Err(why) = self.claim(now, name, user) {
             self.process.refuse_user(why, name, user);
             return;
         }
         let mut want = Want::new(*name, user);
-        self.ask(now, &mut want);
+        self.ask_or_tell(now, &mut want);
         if self.wants.push(want).is_err() {
             self.process.run_out();
         }
@@ -166,7 +168,7 @@ impl<S: EpochStore + Drop> LeaseSession<S> {
 }
 
 // What one does who wants a lease.
-impl<S: EpochStore + Drop> LeaseSession<S> {
+impl<S: EpochStore + Drop> Participant<S> {
     /// An epoch is known of. One that is asked under next is above it.
     pub(crate) fn know(&mut self, epoch: u64)
         ensures { (self.new.process ≡ self.old.process) × (self.new.told ≡ self.old.told) }
@@ -185,9 +187,9 @@ impl<S: EpochStore + Drop> LeaseSession<S> {
             Stage::Asking => self.rest(now, want),
             Stage::Holding { .. } => {
                 self.stop(now, want);
-                self.ask(now, want);
+                self.ask_or_tell(now, want);
             }
-            Stage::Resting => self.ask(now, want),
+            Stage::Resting => self.ask_or_tell(now, want),
         }
     }
 
@@ -203,22 +205,37 @@ impl<S: EpochStore + Drop> LeaseSession<S> {
         want.rest(now);
     }
 
-    /// Asks under an epoch above all that are known of.
-    fn ask(&mut self, now: u64, want: &mut Want)
+    /// Asks, or says that no epoch or number is left, and asks no more.
+    fn ask_or_tell(&mut self, now: u64, want: &mut Want)
         requires { now < 2 ^ 62 }
         ensures turn { Turn [] [] now self.old.process self.new.process }
         ensures told { self.new.told ≡ self.old.told }
+        ensures asks { Asks want.old.name want.old.user now self.old.process self.new.process }
+    {
+        let name = want.name;
+        let user = want.user;
+        if !self.ask(now, want) {
+            self.process.refuse_user(Refusal::Exhausted, &name, user);
+            want.rest(NEVER);
+        }
+    }
+
+    /// Asks under an epoch above all that are known of. False says that no epoch or number is left.
+    fn ask(&mut self, now: u64, want: &mut Want) -> bool
+        requires { now < 2 ^ 62 }
+        ensures turn { Turn [] [] now self.old.process self.new.process }
+        ensures told { self.new.told ≡ self.old.told }
+        ensures asks { result ≡ true → AsksFor want.old.name now self.old.process self.new.process }
     {
         let Some(epoch) = self.greatest.checked_add(1) else {
-            self.give_in(want);
-            return;
+            return false;
         };
         self.greatest = epoch;
         want.ask(
             epoch,
             now.saturating_add(self.answers.patience(self.round_trip)),
         );
-        self.request(now, want);
+        self.request(now, want)
     }
 
     /// Asks for the renewal of its lease under its epoch.
@@ -232,15 +249,19 @@ impl<S: EpochStore + Drop> LeaseSession<S> {
         self.request(now, want);
     }
 
-    /// Sends a request to each voter, and asks this machine's own.
-    fn request(&mut self, now: u64, want: &mut Want)
+    /// Sends a request to each voter, and asks this machine's own. False says that none may be sent.
+    fn request(&mut self, now: u64, want: &mut Want) -> bool
         requires { now < 2 ^ 62 }
         ensures turn { Turn [] [] now self.old.process self.new.process }
         ensures told { self.new.told ≡ self.old.told }
+        ensures asks { result ≡ true → AsksFor want.old.name now self.old.process self.new.process }
     {
         match self.process.request(now, &want.name, want.epoch) {
-            Some((client, number)) => self.vote_self(now, want, client, number),
-            None => self.give_in(want),
+            Some((client, number)) => {
+                self.vote_self(now, want, client, number);
+                true
+            }
+            None => false,
         }
     }
 
@@ -259,18 +280,6 @@ impl<S: EpochStore + Drop> LeaseSession<S> {
                 let bound = self.bound_by(now, reason, epoch, lasts);
                 self.refused(now, want, voter, bound);
             }
-        }
-    }
-
-    /// No epoch or number is left: it asks no more.
-    fn give_in(&mut self, want: &mut Want)
-        ensures turn { (now : ℕ) → Turn [] [] now self.old.process self.new.process }
-        ensures told { self.new.told ≡ self.old.told }
-    {
-        if !want.is_told() {
-            self.process
-                .refuse_user(Refusal::Exhausted, &want.name, want.user);
-            want.rest(NEVER);
         }
     }
 
@@ -350,7 +359,7 @@ impl<S: EpochStore + Drop> LeaseSession<S> {
 }
 
 // What comes of the voters.
-impl<S: EpochStore + Drop> LeaseSession<S> {
+impl<S: EpochStore + Drop> Participant<S> {
     /// A grant came. One of an epoch that is given up came behind the release, or its request did: so the release is sent again.
     pub(crate) fn take_grant(&mut self, now: u64, message: &LeaseMessage, number: u64)
         requires { message.now.body ≡ LeaseBody.Grant number }

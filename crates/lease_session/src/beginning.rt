@@ -1,6 +1,8 @@
 // How a process begins, and those that ask in it.
-ghost use Rattle.std.specs.Prelude.{◌≡◌, ◌≤◌, ℕ, [], None, Some};
-ghost use Rattle.lease_session.specs.Turns.{Turn};
+ghost use Rattle.std.specs.Prelude.{◌≡◌, ◌≤◌, ℕ, [], IfOk, None, Some};
+ghost use Rattle.line_words.specs.Lines.{bytes_of};
+ghost use Rattle.lease_session.specs.Opening.{Brings, BringsBy};
+ghost use Rattle.lease_session.specs.Turns.{Turn, key_of};
 
 use crate::asked::Came;
 use crate::process::{LeaseProcess, Start};
@@ -9,6 +11,16 @@ use lease_machine::{ClaimRefusal, LeaseMachine, LeaseTerms};
 use lease_message::{LeaseName, decode};
 use line_words::bytes;
 use std::alloc::{AllocError, Global};
+
+/// What bytes bring where there is no key.
+fn plain(bytes: &[u8]) -> Option<Came>
+    ensures { Brings None bytes.now result }
+{
+    match decode(bytes) {
+        Some(message) => Some(Came::Message(message)),
+        None => None,
+    }
+}
 
 impl LeaseProcess {
     pub(crate) fn new(alloc: Global, terms: LeaseTerms, start: Start) -> LeaseProcess
@@ -45,14 +57,16 @@ impl LeaseProcess {
 
     /// What the bytes of a word bring. None where they are no message.
     pub(crate) fn open(&mut self, word: &[u8]) -> Result<Option<Came>, AllocError>
-        ensures { (now : ℕ) → Turn [] [] now self.old self.new }
+        ensures brings { IfOk result (λ came. BringsBy self.old.seal (bytes_of word.now) came) }
+        ensures same { self.new ≡ record self.old { seal = self.new.seal } }
+        ensures key { key_of self.new.seal ≡ key_of self.old.seal }
     {
         let Some(bytes) = bytes(self.alloc, word)? else {
             return Ok(None);
         };
         match &mut self.seal {
             Some(seal) => Ok(seal.open(&bytes)),
-            None => Ok(decode(&bytes).map(|message| Came::Message(message))),
+            None => Ok(plain(&bytes)),
         }
     }
 

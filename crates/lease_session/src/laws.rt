@@ -1,5 +1,6 @@
-// Turns of processes, as steps over a network.
-ghost use Rattle.lease_session.specs.Steps.{HeldLinesHold, TurnGoesOn, TurnsAreSteps};
+// Laws of processes: the contracts of functions that do nothing.
+ghost use Rattle.lease_session.specs.Feeding.{AnyCutting};
+ghost use Rattle.lease_session.specs.Steps.{HeldLinesHold, LinesAreSteps, TurnGoesOn, TurnsAreSteps};
 
 /// What a process does in a turn, and what its lines say, over the steps of all machines.
 pub fn turns_are_steps()
@@ -12,3 +13,19 @@ pub fn turns_are_steps()
     ensures turn { TurnGoesOn }
     ensures held { HeldLinesHold }
 {}
+
+/// What was fed decides what is answered, and not how it was cut.
+pub fn any_cutting()
+    ensures { AnyCutting }
+{}
+
+/// What is answered to a line are steps over all machines.
+pub fn lines_are_steps()
+    // Promise: The answer to each line are steps that may follow all that were made before, over any network, and lines that tell of them, where
+    // the time that the line tells is what the machine's clock shows then, and the message that its bytes carry was sent before. Who is told to
+    // hold a lease holds it over these steps.
+    // Also: turns_are_steps.
+    ensures { LinesAreSteps }
+{
+    lease_steps::votes_are_steps();
+}

@@ -16,6 +16,7 @@ mod asking;
 mod beginning;
 mod key;
 mod laws;
+mod participant;
 mod pause;
 mod process;
 mod refusing;
@@ -28,7 +29,7 @@ mod want;
 mod writing;
 
 pub use key::{lease_key, leases_are_apart};
-pub use laws::turns_are_steps;
+pub use laws::{any_cutting, lines_are_steps, turns_are_steps};
 pub use pause::keeps_for;
 pub use process::{LeaseProcess, Start};
 pub use refusing::{Halt, Refusal};

@@ -1,6 +1,7 @@
 // Messages of leases under a key.
-ghost use Rattle.std.specs.Prelude.{◌≡◌, ℕ, OnOk};
+ghost use Rattle.std.specs.Prelude.{◌≡◌, ℕ, IfSome, IsNone, None, OnOk, Some};
 ghost use Rattle.sealed_msg.specs.Sealing.{sealed};
+ghost use Rattle.lease_session.specs.Opening.{Brings, came_fresh, is_fresh, opened_under, sender_of};
 
 use crate::asked::Came;
 use crate::refusing::Refusal;
@@ -34,21 +35,33 @@ impl LeaseSeal {
 
     /// What bytes bring that came. The stamp of a message that is taken is kept.
     pub(crate) fn open(&mut self, bytes: &[u8]) -> Option<Came>
+        ensures brings { Brings (Some self.old) bytes.now result }
         ensures key { self.new.own ≡ self.old.own }
     {
         let Some(opened) = self.opened(bytes) else {
             return Some(Came::Unsealed(Refusal::Forged));
         };
         let message = decode(opened.message)?;
-        let sender = usize::from(sender_of(&message).number());
-        if !opened.stamp.is_above(self.last[sender]) {
-            return Some(Came::Unsealed(Refusal::Stale));
-        }
-        self.last[sender] = opened.stamp;
-        Some(Came::Message(message))
+        Some(self.take(message, opened.stamp))
     }
 
-    fn opened<'a>(&self, bytes: &'a [u8]) -> Option<OpenedMessage<'a>> {
+    /// What a message brings that was sealed with this stamp.
+    fn take(&mut self, message: LeaseMessage, stamp: Stamp) -> Came
+        ensures came { result ≡ came_fresh (is_fresh self.old message stamp) message }
+        ensures key { self.new.own ≡ self.old.own }
+    {
+        let sender = usize::from(sender_of(&message).number());
+        if !stamp.is_above(self.last[sender]) {
+            return Came::Unsealed(Refusal::Stale);
+        }
+        self.last[sender] = stamp;
+        Came::Message(message)
+    }
+
+    fn opened<'a>(&self, bytes: &'a [u8]) -> Option<OpenedMessage<'a>>
+        ensures opened { IfSome result (λ it. opened_under self.now bytes.now ≡ Some (it.message.now, it.stamp)) }
+        ensures none { IsNone result → opened_under self.now bytes.now ≡ None }
+    {
         match self.own.open(bytes) {
             Some(opened) => Some(opened),
             None => match &self.other {
@@ -78,7 +91,9 @@ impl LeaseSeal {
 }
 
 /// Who sent a message.
-fn sender_of(message: &LeaseMessage) -> NodeId {
+fn sender_of(message: &LeaseMessage) -> NodeId
+    ensures { result ≡ sender_of message.now }
+{
     match message.body {
         LeaseBody::Request { .. } | LeaseBody::Release => message.client.machine,
         LeaseBody::Grant { .. } | LeaseBody::Refusal { .. } => message.voter,

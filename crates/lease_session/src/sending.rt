@@ -1,14 +1,18 @@
 // What a process writes.
-ghost use Rattle.std.specs.Prelude.{◌≡◌, ℕ, [], IfOk};
+ghost use Rattle.std.specs.Prelude.{◌≡◌, ◌++◌, ℕ, List, [], IfOk, None};
 ghost use Rattle.lease_network.specs.Network.{Name};
 ghost use Rattle.lease_message.specs.declared.message.LeaseMessage.{LeaseMessage as Message};
-ghost use Rattle.lease_session.specs.Rows.{said};
-ghost use Rattle.lease_session.specs.Turns.{Carries, GoesTo, IsTheClients, Turn, TurnGivesUp, key_of};
+ghost use Rattle.lease_session.specs.Lines.{IsEnded, Says};
+ghost use Rattle.lease_session.specs.Replies.{IsReplied, IsReply, IsToldWhy};
+ghost use Rattle.lease_session.specs.Rows.{refused, row_text, said, send};
+ghost use Rattle.lease_session.specs.Turns.{Carries, GoesTo, IsStill, IsTheClients, Turn, TurnGivesUp, key_of};
 
 use crate::process::LeaseProcess;
-use crate::refusing::Refusal;
+use crate::refusing::{Halt, Refusal};
 use crate::seals::LeaseSeal;
-use crate::writing::{push_held, push_lost, push_next, push_refused, push_send, push_unserved};
+use crate::writing::{
+    push_fault, push_held, push_lost, push_next, push_refused, push_send, push_unserved,
+};
 use group_task::NodeId;
 use lease_message::{LeaseBody, LeaseMessage, LeaseName, encode};
 use std::alloc::{AllocError, Global};
@@ -39,6 +43,8 @@ impl LeaseProcess {
         requires { GoesTo self.old.terms.machine to message.now message.now.body }
         ensures turn { (now : ℕ) → Turn (said message.now) [] now self.old self.new }
         ensures machine { self.new.machine ≡ self.old.machine }
+        ensures writes { self.new.halt ≡ None → (bytes : List ℕ) × Carries (key_of self.new.seal) bytes message.now
+            × (self.new.text.items ≡ self.old.text.items ++ row_text (send to message.now bytes)) }
     {
         if self.halt.is_some() {
             return;
@@ -89,6 +95,7 @@ impl LeaseProcess {
     pub(crate) fn answer(&mut self, request: &LeaseMessage, epoch: u64, body: LeaseBody)
         requires { GoesTo self.old.terms.machine request.now.client.machine (record request.now { body = body }) body }
         ensures turn { (now : ℕ) → Turn (said (record request.now { epoch = epoch; body = body })) [] now self.old self.new }
+        ensures replies { (number : ℕ) → IsReply number body → self.new.halt ≡ None → IsReplied request.now number self.new }
     {
         let message = LeaseMessage {
             client: request.client,
@@ -138,6 +145,8 @@ impl LeaseProcess {
     /// Something isn't taken.
     pub(crate) fn refuse(&mut self, why: Refusal)
         ensures turn { (now : ℕ) → Turn [] [] now self.old self.new }
+        ensures still { IsStill self.old self.new }
+        ensures says { Says (refused why) self.old self.new }
     {
         if self.halt.is_some() {
             return;
@@ -151,6 +160,7 @@ impl LeaseProcess {
     /// A user's request isn't taken.
     pub(crate) fn refuse_user(&mut self, why: Refusal, name: &LeaseName, user: u64)
         ensures turn { (now : ℕ) → Turn [] [] now self.old self.new }
+        ensures says { self.new.halt ≡ None → IsToldWhy name.now user self.new }
     {
         if self.halt.is_some() {
             return;
@@ -161,16 +171,20 @@ impl LeaseProcess {
         }
     }
 
-    /// When something is due next, where anything will be.
-    pub(crate) fn tell_next(&mut self, due: Option<u64>)
-        ensures turn { (now : ℕ) → Turn [] [] now self.old self.new }
+    /// The line ends: when something is due next, or that the device failed, which is the last that is told. Whether it is.
+    pub(crate) fn end_line(&mut self, due: Option<u64>) -> Result<bool, AllocError>
+        ensures { IfOk result (λ stops. IsEnded due stops self.old self.new) }
     {
-        if self.halt.is_some() {
-            return;
-        }
-        match push_next(&mut self.text, due) {
-            Ok(()) => {}
-            Err(_) => self.run_out(),
+        match self.halt {
+            None => {
+                push_next(&mut self.text, due)?;
+                Ok(false)
+            }
+            Some(Halt::Device) => {
+                push_fault(&mut self.text)?;
+                Ok(true)
+            }
+            Some(Halt::NoMemory) => Err(AllocError),
         }
     }
 }

@@ -1,40 +1,21 @@
-// A process that votes for leases and asks for them, fed with lines, and what it answers.
-ghost use Rattle.std.specs.Prelude.{◌≡◌, ◌<◌, ◌^◌, [], true};
-ghost use Rattle.lease_session.specs.Turns.{Turn};
-ghost use Rattle.lease_session.specs.Lines.{Comes, brought_by, goes_on};
+// A process of leases, fed with lines, and what it answers.
+ghost use Rattle.std.specs.Prelude.{◌≡◌, ◌∷◌, ◌++◌, [], List, ℕ, IfOk, OnOk};
+ghost use Rattle.line_words.specs.Lines.{lines_of};
+ghost use Rattle.lease_session.specs.Feeding.{Answers, AreAnswered, Fed, at};
 
-use crate::asked::{Asked, Came, read_line};
-use crate::pause::AnswerTime;
-use crate::process::{LeaseProcess, Start};
-use crate::refusing::{Halt, Refusal};
+use crate::participant::Participant;
+use crate::process::Start;
 use crate::seals::LeaseSeal;
 use crate::store::EpochStore;
-use crate::want::Want;
-use console_text::push_text;
-use lease_machine::{LeaseTerms, NAMES};
+use lease_machine::LeaseTerms;
 use line_words::cut_line;
-use rand_pcg::Pcg32;
 use std::alloc::{AllocError, Global};
 use std::mem;
-
-/// Times of a line are below this one.
-pub(crate) const TIME_LIMIT: u64 = 1 << 62;
 
 /// A process that votes for leases and asks for them, over what keeps its epochs, and what it has answered so far.
 #[derive(Drop)]
 pub struct LeaseSession<S: EpochStore> {
-    pub(crate) process: LeaseProcess,
-    pub(crate) round_trip: u16,
-    pub(crate) store: S,
-    // when the machine began or begins; none before the first line
-    pub(crate) began: Option<u64>,
-    // the time of the last line
-    pub(crate) told: u64,
-    // the greatest epoch of which it knows
-    pub(crate) greatest: u64,
-    pub(crate) wants: Vec<Want>,
-    pub(crate) answers: AnswerTime,
-    pub(crate) random: Pcg32,
+    participant: Participant<S>,
     unread: Vec<u8>,
     stopped: bool,
 }
@@ -48,17 +29,8 @@ impl<S: EpochStore + Drop> LeaseSession<S> {
         start: Start,
         store: S,
     ) -> Result<LeaseSession<S>, AllocError> {
-        let machine = u64::from(terms.machine().number());
         Ok(LeaseSession {
-            process: LeaseProcess::new(alloc, terms, start),
-            round_trip,
-            store,
-            began: None,
-            told: 0,
-            greatest: start.floor,
-            wants: Vec::with_capacity(alloc, NAMES)?,
-            answers: AnswerTime::new(),
-            random: Pcg32::new(start.process, machine),
+            participant: Participant::begin(alloc, terms, round_trip, start, store)?,
             unread: Vec::new(alloc),
             stopped: false,
         })
@@ -66,21 +38,21 @@ impl<S: EpochStore + Drop> LeaseSession<S> {
 
     /// From now on messages are sealed, and taken sealed alone.
     pub fn seal(&mut self, seal: LeaseSeal) {
-        self.process.seal = Some(seal);
+        self.participant.process.seal = Some(seal);
     }
 
     /// What was answered since the last clearing.
     pub fn text(&self) -> &[u8]
-        ensures { result.now ≡ self.now.process.text.items }
+        ensures { result.now ≡ self.now.participant.process.text.items }
     {
-        &self.process.text
+        &self.participant.process.text
     }
 
     /// What was answered is written, and forgotten.
     pub fn clear(&mut self)
-        ensures { self.new.process.text.items ≡ [] }
+        ensures { self.new.participant.process.text.items ≡ [] }
     {
-        self.process.text.clear();
+        self.participant.process.text.clear();
     }
 
     /// Whether the device failed. The answer that says it is the last one.
@@ -89,139 +61,63 @@ impl<S: EpochStore + Drop> LeaseSession<S> {
     {
         self.stopped
     }
-}
 
-impl<S: EpochStore + Drop> LeaseSession<S> {
     /// What keeps the epochs alone, as it is.
     pub fn into_store(self) -> S {
-        let LeaseSession { store, .. } = self;
+        let LeaseSession { participant, .. } = self;
+        let Participant { store, .. } = participant;
         store
     }
 
     /// Takes a piece of the input, and answers each line that is whole now. Where memory runs out, it says so, and nothing more is to be written.
-    pub fn feed(&mut self, piece: &[u8]) -> Result<(), AllocError> {
-        if cut_line(piece).is_none() {
-            return self.unread.extend_from_slice(piece);
-        }
-        let mut whole = mem::replace(&mut self.unread, Vec::new(self.process.alloc));
+    pub fn feed(&mut self, piece: &[u8]) -> Result<(), AllocError>
+        // Promise: Each line that is whole with the bytes that are fed is answered once, in their order, and what stands behind the last is
+        // kept; the text that is added is that of the answers, one behind another.
+        // Also: LeaseSession::answer_line, any_cutting.
+        // Refuses: line_skipped, rest_is_dropped, fault_goes_on.
+        // Promise: What a line asks for is a function of its bytes, and so is the message that it brings, under the keys and the stamps that were
+        // taken before. A line that can't be read is answered by `refused Bad`, and one of an earlier time by `refused Time`: they make
+        // no step. What comes of any other are steps that the process may take, at the time that the line tells.
+        // Also: Participant::answer, Participant::deliver, Participant::come, LeaseProcess::open, read_line.
+        // Refuses: bad_line_ignored, unsealed_message_taken, stale_message_taken, user_is_the_time.
+        ensures { OnOk result (Fed self.old.unread.items piece.now self.new.unread.items
+            (at self.old.participant.process self.old.participant.told self.old.stopped)
+            (at self.new.participant.process self.new.participant.told self.new.stopped)) }
+    {
+        let mut whole = mem::replace(&mut self.unread, Vec::new(self.participant.process.alloc));
         whole.extend_from_slice(piece)?;
-        let mut left = whole.as_slice();
-        for _line in 0..whole.len() {
-            let Some((line, behind)) = cut_line(left) else {
-                break;
-            };
+        let left = self.answer_lines(&whole)?;
+        self.unread.extend_from_slice(left)?;
+        Ok(())
+    }
+
+    /// Answers the whole lines of a text, and gives what stands behind the last.
+    fn answer_lines<'a>(&mut self, whole: &'a [u8]) -> Result<&'a [u8], AllocError>
+        ensures unread { self.new.unread ≡ self.old.unread }
+        ensures lines { IfOk result (λ left. (lines : List (List ℕ)) × (lines_of whole.now ≡ lines ++ left.now ∷ []) × AreAnswered lines
+            (at self.old.participant.process self.old.participant.told self.old.stopped)
+            (at self.new.participant.process self.new.participant.told self.new.stopped)) }
+    {
+        let mut left = whole;
+        while let Some((line, behind)) = cut_line(left) {
             self.answer_line(line)?;
             left = behind;
         }
-        self.unread.extend_from_slice(left)
+        Ok(left)
     }
 
-    fn answer_line(&mut self, line: &[u8]) -> Result<(), AllocError> {
+    fn answer_line(&mut self, line: &[u8]) -> Result<(), AllocError>
+        ensures unread { self.new.unread ≡ self.old.unread }
+        ensures line { OnOk result (Answers line.now
+            (at self.old.participant.process self.old.participant.told self.old.stopped)
+            (at self.new.participant.process self.new.participant.told self.new.stopped)) }
+    {
         if self.stopped || line.is_empty() {
             return Ok(());
         }
-        self.answer(line);
-        let due = self.due();
-        self.process.tell_next(due);
-        match self.process.halt {
-            None => Ok(()),
-            Some(Halt::NoMemory) => Err(AllocError),
-            Some(Halt::Device) => {
-                self.stopped = true;
-                push_text(&mut self.process.text, "fault Device\n")
-            }
-        }
-    }
-
-    fn answer(&mut self, line: &[u8]) {
-        match read_line(line) {
-            Asked::Nothing => {}
-            Asked::Bad => self.process.refuse(Refusal::Bad),
-            Asked::Tick(now) => self.come(now, Came::Nothing),
-            Asked::Deliver(now, word) => self.deliver(now, word),
-            Asked::Acquire(now, name, user) => self.come(now, Came::Acquire(name, user)),
-            Asked::Release(now, name, user) => self.come(now, Came::Release(name, user)),
-        }
-    }
-
-    /// A line that brings a message, by the word of its bytes. Its time must hold before the stamp of a message is kept.
-    fn deliver(&mut self, now: u64, word: &[u8]) {
-        if !self.goes_on(now) {
-            self.process.refuse(Refusal::Time);
-            return;
-        }
-        match self.process.open(word) {
-            Ok(Some(came)) => self.come(now, came),
-            Ok(None) => self.process.refuse(Refusal::Bad),
-            Err(_) => self.process.run_out(),
-        }
-    }
-
-    /// Whether a line may tell this time.
-    fn goes_on(&self, now: u64) -> bool
-        ensures { result ≡ goes_on self.now.told now }
-    {
-        self.told <= now && now < TIME_LIMIT
-    }
-
-    /// A line told this time, and brought this. What is due at that time comes first.
-    fn come(&mut self, now: u64, came: Came)
-        // Promise: What comes of a time and of what a line brought are steps of this process that it may take over any network then, at that
-        // time of its clock: a start, epochs that are reserved, requests and releases that are sent, requests, grants and releases that are
-        // taken; none is taken but what the line brought, or what a step of this turn sent. Where an earlier line told a later time, it makes
-        // no step.
-        // Also: LeaseSession::take_came, LeaseSession::vote, LeaseProcess::vote, LeaseProcess::hear.
-        // Refuses: grant_counted_from_an_earlier_line, grant_of_a_refused_vote.
-        // Promise: The lines that it writes tell of these steps: each request, grant and release that is sent is one that a step of this turn
-        // sends, to the machine that it is for; who is told to hold a lease holds it then, under that epoch, until so long after its
-        // request was sent as a client relies on it; an epoch that is told as lost was given up before. Once no memory is left, nothing is said
-        // of the text.
-        // Also: LeaseProcess::send, LeaseProcess::tell_held, LeaseProcess::give_up, LeaseProcess::request, LeaseProcess::release_again.
-        // Refuses: held_line_without_a_lease, until_of_the_voter, send_to_another_machine, release_not_passed_on, request_numbered_as_its_epoch,
-        // release_of_a_client_to_come.
-        ensures { Comes now (brought_by came) self.old.told self.new.told self.old.process self.new.process }
-    {
-        if !self.goes_on(now) {
-            self.process.refuse(Refusal::Time);
-            return;
-        }
-        self.told = now;
-        self.take_came(now, came);
-    }
-
-    /// Does what is due by this time, and then what came.
-    fn take_came(&mut self, now: u64, came: Came)
-        requires { now < 2 ^ 62 }
-        ensures turn { Turn [] (brought_by came) now self.old.process self.new.process }
-        ensures told { self.new.told ≡ self.old.told }
-    {
-        self.begin_where_due(now);
-        self.serve_due(now);
-        match came {
-            Came::Nothing => {}
-            Came::Message(message) => self.take(now, &message),
-            Came::Unsealed(why) => self.process.refuse(why),
-            Came::Acquire(name, user) => self.acquire(now, &name, user),
-            Came::Release(name, user) => self.release(now, &name, user),
-        }
-    }
-
-    /// The machine begins with the first line, or, where an earlier process kept grants for longer than this one does, once the difference is over.
-    fn begin_where_due(&mut self, now: u64)
-        ensures turn { Turn [] [] now self.old.process self.new.process }
-        ensures told { self.new.told ≡ self.old.told }
-    {
-        let longer = self
-            .process
-            .start
-            .waits
-            .saturating_sub(self.process.terms.keeps());
-        let begins = *self.began.get_or_insert(now.saturating_add(longer));
-        if self.process.machine.is_some() || now < begins {
-            return;
-        }
-        self.began = Some(now);
-        let bound = self.store.bound().max(self.process.start.floor);
-        self.process.begin(now, bound);
+        self.participant.answer(line);
+        let due = self.participant.due();
+        self.stopped = self.participant.process.end_line(due)?;
+        Ok(())
     }
 }

@@ -1,11 +1,12 @@
 // How a process votes.
-ghost use Rattle.std.specs.Prelude.{◌≡◌, ◌<◌, ◌^◌, ℕ, [], true};
+ghost use Rattle.std.specs.Prelude.{◌≡◌, ◌<◌, ◌^◌, ℕ, [], true, None};
 ghost use Rattle.lease_runs.specs.Code.{client_of as by_code};
+ghost use Rattle.lease_session.specs.Replies.{IsReplied, Replies, is_for};
 ghost use Rattle.lease_session.specs.Rows.{said};
 ghost use Rattle.lease_session.specs.Turns.{Turn, Voted, vote_of};
 
+use crate::participant::Participant;
 use crate::refusing::Refusal;
-use crate::session::LeaseSession;
 use crate::store::{EpochStore, ReserveFault};
 use crate::writing::client_of;
 use lease_machine::Vote;
@@ -19,12 +20,13 @@ pub(crate) enum Answer {
     Refused(Reason, u64),
 }
 
-impl<S: EpochStore + Drop> LeaseSession<S> {
+impl<S: EpochStore + Drop> Participant<S> {
     /// A message came.
     pub(crate) fn take(&mut self, now: u64, message: &LeaseMessage)
         requires { now < 2 ^ 62 }
         ensures turn { Turn [] (said message.now) now self.old.process self.new.process }
         ensures told { self.new.told ≡ self.old.told }
+        ensures replies { Replies self.old.process.terms message.now self.new.process }
     {
         match message.body {
             LeaseBody::Request {
@@ -44,7 +46,8 @@ impl<S: EpochStore + Drop> LeaseSession<S> {
 
     /// Whether a message of another machine's client is for this voter.
     fn is_for_voter(&self, message: &LeaseMessage) -> bool
-        ensures { result ≡ true → message.now.voter ≡ self.now.process.terms.machine }
+        ensures voter { result ≡ true → message.now.voter ≡ self.now.process.terms.machine }
+        ensures exact { result ≡ is_for self.now.process.terms.machine self.now.process.terms.machines message.now }
     {
         message.voter == self.process.terms.machine()
             && message.client.machine != self.process.terms.machine()
@@ -56,6 +59,8 @@ impl<S: EpochStore + Drop> LeaseSession<S> {
         requires body { message.now.body ≡ LeaseBody.Request number keeps list }
         ensures turn { Turn [] (said message.now) now self.old.process self.new.process }
         ensures told { self.new.told ≡ self.old.told }
+        ensures replies { is_for self.old.process.terms.machine self.old.process.terms.machines message.now ≡ true → self.new.process.halt ≡ None
+            → IsReplied message.now number self.new.process }
     {
         if !self.is_for_voter(message) {
             return;
@@ -82,6 +87,7 @@ impl<S: EpochStore + Drop> LeaseSession<S> {
         requires { request.now.voter ≡ self.old.process.terms.machine }
         ensures turn { (now : ℕ) → Turn [] [] now self.old.process self.new.process }
         ensures told { self.new.told ≡ self.old.told }
+        ensures replies { self.new.process.halt ≡ None → IsReplied request.now number self.new.process }
     {
         let epoch = self.greatest_of(&request.name);
         let body = LeaseBody::Refusal {

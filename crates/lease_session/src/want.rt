@@ -1,5 +1,7 @@
 // One who asks here for a lease: how far it is, and what it does next.
 
+ghost use Rattle.std.specs.Prelude.{◌≡◌};
+
 use group_task::{Members, NodeId};
 use lease_message::LeaseName;
 
@@ -45,7 +47,9 @@ pub(crate) struct Want {
 }
 
 impl Want {
-    pub(crate) fn new(name: LeaseName, user: u64) -> Want {
+    pub(crate) fn new(name: LeaseName, user: u64) -> Want
+        ensures { (result.name ≡ name) × (result.user ≡ user) }
+    {
         Want {
             name,
             user,
@@ -63,7 +67,9 @@ impl Want {
     }
 
     /// It asks anew under an epoch, and gives up then where it has no majority.
-    pub(crate) fn ask(&mut self, epoch: u64, gives_up: u64) {
+    pub(crate) fn ask(&mut self, epoch: u64, gives_up: u64)
+        ensures { self.new.name ≡ self.old.name }
+    {
         self.stage = Stage::Asking;
         self.epoch = epoch;
         self.due = gives_up;

@@ -3,7 +3,7 @@ ghost use Rattle.std.specs.Prelude.{◌≡◌, ◌++◌, OnOk, IfSome, codes, de
 ghost use Rattle.hex.specs.Hex.{encode_lower};
 ghost use Rattle.lease_runs.specs.Code.{client_of as by_code};
 ghost use Rattle.lease_message.specs.declared.message.LeaseMessage.{LeaseMessage as Message};
-ghost use Rattle.lease_session.specs.Rows.{asker, held, lost, next, refused, row_text, send, time_text, unserved};
+ghost use Rattle.lease_session.specs.Rows.{asker, fault, held, lost, next, refused, row_text, send, time_text, unserved};
 
 use crate::refusing::Refusal;
 use console_text::{push_hex, push_named_number, push_text};
@@ -116,4 +116,11 @@ pub(crate) fn push_next(text: &mut Vec<u8>, due: Option<u64>) -> Result<(), Allo
         None => push_text(text, "next")?,
     }
     push_text(text, "\n")
+}
+
+/// The device failed.
+pub(crate) fn push_fault(text: &mut Vec<u8>) -> Result<(), AllocError>
+    ensures { OnOk result (text.new.items ≡ text.old.items ++ row_text fault) }
+{
+    push_text(text, "fault Device\n")
 }

@@ -1,4 +1,4 @@
-use Rattle.std.proofs.Common.{◌≡◌, ℕ, List, Option, Some, sym, subst}
+use Rattle.std.proofs.Common.{Option, sym, subst}
 use Rattle.lease_session.specs.declared.seals.LeaseSeal.{LeaseSeal}
 use Rattle.lease_session.specs.Turns.{Carries, key_of}
 use Rattle.lease_session.proofs.sending.bytes_of.Goals as goal

@@ -1,4 +1,4 @@
-use Rattle.std.proofs.Common.{◌≡◌, ◌∙◌, Some, refl, sym, ap}
+use Rattle.std.proofs.Common.{◌∙◌, refl, sym, ap}
 use Rattle.std.proofs.lemmas.Bool.{eqb-true}
 use Rattle.lease_runs.specs.declared.client_id.ClientId.{ClientId}
 use Rattle.lease_machine.specs.declared.name_entry.Claim.{Claim}

@@ -1,5 +1,5 @@
 use Rattle.lease_steps.specs.StandsFor.{Did}
-use Rattle.std.proofs.Common.{◌≡◌, ◌∙◌, ℕ, Some, refl, sym, ap, subst}
+use Rattle.std.proofs.Common.{◌∙◌, refl, sym, ap, subst}
 use Rattle.lease_network.specs.Network.{release, sends}
 use Rattle.lease_runs.specs.declared.client_id.ClientId.{ClientId}
 use Rattle.lease_runs.specs.Code.{client_of}

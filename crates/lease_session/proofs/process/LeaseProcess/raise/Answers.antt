@@ -1,4 +1,4 @@
-use Rattle.std.proofs.Common.{refl, sym, ap}
+use Rattle.std.proofs.Common.{refl}
 use Rattle.lease_network.specs.Network.{reserves}
 use Rattle.lease_session.proofs.Turns.{deed, its_machine, itself}
 use Rattle.lease_session.proofs.process.LeaseProcess.raise.Goals as goal

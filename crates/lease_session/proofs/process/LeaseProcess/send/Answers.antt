@@ -1,6 +1,6 @@
-use Rattle.std.proofs.Common.{refl, subst, sym, ◌∙◌, ap, List, ℕ, ◌++◌}
-use Rattle.hex.specs.Hex.{encode_lower}
+use Rattle.std.proofs.Common.{refl, subst, sym, ◌∙◌, ap, List, ℕ, ◌++◌, Option}
 use Rattle.lease_session.specs.Rows.{send, row_text}
+use Rattle.lease_session.specs.Turns.{Carries}
 use Rattle.lease_session.proofs.Turns.{written}
 use Rattle.lease_session.proofs.process.LeaseProcess.send.Goals as goal
 
@@ -10,3 +10,11 @@ returns-in-Ok-push_send-clause-turn c = λ now.
     (c.in-Ok-push_send.ensures c.args.message.now
     ∙ ap (λ (b : List ℕ). c.args.self.now.text.items ++ row_text (send c.args.to c.args.message.now b)) c.deref.ensures.value)
     (λ terms at m clock is. record { by_step = λ x i. i; goes_to = c.requires; carried = c.in-Ok.ensures.bytes })
+
+pub returns-in-Ok-push_send-clause-writes : goal.returns-in-Ok-push_send-clause-writes
+returns-in-Ok-push_send-clause-writes c = λ none. (
+  c.in-Ok.bytes.items,
+  subst (λ (key : Option (List ℕ)). Carries key c.in-Ok.bytes.items c.args.message.now) (sym c.bytes_of.ensures.key) c.in-Ok.ensures.bytes,
+  c.in-Ok-push_send.ensures c.args.message.now
+      ∙ ap (λ (b : List ℕ). c.args.self.now.text.items ++ row_text (send c.args.to c.args.message.now b)) c.deref.ensures.value,
+)

@@ -1,4 +1,4 @@
-use Rattle.std.proofs.Common.{◌≡◌, ◌∙◌, ◌≤◌, Option, Some, arith, refl, sym, ap, subst}
+use Rattle.std.proofs.Common.{◌≡◌, ◌≤◌, Option, Some, arith, refl, sym, subst}
 use Rattle.lease_network.specs.Network.{release, sends}
 use Rattle.lease_runs.specs.Voter.{Client}
 use Rattle.lease_steps.specs.StandsFor.{Did}

@@ -1,0 +1,46 @@
+-- What a process answers to the lines that it is fed with.
+use Rattle.std.specs.Prelude.{ℕ, ◌≡◌, List, [], ◌∷◌, ◌++◌, Bool, true, false, Option}
+use Rattle.line_words.specs.Lines.{lines_of}
+use Rattle.lease_session.specs.declared.process.LeaseProcess.{LeaseProcess}
+use Rattle.lease_session.specs.Reading.{Meaning, meaning_of}
+use Rattle.lease_session.specs.Lines.{ComesOf, IsEnded}
+
+-- where a process is between two lines: with the time that the last one told, and whether its device failed
+pub record At : Type 0 where
+  pub process : LeaseProcess
+  pub told : ℕ
+  pub stopped : Bool
+
+abbrev pub at : LeaseProcess → ℕ → Bool → At
+at process told stopped = record { process = process; told = told; stopped = stopped }
+
+-- what comes of a line, and behind it the line that ends the answer
+pub record IsAnswer (meaning : Meaning) (old new : At) : Type 0 where
+  pub behind : LeaseProcess
+  pub due : Option ℕ
+  pub came : ComesOf meaning old.told new.told old.process behind
+  pub ended : IsEnded due new.stopped behind new.process
+
+-- nothing is answered once the device failed, nor to an empty line
+abbrev pub AnswersBy : Bool → List ℕ → At → At → Type 0
+AnswersBy true line old new = new ≡ old
+AnswersBy false [] old new = new ≡ old
+AnswersBy false (c ∷ line) old new = IsAnswer (meaning_of (c ∷ line)) old new
+
+abbrev pub Answers : List ℕ → At → At → Type 0
+Answers line old new = AnswersBy old.stopped line old new
+
+-- all of them are answered, one behind another
+abbrev pub AreAnswered : List (List ℕ) → At → At → Type 0
+AreAnswered [] old new = new ≡ old
+AreAnswered (line ∷ lines) old new = (mid : At) × Answers line old mid × AreAnswered lines mid new
+
+-- A piece of the input came behind what was kept of it: each line that is whole then is answered, and what is behind the last is kept.
+pub record Fed (kept piece rest : List ℕ) (old new : At) : Type 0 where
+  pub lines : List (List ℕ)
+  pub cut : lines_of (kept ++ piece) ≡ lines ++ rest ∷ []
+  pub answered : AreAnswered lines old new
+
+-- what was fed decides what is answered, and not how it was cut
+abbrev pub AnyCutting : Type 0
+AnyCutting = (kept first second rest last : List ℕ) (old mid new : At) → Fed kept first rest old mid → Fed rest second last mid new → Fed kept (first ++ second) last old new
