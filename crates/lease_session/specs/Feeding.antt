@@ -1,7 +1,9 @@
 -- What a process answers to the lines that it is fed with.
-use Rattle.std.specs.Prelude.{ℕ, ◌≡◌, List, [], ◌∷◌, ◌++◌, Bool, true, false, Option}
+use Rattle.std.specs.Prelude.{ℕ, ◌≡◌, List, [], ◌∷◌, ◌++◌, Bool, true, false, Option, None}
 use Rattle.line_words.specs.Lines.{lines_of}
+use Rattle.lease_machine.specs.declared.terms.LeaseTerms.{LeaseTerms}
 use Rattle.lease_session.specs.declared.process.LeaseProcess.{LeaseProcess}
+use Rattle.lease_session.specs.declared.process.Start.{Start}
 use Rattle.lease_session.specs.Reading.{Meaning, meaning_of}
 use Rattle.lease_session.specs.Lines.{ComesOf, IsEnded}
 
@@ -13,6 +15,11 @@ pub record At : Type 0 where
 
 abbrev pub at : LeaseProcess → ℕ → Bool → At
 at process told stopped = record { process = process; told = told; stopped = stopped }
+
+-- a process that was told nothing yet
+abbrev pub IsNew : LeaseTerms → Start → List ℕ → At → Type 0
+IsNew terms start kept a =
+    (kept ≡ []) × (a.stopped ≡ false) × (a.told ≡ 0) × (a.process.machine ≡ None) × (a.process.terms ≡ terms) × (a.process.start ≡ start) × (a.process.halt ≡ None)
 
 -- what comes of a line, and behind it the line that ends the answer
 pub record IsAnswer (meaning : Meaning) (old new : At) : Type 0 where

@@ -1,8 +1,9 @@
 // A process that votes for leases and asks for them: what it does by the lines that it is told.
-ghost use Rattle.std.specs.Prelude.{◌≡◌, ◌<◌, ◌^◌, [], true};
+ghost use Rattle.std.specs.Prelude.{◌≡◌, ◌<◌, ◌^◌, [], true, IfOk, false};
 ghost use Rattle.lease_session.specs.Turns.{Turn};
 ghost use Rattle.lease_session.specs.Reading.{meaning_of};
 ghost use Rattle.lease_session.specs.Replies.{AsksTo, RepliesTo};
+ghost use Rattle.lease_session.specs.Feeding.{IsNew, at};
 ghost use Rattle.lease_session.specs.Lines.{Comes, ComesOf, Delivers, brought_by, goes_on};
 
 use crate::asked::{Asked, Came, read_line};
@@ -42,7 +43,9 @@ impl<S: EpochStore + Drop> Participant<S> {
         round_trip: u16,
         start: Start,
         store: S,
-    ) -> Result<Participant<S>, AllocError> {
+    ) -> Result<Participant<S>, AllocError>
+        ensures { IfOk result (λ it. IsNew terms start [] (at it.process it.told false)) }
+    {
         let machine = u64::from(terms.machine().number());
         Ok(Participant {
             process: LeaseProcess::new(alloc, terms, start),

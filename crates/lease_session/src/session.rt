@@ -1,7 +1,7 @@
 // A process of leases, fed with lines, and what it answers.
 ghost use Rattle.std.specs.Prelude.{◌≡◌, ◌∷◌, ◌++◌, [], List, ℕ, IfOk, OnOk};
 ghost use Rattle.line_words.specs.Lines.{lines_of};
-ghost use Rattle.lease_session.specs.Feeding.{Answers, AreAnswered, Fed, at};
+ghost use Rattle.lease_session.specs.Feeding.{Answers, AreAnswered, Fed, IsNew, at};
 
 use crate::participant::Participant;
 use crate::process::Start;
@@ -28,7 +28,9 @@ impl<S: EpochStore + Drop> LeaseSession<S> {
         round_trip: u16,
         start: Start,
         store: S,
-    ) -> Result<LeaseSession<S>, AllocError> {
+    ) -> Result<LeaseSession<S>, AllocError>
+        ensures { IfOk result (λ it. IsNew terms start it.unread.items (at it.participant.process it.participant.told it.stopped)) }
+    {
         Ok(LeaseSession {
             participant: Participant::begin(alloc, terms, round_trip, start, store)?,
             unread: Vec::new(alloc),
