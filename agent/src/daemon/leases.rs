@@ -18,9 +18,16 @@ use std::time::{Duration, Instant};
 pub(super) const LEASE_INPUT: Token = Token(6);
 pub(super) const LEASE_OUTPUT: Token = Token(7);
 
-/// A process of leases that ended is started again so much later, twice as long after each further end, and anew after one that ran for the longest pause.
-const FIRST_PAUSE: Duration = Duration::from_secs(1);
-const LONGEST_PAUSE: Duration = Duration::from_secs(60);
+/// A process of leases that ended is started again so much later, twice as long after each further end, and anew after one that ran for the longest pause. One
+/// that begins grants nothing for `lease_ms` anyway, and where it ends at once that costs no more than a sync of its file in the longest pause.
+const FIRST_PAUSE: Duration = Duration::from_millis(500);
+const LONGEST_PAUSE: Duration = Duration::from_secs(4);
+
+/// Where it can't be run it is tried again so much later.
+const PAUSE_WITHOUT: Duration = Duration::from_secs(60);
+
+/// A claim that the process couldn't take yet is told once more so much later.
+const CLAIM_PAUSE: Duration = Duration::from_secs(1);
 
 /// A lease that this machine has, as `leases` tells it.
 #[derive(Serialize)]
@@ -113,7 +120,7 @@ impl Leases {
             None => "there is no such file: `dumgerokctl format --lease` makes it".to_string(),
         };
         error!("{}: {why}. This machine has no leases", file.display());
-        self.start = now + LONGEST_PAUSE;
+        self.start = now + PAUSE_WITHOUT;
     }
 
     /// Ends the process, by the end of its input.
@@ -356,7 +363,7 @@ impl Leases {
             LeaseLine::RefusedClaim { why, name, client } if why == "Waiting" => {
                 // an earlier process may have granted for longer than this one does
                 self.again.push((name, client));
-                self.again_at = Instant::now() + FIRST_PAUSE;
+                self.again_at = Instant::now() + CLAIM_PAUSE;
             }
             LeaseLine::RefusedClaim { why, name, client } => {
                 warn!("lease {name}: refused: {why}");
@@ -374,14 +381,22 @@ impl Leases {
     /// The process ended: it is started again behind a pause.
     fn restart(&mut self, now: Instant) {
         let status = self.process.take().map(|mut process| process.end(PATIENCE_AT_END));
-        let ran = now.saturating_duration_since(self.start);
-        self.pause = if ran > LONGEST_PAUSE { FIRST_PAUSE } else { (self.pause * 2).clamp(FIRST_PAUSE, LONGEST_PAUSE) };
+        self.pause = pause_after(self.pause, now.saturating_duration_since(self.start));
         let how = match status {
             Some(Ok(Some(status))) => status.to_string(),
             _ => "it hangs".to_string(),
         };
-        error!("the process of leases ended ({how}), it starts again in {} s", self.pause.as_secs());
+        error!("the process of leases ended ({how}), it starts again in {} ms", self.pause.as_millis());
         (self.start, self.due) = (now + self.pause, None);
+    }
+}
+
+/// The pause behind the end of a process that ran for so long, which began behind another pause.
+fn pause_after(pause: Duration, ran: Duration) -> Duration {
+    if ran > LONGEST_PAUSE {
+        FIRST_PAUSE
+    } else {
+        (pause * 2).clamp(FIRST_PAUSE, LONGEST_PAUSE)
     }
 }
 
@@ -390,5 +405,22 @@ fn refused(refusal: Refusal) -> Reply {
         Refusal::Claimed => Reply::refused("Claimed").with("why", "this connection asks for the name already"),
         Refusal::Full => Reply::refused("Full").with("why", "too many names, or too many who ask for this one"),
         Refusal::Unclaimed => Reply::refused("Unclaimed").with("why", "this connection doesn't ask for the name"),
+    }
+}
+
+#[cfg(test)]
+mod tests {
+    use super::*;
+
+    #[test]
+    fn pauses_before_a_start_grow_to_4_s_and_begin_anew_after_one_that_ran() {
+        let ms = Duration::from_millis;
+        let ran_for = [10, 0, 3_999, 4_000, 0, 4_001, 0];
+        let mut pause = Duration::ZERO;
+        let pauses = ran_for.map(|ran| {
+            pause = pause_after(pause, ms(ran));
+            pause
+        });
+        assert_eq!(pauses, [500, 1_000, 2_000, 4_000, 4_000, 500, 1_000].map(ms));
     }
 }
