@@ -2,7 +2,6 @@
 import json, os, re, shutil, subprocess, time, urllib.error, urllib.parse, urllib.request
 
 from bed import HERE, PATIENCE, free_port
-from cluster import metric
 
 ALARMS = os.path.join(HERE, "../../examples/alarms")
 PAUSE = 2
