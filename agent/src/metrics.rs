@@ -89,6 +89,7 @@ pub struct Metrics {
     pub waiting: IntGauge,
     waiting_for: IntGaugeVec,
     pub stale: IntCounterVec,
+    pub opened: IntCounterVec,
     pub compactions: IntCounter,
     pub compacting: Counter,
     pub recorded: IntGauge,
@@ -158,6 +159,7 @@ impl Metrics {
             jobs: maker.counters("jobs", "Jobs, by what happened to them.", "event")?,
             durable: maker.counters("commands_durable", DURABLE, "command")?,
             groups: maker.counter("groups", "Changes of the node's group or phase.")?,
+            opened: maker.counters("opened", "Datagrams that were decrypted, by the name of the key.", "key")?,
             stale: maker.counters("stale", "Messages that the node refused as older than what their sender had said, by sender.", "node")?,
             compactions: maker.counter("compactions", "Compactions of the journal that a client asked for.")?,
             compacting: maker.count_of_seconds("compactions", "How long these took in all.")?,
@@ -188,6 +190,7 @@ impl Metrics {
             registry: maker.0,
         };
         metrics.begin_at_zero();
+        keys.iter().for_each(|name| metrics.opened.with_label_values(&[name]).inc_by(0));
         Ok(metrics)
     }
 

@@ -65,7 +65,9 @@ impl Daemon {
         if !is_encrypted(&datagram) {
             return self.take_clear(datagram, (from, false), now);
         }
-        if let Some(clear) = self.cipher.decrypt(&datagram) {
+        if let Some((clear, key)) = self.cipher.decrypt(&datagram) {
+            let key = self.seal.fingerprints.get(key).map_or("", String::as_str);
+            self.metrics.opened.with_label_values(&[key]).inc();
             return self.take_clear(clear, (from, true), now);
         }
         let reason = if self.cipher.encrypts() { "Forged" } else { "Version" };

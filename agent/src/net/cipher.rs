@@ -37,8 +37,8 @@ pub struct Cipher {
     own: Option<Own>,
     /// Of each key of the cluster the one by which those of agents are made; the first one encrypts, all decrypt.
     roots: Vec<HmacSha256>,
-    /// The keys of agents that were heard.
-    heard: HashMap<Drawn, LessSafeKey>,
+    /// The keys of agents that were heard, each with the place of the cluster's key by which it was made.
+    heard: HashMap<Drawn, (usize, LessSafeKey)>,
 }
 
 impl Cipher {
@@ -71,19 +71,22 @@ impl Cipher {
         Some(bytes)
     }
 
-    /// The datagram that was encrypted by an agent under one of the keys, unaltered.
-    pub fn decrypt(&mut self, bytes: &[u8]) -> Option<Vec<u8>> {
+    /// The datagram that was encrypted by an agent under one of the keys, unaltered, and the place of that key.
+    pub fn decrypt(&mut self, bytes: &[u8]) -> Option<(Vec<u8>, usize)> {
         let drawn: Drawn = bytes.strip_prefix(&HEAD)?.get(1..1 + DRAWN)?.try_into().ok()?;
-        if let Some(key) = self.heard.get(&drawn) {
-            return decrypted(key, bytes);
+        if let Some((place, key)) = self.heard.get(&drawn) {
+            return Some((decrypted(key, bytes)?, *place));
         }
-        let of_root = |root| key_of(root, &drawn).and_then(|key| Some((decrypted(&key, bytes)?, key)));
-        let (datagram, key) = self.roots.iter().find_map(of_root)?;
+        let of_root = |(place, root)| {
+            let key = key_of(root, &drawn)?;
+            Some((decrypted(&key, bytes)?, place, key))
+        };
+        let (datagram, place, key) = self.roots.iter().enumerate().find_map(of_root)?;
         if self.heard.len() >= MAX_KEYS {
             self.heard.clear();
         }
-        self.heard.insert(drawn, key);
-        Some(datagram)
+        self.heard.insert(drawn, (place, key));
+        Some((datagram, place))
     }
 }
 
@@ -138,8 +141,8 @@ mod tests {
         let (mut from, mut to) = (cipher(&[ONE]), cipher(&[ONE]));
         let sent = from.encrypt(b"hello, you there").unwrap();
         assert_eq!((sent.len(), is_encrypted(&sent), sent[2]), (16 + LONGER, true, 2));
-        assert_eq!(to.decrypt(&sent).as_deref(), Some(&b"hello, you there"[..]));
-        assert_eq!(to.decrypt(&sent).as_deref(), Some(&b"hello, you there"[..]), "by the key that is remembered");
+        assert_eq!(to.decrypt(&sent), Some((b"hello, you there".to_vec(), 0)));
+        assert_eq!(to.decrypt(&sent), Some((b"hello, you there".to_vec(), 0)), "by the key that is remembered");
         for at in 0..sent.len() * 8 {
             let mut spoiled = sent.clone();
             spoiled[at / 8] ^= 1 << (at % 8);
@@ -172,7 +175,7 @@ mod tests {
     #[test]
     fn a_second_key_only_decrypts() {
         let (mut both, mut one, mut two) = (cipher(&[ONE, TWO]), cipher(&[ONE]), cipher(&[TWO]));
-        assert!(both.decrypt(&two.encrypt(b"x").unwrap()).is_some());
+        assert_eq!(both.decrypt(&two.encrypt(b"x").unwrap()), Some((b"x".to_vec(), 1)));
         let sent = both.encrypt(b"x").unwrap();
         assert!(one.decrypt(&sent).is_some() && two.decrypt(&sent).is_none());
     }
