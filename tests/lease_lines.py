@@ -290,9 +290,27 @@ def slow_answers(room):
         process.end()
 
 
+def split_votes(room):
+    """Two ask at a time, each has its own machine's vote, and the third is cut off: who asks under the lesser epoch gives up, and the other one holds at once."""
+    folder = room + "/split"
+    os.mkdir(folder)
+    three, now = Cluster(folder), 1001 + KEPT
+    three.all(1000)
+    three.all(now)
+    three.cut = {2}
+    asked = [three.nodes[n].ask("acquire %d backup %d" % (now, 7 + n)) for n in (0, 1)]
+    check("both ask both others", [[words[:2] for words in said] for said in asked] == [[["send", "1"], ["send", "2"]], [["send", "0"], ["send", "2"]]], asked)
+    three.line(1, now, "deliver %d %s" % (now, asked[0][0][2]))
+    check("none of them holds by its own vote", not three.of(0, "held") and not three.of(1, "held"), three.told)
+    three.line(0, now, "deliver %d %s" % (now, asked[1][0][2]))
+    check("one of them holds behind one exchange", [len(three.of(n, "held")) for n in (0, 1)] == [0, 1], three.told)
+    for process in three.nodes:
+        process.kill()
+
+
 def main():
     with tempfile.TemporaryDirectory() as room:
-        for part in (begins, last_block, kinds, words, life_of_a_lease, restart_waits, longer_time_kept, slow_answers):
+        for part in (begins, last_block, kinds, words, life_of_a_lease, restart_waits, longer_time_kept, slow_answers, split_votes):
             part(room)
     print("%d passed, %d failed" % (passed, failed))
     sys.exit(1 if failed else 0)

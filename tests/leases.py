@@ -1,7 +1,7 @@
 #!/usr/bin/env python3
 """Processes `invite lease`, joined by a network and clocks that this script makes up: who holds a lease, for how long, and under which epoch.
 
-    leases.py PROGRAM [RUNS [SEED]]     clusters of 3 and 5 machines under random faults
+    leases.py PROGRAM [RUNS [SEED]]     clusters of 3 and 5 machines under random faults, and holders whose machines are stopped
     leases.py PROGRAM times             how long an acquisition takes, in round trips: medians
     leases.py PROGRAM broken [RUNS]     clocks out of their bound: two holders have to be found
 
@@ -14,6 +14,8 @@ import heapq, os, random, shutil, statistics, subprocess, sys, tempfile
 ROUND_TRIP = 20
 TRIP = ROUND_TRIP * 1000
 KEEPS = 100 * ROUND_TRIP
+# Where a holder's machine is stopped another one holds the lease behind so many round trips at most: its voters keep their grants for 100, and then some ask at a time.
+NOBODY = 120
 
 
 class Machine:
@@ -23,6 +25,8 @@ class Machine:
         # its clock shows offset + time * rate / 2^20, in whole milliseconds
         self.offset, self.rate = cluster.random.randrange(10**9), rate
         self.process, self.count, self.told, self.wanted = None, 0, {}, {}
+        # the lines that wait for a machine that is stopped
+        self.waiting = None
         subprocess.run([cluster.program, "format", "--lease", self.path, str(own), "1"], check=True, timeout=60, stdout=subprocess.DEVNULL)
 
     def clock(self, time):
@@ -94,6 +98,9 @@ class Cluster:
     def tell(self, machine, words):
         """Tells a machine a line with its clock in the place of `MS`, and takes what it answers."""
         if not machine.process:
+            return []
+        if machine.waiting is not None:
+            machine.waiting.append(words)
             return []
         now = machine.clock(self.time)
         lines = machine.ask(words.replace("MS", str(now), 1))
@@ -283,8 +290,31 @@ def replaced_time(program, seed):
     return took
 
 
+def stopped_times(program, seed, stops=20):
+    """All machines want a lease, and each time the whole machine of its holder is stopped for longer than others take to replace it, and goes on with all that
+    came meanwhile: how long it takes behind each stop until another one holds the lease, in round trips."""
+    cluster, took = settled(program, 3, seed), []
+    for machine in cluster.machines:
+        cluster.acquire(machine, "a", 1)
+    for _ in range(stops):
+        cluster.run(cluster.time + 100 * TRIP + cluster.random.randrange(100 * TRIP))
+        cluster.run(cluster.time + 1000 * TRIP, lambda: cluster.held["a"][-1]["end"] > cluster.time)
+        holder = cluster.machines[cluster.held["a"][-1]["who"][0]]
+        begun, holder.waiting = cluster.time, []
+        cluster.run(begun + 1000 * TRIP, lambda: cluster.held["a"][-1]["who"][0] != holder.own)
+        took.append((cluster.held["a"][-1]["begin"] - begun) / TRIP)
+        cluster.run(max(cluster.time, begun + 165 * TRIP))
+        waiting, holder.waiting = holder.waiting, None
+        for words in waiting:
+            cluster.tell(holder, words)
+    cluster.close()
+    return took, cluster.flaws
+
+
 def times(program, runs=60):
-    for what, of in (("alone", alone_time), ("three ask at a time", contended_time), ("handed over by a release", handed_over_time), ("a dead holder replaced", replaced_time)):
+    stopped_time = lambda program, seed: max(stopped_times(program, seed, 1)[0])
+    for what, of in (("alone", alone_time), ("three ask at a time", contended_time), ("handed over by a release", handed_over_time), ("a dead holder replaced", replaced_time),
+                     ("a stopped one replaced by one of two", stopped_time)):
         took = sorted(of(program, seed) for seed in range(runs))
         print("%s: median %.1f round trips, 90 of 100 within %.1f, all within %.1f" % (what, statistics.median(took), took[runs * 9 // 10 - 1], took[-1]))
 
@@ -306,6 +336,12 @@ def main():
         leases += held
         for flaw in flaws[:3]:
             print("run %d: %s" % (seed, flaw))
+        passed, failed = passed + (not flaws), failed + bool(flaws)
+    for seed in range(first, first + 2):
+        took, flaws = stopped_times(program, seed, 10)
+        flaws += ["a stopped holder is replaced after %.1f round trips" % max(took)] * (max(took) > NOBODY)
+        for flaw in flaws[:3]:
+            print("holders that are stopped, run %d: %s" % (seed, flaw))
         passed, failed = passed + (not flaws), failed + bool(flaws)
     if leases < runs:
         print("only %d leases were held" % leases)

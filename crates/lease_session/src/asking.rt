@@ -10,7 +10,7 @@ use crate::refusing::Refusal;
 use crate::session::LeaseSession;
 use crate::store::EpochStore;
 use crate::voting::Answer;
-use crate::want::{Bound, NEVER, Stage, Want};
+use crate::want::{Bound, NEVER, Stage, Want, epoch_above};
 use crate::writing::client_of;
 use group_task::NodeId;
 use lease_machine::NAMES;
@@ -182,7 +182,10 @@ impl<S: EpochStore + Drop> LeaseSession<S> {
     {
         match want.stage {
             Stage::Holding { until } if now < until => self.renew(now, want, until),
-            Stage::Asking => self.rest(now, want),
+            Stage::Asking => {
+                self.answers.ran_out();
+                self.rest(now, want);
+            }
             Stage::Holding { .. } => {
                 self.stop(now, want);
                 self.ask(now, want);
@@ -203,13 +206,13 @@ impl<S: EpochStore + Drop> LeaseSession<S> {
         want.rest(now);
     }
 
-    /// Asks under an epoch above all that are known of.
+    /// Asks under an epoch above all that are known of, and of this machine alone.
     fn ask(&mut self, now: u64, want: &mut Want)
         requires { now < 2 ^ 62 }
         ensures turn { Turn [] [] now self.old.process self.new.process }
         ensures told { self.new.told ≡ self.old.told }
     {
-        let Some(epoch) = self.greatest.checked_add(1) else {
+        let Some(epoch) = epoch_above(self.greatest, self.process.terms.machine()) else {
             self.give_in(want);
             return;
         };
@@ -342,10 +345,45 @@ impl<S: EpochStore + Drop> LeaseSession<S> {
         } else {
             now
         };
+        self.rest_from(from, want);
+    }
+
+    /// Asks anew at a random time behind this one.
+    fn rest_from(&mut self, from: u64, want: &mut Want)
+        ensures { (self.new.process ≡ self.old.process) × (self.new.told ≡ self.old.told) }
+    {
         let round_trip = self.round_trip;
         let pause = rest(&mut self.random, round_trip, want.tries);
         want.tries = want.tries.saturating_add(1);
         want.rest(from.saturating_add(pause));
+    }
+
+    /// Where several ask at a time, their votes are split: each has its own machine's alone. So one who asks here, and has it, gives up for one who asks
+    /// under a greater epoch, and gives that one the time to be answered.
+    pub(crate) fn yield_to(&mut self, now: u64, name: &LeaseName, epoch: u64)
+        ensures turn { Turn [] [] now self.old.process self.new.process }
+        ensures told { self.new.told ≡ self.old.told }
+    {
+        match self.want_of(name) {
+            Some(mut want) if want.is_asking_below(epoch) && self.votes_for_own(name) => {
+                self.stop(now, &mut want);
+                let answered = now.saturating_add(self.answers.patience(self.round_trip));
+                self.rest_from(answered, &mut want);
+                self.keep(want);
+            }
+            _ => {}
+        }
+    }
+
+    /// Whether this machine's vote for a name is of who asks for it here.
+    fn votes_for_own(&self, name: &LeaseName) -> bool {
+        match &self.process.machine {
+            Some(machine) => {
+                let holder = machine.standing(name).holder;
+                holder.is_some() && holder == self.process.client_at(name)
+            }
+            None => false,
+        }
     }
 }
 
@@ -418,6 +456,7 @@ impl<S: EpochStore + Drop> LeaseSession<S> {
             return;
         }
         self.know(message.epoch);
+        self.time_answer(now, &message.name, number);
         let bound = self.bound_by(now, reason, message.epoch, lasts);
         self.refused(now, &mut want, message.voter, bound);
         self.keep(want);

@@ -66,6 +66,7 @@ impl<S: EpochStore + Drop> LeaseSession<S> {
             return;
         }
         self.know(message.epoch);
+        self.yield_to(now, &message.name, message.epoch);
         match self.vote(now, &message.name, client_of(message.client), message.epoch) {
             Answer::Granted => {
                 self.process

@@ -1,10 +1,22 @@
 // One who asks here for a lease: how far it is, and what it does next.
+ghost use Rattle.std.specs.Prelude.{◌<◌, IfSome};
 
 use group_task::{Members, NodeId};
 use lease_message::LeaseName;
 
 /// Nothing is due at any time.
 pub(crate) const NEVER: u64 = u64::MAX;
+
+/// Numbers of machines are below this one.
+const MACHINES: u64 = 128;
+
+/// An epoch above another one, for a machine: no two of them ask under the same. None where no such is left.
+pub(crate) fn epoch_above(epoch: u64, machine: NodeId) -> Option<u64>
+    ensures above { IfSome result (λ next. epoch < next) }
+{
+    let block = (epoch / MACHINES).checked_add(1)?.checked_mul(MACHINES)?;
+    block.checked_add(u64::from(machine.number()))
+}
 
 /// How far one is who asks for a lease.
 #[derive(Clone, Copy, Debug, PartialEq, Eq)]
@@ -117,6 +129,11 @@ impl Want {
     /// Whether it asks under this epoch, or holds the lease under it.
     pub(crate) fn relies_on(&self, epoch: u64) -> bool {
         self.epoch == epoch && self.stage != Stage::Resting
+    }
+
+    /// Whether it asks, and under a lesser epoch than this one.
+    pub(crate) fn is_asking_below(&self, epoch: u64) -> bool {
+        self.stage == Stage::Asking && self.epoch < epoch
     }
 
     /// Whether its user was told that it holds the lease.
