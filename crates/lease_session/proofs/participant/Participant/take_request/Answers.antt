@@ -4,7 +4,7 @@ use Rattle.lease_machine.specs.declared.terms.LeaseTerms.{LeaseTerms}
 use Rattle.lease_session.specs.declared.process.LeaseProcess.{LeaseProcess}
 use Rattle.lease_session.specs.declared.voting.Answer.{Answer}
 use Rattle.lease_session.specs.Turns.{vote_of}
-use Rattle.lease_session.proofs.Turns.{from_same, then}
+use Rattle.lease_session.proofs.Turns.{from_same, then, then_too}
 use Rattle.lease_session.proofs.Votes.{answered, as_brought, request_said, said_is}
 use Rattle.lease_session.proofs.participant.Participant.take_request.Goals as goal
 
@@ -18,28 +18,29 @@ returns-then-keeps-clause-turn g c = then (as_brought (c.refuse.ensures.turn c.a
 pub answer-requires : goal.answer-requires
 answer-requires g c = (
   c.is_for_voter.ensures.voter c.if-not-is_for_voter.false
-      ∙ ap (λ (t : LeaseTerms). t.machine) (sym ((c.vote.ensures.vote 0).turn.terms ∙ ap (λ (p : LeaseProcess). p.terms) c.know.ensures.0)),
+      ∙ ap (λ (t : LeaseTerms). t.machine) (sym ((c.vote.ensures.vote 0).turn.terms ∙ (c.yield_to.ensures.turn.terms ∙ ap (λ (p : LeaseProcess). p.terms) c.know.ensures.0))),
   refl,
 )
 
 pub refuse_request-requires-in-Refused : goal.refuse_request-requires-in-Refused
 refuse_request-requires-in-Refused g c = c.is_for_voter.ensures.voter c.if-not-is_for_voter.false
-    ∙ ap (λ (t : LeaseTerms). t.machine) (sym ((c.vote.ensures.vote 0).turn.terms ∙ ap (λ (p : LeaseProcess). p.terms) c.know.ensures.0))
+    ∙ ap (λ (t : LeaseTerms). t.machine) (sym ((c.vote.ensures.vote 0).turn.terms ∙ (c.yield_to.ensures.turn.terms ∙ ap (λ (p : LeaseProcess). p.terms) c.know.ensures.0)))
 
 pub returns-in-Granted-clause-turn : goal.returns-in-Granted-clause-turn
 returns-in-Granted-clause-turn g c =
     let m = c.args.message.now in
     let client = client_of c.client_of.result in
-    let voter = c.is_for_voter.ensures.voter c.if-not-is_for_voter.false ∙ ap (λ (p : LeaseProcess). p.terms.machine) (sym c.know.ensures.0) in
-    from_same c.know.ensures.0 (said_is m (request_said m c.args.number c.args.keeps c.args.list c.requires.body client c.client_of.ensures)
-    (answered m client c.client_of.ensures voter (ap (λ (a : Answer). vote_of a) c.in-Granted.is) (c.vote.ensures.vote c.args.number) (c.answer.ensures.turn c.args.now)))
+    let voter = c.is_for_voter.ensures.voter c.if-not-is_for_voter.false
+        ∙ ap (λ (t : LeaseTerms). t.machine) (sym (c.yield_to.ensures.turn.terms ∙ ap (λ (p : LeaseProcess). p.terms) c.know.ensures.0)) in
+    from_same c.know.ensures.0 (then_too (as_brought c.yield_to.ensures.turn) (said_is m (request_said m c.args.number c.args.keeps c.args.list c.requires.body client c.client_of.ensures)
+    (answered m client c.client_of.ensures voter (ap (λ (a : Answer). vote_of a) c.in-Granted.is) (c.vote.ensures.vote c.args.number) (c.answer.ensures.turn c.args.now))))
 
 pub returns-in-Refused-clause-turn : goal.returns-in-Refused-clause-turn
 returns-in-Refused-clause-turn g c =
     let m = c.args.message.now in
     let client = client_of c.client_of.result in
-    from_same c.know.ensures.0 (said_is m (request_said m c.args.number c.args.keeps c.args.list c.requires.body client c.client_of.ensures)
-    (then (c.vote.ensures.vote c.args.number).turn (c.refuse_request-in-Refused.ensures.turn c.args.now)))
+    from_same c.know.ensures.0 (then_too (as_brought c.yield_to.ensures.turn) (said_is m (request_said m c.args.number c.args.keeps c.args.list c.requires.body client c.client_of.ensures)
+    (then (c.vote.ensures.vote c.args.number).turn (c.refuse_request-in-Refused.ensures.turn c.args.now))))
 
 pub returns-then-keeps-clause-replies : goal.returns-then-keeps-clause-replies
 returns-then-keeps-clause-replies g c = λ is none. c.refuse_request.ensures.replies none
