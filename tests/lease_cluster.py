@@ -140,6 +140,7 @@ class Machine:
         self.path = os.path.join(cluster.folder, str(own))
         self.offset = cluster.random.randrange(10**9)
         self.process, self.due, self.ticks, self.cut_until = None, None, None, 0
+        self.waiting = None  # the lines that wait for one that is stopped
         with open(self.path, "wb") as file:
             file.write(image)
 
@@ -162,6 +163,16 @@ class Machine:
             self.process.kill()
             self.process = None
             self.cluster.judge.killed(self)
+
+    def pause(self):
+        """The whole machine is stopped: what comes to it waits."""
+        self.waiting = []
+
+    def go_on(self):
+        """It goes on, with all that came meanwhile."""
+        lines, self.waiting = self.waiting, None
+        for line in [*lines, b"tick %d"]:
+            self.cluster.at(self.cluster.time, self, line)
 
 
 class Cluster:
@@ -226,6 +237,9 @@ class Cluster:
                 if machine.ticks != time:
                     continue  # one that isn't wanted any more
                 machine.ticks, line = None, b"tick %d"
+            if machine.waiting is not None:
+                machine.waiting.append(line)
+                continue
             told.append((time, now, machine))
             texts.setdefault(machine, []).append(line % now)
         for machine, lines in texts.items():

@@ -1,7 +1,7 @@
 #!/usr/bin/env python3
 """Processes `invite lease` over a network and clocks of lease_cluster.py: who holds a lease, for how long, and under which epoch.
 
-    leases.py PROGRAM [RUNS [SEED]]     random runs
+    leases.py PROGRAM [RUNS [SEED]]     random runs, and holders whose machines are stopped
     leases.py PROGRAM times [RUNS]      how long an acquisition takes, in round trips, and whether that is too long
     leases.py PROGRAM broken [SETS]     clocks out of their bound: two holders have to be found
 
@@ -14,6 +14,8 @@ sys.dont_write_bytecode = True
 from lease_cluster import IN_BOUND, KEEPS, TRIP, Cluster, file_of_leases
 
 LEASE = KEEPS * 1000
+# Where a holder's machine is stopped another one holds the lease behind so many round trips: its voters keep their grants for 100, and then some ask at a time.
+STOPPED = 120
 SIDE_BY_SIDE, IN_TURN = 25, 4
 RUNS_OF_A_SET = SIDE_BY_SIDE * IN_TURN
 SETS_AT_A_TIME = 5
@@ -166,9 +168,31 @@ def replaced(program, seed):
     return of.took("a", holder)
 
 
+def stopped(program, seed):
+    """All three want it, and ten times the whole machine of the holder is stopped for longer than the others take: the longest time behind a stop."""
+    of, longest = Waiting(program, 3, seed), 0
+    cluster = of.cluster
+    for machine in of.machines:
+        of.acquire(machine, "a")
+    of.until(lambda: "a" in of.holder)
+    for _ in range(10):
+        cluster.run(cluster.time + LEASE + cluster.random.randrange(LEASE))
+        of.until(lambda: cluster.judge.leases["a"][-1][3] > cluster.time)
+        holder, begun = of.machines[cluster.judge.leases["a"][-1][0][0]], cluster.time
+        holder.pause()
+        of.until(lambda: of.holder["a"] != holder)
+        longest = max(longest, (of.since["a"] - begun) / TRIP)
+        cluster.run(max(cluster.time, begun + 165 * TRIP))
+        holder.go_on()
+    flaws = cluster.judge.flaws
+    cluster.close()
+    assert not flaws, flaws
+    return longest
+
+
 # What is measured, and the most round trips that its median, or all, may take.
 TIMES = [("alone", alone, 1.5, None), ("three ask at a time", contended, 10, None), ("handed over by a release", handed_over, 10, None),
-         ("a dead holder replaced", replaced, None, KEEPS * 1000 / TRIP + 3)]
+         ("a dead holder replaced", replaced, None, KEEPS * 1000 / TRIP + 3), ("one whose machine is stopped", stopped, None, STOPPED)]
 
 
 def times(program, runs=20):
@@ -193,6 +217,11 @@ def random_runs(program, runs, first):
                     print("set %d: %s" % (seed, flaw))
                 passed, failed = passed + RUNS_OF_A_SET * (not flaws), failed + bool(flaws)
                 leases, kills, cuts, lines = leases + acquired, kills + killed, cuts + cut, lines + told
+    for seed in range(first, first + 2):
+        took = stopped(program, seed)
+        if took > STOPPED:
+            print("a holder whose machine is stopped is replaced behind %.1f round trips" % took)
+        passed, failed = passed + (took <= STOPPED), failed + (took > STOPPED)
     if leases < passed:
         print("only %d leases were held" % leases)
         failed += 1
