@@ -1,7 +1,5 @@
 // One who asks here for a lease: how far it is, and what it does next.
-ghost use Rattle.std.specs.Prelude.{◌<◌, IfSome};
-
-ghost use Rattle.std.specs.Prelude.{◌≡◌};
+ghost use Rattle.std.specs.Prelude.{◌≡◌, ◌<◌, IfSome};
 
 use group_task::{Members, NodeId};
 use lease_message::LeaseName;

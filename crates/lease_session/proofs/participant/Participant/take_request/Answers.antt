@@ -31,7 +31,7 @@ returns-in-Granted-clause-turn g c =
     let m = c.args.message.now in
     let client = client_of c.client_of.result in
     let voter = c.is_for_voter.ensures.voter c.if-not-is_for_voter.false
-        ∙ ap (λ (t : LeaseTerms). t.machine) (sym (c.yield_to.ensures.turn.terms ∙ ap (λ (p : LeaseProcess). p.terms) c.know.ensures.0)) in
+    ∙ ap (λ (t : LeaseTerms). t.machine) (sym (c.yield_to.ensures.turn.terms ∙ ap (λ (p : LeaseProcess). p.terms) c.know.ensures.0)) in
     from_same c.know.ensures.0 (then_too (as_brought c.yield_to.ensures.turn) (said_is m (request_said m c.args.number c.args.keeps c.args.list c.requires.body client c.client_of.ensures)
     (answered m client c.client_of.ensures voter (ap (λ (a : Answer). vote_of a) c.in-Granted.is) (c.vote.ensures.vote c.args.number) (c.answer.ensures.turn c.args.now))))
 
