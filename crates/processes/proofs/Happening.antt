@@ -41,7 +41,7 @@ abbrev hears : Envelope → LineOutcome
 hears m = record { turns = Goes (Did (on.Deliver m)) ∷ []; due = None }
 
 abbrev process : List (List ℕ) → List LineOutcome → Process
-process lines all = record { kept = false; keyed = false; life = record { own = []; other = None; unit = 0; lines = lines; all = all } }
+process lines all = record { kept = false; keyed = false; life = record { own = []; other = None; drawn = []; unit = 0; lines = lines; all = all } }
 
 abbrev one : NodeProcesses
 one = record {
