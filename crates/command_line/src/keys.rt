@@ -68,7 +68,7 @@ fn seal_by(
 {
     let own = cluster_key(alloc, &secrets.own, nodes, cluster)?;
     let other = other_key(alloc, &secrets.other, nodes, cluster)?;
-    Seal::new(alloc, own, other, life)
+    Ok(Seal::new(alloc, own, other, life)?)
 }
 
 fn other_key(
