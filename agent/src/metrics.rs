@@ -159,7 +159,7 @@ impl Metrics {
             jobs: maker.counters("jobs", "Jobs, by what happened to them.", "event")?,
             durable: maker.counters("commands_durable", DURABLE, "command")?,
             groups: maker.counter("groups", "Changes of the node's group or phase.")?,
-            opened: maker.counters("opened", "Datagrams that were decrypted, by the name of the key.", "key")?,
+            opened: maker.counters("opened", "Datagrams that were decrypted, by the name of the key; of none those that came in clear.", "key")?,
             stale: maker.counters("stale", "Messages that the node refused as older than what their sender had said, by sender.", "node")?,
             compactions: maker.counter("compactions", "Compactions of the journal that a client asked for.")?,
             compacting: maker.count_of_seconds("compactions", "How long these took in all.")?,
@@ -190,7 +190,7 @@ impl Metrics {
             registry: maker.0,
         };
         metrics.begin_at_zero();
-        keys.iter().for_each(|name| metrics.opened.with_label_values(&[name]).inc_by(0));
+        keys.iter().map(String::as_str).chain(["none"]).for_each(|name| metrics.opened.with_label_values(&[name]).inc_by(0));
         Ok(metrics)
     }
 

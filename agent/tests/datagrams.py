@@ -130,11 +130,11 @@ def many_long_jobs(bed):
 
 
 def forwarded(bed):
-    """With a key: what agents send each other, spoiled in each bit and sent again. The node is given no key, so that it may have none."""
+    """With a key: what agents send each other, spoiled in each bit and sent again. The node is given no key, and no lives."""
     agents = bed.agents("forwarded", key=bed.key("ab"))
     path = os.path.join(agents.folder, "without_key")
     with open(path, "w") as file:
-        file.write('#!/bin/sh\nexec "%s" node "$2" "$3" "$4"\n' % agents.program)
+        file.write('#!/bin/sh\nsed -u "/^life /d" | "%s" node "$2" "$3" "$4"\n' % agents.program)
     os.chmod(path, 0o755)
     for i in range(3):
         agents.write(i, program=path)

@@ -42,7 +42,7 @@ class Refused(Error):
 
 
 REFUSALS = {name: type(name, (Refused,), {"__module__": __name__}) for name in """NoObject Unreadable Version BadQueue BadPriority BadPayload BadInterval BadName
-    BadKey TooLong TooManyClients Busy NoAnswer Down NotNormal NotCoordinator Draining Full NoJob UnknownJob NotYours NoLeases Claimed Unclaimed Exhausted NoMemory
+    BadKey TooLong TooManyClients Busy NoAnswer Down NotNormal NotCoordinator Draining Full NoJob UnknownJob NotYours NotPermitted NoLeases Claimed Unclaimed Exhausted NoMemory
     Device NoRecord""".split()}
 globals().update(REFUSALS)
 NoJob, UnknownJob, PASSING = REFUSALS["NoJob"], REFUSALS["UnknownJob"], (Lost, NoAgent, REFUSALS["TooManyClients"], REFUSALS["Busy"])

@@ -41,8 +41,8 @@ impl Daemon {
             self.take_line(line, now);
         }
         if let Some(refusal) = answer.closing.refusal().filter(|_| !matches!(answer.closing, Closing::Bad | Closing::Fault)) {
-            let refusal = if is_of_earlier(&answer) { Refusal::Stale } else { refusal };
-            self.metrics.refused.with_label_values(&[&refusal.to_string()]).inc();
+            let reason = if is_of_earlier(&answer) { "Earlier".to_string() } else { refusal.to_string() };
+            self.metrics.refused.with_label_values(&[&reason]).inc();
         }
         if let Closing::Ok(Some(id)) = answer.closing {
             self.numbers.kept_job(id);

@@ -63,6 +63,7 @@ impl Daemon {
     /// What came, encrypted or not: whether a key was needed to say it, its seal tells.
     fn take_datagram(&mut self, datagram: Vec<u8>, from: SocketAddr, now: Instant) {
         if !is_encrypted(&datagram) {
+            self.metrics.opened.with_label_values(&["none"]).inc();
             return self.take_clear(datagram, (from, false), now);
         }
         if let Some((clear, key)) = self.cipher.decrypt(&datagram) {
