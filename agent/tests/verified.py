@@ -98,7 +98,7 @@ def skipped(bed):
         check("%s: it is told once at each start but the first" % word, len(lines) == 3 == len(logged(agents, 0, told)), (numbers, lines))
         agents.stop()
     agents = bed.agents("not_skipped", count=1, record=None, http=None)
-    for command, status in (("exit 3", 3), ("echo refused 1 Damaged 14; cat > /dev/null", 5)):
+    for command, status in (("exit 3", 3), ("read asked; echo refused 1 Damaged 14; cat > /dev/null", 5)):
         agents.write(0, program=stand_in(agents, 0, "hint counter_unsealed 7\n", command), record=None)
         found, said = ends(agents)
         check("%s where it can't be skipped the node doesn't begin" % command, found == status and told not in said, (found, said))
