@@ -69,7 +69,7 @@ relies runs granted terms steps are name time client ask h =
       record {
         granted = was.0;
         lasts = subst (λ (c : Client). terms.clock c.machine c.boot time < terms.clock c.machine c.boot ask.sent + terms.relies_for) (sym was.1)
-            (ltb-true (clock time) (clock ask.sent + terms.relies_for) h.in_time);
+            (ltb-true (clock time) (clock ask.sent + terms.relies_for) h.lasts);
         goes_on = λ at epoch does covers. behind at epoch covers (subst (λ (c : Client). Does (run_of terms name steps) at c (stops epoch)) was.1 does);
       },
       was.1,

@@ -63,7 +63,7 @@ pub record Held (terms : Terms) (steps : List Step) (name : Name) (time : ℕ) (
 -- epoch, or of a greater one. That its process ended meanwhile changes nothing.
 pub record MayRely (terms : Terms) (steps : List Step) (name : Name) (time : ℕ) (client : Client) (ask : Ask) : Type 0 where
   pub held : Held terms steps name time client ask
-  pub in_time : is_in_time terms.relies_for (terms.clock client.machine client.boot) time ask ≡ true
+  pub lasts : is_in_time terms.relies_for (terms.clock client.machine client.boot) time ask ≡ true
   pub goes_on : (s : Step) (other : Client) (epoch : ℕ) → IsAmong s steps → s.by ≡ client → s.what ≡ sends (release name other epoch) → ask.epoch ≤ epoch → time < s.at
 
 -- With no word on clocks: a lease of a name that is asked for behind a moment by which another was held has a greater epoch, or is the same client's and of the same epoch.
