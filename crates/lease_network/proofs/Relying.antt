@@ -6,12 +6,13 @@ use Rattle.std.proofs.lemmas.List.{append-nil, append_assoc}
 use Rattle.lease_runs.specs.Voter.{Client, Ask}
 use Rattle.lease_runs.specs.Run.{Act, Does, Relies, WasGranted, stops}
 use Rattle.lease_runs.specs.Candidate.{Candidate, ClientMoment, IsClientOf, beginning, left}
-use Rattle.lease_runs.specs.Holding.{KeptLease, KeptWasGranted}
+use Rattle.lease_runs.specs.Holding.{HolderRelies, KeptLease, KeptWasGranted}
 use Rattle.lease_runs.specs.Laws as run_laws
 use Rattle.lease_network.specs.Network.{Name, Step, Terms, AreSteps, machines}
-use Rattle.lease_network.specs.Laws.{Held, HeldEpochsFollow, HeldEpochsRise, HeldOneEpoch, MayRely, OneRelies}
+use Rattle.lease_network.specs.Laws.{Held, HeldEpochsFollow, HeldEpochsRise, HeldOneEpoch, HolderSentNone, MayRely, OneRelies}
 use Rattle.lease_network.specs.Projection.{StepsAreRuns, act_at, acts, client_events, run_of}
-use Rattle.lease_network.proofs.Runs.{is_done, is_stopping}
+use Rattle.lease_network.proofs.Runs.{does_there, is_done, is_stopping, stops_is}
+use Rattle.lease_network.proofs.Held.{holds}
 use Rattle.lease_network.proofs.Clients.{act_of_moment, clients, moment_of_act, moments, moments_before, moments_more}
 
 -- ---- steps behind others
@@ -115,3 +116,9 @@ held_epochs_follow runs granted law terms steps are clocks name time_a time_b c 
       | inl up ↦ inl up
       | inr same ↦ inr (sym x.1 ∙ (same ∙ y.1))
     ]
+
+pub holder_sent_none : StepsAreRuns → HolderRelies → HolderSentNone
+holder_sent_none runs law terms steps are name time client ask h s other epoch i by what covers =
+    let x = law (run_of terms name steps) (runs terms steps are name).0 client time ask (holds terms steps are name time client ask h) in
+    x.0.goes_on s.at epoch (subst (λ (c : Client). Does (run_of terms name steps) s.at c (stops epoch)) (by ∙ sym x.1)
+    (does_there steps name steps s (stops epoch) i (stops_is steps name other epoch s.at s.what what))) covers

@@ -106,7 +106,7 @@ is_done all name (p ∷ past) at client what i =
     here : (client ≡ p.by) × (at ≡ p.at) × IsAmong what (client_events all name p.at p.what) → IsDone all name (p ∷ past) at client what
     here h = record { step = p; among = inl refl; by = h.0; then_at = h.1; event = h.2 }
 
-does_there : (all : List Step) (name : Name) (past : List Step) (s : Step) (what : ClientEvent) → IsAmong s past → IsAmong what (client_events all name s.at s.what)
+pub does_there : (all : List Step) (name : Name) (past : List Step) (s : Step) (what : ClientEvent) → IsAmong s past → IsAmong what (client_events all name s.at s.what)
     → IsAmong (act_at s.at s.by what) (acts all name past)
 does_there all name [] s what i event = absurd i
 does_there all name (p ∷ past) s what (inr i) event = among_first (act_at s.at s.by what) (acts all name past) _ (does_there all name past s what i event)
@@ -206,7 +206,7 @@ asks_is : (all : List Step) (name : Name) (client : Client) (number epoch at : �
 asks_is all name client number epoch at what is = subst (λ (x : Event). IsAmong (asks (ask_at client number epoch at)) (client_events all name at x)) (sym is)
     (one_among (bytes_eq name name) (asks (ask_at client number epoch at)) (is_name name))
 
-stops_is : (all : List Step) (name : Name) (client : Client) (epoch at : ℕ) (what : Event) → what ≡ sends (release name client epoch) → IsAmong (stops epoch) (client_events all name at what)
+pub stops_is : (all : List Step) (name : Name) (client : Client) (epoch at : ℕ) (what : Event) → what ≡ sends (release name client epoch) → IsAmong (stops epoch) (client_events all name at what)
 stops_is all name client epoch at what is = subst (λ (x : Event). IsAmong (stops epoch) (client_events all name at x)) (sym is) (one_among (bytes_eq name name) (stops epoch) (is_name name))
 
 stops_same : (d e : ℕ) → stops d ≡ stops e → d ≡ e

@@ -86,6 +86,11 @@ abbrev pub HeldEpochsFollow : Type 0
 HeldEpochsFollow = (terms : Terms) (steps : List Step) → AreSteps terms steps → AreClocks terms → (name : Name) (time_a time_b : ℕ) (c d : Client) (a b : Ask) →
     Held terms steps name time_a c a → MayRely terms steps name time_b d b → time_a ≤ time_b → (a.epoch < b.epoch) ⊎ (c ≡ d)
 
+-- who holds a lease sent no release of its epoch, or of a greater one, by then
+abbrev pub HolderSentNone : Type 0
+HolderSentNone = (terms : Terms) (steps : List Step) → AreSteps terms steps → (name : Name) (time : ℕ) (client : Client) (ask : Ask) → Holds terms steps name time client ask →
+    (s : Step) (other : Client) (epoch : ℕ) → IsAmong s steps → s.by ≡ client → s.what ≡ sends (release name other epoch) → ask.epoch ≤ epoch → time < s.at
+
 -- The premises can be met. One client, of three machines, holds the lease of a name; one of another machine holds that of another name, and then the next one of the
 -- first, which was released. Its machine begins anew, and the first client holds the next lease of the other name.
 pub record LeasesHappen : Type 0 where

@@ -4,7 +4,7 @@
 //! Each law is the contract of a function that does nothing; a caller takes the law by calling it.
 #![tactic(auto)]
 
-ghost use Rattle.lease_network.specs.Laws.{EpochsFollow, EpochsRise, HeldEpochsFollow, HeldEpochsRise, HeldOneEpoch, HeldWasAsked, LeasesHappen, OneEpoch, OneHolder, OneRelies, TwoMayHold};
+ghost use Rattle.lease_network.specs.Laws.{EpochsFollow, EpochsRise, HeldEpochsFollow, HeldEpochsRise, HeldOneEpoch, HeldWasAsked, HolderSentNone, LeasesHappen, OneEpoch, OneHolder, OneRelies, TwoMayHold};
 ghost use Rattle.lease_network.specs.Projection.{StepsAreRuns};
 
 /// Epochs of a name rise, with no word on clocks.
@@ -57,6 +57,8 @@ pub fn held_may_rely()
     // Refuses: release_of_another_client, release_that_nobody_sent, lease_runs::no_margin_for_drift.
     ensures relies { OneRelies }
     ensures follow { HeldEpochsFollow }
+    // Promise: Who holds a lease sent no release of its epoch, or of a greater one, by then.
+    ensures silent { HolderSentNone }
 {
     steps_are_runs();
     lease_runs::holders_rely();

@@ -1,2 +1,3 @@
 mod Standing
 mod Printed
+mod Words

@@ -1,15 +1,15 @@
 -- What holds of `held` lines.
-use Rattle.std.proofs.Common.{◌≡◌, ℕ, ◌+◌, ◌<◌, ◌≤◌, true, List, [], ◌∷◌, ◌++◌, sym, ◌∙◌, ap, subst, inl, inr, append_assoc, arith}
+use Rattle.std.proofs.Common.{◌≡◌, ℕ, ◌+◌, ◌<◌, ◌≤◌, true, List, [], ◌∷◌, ◌++◌, refl, sym, ◌∙◌, ap, subst, inl, inr, append_assoc, arith}
 use Rattle.std.specs.Prelude.{ltb}
-use Rattle.lease_runs.specs.Lists.{IsAmong}
 use Rattle.lease_runs.specs.Voter.{Client, Ask}
 use Rattle.lease_runs.specs.Candidate.{is_in_time}
 use Rattle.lease_network.specs.Network.{Name, Step, Terms}
 use Rattle.lease_network.specs.Laws.{Held, MayRely}
 use Rattle.lease_network.specs.Laws as laws
-use Rattle.lease_session.specs.Rows.{Row, held}
-use Rattle.lease_session.specs.Steps.{AreHeld, HoldsThen, IsHolder, LinesAreSteps, steps_with}
-use Rattle.lease_session.specs.Turns.{Mark, did, wrote, Who, who}
+use Rattle.lease_session.specs.Rows.{held}
+use Rattle.lease_session.specs.Steps.{AreHeld, IsHolder, LinesAreSteps, steps_with}
+use Rattle.lease_session.specs.Marks.{Mark, did, wrote}
+use Rattle.lease_session.specs.Turns.{Who, who}
 use Rattle.lease_session.specs.declared.process.Start.{Start}
 use Rattle.lease_processes.specs.Processes.{Turned, begins, told, Moment, AreProcesses, MayTurn, last_moment, marks_of, process_of, steps_of}
 use Rattle.lease_processes.specs.Printed.{AreOneNetwork, EpochsFollow, EpochsRise, FedIsTold, HeldLinesAreLeases, IsHeldLine, IsLease, IsOneProcess, OneAtATime, OneEpochEach, Relies}
@@ -20,33 +20,25 @@ network terms all are = (stand terms all are).are
 
 -- ---- one line
 
--- who is told so holds it over the first of the steps
-record Told (terms : Terms) (w : Who) (at : ℕ) (steps : List Step) (name : Name) (epoch until : ℕ) : Type 0 where
-  pub kept : List Step
-  pub later : List Step
-  pub parts : steps ≡ later ++ kept
-  pub holder : IsHolder terms w at kept name epoch until
+-- the steps of marks behind others
+pub steps_both : (at : ℕ) (past : List Step) (xs ys : List Mark) → steps_with at past (xs ++ ys) ≡ steps_with at (steps_with at past xs) ys
+steps_both at past [] ys = refl
+steps_both at past (did by what ∷ xs) ys = steps_both at (record { at = at; by = by; what = what } ∷ past) xs ys
+steps_both at past (wrote row ∷ xs) ys = steps_both at past xs ys
 
-abbrev row_of : Mark → Row → Row
-row_of (wrote row) other = row
-row_of (did by what) other = other
+-- who is told so holds it over the steps before the line
+pub told_held : (terms : Terms) (w : Who) (at : ℕ) (past : List Step) (front back : List Mark) (name : Name) (user epoch until : ℕ)
+    → AreHeld terms w at past (front ++ wrote (held name user epoch until) ∷ back) → IsHolder terms w at (steps_with at past front) name epoch until
+told_held terms w at past [] back name user epoch until h = h.0
+told_held terms w at past (did by what ∷ front) back name user epoch until h = told_held terms w at (record { at = at; by = by; what = what } ∷ past) front back name user epoch until h
+told_held terms w at past (wrote row ∷ front) back name user epoch until h = told_held terms w at past front back name user epoch until h.1
 
-told_held : (terms : Terms) (w : Who) (at : ℕ) (past : List Step) (marks : List Mark) (name : Name) (user epoch until : ℕ) → IsAmong (wrote (held name user epoch until)) marks
-    → AreHeld terms w at past marks → Told terms w at (steps_with at past marks) name epoch until
-told_held terms w at past [] name user epoch until i h = absurd i
-told_held terms w at past (did by what ∷ marks) name user epoch until (inl e) h = absurd (let bad : wrote (held name user epoch until) ≡ did by what = e in cc)
-told_held terms w at past (did by what ∷ marks) name user epoch until (inr i) h = told_held terms w at (record { at = at; by = by; what = what } ∷ past) marks name user epoch until i h
-told_held terms w at past (wrote row ∷ marks) name user epoch until (inl e) h =
-    let over = steps_over at past marks in record {
-      kept = past;
-      later = over.0;
-      parts = over.1;
-      holder = subst (λ (r : Row). HoldsThen terms w at past r) (ap (λ (m : Mark). row_of m row) (sym e)) h.0;
-    }
-told_held terms w at past (wrote row ∷ marks) name user epoch until (inr i) h = told_held terms w at past marks name user epoch until i h.1
+pub no_marks : (front back : List Mark) (line : Mark) → [] ≡ front ++ line ∷ back → ⊥
+no_marks [] back line e = absurd cc
+no_marks (m ∷ front) back line e = absurd cc
 
 -- more steps in front
-more_held : (terms : Terms) (steps more : List Step) (name : Name) (time : ℕ) (client : Client) (ask : Ask) → Held terms steps name time client ask
+pub more_held : (terms : Terms) (steps more : List Step) (name : Name) (time : ℕ) (client : Client) (ask : Ask) → Held terms steps name time client ask
     → Held terms (more ++ steps) name time client ask
 more_held terms steps more name time client ask h = record {
   kept = h.kept;
@@ -57,25 +49,35 @@ more_held terms steps more name time client ask h = record {
   lease = h.lease;
 }
 
-line_here : (terms : Terms) (past : List Moment) (at n : ℕ) (what : Turned) → AreProcesses terms past → last_moment past ≤ at → MayTurn terms past at n what
+-- the lease of who holds it over the first of the steps
+abbrev pub lease_from : (terms : Terms) (all : List Moment) (m : Moment) (name : Name) (epoch until : ℕ) (w : Who) (kept more : List Step) → steps_of all ≡ more ++ kept
+    → w.self.machine ≡ m.machine → w.self.boot ≡ process_of m → IsHolder terms w m.at kept name epoch until → IsLease terms all m name epoch until
+lease_from terms all m name epoch until w kept more parts machine boot it = record {
+  client = it.client;
+  ask = it.ask;
+  has = subst (λ (l : List Step). Held terms l name m.at it.client it.ask) (sym parts) (more_held terms kept more name m.at it.client it.ask it.has);
+  of_epoch = it.of_epoch;
+  machine = it.machine ∙ machine;
+  boot = it.boot ∙ boot;
+  ends = it.ends ∙ (ap (λ (k : ℕ). terms.clock k w.self.boot it.ask.sent + terms.relies_for) machine
+      ∙ ap (λ (p : ℕ). terms.clock m.machine p it.ask.sent + terms.relies_for) boot);
+}
+
+pub line_here : (terms : Terms) (past : List Moment) (at n : ℕ) (what : Turned) → AreProcesses terms past → last_moment past ≤ at → MayTurn terms past at n what
     → (name : Name) (epoch until : ℕ) → IsHeldLine (record { at = at; machine = n; what = what }) name epoch until
     → IsLease terms (record { at = at; machine = n; what = what } ∷ past) (record { at = at; machine = n; what = what }) name epoch until
-line_here terms past at n (begins new) are le turn name epoch until h = absurd h.among
-line_here terms past at n (told line old marks new) are le turn name epoch until h =
+line_here terms past at n (begins new) are le turn name epoch until h = absurd (no_marks h.front h.back (wrote (held name h.user epoch until)) h.parts)
+line_here terms past at n (told asked old marks new) are le turn name epoch until h =
     let s = stand terms past are in
-    let adds = added terms past at n line old marks new s le turn in
-    let it = told_held terms (who old.process) at (steps_of past) marks name h.user epoch until h.among adds.0.held in
-    let numbered = ap (λ (x : Start). x.process) turn.answered.start in record {
-      client = it.holder.client;
-      ask = it.holder.ask;
-      has = subst (λ (l : List Step). Held terms l name at it.holder.client it.holder.ask) (sym it.parts)
-          (more_held terms it.kept it.later name at it.holder.client it.holder.ask it.holder.has);
-      of_epoch = it.holder.of_epoch;
-      machine = it.holder.machine ∙ adds.1;
-      boot = it.holder.boot ∙ sym numbered;
-      ends = it.holder.ends ∙ (ap (λ (k : ℕ). terms.clock k old.process.start.process it.holder.ask.sent + terms.relies_for) adds.1
-          ∙ ap (λ (p : ℕ). terms.clock n p it.holder.ask.sent + terms.relies_for) (sym numbered));
-    }
+    let adds = added terms past at n asked old marks new s le turn in
+    let line = wrote (held name h.user epoch until) in
+    let it = told_held terms (who old.process) at (steps_of past) h.front h.back name h.user epoch until
+    (subst (λ (ms : List Mark). AreHeld terms (who old.process) at (steps_of past) ms) h.parts adds.0.held) in
+    let over = steps_over at (steps_with at (steps_of past) h.front) (line ∷ h.back) in
+    lease_from terms (record { at = at; machine = n; what = told asked old marks new } ∷ past) (record { at = at; machine = n; what = told asked old marks new }) name epoch until (who old.process)
+    (steps_with at (steps_of past) h.front) over.0
+    (ap (λ (ms : List Mark). steps_with at (steps_of past) ms) h.parts ∙ (steps_both at (steps_of past) h.front (line ∷ h.back) ∙ over.1))
+    adds.1 (sym (ap (λ (x : Start). x.process) turn.answered.start)) it
 
 more_lease : (terms : Terms) (x : Moment) (past : List Moment) (m : Moment) (name : Name) (epoch until : ℕ) → IsLease terms past m name epoch until → IsLease terms (x ∷ past) m name epoch until
 more_lease terms x past m name epoch until l =

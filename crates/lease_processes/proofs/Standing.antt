@@ -21,7 +21,8 @@ use Rattle.lease_session.specs.Feeding.{At}
 use Rattle.lease_session.specs.Reading.{meaning_of}
 use Rattle.lease_session.specs.Rows.{said, send}
 use Rattle.lease_session.specs.Steps.{Adds, IsSound, MayCome, RunsOrIsNew, TellsTime, WasSentIn, steps_with}
-use Rattle.lease_session.specs.Turns.{Mark, did, wrote, who, IsAt, Stood}
+use Rattle.lease_session.specs.Marks.{Mark, did, wrote}
+use Rattle.lease_session.specs.Turns.{who, IsAt, Stood}
 use Rattle.lease_processes.specs.Processes.{Turned, begins, told, Moment, AreProcesses, HasBegun, IsTold, MayBegin, MayTurn, WasHandedOut, bound_by, bound_of, here, last_moment, left_by, marks_of, steps_of}
 
 -- ---- steps

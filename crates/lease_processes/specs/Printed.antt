@@ -1,13 +1,13 @@
 -- What holds of the lines that processes of leases answer.
-use Rattle.std.specs.Prelude.{ℕ, ◌≡◌, ◌⊎◌, ◌+◌, ◌<◌, ◌≤◌, List}
+use Rattle.std.specs.Prelude.{ℕ, ◌≡◌, ◌⊎◌, ◌+◌, ◌<◌, ◌≤◌, List, ◌∷◌, ◌++◌}
 use Rattle.lease_runs.specs.Lists.{IsAmong}
 use Rattle.lease_runs.specs.Voter.{Client, Ask}
 use Rattle.lease_network.specs.Network.{Name, release, sends, Step, Terms, AreSteps}
 use Rattle.lease_network.specs.Laws.{AreClocks, Held}
 use Rattle.lease_session.specs.Feeding.{At, AreAnswered}
-use Rattle.lease_session.specs.Rows.{held}
+use Rattle.lease_session.specs.Rows.{Row, send, held, lost, refused, unserved, next, fault}
 use Rattle.lease_session.specs.Steps.{IsSound}
-use Rattle.lease_session.specs.Turns.{wrote}
+use Rattle.lease_session.specs.Marks.{Mark, wrote}
 use Rattle.lease_processes.specs.Processes.{AreProcesses, AreTold, Moment, marks_of, process_of, steps_of}
 
 -- All that the processes answer is what machines of one network do.
@@ -16,10 +16,13 @@ AreOneNetwork = (terms : Terms) (all : List Moment) → AreProcesses terms all �
 
 -- ---- `held` lines
 
--- a line of this moment says that a user holds the lease of the name under this epoch until this time of its machine's clock
+-- A line of this moment says that a user holds the lease of the name under this epoch until this time of its machine's clock, between what the process did and wrote before
+-- and behind it.
 pub record IsHeldLine (m : Moment) (name : Name) (epoch until : ℕ) : Type 0 where
   pub user : ℕ
-  pub among : IsAmong (wrote (held name user epoch until)) (marks_of m.what)
+  pub front : List Mark
+  pub back : List Mark
+  pub parts : marks_of m.what ≡ front ++ wrote (held name user epoch until) ∷ back
 
 -- what stands behind it: a client of the process held the lease by then, by a request of this epoch, and UNTIL is so long after it was sent as a client relies on a lease
 pub record IsLease (terms : Terms) (all : List Moment) (m : Moment) (name : Name) (epoch until : ℕ) : Type 0 where
@@ -65,6 +68,34 @@ OneAtATime = (terms : Terms) (all : List Moment) → AreProcesses terms all → 
 abbrev pub EpochsFollow : Type 0
 EpochsFollow = (terms : Terms) (all : List Moment) → AreProcesses terms all → AreClocks terms → (m o : Moment) (name : Name) (first second until later time : ℕ) →
     IsLease terms all m name first until → Relies terms all o name second later time → m.at ≤ time → (first < second) ⊎ IsOneProcess m o
+
+-- ---- what a user goes by
+
+-- the line says that the lease of the name is held, or lost
+abbrev pub IsAbout : Name → Row → Type 0
+IsAbout name (send to message bytes) = ⊥
+IsAbout name (held other user epoch until) = other ≡ name
+IsAbout name (lost other epoch) = other ≡ name
+IsAbout name (refused why) = ⊥
+IsAbout name (unserved why other user) = ⊥
+IsAbout name (next time) = ⊥
+IsAbout name fault = ⊥
+
+abbrev pub SaysNothing : Name → List Mark → Type 0
+SaysNothing name marks = (row : Row) → IsAmong (wrote row) marks → IsAbout name row → ⊥
+
+-- Up to this true time the `held` line is the last that its process says of the name: neither another `held` line nor a `lost` line comes behind it.
+pub record IsLastWord (all : List Moment) (m : Moment) (name : Name) (back : List Mark) (time : ℕ) : Type 0 where
+  pub newer : List Moment
+  pub past : List Moment
+  pub stands : all ≡ newer ++ m ∷ past
+  pub here : SaysNothing name back
+  pub since : (o : Moment) → IsAmong o newer → IsOneProcess o m → o.at ≤ time → SaysNothing name (marks_of o.what)
+
+-- A user goes by the last line of its process: until UNTIL it may rely on the lease, since a lease is given up by no process that doesn't say so.
+abbrev pub LastWordHolds : Type 0
+LastWordHolds = (terms : Terms) (all : List Moment) → AreProcesses terms all → (m : Moment) (name : Name) (epoch until time : ℕ) → (h : IsHeldLine m name epoch until)
+    → IsLastWord all m name h.back time → m.at ≤ time → terms.clock m.machine (process_of m) time < until → Relies terms all m name epoch until time
 
 -- ---- sessions
 

@@ -10,7 +10,7 @@ use Rattle.lease_session.specs.Feeding.{At, IsNew}
 use Rattle.lease_session.specs.Reading.{meaning_of}
 use Rattle.lease_session.specs.Rows.{send}
 use Rattle.lease_session.specs.Steps.{IsAnswered, MayBring, TellsTime, steps_with}
-use Rattle.lease_session.specs.Turns.{Mark, wrote}
+use Rattle.lease_session.specs.Marks.{Mark, wrote}
 
 -- ---- what happens
 

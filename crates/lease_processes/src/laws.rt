@@ -1,6 +1,6 @@
 //! Laws of the processes of leases. Each is the contract of a function that does nothing; a caller takes the law by calling it.
 
-ghost use Rattle.lease_processes.specs.Printed.{AreOneNetwork, EpochsFollow, EpochsRise, FedIsTold, HeldLinesAreLeases, OneAtATime, OneEpochEach};
+ghost use Rattle.lease_processes.specs.Printed.{AreOneNetwork, EpochsFollow, EpochsRise, FedIsTold, HeldLinesAreLeases, LastWordHolds, OneAtATime, OneEpochEach};
 
 /// The headline of leases. Take any number of processes of each machine, one after another over its file, each ended at any moment.
 /// The premises are those of `AreProcesses`: a file gives each process a number of its own and a floor at or above what the one
@@ -29,6 +29,11 @@ pub fn leases_are_one_network()
     // Refuses: lease_runs::no_margin_for_drift.
     ensures holder { OneAtATime }
     ensures follow { EpochsFollow }
+    // Promise: Who goes by the last line of its process may rely on the lease: no process sends a release of a lease that it told a user to hold,
+    // but in the answer that says `lost`. So with the promise before, two users never go by such lines at a time.
+    // Also: lease_session::LeaseProcess::give_up_told, lease_session::LeaseProcess::stop_relying.
+    // Refuses: lease_session::given_up_unsaid.
+    ensures word { LastWordHolds }
 {
     lease_network::held_may_rely();
 }

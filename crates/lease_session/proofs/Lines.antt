@@ -20,9 +20,12 @@ use Rattle.lease_session.specs.Opening.{BringsBy}
 use Rattle.lease_session.specs.Reading.{Meaning, Bad, Tick, Deliver, Acquire, Release, meaning_of}
 use Rattle.lease_session.specs.Rows.{refused, row_text}
 use Rattle.lease_session.specs.Steps.{IsAnswered, IsDelivered, IsSound, LinesAreSteps, MayCome, TellsTime, WasSentIn, steps_with}
-use Rattle.lease_session.specs.Turns.{Mark, wrote, Who, who, IsAt, IsStill, Stood, Tells, Turn, key_of}
+use Rattle.lease_session.specs.Marks.{Mark, wrote}
+use Rattle.lease_session.specs.Turns.{Who, who, IsAt, IsStill, Stood, Tells, Turn, key_of}
 use Rattle.lease_session.proofs.Steps.{go, turn_goes_on}
-use Rattle.lease_session.proofs.Turns.{is_at_same, then, written}
+use Rattle.lease_session.specs.Telling.{told_row}
+use Rattle.lease_session.specs.declared.told.Told.{Told}
+use Rattle.lease_session.proofs.Turns.{is_at_same, quiet_of, then, written}
 
 -- ---- the line that ends an answer
 
@@ -32,11 +35,17 @@ still_ended b c e = record {
   terms = ap (λ (p : LeaseProcess). p.terms) e.same;
   start = ap (λ (p : LeaseProcess). p.start) e.same;
   key = ap (λ (p : LeaseProcess). key_of p.seal) e.same;
+  told = ap (λ (p : LeaseProcess). p.told) e.same;
 }
 
 tells_last : (stops : Bool) (due : Option ℕ) (terms : Terms) (w : Who) (at : ℕ) (m : Machine) (sent : List Message) → Tells terms w at m sent (last_row stops due)
 tells_last true due terms w at m sent = tt
 tells_last false due terms w at m sent = tt
+
+-- it tells users nothing
+told_last : (stops : Bool) (due : Option ℕ) (ts : List Told) → told_row ts (last_row stops due) ≡ ts
+told_last true due ts = refl
+told_last false due ts = refl
 
 halt_ended : {due : Option ℕ} {stops : Bool} (b c : LeaseProcess) → IsEnded due stops b c → c.halt ≡ b.halt
 halt_ended b c e = ap (λ (p : LeaseProcess). p.halt) e.same
@@ -47,7 +56,7 @@ not_out false halt is out = absurd (let bad : None ≡ Some NoMemory = sym is �
 
 pub ended_turn : {brought : List Message} {now : ℕ} {due : Option ℕ} {stops : Bool} (a b c : LeaseProcess) → Turn [] brought now a b → IsEnded due stops b c → Turn [] brought now a c
 ended_turn {due = due} {stops = stops} a b c t e =
-    then t (written (last_row stops due) (still_ended b c e) (λ out. halt_ended b c e ∙ out) e.text (λ terms at m clock is. tells_last stops due terms (who b) at m []))
+    then t (written (last_row stops due) (quiet_of (still_ended b c e)) (λ out. halt_ended b c e ∙ out) e.text (ap (λ t. t.items) (still_ended b c e).told ∙ sym (told_last stops due b.told.items)) (λ terms at m clock is. tells_last stops due terms (who b) at m []))
 
 sound_by : (stops : Bool) (b c : LeaseProcess) → IsHalted stops b.halt → c.halt ≡ b.halt → stops ≡ false → c.halt ≡ None
 sound_by true b c is same off = absurd cc
@@ -97,6 +106,8 @@ turned later now brought line old new behind less given t then_now e =
         terms = whole.terms;
         start = whole.start;
         key = whole.key;
+        told = whole.told (λ out. not_out new.stopped behind.halt e.halted (sym (halt_ended behind new.process e) ∙ out));
+        careful = whole.careful (λ out. not_out new.stopped behind.halt e.halted (sym (halt_ended behind new.process e) ∙ out));
         sound = λ off. sound_by new.stopped behind new.process e.halted (halt_ended behind new.process e) off;
         goes = λ terms at past m.
             let g = given terms at past m in
@@ -120,6 +131,8 @@ refuses {due = due} reason line old new behind going r e =
         terms = last.terms ∙ r.0.terms;
         start = last.start ∙ r.0.start;
         key = last.key ∙ r.0.key;
+        told = ap (λ t. t.items) last.told ∙ (ap (λ t. t.items) r.0.told ∙ sym (told_last new.stopped due old.process.told.items));
+        careful = tt;
         sound = λ off. sound_by new.stopped behind new.process e.halted (halt_ended behind new.process e) off;
         goes = λ terms at past m.
             let here = machines terms past old.process.terms.machine in (
@@ -185,6 +198,8 @@ silent line old new same sound = subst (λ (b : At). Marked line old b) (sym sam
     terms = refl;
     start = refl;
     key = refl;
+    told = refl;
+    careful = tt;
     sound = sound;
     goes = λ terms at past m. (go terms (who old.process) at past [] [] [] m.are m.last m.runs (λ x i. absurd i) (λ x i. absurd i) tt, m.stands);
   },

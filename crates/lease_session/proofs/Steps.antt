@@ -8,7 +8,8 @@ use Rattle.lease_network.specs.Network.{Message, request, grant, release, Event,
 use Rattle.lease_network.specs.Laws.{up_to}
 use Rattle.lease_message.specs.declared.message.LeaseMessage.{LeaseMessage}
 use Rattle.lease_session.specs.Rows.{Row, send, held, lost, refused, unserved, next, fault, said}
-use Rattle.lease_session.specs.Turns.{Mark, did, wrote, Who, who, AreAmong, Follow, IsAt, IsHad, Runs, Tells, after_marks, sent_by}
+use Rattle.lease_session.specs.Marks.{Mark, did, wrote}
+use Rattle.lease_session.specs.Turns.{Who, who, AreAmong, Follow, IsAt, IsHad, Runs, Tells, after_marks, sent_by}
 use Rattle.lease_session.specs.Steps.{Adds, HeldLinesHold, HoldsThen, RunsOrIsNew, TurnGoesOn, TurnsAreSteps, WasSentIn}
 use Rattle.lease_session.proofs.Turns.{among_both, sent_still}
 

@@ -12,7 +12,9 @@ use Rattle.lease_session.specs.Feeding.{Answers, At}
 use Rattle.lease_session.specs.Opening.{BringsBy}
 use Rattle.lease_session.specs.Reading.{Meaning, Bad, Tick, Deliver, Acquire, Release, meaning_of}
 use Rattle.lease_session.specs.Rows.{Row, held, said, send}
-use Rattle.lease_session.specs.Turns.{Mark, did, wrote, Who, who, Follow, IsAt, IsHeld, Turn, after_marks, key_of, sent_in, text_of}
+use Rattle.lease_session.specs.Marks.{Mark, did, wrote}
+use Rattle.lease_session.specs.Telling.{AreTold, told_after}
+use Rattle.lease_session.specs.Turns.{Who, who, Follow, IsAt, IsHeld, Turn, after_marks, key_of, sent_in, text_of}
 
 -- with the steps among the marks, at this true time
 abbrev pub steps_with : ℕ → List Step → List Mark → List Step
@@ -118,12 +120,14 @@ pub record MayCome (terms : Terms) (at : ℕ) (past : List Step) (line : List �
   pub runs : RunsOrIsNew past (who old.process).self (machines terms past old.process.terms.machine).process
   pub stands : IsAt terms old.told old.process (machines terms past old.process.terms.machine)
 
--- The answer to a line is the text of these marks, whose steps follow those of all before, whatever these are.
+-- The answer to a line is the text of these marks, whose steps follow those of all before, whatever these are; no lease is given up unsaid.
 pub record IsAnswered (marks : List Mark) (line : List ℕ) (old new : At) : Type 0 where
   pub text : new.process.text.items ≡ old.process.text.items ++ text_of marks
   pub terms : new.process.terms ≡ old.process.terms
   pub start : new.process.start ≡ old.process.start
   pub key : key_of new.process.seal ≡ key_of old.process.seal
+  pub told : new.process.told.items ≡ told_after old.process.told.items marks
+  pub careful : AreTold old.process.told.items marks
   pub sound : IsSound new
   pub goes : (terms : Terms) (at : ℕ) (past : List Step) → MayCome terms at past line old
       → Adds terms (who old.process) at past marks [] × IsAt terms new.told new.process (machines terms (steps_with at past marks) old.process.terms.machine)

@@ -204,7 +204,7 @@ impl<S: EpochStore + Drop> Participant<S> {
         if want.stage == Stage::Resting {
             return;
         }
-        self.process.give_up(&want.name, want.epoch, want.is_told());
+        self.process.give_up(&want.name, want.epoch);
         want.rest(now);
     }
 
