@@ -175,7 +175,7 @@ impl Daemon {
                 let reply = jobs_of(&answer.lines, &self.hand, queue, skip, limit).tagged(&tag);
                 self.clients.answer(client, &reply);
             }
-            Asker::Lost => {}
+            Asker::Lost | Asker::Time => {}
             Asker::Page => {
                 self.listings -= 1;
                 self.count_jobs(&answer.lines);

@@ -48,6 +48,8 @@ pub enum Asker {
     },
     /// A node is given up.
     Lost,
+    /// It is told the time in front of something, and not since something is due.
+    Time,
     /// The page asks for the jobs.
     Page,
 }
@@ -55,7 +57,7 @@ pub enum Asker {
 impl Asker {
     pub fn lane(&self) -> Lane {
         match self {
-            Asker::Datagram { .. } | Asker::Forwarded { .. } => Lane::Network,
+            Asker::Datagram { .. } | Asker::Forwarded { .. } | Asker::Time => Lane::Network,
             _ => Lane::Local,
         }
     }

@@ -3,7 +3,7 @@
 use super::{Asker, Daemon};
 use crate::config::Config;
 use crate::forward::{is_of_agents, marked, About, Datagram, Seal};
-use crate::metrics::{kind_of, OF_LEADING, QUESTIONS};
+use crate::metrics::{kind_of, ANSWERS, OF_LEADING, QUESTIONS};
 use crate::net::{is_encrypted, GroupBytes, Leaves, MAX_DATAGRAM};
 use crate::node::Lane;
 use log::{info, warn};
@@ -43,7 +43,7 @@ impl Daemon {
         }
         while self.node.has_room(Lane::Network) {
             match self.backlog.take() {
-                Some(Waiting::Message { message, from, was_encrypted }) => self.deliver(&message, (from, was_encrypted)),
+                Some(Waiting::Message { message, from, was_encrypted }) => self.deliver(&message, (from, was_encrypted), now),
                 Some(Waiting::OfAgent(datagram)) => self.obey_agent(datagram, now),
                 None => break,
             }
@@ -129,7 +129,7 @@ impl Daemon {
         }
         let peer = self.peers.at(from);
         if self.node.has_half_its_room(Lane::Network) || (peer.is_some() && self.node.has_room(Lane::Network)) {
-            return self.deliver(&message, (from, was_encrypted));
+            return self.deliver(&message, (from, was_encrypted), now);
         }
         let length = message.len();
         self.put_off(peer, Waiting::Message { message, from, was_encrypted }, length);
@@ -142,11 +142,16 @@ impl Daemon {
         }
     }
 
-    fn deliver(&mut self, message: &[u8], (from, was_encrypted): (SocketAddr, bool)) {
+    /// Gives the node a message, and in front of an answer the time, by which it knows how long that took.
+    fn deliver(&mut self, message: &[u8], (from, was_encrypted): (SocketAddr, bool), now: Instant) {
         if message.is_empty() {
             return self.metrics.dropped.with_label_values(&["Empty"]).inc();
         }
-        let asker = Asker::Datagram { sender: sender_of(message), from, was_encrypted, kind: kind_of(message) };
+        let kind = kind_of(message);
+        if ANSWERS.contains(&kind) && self.clock.is_nothing_due(now) {
+            self.ask(Asker::Time, format!("tick {}", self.clock.node_ms(now)));
+        }
+        let asker = Asker::Datagram { sender: sender_of(message), from, was_encrypted, kind };
         self.ask(asker, format!("deliver {}", hex::encode(message)));
     }
 
