@@ -148,8 +148,10 @@ impl Daemon {
                 self.send_to_agent(from, token, What::Says { key, knows }, now);
             }
             What::Says { key, knows } => self.told_of_key(from, token, (key, knows), now),
+            // a machine that has no use of its votes and leases counts as silent
+            What::AsksVoting {} if self.leases.as_ref().map_or(false, |leases| leases.hang(now)) => {}
             What::AsksVoting {} => self.send_to_agent(from, token, What::SaysVoting(self.voting()), now),
-            What::SaysVoting(voting) => self.told_of_voting(from, token, voting),
+            What::SaysVoting(voting) => self.told_of_voting(from, token, voting, now),
             What::Tags { tags } => self.take_tags(from, tags, now),
             What::Event { life, number, name, text } => self.take_event(from, token, (life, number), (name, text)),
             What::Reply(outcome) => {

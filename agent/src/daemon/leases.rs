@@ -4,8 +4,8 @@ use super::voters::Count;
 use super::{Daemon, PATIENCE_AT_END};
 use crate::boot_time::BootTime;
 use crate::config::Config;
-use crate::forward::of_leases;
-use crate::lease::{Claims, LeaseLine, LeaseProcess, Order, Refusal, Told};
+use crate::forward::{of_leases, Token as AgentToken, What};
+use crate::lease::{Claims, LeaseLine, LeaseProcess, Order, Refusal, Silence, Told};
 use crate::protocol::Reply;
 use crate::service::ClientId;
 use log::{debug, error, info, warn};
@@ -49,6 +49,8 @@ pub(super) struct Leases {
     again: Vec<(String, u64)>,
     again_at: Instant,
     pub(super) count_of_voters: Count,
+    /// Whose agents answer nothing.
+    pub(super) silence: Silence,
 }
 
 impl Leases {
@@ -63,6 +65,7 @@ impl Leases {
             again: Vec::new(),
             again_at: now,
             count_of_voters: Count::of(config, now),
+            silence: Silence::new(config.nodes.len(), Duration::from_millis(config.lease_ms), now),
         })
     }
 
@@ -85,6 +88,11 @@ impl Leases {
         self.process.as_ref().map_or(false, LeaseProcess::is_ready)
     }
 
+    /// Whether the process answers nothing: its leases end, and shards go to other machines.
+    pub(super) fn hang(&self, now: Instant) -> bool {
+        self.process.as_ref().map_or(false, |process| process.hangs(now))
+    }
+
     /// Those who ask for a lease, or have one.
     pub(super) fn clients(&self) -> BTreeSet<ClientId> {
         self.claims.clients()
@@ -95,7 +103,7 @@ impl Leases {
     }
 
     pub(super) fn sleep(&self, now: Instant) -> Duration {
-        let of_voters = self.count_of_voters.sleep(now);
+        let of_voters = self.count_of_voters.sleep(now).min(self.silence.sleep(now));
         let process = match &self.process {
             None if self.count_of_voters.now().is_none() => return of_voters,
             None => return self.start.saturating_duration_since(now).min(of_voters),
@@ -179,6 +187,7 @@ impl Daemon {
     /// All that may be to be done for leases.
     pub(super) fn keep_leases(&mut self, now: Instant) {
         self.keep_voters(now);
+        self.ask_who_is_there(now);
         let leases = match &mut self.leases {
             Some(leases) => leases,
             None => return,
@@ -200,6 +209,16 @@ impl Daemon {
             leases.try_again(now);
             leases.tick();
         }
+    }
+
+    /// Asks the others something that their agents answer at once, where a client wants to know who is silent.
+    fn ask_who_is_there(&mut self, now: Instant) {
+        let serial = match self.leases.as_mut().filter(|leases| leases.silence.sleep(now).is_zero()) {
+            Some(leases) => leases.silence.ask(now),
+            None => return,
+        };
+        let token = AgentToken { life: self.outbox.token().life, serial };
+        self.others().into_iter().for_each(|node| self.send_to_agent(node, token, What::AsksVoting {}, now));
     }
 
     fn take_lease_line(&mut self, line: LeaseLine, now: Instant) {
@@ -295,7 +314,7 @@ impl Daemon {
     pub(super) fn acquire(&mut self, client: ClientId, name: &str) -> Reply {
         let leases = match &mut self.leases {
             Some(leases) => leases,
-            None => return Reply::refused("NoLeases").with("why", "`lease_ms` isn't set: this agent has no leases"),
+            None => return no_leases(),
         };
         match leases.claims.acquire(client, name) {
             Ok(order) => {
@@ -324,6 +343,18 @@ impl Daemon {
                 Reply::ok()
             }
             Err(refusal) => refused(refusal),
+        }
+    }
+
+    /// The machines whose agents answer nothing, from the first such question on.
+    pub(super) fn list_silent(&mut self, now: Instant) -> Reply {
+        let others = self.others();
+        match &mut self.leases {
+            Some(leases) => {
+                leases.silence.want(now);
+                Reply::ok().with("silent", leases.silence.silent(&others, now))
+            }
+            None => no_leases(),
         }
     }
 
@@ -398,6 +429,10 @@ fn pause_after(pause: Duration, ran: Duration) -> Duration {
     } else {
         (pause * 2).clamp(FIRST_PAUSE, LONGEST_PAUSE)
     }
+}
+
+fn no_leases() -> Reply {
+    Reply::refused("NoLeases").with("why", "`lease_ms` isn't set: this agent has no leases")
 }
 
 fn refused(refusal: Refusal) -> Reply {
