@@ -6,6 +6,7 @@ use crate::metrics::{kind_of, ANSWERS};
 use crate::node::{Answer, Closing, Group, Job, JobKey, Line, Refusal};
 use crate::protocol::Reply;
 use crate::service::{Given as GivenJob, Hand};
+use crate::system_calls::give_back_memory;
 use log::{error, info, warn};
 use serde::Serialize;
 use std::net::SocketAddr;
@@ -230,6 +231,8 @@ impl Daemon {
         }
         if let Closing::Ok(_) = closing {
             self.view.is_ready = true;
+            // that in which its configuration was read, and what its file holds looked at
+            give_back_memory();
             self.notify.ready();
         } else {
             let why = tell_unmounted(&self.config.file, closing);

@@ -182,7 +182,7 @@ impl Daemon {
             cipher: cipher_of(&config)?,
             backlog: Backlog::new(nodes),
             pace: Pace::new(nodes, config.key.is_some(), round_trip, now),
-            resolver: Resolver::start(Arc::clone(&waker))?,
+            resolver: Resolver::new(Arc::clone(&waker)),
             waker,
             clients,
             admin: config.admin()?,
