@@ -497,7 +497,7 @@ fn node_of(config: &Config, life: u64, registry: &Registry, begin: SystemTime) -
     if let Some(path) = &config.record {
         node.begin_record(Record::open(path, config).with_context(|| format!("record {}", path.display()))?);
         let since = begin.duration_since(UNIX_EPOCH).unwrap_or_default();
-        node.write_down([format!("start {}", since.as_millis()).as_str()]);
+        node.write_down(&format!("start {}", since.as_millis()));
     }
     Ok(node)
 }
