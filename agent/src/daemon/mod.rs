@@ -14,13 +14,14 @@ mod looks;
 mod losses;
 mod opening;
 mod pages;
+mod relaying;
 mod requests;
 mod signals;
 mod voters;
 
 use announcing::Announcing;
 use answers::NOT_IN_HAND;
-pub use asker::Asker;
+pub use asker::{Asker, Origin};
 pub use signals::Beginning;
 
 use crate::clock::Clock;
