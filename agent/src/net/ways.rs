@@ -1,11 +1,13 @@
-//! Which of the others are reached by themselves, and which through another one. A peer is silent where it was heard long ago and what was sent to it since has
-//! no answer: then what is sent to it goes through one that is heard, too. Whoever gets something so, and is told that its sender doesn't hear it, does the same.
+//! Which of the others are reached by themselves, and which through another one. A peer that was heard long ago, and to whom something is to be said, is asked
+//! for an answer. Where none comes it is silent, and what is said to it goes through one that isn't, too. Whoever gets something so, and is told that its sender
+//! doesn't hear it, does the same.
 
 use std::time::{Duration, Instant};
 
-/// A peer that wasn't heard by itself for so long, or for so many round trips, is silent, where what it was sent has had no answer for a third of that.
+/// A peer that wasn't heard by itself for so long, or for so many round trips, is silent. Members of a group that is at rest hear each other's questions twice in
+/// that time. It is asked for an answer from two thirds of it on.
 const SILENCE: Duration = Duration::from_secs(3);
-const ROUND_TRIPS: u32 = 30;
+const ROUND_TRIPS: u32 = 100;
 
 /// Through whom a peer was heard last is known for so long.
 const LASTING: Duration = Duration::from_secs(5);
@@ -14,7 +16,7 @@ const LASTING: Duration = Duration::from_secs(5);
 const TRY: Duration = Duration::from_millis(200);
 const MOST_IN_A_TRY: u32 = 64;
 
-/// While one is known a peer is tried by itself so often.
+/// While one is known a peer is tried by itself so often. So often one is asked for an answer, which it is given time for.
 const PAUSE: Duration = Duration::from_millis(500);
 
 /// So many datagrams of each peer are carried on in a tenth of a second at most.
@@ -26,11 +28,11 @@ const MOST_IN_A_TURN: u32 = 256;
 struct Way {
     /// When a datagram of it came last from itself.
     heard: Option<Instant>,
-    /// When it was first sent something at its own address since.
-    tried: Option<Instant>,
-    /// When its agent was last asked for an answer, and when it was last sent something at its own address.
-    asked: Option<Instant>,
+    /// When something was first said to it, and when it was last sent something at its own address.
+    first: Option<Instant>,
     sent: Option<Instant>,
+    /// When its agent was asked for an answer since it was heard, first and last.
+    asked: Option<(Instant, Instant)>,
     /// Through whom a datagram of it came last, and when.
     through: Option<(u8, Instant)>,
     /// When it last said so that it doesn't hear this one.
@@ -79,7 +81,7 @@ impl Ways {
     /// A datagram of a peer came from itself.
     pub fn heard(&mut self, node: u8, now: Instant) {
         if let Some(way) = self.ways.get_mut(usize::from(node)) {
-            (way.heard, way.tried, way.asked) = (Some(now), None, None);
+            (way.heard, way.asked) = (Some(now), None);
         }
     }
 
@@ -94,7 +96,8 @@ impl Ways {
     /// Whether a peer doesn't answer by itself.
     fn is_silent(&self, node: u8, now: Instant) -> bool {
         self.ways.get(usize::from(node)).map_or(true, |way| {
-            !is_within(way.heard, self.silence, now) && way.tried.is_some() && !is_within(way.tried, self.silence / 3, now)
+            let is_old = !is_within(way.heard.or(way.first), self.silence, now);
+            is_old && way.asked.map_or(false, |(first, _)| !is_within(Some(first), PAUSE, now))
         })
     }
 
@@ -130,10 +133,11 @@ impl Ways {
         if is_direct {
             way.sent = Some(now);
         }
-        let tried = *way.tried.get_or_insert(now);
-        let asks = !is_within(Some(tried), silence / 12, now) && !is_within(way.asked, silence / 6, now);
+        way.first = way.first.or(Some(now));
+        let (is_old, first) = (!is_within(way.heard, silence * 2 / 3, now), way.asked.map(|(first, _)| first));
+        let asks = is_old && !is_within(way.asked.map(|(_, last)| last), PAUSE, now);
         if asks {
-            way.asked = Some(now);
+            way.asked = Some((first.unwrap_or(now), now));
         }
         Sending { is_direct, through, is_deaf: is_silent, asks }
     }
@@ -186,11 +190,16 @@ mod tests {
     fn a_peer_that_answers_is_sent_to_itself_alone() {
         let now = Instant::now();
         let mut ways = ways(now);
-        for at in (0..100_000).step_by(100) {
+        for at in (0..100_000).step_by(1100) {
             assert_eq!(ways.sends(1, 1..4, now + ms(at)), DIRECT, "{at}");
             ways.heard(1, now + ms(at + 20));
         }
-        assert_eq!(ways.sends(2, 1..4, now + ms(200_000)), DIRECT, "it was asked nothing so far");
+        // one to whom something is said seldom is asked, and answers
+        for at in (0..100_000).step_by(30_000) {
+            assert_eq!(ways.sends(2, 1..4, now + ms(200_000 + at)), Sending { asks: true, ..DIRECT });
+            ways.heard(2, now + ms(200_400 + at));
+            assert_eq!(ways.sends(2, 1..4, now + ms(202_300 + at)), DIRECT);
+        }
         assert_eq!(ways.through(1, now), None);
     }
 
@@ -202,8 +211,8 @@ mod tests {
             (2..4).for_each(|node| ways.heard(node, now + ms(at)));
             ways.sends(1, 1..4, now + ms(at))
         };
-        assert_eq!([sent(100), sent(300), sent(360), sent(500)], [DIRECT, DIRECT, Sending { asks: true, ..DIRECT }, DIRECT]);
-        assert_eq!((sent(2990).through, sent(2990).is_deaf), (None, false));
+        assert_eq!([sent(100), sent(1990), sent(2000), sent(2400)], [DIRECT, DIRECT, Sending { asks: true, ..DIRECT }, DIRECT]);
+        assert_eq!([sent(2500), sent(2990)], [Sending { asks: true, ..DIRECT }, DIRECT]);
         let through = |at: u64, sent: &mut dyn FnMut(u64) -> Sending| {
             let sending = sent(at);
             assert!(sending.is_direct && sending.is_deaf);
@@ -211,14 +220,24 @@ mod tests {
         };
         assert_eq!([3000, 3100, 3210, 3400, 3420].map(|at| through(at, &mut sent)), [2, 2, 3, 3, 2].map(Some));
         assert_eq!((0..100).filter(|_| through(3430, &mut sent).is_some()).count(), 63, "no more than so many");
-        assert_eq!(Ways::new(0, 4, ROUND_TRIP).sends(1, 1..4, now), DIRECT);
+    }
+
+    #[test]
+    fn one_that_was_never_heard_is_given_as_much_time() {
+        let now = Instant::now();
+        let mut ways = Ways::new(0, 4, ROUND_TRIP);
+        ways.heard(2, now + ms(2000));
+        let through = [0, 600, 2900, 3000].map(|at| ways.sends(1, 1..4, now + ms(at)).through);
+        assert_eq!(through, [None, None, None, Some(2)]);
+        ways.heard(2, now + ms(9000));
+        assert_eq!((ways.sends(3, 1..4, now + ms(9000)), ways.sends(1, 1..4, now + ms(9000)).through), (Sending { asks: true, ..DIRECT }, Some(2)));
     }
 
     #[test]
     fn where_a_way_is_known_it_is_taken_and_the_peer_itself_is_tried_once_in_a_while() {
         let now = Instant::now();
         let mut ways = ways(now);
-        ways.sends(1, 1..4, now);
+        ways.sends(1, 1..4, now + ms(2500));
         let mut sent = |at: u64| {
             (2..4).for_each(|node| ways.heard(node, now + ms(at)));
             ways.heard_through(1, 3, false, now + ms(at));
@@ -249,21 +268,22 @@ mod tests {
         assert!([(1, 1), (1, 0), (0, 1), (1, 9), (9, 1)].into_iter().all(|(from, to)| !ways.carries(from, to, now)));
         assert_eq!((0..1000).filter(|_| ways.carries(1, 2, now)).count(), 256);
         assert!(ways.carries(3, 2, now) && ways.carries(1, 2, now + TURN));
-        ways.sends(2, 1..4, now);
-        assert!(!ways.carries(1, 2, now + ms(4000)), "it is silent here, too");
+        ways.sends(2, 1..4, now + ms(3000));
+        assert!(ways.carries(1, 2, now + ms(3400)), "it may answer yet");
+        assert!(!ways.carries(1, 2, now + ms(3500)), "it is silent here, too");
         assert!(!Ways::new(0, 4, ROUND_TRIP).carries(1, 2, now), "it was never heard");
     }
 
     #[test]
     fn slow_networks_are_waited_for() {
         let now = Instant::now();
-        let mut ways = Ways::new(0, 3, Duration::from_secs(1));
+        let mut ways = Ways::new(0, 3, Duration::from_millis(200));
         (1..3).for_each(|node| ways.heard(node, now));
-        ways.sends(1, 1..3, now);
-        ways.heard(2, now + ms(29_000));
-        assert_eq!(ways.sends(1, 1..3, now + ms(29_999)).through, None);
-        assert_eq!(ways.sends(1, 1..3, now + ms(30_000)).through, Some(2));
+        let asks = [0, 13_300, 13_400].map(|at| ways.sends(1, 1..3, now + ms(at)).asks);
+        ways.heard(2, now + ms(19_000));
+        let through = [19_900, 20_000].map(|at| ways.sends(1, 1..3, now + ms(at)).through);
+        assert_eq!((asks, through), ([false, false, true], [None, Some(2)]));
         ways.forget(1);
-        assert_eq!(ways.sends(1, 1..3, now + ms(40_000)), DIRECT);
+        assert_eq!(ways.sends(1, 1..3, now + ms(40_000)), Sending { asks: true, ..DIRECT });
     }
 }
