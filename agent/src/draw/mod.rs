@@ -3,6 +3,11 @@
 //! which came to none follows from the trace and that order.
 
 mod asked;
+mod colours;
+mod jobs;
+mod lines;
+mod message;
+mod order;
 mod page;
 mod picture;
 mod places;
