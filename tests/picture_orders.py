@@ -47,10 +47,12 @@ def spoiled(trace, order, numbers):
     for node in order:
         turns.append((node, taken.get(node, 0)))
         taken[node] = taken.get(node, 0) + 1
+    if not turns:
+        return
     longest = max(range(len(trace["histories"])), key=lambda node: len(trace["histories"][node]))
     tried = [(f"without the end of node {longest}", lost_end(trace, longest), None)]
-    for place in sorted({len(turns) // 3, 2 * len(turns) // 3, max(0, len(turns) - 1)}):
-        if turns and len(trace["histories"]) < 64:
+    for place in sorted({len(turns) // 3, 2 * len(turns) // 3, len(turns) - 1}):
+        if len(trace["histories"]) < 64:
             tried.append((f"spoiled at turn {place}", with_more(trace, *turns[place]), turns[place]))
     for what, other, bad in tried:
         nodes, places, are_all = followed(other, order, bad)

@@ -7,7 +7,7 @@ message came; and of traces by chance, against that and a model of the nodes: ho
 The agent is built first (agent/build), unless $DUMGEROK_AGENT names the folder of its programs. Traces that are written here are drawn first, then those of
 picture_rows.py, to the byte. Without schedules, of all that stand in the folder schedules. Each is recorded, and the record is drawn as it is, without the numbers
 of its messages, without its order, with an order in which its entries can't be taken, and with an entry spoiled or an end lost (picture_orders.py). Last
-come pages in a browser (picture_pages.py). The last line counts the checks."""
+come what is written for tools of others (picture_exports.py) and pages in a browser (picture_pages.py). The last line counts the checks."""
 import glob, json, os, random, re, subprocess, sys
 from xml.etree import ElementTree
 
@@ -15,7 +15,7 @@ HERE = os.path.dirname(os.path.abspath(__file__))
 TOP = os.path.join(HERE, "..")
 sys.dont_write_bytecode = True
 sys.path.append(os.path.join(HERE, "hostile"))
-import picture_orders as orders, picture_pages, picture_rows, traces
+import picture_exports, picture_orders as orders, picture_pages, picture_rows, traces
 from inputs import Inputs
 from turns import Watched, first_other
 
@@ -267,6 +267,15 @@ def of_schedules(programs, schedules):
             yield f"{schedule}, {what}", problem
 
 
+def exported(programs, schedules):
+    """What is wrong with what is written of the records of schedules for tools of others."""
+    for schedule in schedules:
+        record = programs.run("record", open(schedule).read())
+        trace = json.loads(record.stdout) if record.returncode == 0 else {}
+        if "order" in trace:
+            yield from ((f"{schedule}, {what}", problem) for what, problem in picture_exports.exports(programs, trace, Model(trace, *order_of(trace))))
+
+
 def main():
     program = os.path.abspath(sys.argv[1])
     schedules = list(map(os.path.abspath, sys.argv[2:]))
@@ -276,7 +285,8 @@ def main():
     programs = Programs(program, os.path.abspath(folder))
     os.chdir(TOP)
     passed = failed = 0
-    parts = [of_schedules(programs, schedules or sorted(glob.glob("schedules/*.txt"))), to_the_byte(programs), by_chance(programs), picture_pages.pages(programs)]
+    schedules = schedules or sorted(glob.glob("schedules/*.txt"))
+    parts = [of_schedules(programs, schedules), to_the_byte(programs), by_chance(programs), exported(programs, schedules), picture_pages.pages(programs)]
     for what, problem in (pair for part in parts for pair in part):
         passed, failed = passed + (not problem), failed + bool(problem)
         if problem:
