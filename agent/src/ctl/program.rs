@@ -1,6 +1,7 @@
 //! Commands that the proved program does, over the file of a configuration.
 
 use super::arguments::Look;
+use super::commands::print;
 use super::Failure;
 use crate::config::Config;
 use crate::draw::{draw, DrawError, Form};
@@ -25,22 +26,36 @@ pub fn look(look: &Look, word: &str, option: Option<&str>) -> Result<(String, Ex
     Ok((String::from_utf8_lossy(&done.stdout).into_owned(), done.status))
 }
 
-/// One trace of the records of all nodes.
-pub fn trace_of(files: &[PathBuf]) -> Result<judge::Trace, Failure> {
-    let read = judge::read(files).and_then(judge::trace_of);
+/// One trace of the records of all nodes, whose entries say when they were, where that is asked for.
+pub fn trace_of(files: &[PathBuf], has_times: bool) -> Result<judge::Trace, Failure> {
+    let read = judge::read(files).and_then(|records| judge::trace_of(records, has_times));
     read.map_err(|why| Failure::Usage(why.to_string()))
 }
 
 /// Lets `invite trace` judge the records of all nodes.
 pub fn judge(files: &[PathBuf], program: &Path) -> Result<(), Failure> {
-    let trace = trace_of(files)?;
+    let trace = trace_of(files, false)?;
     let named = |why| Failure::Usage(format!("{}: {why}", program.display()));
-    let mut child = Command::new(program).arg("trace").stdin(Stdio::piped()).spawn().map_err(named)?;
+    let mut child = Command::new(program).arg("trace").stdin(Stdio::piped()).stdout(Stdio::piped()).spawn().map_err(named)?;
     if let Some(input) = child.stdin.take() {
         // where it doesn't read to the end its status says why
         let _unread = trace.write(&mut io::BufWriter::new(input));
     }
-    Failure::of_status(child.wait().map_err(named)?)
+    let done = child.wait_with_output().map_err(named)?;
+    let verdict = String::from_utf8_lossy(&done.stdout);
+    print(&verdict)?;
+    if let Some((path, line)) = culprit(&verdict).and_then(|(node, entry)| trace.place(node, entry)) {
+        eprintln!("dumgerokctl: that entry ends in {}, line {line}", path.display());
+    }
+    Failure::of_status(done.status)
+}
+
+/// The node and the entry that a verdict names: `NotARun NODE INDEX`.
+pub fn culprit(verdict: &str) -> Option<(usize, usize)> {
+    match verdict.split_whitespace().collect::<Vec<_>>().as_slice() {
+        ["NotARun", node, entry] => Some((node.parse().ok()?, entry.parse().ok()?)),
+        _ => None,
+    }
 }
 
 /// The run of a trace, drawn, and how the program ended that read it.

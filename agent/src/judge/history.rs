@@ -6,6 +6,7 @@ use super::{NodeRecord, RecordError};
 use crate::node::{Closing, Group, Phase};
 use serde_json::{json, Map, Value};
 use std::collections::HashMap;
+use std::rc::Rc;
 
 /// The requests that are no events. `tick` and `lost` name theirs.
 const NO_EVENTS: [&str; 3] = ["compact", "state", "jobs"];
@@ -33,13 +34,35 @@ struct Kept {
     pending: u64,
 }
 
-pub struct History<'a> {
+/// What is made beside the entries.
+#[derive(Clone, Copy, Debug, PartialEq, Eq)]
+pub enum Detail {
+    Entries,
+    /// What an order needs to know of them.
+    Order,
+    /// That, and when each was, which no judgement needs.
+    Times,
+}
+
+/// No clock of a machine that runs says less, in milliseconds since 1970; a record that has no time counts from the beginning of a process.
+const LEAST_TIME: u64 = 1_000_000_000_000;
+
+/// Where a line stands in a record: its part, counted from 0, and its number there, from 1.
+pub type Place = (u32, u32);
+
+pub struct History {
     own: u8,
-    begins: &'a [Begin],
+    begins: Rc<[Begin]>,
     /// The entries as JSON, with commas between them.
     entries: String,
-    /// What an order needs to know of each entry.
+    /// What an order needs to know of each entry; nothing where none is asked for.
     turns: Vec<Turn>,
+    detail: Detail,
+    /// Entries whose time isn't known yet.
+    untold: Vec<Map<String, Value>>,
+    /// Where each entry stands in the record, and the line that is read.
+    places: Vec<Place>,
+    place: Place,
     /// The node's clock as it was told last: the time of the machine where the record has it, else what its processes took.
     time: u64,
     /// What that clock was when this process began.
@@ -59,14 +82,18 @@ pub struct History<'a> {
     recoveries: u64,
 }
 
-impl<'a> History<'a> {
-    /// Reads a record. At a kill one request at most is in doubt: what the next recovery finds says whether its command counted.
-    pub fn of(own: u8, record: &NodeRecord, begins: &'a [Begin]) -> Result<History<'a>, RecordError> {
-        let mut history = History {
+impl History {
+    /// The history of a node that hasn't begun.
+    pub fn new(own: u8, begins: Rc<[Begin]>, detail: Detail) -> History {
+        History {
             own,
             begins,
             entries: String::new(),
             turns: Vec::new(),
+            detail,
+            untold: Vec::new(),
+            places: Vec::new(),
+            place: (0, 0),
             time: 0,
             began: 0,
             untimed: 0,
@@ -78,29 +105,75 @@ impl<'a> History<'a> {
             is_checking: false,
             doubt: None,
             recoveries: 0,
-        };
+        }
+    }
+
+    /// Reads a record. At a kill one request at most is in doubt: what the next recovery finds says whether its command counted.
+    pub fn of(own: u8, record: &NodeRecord, begins: &Rc<[Begin]>, detail: Detail) -> Result<History, RecordError> {
+        let mut history = History::new(own, Rc::clone(begins), detail);
         let (mut request, mut answer): (Option<&str>, Vec<&str>) = (None, Vec::new());
-        for line in record.lines() {
+        for (place, line) in record.placed_lines() {
+            history.place = place;
             if let Some(asked) = line.strip_prefix("> ") {
                 request = Some(asked);
                 answer.clear();
                 history.told(asked);
             } else if let Some(start) = line.strip_prefix("start") {
-                history.began = start.trim().parse().unwrap_or(history.time);
-                history.untimed = history.turns.len();
-                history.killed(request.take());
+                history.started(start, request.take());
             } else if let Some(closing) = Closing::read(line) {
-                let fault = || RecordError::Line { node: record.node, line: line.to_string() };
-                history.answered(request.take().ok_or_else(fault)?, &answer, &closing).ok_or_else(fault)?;
+                history.closed(line, request.take(), &answer, &closing)?;
             } else {
                 answer.push(line);
             }
         }
+        history.timed();
         Ok(history)
     }
 
+    /// Reads a line; the lines of a request that isn't answered yet are kept for the next ones.
+    pub fn reads(&mut self, place: Place, line: &str, open: &mut Vec<String>) -> Result<(), RecordError> {
+        self.place = place;
+        if let Some(asked) = line.strip_prefix("> ") {
+            *open = vec![asked.to_string()];
+            self.told(asked);
+        } else if let Some(start) = line.strip_prefix("start") {
+            self.started(start, open.first().map(String::as_str));
+            open.clear();
+        } else if let Some(closing) = Closing::read(line) {
+            let lines: Vec<&str> = open.iter().map(String::as_str).collect();
+            let (request, answer) = lines.split_first().map_or((None, &lines[..]), |(request, answer)| (Some(*request), answer));
+            self.closed(line, request, answer, &closing)?;
+            open.clear();
+        } else {
+            open.push(line.to_string());
+        }
+        Ok(())
+    }
+
+    /// A process began; the one before it left this request without an answer.
+    fn started(&mut self, start: &str, request: Option<&str>) {
+        self.timed();
+        self.began = start.trim().parse().unwrap_or(self.time);
+        self.killed(request);
+    }
+
+    fn closed(&mut self, line: &str, request: Option<&str>, answer: &[&str], closing: &Closing) -> Result<(), RecordError> {
+        let done = request.and_then(|request| self.answered(request, answer, closing));
+        done.ok_or_else(|| RecordError::Line { node: usize::from(self.own), line: line.to_string() })
+    }
+
+    /// The entries as JSON, with commas between them.
+    pub fn entries(&self) -> &str {
+        &self.entries
+    }
+
+    /// Where each entry stands in the record.
+    pub fn places(&self) -> &[Place] {
+        &self.places
+    }
+
     /// The entries, and what an order needs to know of each.
-    pub fn entries(self) -> (String, Vec<Turn>) {
+    pub fn into_parts(self) -> (String, Vec<Turn>) {
         (self.entries, self.turns)
     }
 
@@ -109,22 +182,44 @@ impl<'a> History<'a> {
         if let Some(Ok(ms)) = request.strip_prefix("tick ").map(str::parse::<u64>) {
             self.time = self.time.max(self.began.saturating_add(ms));
             self.turns[self.untimed..].iter_mut().for_each(|turn| turn.time = self.time);
-            self.untimed = self.turns.len();
+            self.timed();
         }
+    }
+
+    /// The entries so far were by now.
+    fn timed(&mut self) {
+        self.untimed = self.turns.len();
+        for mut entry in std::mem::take(&mut self.untold) {
+            if self.time >= LEAST_TIME {
+                entry.insert("at".to_string(), json!(self.time));
+            }
+            self.append(entry);
+        }
+    }
+
+    fn append(&mut self, entry: Map<String, Value>) {
+        if !self.entries.is_empty() {
+            self.entries.push(',');
+        }
+        self.entries.push_str(&Value::Object(entry).to_string());
     }
 
     /// Puts an entry of an event that a request, if any, brought.
     fn put(&mut self, name: &str, request: &str, sent: &[&str], fields: Map<String, Value>) {
         let mut entry = fields;
-        let messages: Vec<String> = sent.iter().map(|digits| message_of(digits, self.begins)).collect();
-        let turn = self.turns.len();
-        self.sent.extend(messages.iter().map(|digits| Message::of(digits)).zip((0..).map(|place| (turn, place))));
+        let messages: Vec<String> = sent.iter().map(|digits| message_of(digits, &self.begins)).collect();
+        self.places.push(self.place);
         entry.insert("do".to_string(), json!(name));
         entry.insert("sent".to_string(), json!(messages));
-        if !self.entries.is_empty() {
-            self.entries.push(',');
+        match self.detail {
+            Detail::Times => self.untold.push(entry),
+            _ => self.append(entry),
         }
-        self.entries.push_str(&Value::Object(entry).to_string());
+        if self.detail == Detail::Entries {
+            return;
+        }
+        let turn = self.turns.len();
+        self.sent.extend(messages.iter().map(|digits| Message::of(digits)).zip((0..).map(|place| (turn, place))));
         let brought = if name == "deliver" { request.split(' ').nth(1) } else { None };
         self.turns.push(Turn {
             time: self.time,
@@ -135,8 +230,11 @@ impl<'a> History<'a> {
 
     /// A message that is sent again, under another seal, is that of the turn that sent it.
     fn sent_again(&mut self, event: &Event) {
+        if self.detail == Detail::Entries {
+            return;
+        }
         for digits in event.sent() {
-            if let Some((turn, place)) = self.sent.get(&Message::of(&message_of(digits, self.begins))) {
+            if let Some((turn, place)) = self.sent.get(&Message::of(&message_of(digits, &self.begins))) {
                 let (sent, copy) = (&mut self.turns[*turn].sent[*place], Message::of(digits));
                 if sent.first != copy {
                     sent.again.push(copy);
@@ -177,7 +275,7 @@ impl<'a> History<'a> {
             }
         }
         if word == "tick" {
-            self.untimed = self.turns.len();
+            self.timed();
         }
         match closing {
             Closing::Ok(Some(id)) => {
@@ -235,7 +333,7 @@ impl<'a> History<'a> {
             }
             _ => return None,
         };
-        let is_first = self.entries.is_empty() && self.doubt.is_none() && found.count <= 1;
+        let is_first = self.places.is_empty() && self.doubt.is_none() && found.count <= 1;
         if !is_first {
             let doubt = self.doubt.take().unwrap_or_default();
             self.settle(&doubt, found)?;
@@ -263,7 +361,7 @@ impl<'a> History<'a> {
             self.put("crash", doubt, &[], Map::new());
         }
         // so the process ended when the node was told the time last
-        self.untimed = self.turns.len();
+        self.timed();
         if raised > self.recoveries.saturating_add(MAX_UNKNOWN) {
             return None;
         }
@@ -303,7 +401,7 @@ impl<'a> History<'a> {
     fn fields_of(&self, event: &str, request: &str) -> Option<Map<String, Value>> {
         let words: Vec<&str> = request.split(' ').collect();
         let fields = match (event, words.as_slice()) {
-            ("deliver", [_, digits]) => json!({"msg": message_of(digits, self.begins)}),
+            ("deliver", [_, digits]) => json!({"msg": message_of(digits, &self.begins)}),
             ("submit", [_, queue, payload, rest @ ..]) => {
                 let (queue, payload) = (queue.parse::<u8>().ok()?, payload.trim_start_matches('-'));
                 match rest.first() {
@@ -337,8 +435,11 @@ mod tests {
     }
 
     fn entries(lines: &str) -> Vec<String> {
-        let begins = [Begin { count: 100, id: 5 }];
-        let (entries, _) = History::of(0, &NodeRecord::of_text(0, lines), &begins).unwrap().entries();
+        let begins = Rc::new([Begin { count: 100, id: 5 }]) as Rc<[Begin]>;
+        let (entries, _) = History::of(0, &NodeRecord::of_text(0, lines), &begins, Detail::Order).unwrap().into_parts();
+        let (mut grown, mut open) = (History::new(0, begins, Detail::Entries), Vec::new());
+        lines.lines().for_each(|line| grown.reads((0, 1), line, &mut open).unwrap());
+        assert_eq!((grown.entries(), grown.places().len()), (entries.as_str(), values(&entries).len()));
         values(&entries).iter().map(Value::to_string).collect()
     }
 
@@ -378,8 +479,8 @@ mod tests {
             (90_000, [5009, 90_001, 90_001, 91_900]),
         ] {
             let lines = START.replace("start", "start 5000") + &tick(9) + &again(second) + &tick(1) + &tick(1900);
-            let begins = [Begin { count: 100, id: 5 }];
-            let (entries, turns) = History::of(0, &NodeRecord::of_text(0, &lines), &begins).unwrap().entries();
+            let begins = Rc::new([Begin { count: 100, id: 5 }]) as Rc<[Begin]>;
+            let (entries, turns) = History::of(0, &NodeRecord::of_text(0, &lines), &begins, Detail::Order).unwrap().into_parts();
             let entries = values(&entries);
             let seen: Vec<(&str, u64)> =
                 entries.iter().zip(&turns).map(|(entry, turn)| (entry["do"].as_str().unwrap(), turn.time)).collect();
@@ -393,7 +494,8 @@ mod tests {
     #[test]
     fn counts_that_no_node_reaches_are_refused() {
         let lines = format!("{START}> merge\nstart\n> recover\nkeeps 18446744073709551615 5 0\nok 1\n");
-        assert!(History::of(0, &NodeRecord::of_text(0, &lines), &[Begin { count: 100, id: 5 }]).is_err());
+        let begins = Rc::new([Begin { count: 100, id: 5 }]) as Rc<[Begin]>;
+        assert!(History::of(0, &NodeRecord::of_text(0, &lines), &begins, Detail::Order).is_err());
     }
 
     #[test]
