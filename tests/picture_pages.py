@@ -36,6 +36,7 @@ ON_PAGES = [
     ("KEYS[',']()", "turn 1: node 1, entry 0"),
     ("KEYS['.']()", "turn 2: "),
     ("find('turn 1')", "1 entries are in its past, 1 in its future, and 1 in neither"),
+    ("find('turn 0')", "0 entries are in its past, 3 in its future, and 0 in neither"), ("find('turn 1')", "turn 1: "),
     ("KEYS.c()", "="), ("cones", '={"past":[1,1],"future":[2,0]}'),
     ("KEYS.Escape()", ""), ("[chosen, cones]", "=[-1,null]"),
 ]
