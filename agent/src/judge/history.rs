@@ -90,8 +90,8 @@ pub struct History {
     /// What an order needs to know of each entry; nothing where none is asked for.
     turns: Vec<Turn>,
     detail: Detail,
-    /// Entries whose time isn't known yet.
-    untold: Vec<Map<String, Value>>,
+    /// Where the entries begin whose time isn't known yet.
+    untold: Vec<usize>,
     /// Where each entry stands in the record, and the line that is read.
     places: Vec<Place>,
     place: Place,
@@ -275,19 +275,17 @@ impl History {
     /// The entries so far were by now.
     fn timed(&mut self) {
         self.untimed = self.turns.len();
-        for mut entry in std::mem::take(&mut self.untold) {
-            if self.time >= LEAST_TIME {
-                entry.insert("at".to_string(), json!(self.time));
-            }
-            self.append(entry);
+        let untold = std::mem::take(&mut self.untold);
+        let first = match untold.first() {
+            Some(first) if self.time >= LEAST_TIME => *first,
+            _ => return,
+        };
+        let tail = self.entries.split_off(first);
+        for (place, begin) in untold.iter().enumerate() {
+            let end = untold.get(place + 1).map_or(tail.len(), |next| next - first);
+            self.entries.push_str(&format!("{{\"at\":{},", self.time));
+            self.entries.push_str(&tail[begin - first + 1..end]);
         }
-    }
-
-    fn append(&mut self, entry: Map<String, Value>) {
-        if !self.entries.is_empty() {
-            self.entries.push(',');
-        }
-        self.entries.push_str(&Value::Object(entry).to_string());
     }
 
     /// Puts an entry of an event that a request, if any, brought.
@@ -297,10 +295,13 @@ impl History {
         self.places.push(self.place);
         entry.insert("do".to_string(), json!(name));
         entry.insert("sent".to_string(), json!(messages));
-        match self.detail {
-            Detail::Times => self.untold.push(entry),
-            _ => self.append(entry),
+        if !self.entries.is_empty() {
+            self.entries.push(',');
         }
+        if self.detail == Detail::Times {
+            self.untold.push(self.entries.len());
+        }
+        self.entries.push_str(&Value::Object(entry).to_string());
         if self.detail == Detail::Entries {
             return;
         }
