@@ -95,6 +95,8 @@ pub struct Member {
     pub queues: Vec<u8>,
     /// How long ago a message of it was taken.
     pub heard_ms: Option<u64>,
+    /// Whose agent carries on what is said to it and by it, where it isn't reached by itself.
+    pub through: Option<u8>,
     /// What its machine was tagged with, and how long ago that was told.
     pub tags: BTreeMap<String, String>,
     pub tags_ms: Option<u64>,
@@ -224,6 +226,7 @@ impl View {
             coordinates: self.group.is_normal() && self.group.coordinator == node,
             queues: self.group.queues_of(node),
             heard_ms: peer.heard.map(|at| ms(now.saturating_duration_since(at))),
+            through: peers.ways.through(node, now),
             tags: peer.tags.clone(),
             tags_ms: peer.tagged.map(|at| ms(now.saturating_duration_since(at))),
         };

@@ -16,8 +16,9 @@ from beats import GAP, Leads, beats, clock, overlap, running, runs, spans
 LEASE_MS = 2000
 # Nobody leads for so long at most, at round trips of 20 ms, and a busy machine adds this.
 NOBODY, MORE = 3.0, 1.0
-# So many shards; of these less than this part moves where a third machine comes or goes.
-SHARDS, MOVE = 64, 0.5
+# So many shards; of these less than this part pauses where a third machine comes, and where one goes. Then leases may end of another one, too, that rest on the
+# vote of who goes: the third one's process, where it began anew meanwhile, renews none that it didn't grant.
+SHARDS, COME, GO = 64, 0.5, 0.75
 # What a millionth of a clock's rate is, of right clocks, of those at their bounds, and of one out of them.
 RIGHT, FAST, SLOW, OUT = 1_000_000, 1_031_250, 968_750, 700_000
 
@@ -202,39 +203,62 @@ def owner(shard, members):
     return max(members, key=lambda member: (mixed(shard << 8 | member), member))
 
 
+def each_runs(paths, of, shards):
+    """Whether each shard is run by the one of these to which it falls."""
+    found = {i: running(paths[i]) for i in of}
+    return all(shard in found[owner(shard, of)] for shard in range(min(shards, 64)))
+
+
+def two_at_a_time(found):
+    """For how long two ran a shard."""
+    return sum(max(0.0, min(a[1], b[1]) - max(a[0], b[0])) for row in found.values() for at, a in enumerate(row) for b in row[at + 1:] if a[2] != b[2])
+
+
+def hung(program, programs, folder, shards, lease_ms=LEASE_MS):
+    """The process of leases of a machine hangs, whose agent goes on: how long until others run its shards, for how long two ran one, and for how
+    long the machine stopped an observer at most."""
+    cluster = Cluster(program, programs, folder, words=("own", str(shards)), lease_ms=lease_ms)
+    paths, rest = cluster.leads.paths, [0, 2]
+    try:
+        cluster.start()
+        cluster.agents.until(lambda: each_runs(paths, range(3), shards))
+        mend = befall(cluster, "process of leases stopped", 1)
+        took = cluster.agents.until(lambda: each_runs(paths, rest, shards))
+        mend()
+        cluster.agents.until(lambda: each_runs(paths, range(3), shards))
+        return took, two_at_a_time(shard_spans(paths, shards)), cluster.leads.observer.longest()
+    finally:
+        cluster.stop()
+
+
 def changes(program, programs, folder, count, shards=SHARDS, lease_ms=LEASE_MS):
-    """The third machine goes and comes, so many changes: for how long two ran a shard, for each change how many paused and the longest pause, and for how long
-    the machine stopped an observer at most."""
+    """A machine goes and comes, another one each time, so many changes: for how long two ran a shard, for each change how many paused and the longest pause, and
+    for how long the machine stopped an observer at most."""
     cluster = Cluster(program, programs, folder, words=("own", str(shards)), lease_ms=lease_ms)
     paths, rows = cluster.leads.paths, []
     cluster.environment = [dict(BEAT_MS="20")] * 3
 
-    def all_run(of):
-        """Whether each shard is run by the one of these to which it falls."""
-        found = {i: running(paths[i]) for i in of}
-        return all(shard in found[owner(shard, of)] for shard in range(min(shards, 64)))
-
     try:
         cluster.start()
-        cluster.agents.until(lambda: all_run(range(3)))
+        cluster.agents.until(lambda: each_runs(paths, range(3), shards))
         for change in range(count):
             time.sleep(0.5)
-            at, goes = clock(), change % 2 == 0
+            # the greatest leads, the others are members
+            at, goes, which = clock(), change % 2 == 0, (2, 0, 1)[change // 2 % 3]
+            rest = [i for i in range(3) if i != which]
             if goes:
-                cluster.agents.kill(2)
-                cluster.agents.one_group([0, 1])
+                cluster.agents.kill(which)
+                cluster.agents.one_group(rest)
             else:
-                cluster.restart(2)
+                cluster.restart(which)
                 cluster.agents.one_group()
-            cluster.agents.until(lambda: all_run((0, 1) if goes else range(3)))
+            cluster.agents.until(lambda: each_runs(paths, rest if goes else range(3), shards))
             pauses = []
             for row in shard_spans(paths, shards).values():
                 behind = [span for span in row if span[1] > at]
                 pauses += [b[0] - a[1] for a, b in zip(behind, behind[1:])] or ([behind[0][0] - at] if behind[0][0] > at else [])
             rows.append((goes, sum(pause > GAP for pause in pauses), max(pauses, default=0.0)))
-        found = shard_spans(paths, shards)
-        two = sum(max(0.0, min(a[1], b[1]) - max(a[0], b[0])) for row in found.values() for at, a in enumerate(row) for b in row[at + 1:] if a[2] != b[2])
-        return two, rows, cluster.leads.observer.longest()
+        return two_at_a_time(shard_spans(paths, shards)), rows, cluster.leads.observer.longest()
     finally:
         cluster.stop()
 
@@ -302,7 +326,7 @@ def main():
                 is_right, told = False, "it ended early"
             elif kind == "shards":
                 two, rows, _ = result
-                is_right = two == 0 and all(0 < count <= MOVE * given.shards and longest <= most for _, count, longest in rows)
+                is_right = two == 0 and all(0 < count <= (GO if goes else COME) * given.shards and longest <= most for goes, count, longest in rows)
                 told = "%d changes, two ran a shard for %.2f s" % (len(rows), two)
                 for word, goes in (("goes", True), ("comes", False)):
                     these = [row for row in rows if row[0] is goes]

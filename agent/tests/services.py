@@ -176,16 +176,24 @@ def leased(bed, faults=1):
     bed.tally.timed("with a clock that is 30 % slow two are seen to lead", two > 0, two)
 
 
-def shards(bed, changes=2, count=12):
-    """Shards under leases, while the third machine goes and comes: never two run one, and those that stay go on."""
+def shards(bed, changes=4, count=12):
+    """Shards under leases, while a machine goes and comes, the one that leads and another one: never two run one, and those that stay go on."""
     if not has_leases(bed):
         return
     two, rows, stopped = leases.changes(bed.program, bed.programs, os.path.join(bed.folder, "shards"), changes, count, 100 * bed.round_trip)
-    (bed.tally.check if two == 0 or stopped < GAP else bed.tally.timed)("never two run a shard", two == 0, (two, stopped))
+    never_two(bed, two, stopped)
     for goes, paused, longest in rows:
         word = "goes" if goes else "comes"
-        bed.tally.timed("where a machine %s some shards pause, fewer than half" % word, 0 < paused <= leases.MOVE * count, (paused, count))
+        most = (leases.GO if goes else leases.COME) * count
+        bed.tally.timed("where a machine %s some shards pause, others go on" % word, 0 < paused <= most, (paused, count))
         bed.tally.timed("where a machine %s none pauses for longer than 150 round trips" % word, longest <= leases.NOBODY * bed.round_trip / 20, longest)
+    took, two, stopped = leases.hung(bed.program, bed.programs, os.path.join(bed.folder, "hung"), count, 100 * bed.round_trip)
+    bed.tally.timed("where the process of leases hangs others have the shards", took <= leases.NOBODY * bed.round_trip / 20 + leases.MORE, took)
+    never_two(bed, two, stopped)
+
+
+def never_two(bed, two, stopped):
+    (bed.tally.check if two == 0 or stopped < GAP else bed.tally.timed)("never two run a shard", two == 0, (two, stopped))
 
 
 def locked(bed):
@@ -227,6 +235,17 @@ def the_example(bed, agents):
     bed.tally.timed("the example adds under locks of three machines", sums == ["5", "10", "15"], sums)
     done = subprocess.run([script, base], env=dict(os.environ, DUMGEROK_EPOCH="1"), capture_output=True, text=True)
     bed.tally.check("and one who comes with an earlier epoch is refused", done.returncode == 1 and "refused: a later lease" in done.stderr, done)
+
+
+def silent(agents, check, timed):
+    """Machine 2 is cut off: its agent answers the others nothing."""
+    answer = agents.ask(0, do="silent")
+    check("nobody is silent who wasn't asked yet", answer["ok"] and answer["silent"] == [], answer)
+    took = agents.until(lambda: agents.ask(2, do="silent") and agents.ask(0, do="silent")["silent"] == [2])
+    lease = agents.settings["lease_ms"] / 1000
+    timed("who answers nothing for three quarters of a lease is silent", 0.7 * lease < took < lease, took)
+    answer = agents.ask(2, do="silent")
+    check("one that hears nobody takes nobody for silent", answer["ok"] and answer["silent"] == [], answer)
 
 
 def at_the_socket(agents, check, timed):
@@ -272,4 +291,7 @@ def at_the_socket(agents, check, timed):
         wait_for("held")
         agents.relay.cuts |= {frozenset((2, i)) for i in range(2)}
         timed("who is cut off is told that its lease is lost", wait_for("lost") < 4 * lease_ms / 1000)
+        silent(agents, check, timed)
         agents.relay.cuts.clear()
+        agents.until(lambda: agents.ask(0, do="silent")["silent"] == [])
+        check("one that answers again isn't silent", True)

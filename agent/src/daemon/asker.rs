@@ -7,15 +7,24 @@ use crate::service::ClientId;
 use std::net::SocketAddr;
 use std::time::Instant;
 
+/// Where a datagram came from.
+#[derive(Clone, Copy, Debug)]
+pub struct Origin {
+    pub at: SocketAddr,
+    /// Then it is of a machine that has the key.
+    pub was_encrypted: bool,
+    /// Whose agent carried it on, where it didn't come from its sender's.
+    pub through: Option<u8>,
+}
+
 #[derive(Clone, Debug)]
 pub enum Asker {
     Start,
     Tick,
-    /// A message that names `sender` and came from this address, of this kind; where it was encrypted, from a machine that has the key.
+    /// A message that names `sender`, of this kind.
     Datagram {
         sender: u8,
-        from: SocketAddr,
-        was_encrypted: bool,
+        from: Origin,
         kind: &'static str,
     },
     /// A submission of a local client, by its number in the outbox.

@@ -1,18 +1,17 @@
 //! The process of leases beside the node, and those who ask for leases here.
 
 use super::voters::Count;
-use super::{Daemon, PATIENCE_AT_END};
+use super::{Daemon, Origin, PATIENCE_AT_END};
 use crate::boot_time::BootTime;
 use crate::config::Config;
-use crate::forward::of_leases;
-use crate::lease::{Claims, LeaseLine, LeaseProcess, Order, Refusal, Told};
+use crate::forward::{of_leases, Token as AgentToken, What};
+use crate::lease::{Claims, LeaseLine, LeaseProcess, Order, Refusal, Silence, Told};
 use crate::protocol::Reply;
 use crate::service::ClientId;
 use log::{debug, error, info, warn};
 use mio::{Registry, Token};
 use serde::Serialize;
 use std::collections::BTreeSet;
-use std::net::SocketAddr;
 use std::time::{Duration, Instant};
 
 pub(super) const LEASE_INPUT: Token = Token(6);
@@ -49,6 +48,8 @@ pub(super) struct Leases {
     again: Vec<(String, u64)>,
     again_at: Instant,
     pub(super) count_of_voters: Count,
+    /// Whose agents answer nothing.
+    pub(super) silence: Silence,
 }
 
 impl Leases {
@@ -63,6 +64,7 @@ impl Leases {
             again: Vec::new(),
             again_at: now,
             count_of_voters: Count::of(config, now),
+            silence: Silence::new(config.nodes.len(), Duration::from_millis(config.lease_ms), now),
         })
     }
 
@@ -85,6 +87,11 @@ impl Leases {
         self.process.as_ref().map_or(false, LeaseProcess::is_ready)
     }
 
+    /// Whether the process answers nothing: its leases end, and shards go to other machines.
+    pub(super) fn hang(&self, now: Instant) -> bool {
+        self.process.as_ref().map_or(false, |process| process.hangs(now))
+    }
+
     /// Those who ask for a lease, or have one.
     pub(super) fn clients(&self) -> BTreeSet<ClientId> {
         self.claims.clients()
@@ -95,7 +102,7 @@ impl Leases {
     }
 
     pub(super) fn sleep(&self, now: Instant) -> Duration {
-        let of_voters = self.count_of_voters.sleep(now);
+        let of_voters = self.count_of_voters.sleep(now).min(self.silence.sleep(now));
         let process = match &self.process {
             None if self.count_of_voters.now().is_none() => return of_voters,
             None => return self.start.saturating_duration_since(now).min(of_voters),
@@ -179,6 +186,7 @@ impl Daemon {
     /// All that may be to be done for leases.
     pub(super) fn keep_leases(&mut self, now: Instant) {
         self.keep_voters(now);
+        self.ask_who_is_there(now);
         let leases = match &mut self.leases {
             Some(leases) => leases,
             None => return,
@@ -200,6 +208,16 @@ impl Daemon {
             leases.try_again(now);
             leases.tick();
         }
+    }
+
+    /// Asks the others something that their agents answer at once, where a client wants to know who is silent.
+    fn ask_who_is_there(&mut self, now: Instant) {
+        let serial = match self.leases.as_mut().filter(|leases| leases.silence.sleep(now).is_zero()) {
+            Some(leases) => leases.silence.ask(now),
+            None => return,
+        };
+        let token = AgentToken { life: self.outbox.token().life, serial };
+        self.others().into_iter().for_each(|node| self.send_to_agent(node, token, What::AsksVoting {}, now));
     }
 
     fn take_lease_line(&mut self, line: LeaseLine, now: Instant) {
@@ -264,7 +282,7 @@ impl Daemon {
     }
 
     /// A datagram with a message of leases came.
-    pub(super) fn take_of_leases(&mut self, bytes: &[u8], from: SocketAddr) {
+    pub(super) fn take_of_leases(&mut self, bytes: &[u8], from: Origin, now: Instant) {
         let (mark, message) = match of_leases::without_head(bytes, self.config.key.is_some()) {
             Some(both) => both,
             None => return self.metrics.dropped.with_label_values(&["Forged"]).inc(),
@@ -278,6 +296,9 @@ impl Daemon {
         if self.config.key.is_none() && of_leases::sender(message).map_or(false, |sender| self.peers.is_empty_place(sender)) {
             return self.metrics.dropped.with_label_values(&["Unnamed"]).inc();
         }
+        if self.config.key.is_none() {
+            self.came_from(of_leases::sender(message), from, now);
+        }
         let process = self.leases.as_mut().and_then(|leases| leases.process.as_mut());
         match process.filter(|process| process.has_room()) {
             Some(process) => {
@@ -285,7 +306,7 @@ impl Daemon {
                 self.metrics.lease_messages.with_label_values(&["in"]).inc();
             }
             None => {
-                debug!("a message of leases of {from} isn't taken");
+                debug!("a message of leases of {} isn't taken", from.at);
                 self.metrics.dropped.with_label_values(&["NoRoom"]).inc();
             }
         }
@@ -295,7 +316,7 @@ impl Daemon {
     pub(super) fn acquire(&mut self, client: ClientId, name: &str) -> Reply {
         let leases = match &mut self.leases {
             Some(leases) => leases,
-            None => return Reply::refused("NoLeases").with("why", "`lease_ms` isn't set: this agent has no leases"),
+            None => return no_leases(),
         };
         match leases.claims.acquire(client, name) {
             Ok(order) => {
@@ -324,6 +345,18 @@ impl Daemon {
                 Reply::ok()
             }
             Err(refusal) => refused(refusal),
+        }
+    }
+
+    /// The machines whose agents answer nothing, from the first such question on.
+    pub(super) fn list_silent(&mut self, now: Instant) -> Reply {
+        let others = self.others();
+        match &mut self.leases {
+            Some(leases) => {
+                leases.silence.want(now);
+                Reply::ok().with("silent", leases.silence.silent(&others, now))
+            }
+            None => no_leases(),
         }
     }
 
@@ -398,6 +431,10 @@ fn pause_after(pause: Duration, ran: Duration) -> Duration {
     } else {
         (pause * 2).clamp(FIRST_PAUSE, LONGEST_PAUSE)
     }
+}
+
+fn no_leases() -> Reply {
+    Reply::refused("NoLeases").with("why", "`lease_ms` isn't set: this agent has no leases")
 }
 
 fn refused(refusal: Refusal) -> Reply {

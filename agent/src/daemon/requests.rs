@@ -143,6 +143,7 @@ impl Daemon {
             Request::Acquire { name } => Some(self.acquire(client, &named(name)?)),
             Request::Release { name } => Some(self.release(client, &named(name)?)),
             Request::Leases {} => Some(self.list_leases()),
+            Request::Silent {} => Some(self.list_silent(now)),
             Request::Event { name, text } => Some(self.tell_event(named(name)?, text_of(text)?, now)),
         })
     }

@@ -105,12 +105,14 @@ impl Daemon {
     }
 
     /// Another agent answers what its machine votes by.
-    pub(super) fn told_of_voting(&mut self, from: u8, token: Token, voting: Voting) {
+    pub(super) fn told_of_voting(&mut self, from: u8, token: Token, voting: Voting, now: Instant) {
         let life = self.outbox.token().life;
-        if let Some(count) = self.leases.as_mut().map(|leases| &mut leases.count_of_voters) {
-            if token == (Token { life, serial: count.serial }) {
+        if let Some(leases) = self.leases.as_mut().filter(|_| token.life == life) {
+            let count = &mut leases.count_of_voters;
+            if token.serial == count.serial {
                 count.voters.said(from, voting);
             }
+            leases.silence.answered(from, token.serial, now);
         }
     }
 }

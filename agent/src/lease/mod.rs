@@ -5,11 +5,13 @@
 mod claims;
 mod line;
 mod process;
+mod silence;
 mod voters;
 
 pub use claims::{Claims, Order, Refusal, Told};
 pub use line::LeaseLine;
 pub use process::LeaseProcess;
+pub use silence::Silence;
 pub use voters::{Voters, Voting};
 
 /// A name of a lease has so many bytes at most.

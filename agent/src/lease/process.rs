@@ -20,6 +20,9 @@ const ROOM: usize = 256 * 1024;
 /// come too late, and have all behind them come too late. Who sent them asks again.
 const MOST_BEHIND: usize = 16;
 
+/// It hangs where its oldest line waits for so many times as long: a quarter of the time for which it keeps a grant.
+const HANGS: u32 = 6;
+
 /// Its longest line is far shorter.
 const MAX_LINE: usize = 64 * 1024;
 
@@ -60,6 +63,10 @@ fn is_behind(unanswered: &VecDeque<Instant>, patience: Duration, now: Instant) -
     is_late && unanswered.len() >= MOST_BEHIND
 }
 
+fn is_hung(unanswered: &VecDeque<Instant>, patience: Duration, now: Instant) -> bool {
+    unanswered.front().map_or(false, |oldest| now.saturating_duration_since(*oldest) > patience * HANGS)
+}
+
 impl LeaseProcess {
     /// Starts it; its output wakes `output`, its input, once it was full, `input`.
     pub fn start(config: &Config, voters: u8, registry: &Registry, input: Token, output: Token) -> io::Result<LeaseProcess> {
@@ -96,6 +103,11 @@ impl LeaseProcess {
     /// Whether a message of another machine would be taken now.
     pub fn has_room(&self) -> bool {
         self.is_ready && self.unwritten.len() < ROOM && !is_behind(&self.unanswered, self.patience, Instant::now())
+    }
+
+    /// Whether it answers nothing for so long that its leases end.
+    pub fn hangs(&self, now: Instant) -> bool {
+        is_hung(&self.unanswered, self.patience, now)
     }
 
     /// Whether it has answered all that it was told.
@@ -208,6 +220,15 @@ mod tests {
         for (count, age, is_so) in [(0, 0, false), (15, 900, false), (16, 81, true), (16, 80, false), (400, 10, false)] {
             let unanswered = (0..count).map(|_| now).collect();
             assert_eq!(is_behind(&unanswered, ms(80), now + ms(age)), is_so, "{count} {age}");
+        }
+    }
+
+    #[test]
+    fn one_hangs_whose_oldest_line_waits_for_a_quarter_of_a_lease() {
+        let (ms, now) = (Duration::from_millis, Instant::now());
+        for (lines, age, is_so) in [(vec![], 9_000, false), (vec![0], 480, false), (vec![0, 400], 481, true), (vec![400], 481, false)] {
+            let unanswered = lines.iter().map(|at| now + ms(*at)).collect();
+            assert_eq!(is_hung(&unanswered, ms(80), now + ms(age)), is_so, "{lines:?} {age}");
         }
     }
 }

@@ -88,6 +88,8 @@ pub enum Request {
         name: String,
     },
     Leases {},
+    /// Which machines' agents answer nothing.
+    Silent {},
     /// All machines are told of this, as well as it goes.
     Event {
         name: String,

@@ -54,18 +54,7 @@ impl Said {
     }
 
     pub fn members(&self) -> Vec<u8> {
-        self.nodes("members")
-    }
-
-    /// The members to which shards fall: those whose machines aren't drained.
-    pub fn owners(&self) -> Vec<u8> {
-        let drained = self.nodes("drained");
-        self.members().into_iter().filter(|member| !drained.contains(member)).collect()
-    }
-
-    fn nodes(&self, field: &str) -> Vec<u8> {
-        let all = self.status[field].as_array().map(Vec::as_slice).unwrap_or_default();
-        all.iter().filter_map(|node| u8::try_from(node.as_u64()?).ok()).collect()
+        nodes(&self.status, "members")
     }
 
     /// Whether this machine is to have no lease.
@@ -76,6 +65,11 @@ impl Said {
     pub fn has_leases(&self) -> bool {
         self.status["lease_ms"].as_u64().map_or(false, |ms| ms > 0)
     }
+}
+
+fn nodes(of: &Value, field: &str) -> Vec<u8> {
+    let all = of[field].as_array().map(Vec::as_slice).unwrap_or_default();
+    all.iter().filter_map(|node| u8::try_from(node.as_u64()?).ok()).collect()
 }
 
 pub struct Follow<'a> {
@@ -95,13 +89,17 @@ pub struct Follow<'a> {
     /// The last answer of all, and the last of a node that lives and works in a group that is made.
     pub last: Option<Said>,
     pub made: Option<Said>,
+    /// Whether it is asked which machines are silent, too, where it has leases; the number of that question, and the last answer.
+    asks_silent: bool,
+    silent_asked: Option<u64>,
+    silent: Vec<u8>,
     /// The leases that were asked for on this connection, and what is held of them.
     claims: BTreeMap<String, Option<Held>>,
     pace: Pace,
 }
 
 impl Follow<'_> {
-    pub fn start(socket: &Path, pause: Duration) -> io::Result<Follow<'_>> {
+    pub fn start(socket: &Path, pause: Duration, asks_silent: bool) -> io::Result<Follow<'_>> {
         let (to, from) = channel();
         let (mut signals, wakes) = (Signals::new([SIGCHLD])?, to.clone());
         thread::Builder::new().spawn(move || signals.forever().all(|_| wakes.send(News::Child).is_ok()))?;
@@ -118,6 +116,9 @@ impl Follow<'_> {
             was_told: false,
             last: None,
             made: None,
+            asks_silent,
+            silent_asked: None,
+            silent: Vec::new(),
             claims: BTreeMap::new(),
             pace: Pace::new(BootTime::now()),
         })
@@ -128,12 +129,15 @@ impl Follow<'_> {
         let now = BootTime::now();
         if now >= self.next {
             // who has a lease has to be heard more often than others
-            let lease_ms = self.last.as_ref().and_then(|said| said.status["lease_ms"].as_u64()).filter(|_| !self.claims.is_empty());
-            self.next = now.after(lease_ms.map_or(self.pause, |ms| Duration::from_millis(ms / 8).min(self.pause)));
+            let kept = self.kept().filter(|_| !self.claims.is_empty());
+            self.next = now.after(kept.map_or(self.pause, |kept| (kept / 8).min(self.pause)));
             if self.agent.is_none() {
                 self.connect();
             }
             self.ask(json!({"do": "status"}));
+            if self.asks_silent && self.last.as_ref().map_or(false, Said::has_leases) {
+                self.silent_asked = self.ask(json!({"do": "silent"}));
+            }
         }
         let mut news = self.from.recv_timeout(longest.min(self.next.since(BootTime::now()))).ok();
         let mut has_child_ended = false;
@@ -147,6 +151,11 @@ impl Follow<'_> {
             news = self.from.try_recv().ok();
         }
         Ok(has_child_ended)
+    }
+
+    /// For how long grants are kept.
+    fn kept(&self) -> Option<Duration> {
+        self.last.as_ref()?.status["lease_ms"].as_u64().map(Duration::from_millis)
     }
 
     fn connect(&mut self) {
@@ -183,7 +192,15 @@ impl Follow<'_> {
         self.agent = None;
         self.asked.clear();
         self.claims.clear();
+        self.silent.clear();
         self.next = BootTime::now().after(LOOK);
+    }
+
+    /// The members of a group to which shards fall: those whose machines aren't drained, and answer.
+    pub fn owners(&self, said: &Said) -> Vec<u8> {
+        let drained = nodes(&said.status, "drained");
+        let has_part = |member: &u8| !drained.contains(member) && !self.silent.contains(member);
+        said.members().into_iter().filter(has_part).collect()
     }
 
     /// Asks something that is to be answered; the question's number.
@@ -226,7 +243,13 @@ impl Follow<'_> {
             // what changed is asked for at once
             Some("group" | "majority" | "state") => self.next = BootTime::now(),
             _ => {
-                let asked = line["request"].as_u64().and_then(|number| self.asked.remove(&number));
+                let number = line["request"].as_u64();
+                let asked = number.and_then(|number| self.asked.remove(&number));
+                if number.is_some() && number == self.silent_asked {
+                    // an agent of before refuses: then all that are members count
+                    self.silent = nodes(&line, "silent");
+                    return Ok(());
+                }
                 return asked.map_or(Ok(()), |asked| self.take_answer(line, asked));
             }
         }
@@ -255,7 +278,8 @@ impl Follow<'_> {
 
     /// Asks for some of the leases of these names, for which it isn't asked yet, and gives up some for which it was asked in vain.
     pub fn claim_some(&mut self, names: &BTreeSet<String>) {
-        if self.pace.is_late(self.waits(), names.len(), BootTime::now()) {
+        let kept = self.kept().unwrap_or(Duration::MAX);
+        if self.pace.is_late(self.waits(), names.len(), kept, BootTime::now()) {
             let waited: Vec<String> = self.claims.iter().filter(|(_, held)| held.is_none()).map(|(name, _)| name.clone()).collect();
             waited.iter().for_each(|name| self.give_back(name));
         }

@@ -73,7 +73,8 @@ impl Lead<'_> {
         }
         let interrupts = Interrupts::register()?;
         interrupts.set_idle(false);
-        let mut follow = Follow::start(self.socket, self.within / 4)?;
+        let may_be_leased = self.gate != Some(Gate::Majority);
+        let mut follow = Follow::start(self.socket, self.within / 4, may_be_leased && matches!(self.what, What::Shards(_)))?;
         let mut slots: BTreeMap<u32, Slot> = (0..self.count()).map(|shard| (shard, Slot::default())).collect();
         let done = self.go_on(&mut follow, &mut slots, &interrupts);
         let ended = self.end(&mut follow, &mut slots);
@@ -180,7 +181,7 @@ impl Lead<'_> {
             _ if Self::is_drained(follow) => BTreeSet::new(),
             (What::Shards(_), None) => BTreeSet::new(),
             (What::Shards(count), Some(said)) => {
-                let members = said.owners();
+                let members = follow.owners(said);
                 let own = (0..count.min(LEASES)).filter(|lease| owner(*lease, &members) == said.own());
                 own.map(|lease| self.name_of(lease)).collect()
             }
@@ -194,7 +195,7 @@ impl Lead<'_> {
         let said = follow.made.as_ref().or(follow.last.as_ref());
         if matches!(self.what, What::Shards(_)) {
             let said = follow.made.as_ref()?;
-            if owner(shard % LEASES, &said.owners()) != said.own() {
+            if owner(shard % LEASES, &follow.owners(said)) != said.own() {
                 return None;
             }
         }
@@ -209,7 +210,7 @@ impl Lead<'_> {
         let own = made.own()?;
         let leads = |said: &Said| said.status["coordinator"] == own;
         let is_its = match self.what {
-            What::Shards(_) => owner(shard, &made.owners()) == Some(own),
+            What::Shards(_) => owner(shard, &follow.owners(made)) == Some(own),
             _ => leads(made) && leads(last),
         };
         let is_up = last.status["phase"] != "Down" && (!is_idle || last.is_made());

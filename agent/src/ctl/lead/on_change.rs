@@ -38,7 +38,7 @@ pub fn run(socket: &Path, command: &[OsString], grace: Duration) -> Result<(), F
     }
     let interrupts = Interrupts::register()?;
     interrupts.set_idle(false);
-    let mut follow = Follow::start(socket, PAUSE)?;
+    let mut follow = Follow::start(socket, PAUSE, false)?;
     let (mut told, mut running): (Option<Variables>, Option<Kept>) = (None, None);
     while !interrupts.have_come() || running.is_some() {
         follow.wait(LOOK)?;

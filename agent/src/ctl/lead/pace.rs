@@ -7,9 +7,6 @@ use std::time::Duration;
 
 const MOST: usize = 8;
 
-/// Where none was had for so long half as many are asked for.
-const PATIENCE: Duration = Duration::from_secs(1);
-
 pub struct Pace {
     most: usize,
     since: BootTime,
@@ -27,12 +24,13 @@ impl Pace {
         (self.most, self.since) = ((self.most + 1).min(MOST), now);
     }
 
-    /// Whether those that are waited for are to make room for others, of which so many aren't asked for yet.
-    pub fn is_late(&mut self, waits: usize, others: usize, now: BootTime) -> bool {
+    /// Whether those that are waited for are to make room for others, of which so many aren't asked for yet: where none was had for as long as a grant is kept.
+    /// Those of a machine that is gone aren't to be had before that is over, and then all at once.
+    pub fn is_late(&mut self, waits: usize, others: usize, kept: Duration, now: BootTime) -> bool {
         if waits == 0 || others == 0 {
             self.since = now;
         }
-        let is_late = now.since(self.since) >= PATIENCE;
+        let is_late = now.since(self.since) >= kept;
         if is_late {
             (self.most, self.since) = ((self.most / 2).max(1), now);
         }
@@ -55,19 +53,19 @@ mod tests {
 
     #[test]
     fn fewer_are_asked_for_where_none_is_had_and_others() {
-        let (at, names) = (BootTime::of_ms, (10..30).map(|number| number.to_string()).collect::<BTreeSet<_>>());
+        let (at, kept, names) = (BootTime::of_ms, Duration::from_secs(2), (10..30).map(|number| number.to_string()).collect::<BTreeSet<_>>());
         let mut pace = Pace::new(at(0));
         let asked = |pace: &mut Pace, waits| pace.next(&names, waits).iter().map(|name| name.parse().unwrap()).collect::<Vec<u32>>();
         assert_eq!(asked(&mut pace, 0), (10..18).collect::<Vec<_>>());
-        assert!(asked(&mut pace, 8).is_empty() && !pace.is_late(8, 12, at(999)));
-        assert!(pace.is_late(8, 12, at(1000)) && !pace.is_late(8, 12, at(1999)));
+        assert!(asked(&mut pace, 8).is_empty() && !pace.is_late(8, 12, kept, at(1999)));
+        assert!(pace.is_late(8, 12, kept, at(2000)) && !pace.is_late(8, 12, kept, at(3999)));
         assert_eq!(asked(&mut pace, 0), [18, 19, 20, 21], "half as many, and others");
-        assert!(pace.is_late(4, 16, at(2000)) && pace.is_late(2, 18, at(3000)) && pace.is_late(1, 19, at(4000)));
+        assert!(pace.is_late(4, 16, kept, at(4000)) && pace.is_late(2, 18, kept, at(6000)) && pace.is_late(1, 19, kept, at(8000)));
         assert_eq!(asked(&mut pace, 0), [22], "one at least");
-        pace.had(at(4100));
+        pace.had(at(8100));
         assert_eq!(asked(&mut pace, 0), [23, 24], "and one more for each that is had");
-        assert!(!pace.is_late(2, 0, at(9000)), "where there are no others those that are waited for stay");
-        (0..20).for_each(|_| pace.had(at(9000)));
+        assert!(!pace.is_late(2, 0, kept, at(19_000)), "where there are no others those that are waited for stay");
+        (0..20).for_each(|_| pace.had(at(19_000)));
         assert_eq!(asked(&mut pace, 0), [25, 26, 27, 28, 29, 10, 11, 12]);
     }
 }
