@@ -21,7 +21,7 @@ ROWS = [
      UP + "take 0 0 3 6869 7\nok 2 id 0\npending 0 3 6869 7\nhand 0 0 3 6869 7\nok 3\ngone 0\nok 4\ntake 0 1 0 -\nok 5 id 1\nok 6\npending 1 0 -\nhand 0 1 0 -\nok 7\n"),
     # a question, one for another node, and the loss of nodes that aren't in the group
     ("recover\ndeliver 010101000000\ndeliver 010101020000\nlost 0\nlost 1\n", UP + "send 1 01020001000101\nok 2\nrefused 3 Stranger\nok 4\nok 5\n"),
-    # the first tick sets the timers, a check is due after 200 ms and at most 100 more, and its questions are sent again at the second round trip, and two later
+    # the first tick sets the timers, a check is due after 100 ms and at most 60 more, and its questions are sent again at the second round trip, and two later
     ("tick 0\nrecover\ntick 2000\ntick 2620\ntick 2620\ntick 2640\ntick 2660\ntick 2680\ntick 2700\n",
      "ok 1\ngroup Normal 0 0:1 0\nkeeps 1 0 0\nok 2\nnext ?\nok 3\nfired check\nsend 1 010100010000\nsend 2 010100020000\n"
      "next 2640\nok 4\nnext 2640\nok 5\nnext 2660\nok 6\nsend 1 010100010000\nsend 2 010100020000\nnext 2680\nok 7\n"
@@ -41,21 +41,31 @@ IN_STEP = LEADING + ";deliver 010801000009000000000000000002"
 JOINING = "recover;deliver 010500010009000000000000000002"
 HERE_YES, LOOKS = "deliver 01040001000a00000000000000000201", "deliver 010100010000"
 JOINED = JOINING + ";deliver 01070001000c000000000000000002020001"
+ACCEPTS, LOOKS_2, YES_2, NO_1 = "deliver 010601000009000000000000000002", "deliver 010102000000", "deliver 01020200000101", "deliver 01020100000100"
 TIMERS = [
     (0, 3, "state", "dispatch", [(0, False), (1000, False), (2**64 - 1, False)]),
-    # 10 round trips in a new group, and up to 5 more; it fires once. Then 45, and up to 5 more
-    (0, 1, "recover", "check", [(100, False), (100, False), (299, False), (400, True), (400, False), (600, False), (1299, False), (1600, True)]),
-    # 5, and up to 5 more, and 10 for each step by which the greatest coordinator found is above the node
-    (0, 3, "recover;check", "merge", [(0, False), (99, False), (200, BY), (200, False)]),
+    # 5 round trips in a new group, and up to 3 more; it fires once. Then 37, and up to 4 more
+    (0, 1, "recover", "check", [(100, False), (100, False), (199, False), (260, True), (260, False), (600, False), (999, False), (1080, True)]),
+    # at once behind the check of another coordinator, in a group that is settled; what it finds is merged with two round trips later, or once all answered, whoever is greater
+    (0, 3, "recover", "check", [(0, False), (160, BY), (260, NONE), (LOOKS_2, None), (261, True), (LOOKS_2, None), (262, False)]),
+    (0, 3, "recover", "check", [(0, False), (LOOKS_2, None), (99, False), (160, BY)]),
+    (0, 3, "recover", "merge", [(0, False), (260, BY), (LOOKS_2, None), (261, False), (YES_2, None), (262, False), (300, False), (301, True)]),
+    (0, 3, "recover", "merge", [(0, False), (260, BY), (LOOKS_2, None), (261, False), (YES_2, None), (NO_1, None), (262, True)]),
+    # 3, and up to 2 more, and 10 for each step by which the greatest coordinator found is above the node
+    (0, 3, "recover;check", "merge", [(0, False), (59, False), (100, BY), (100, False)]),
+    # a round trip is as long as was measured: of 20 ms two answers that came at once leave 17, and then 14
+    (0, 3, "recover;check", "merge", [(0, False), (NO_1, None), ("deliver 01020200000100", None), (1, True), ("check", None), (2, False), (43, False), (72, BY)]),
     # at once where all have answered, and none of them leads
     (0, 3, "recover;check", "merge", [(0, False), ("deliver 01020100000100", None), (1, False), ("deliver 01020200000100", None), (2, True), (2, False)]),
-    (0, 3, "recover;check", "merge", [(0, False), ("deliver 01020100000101", None), ("deliver 01020200000100", None), (1, False), (299, False), (400, BY)]),
-    (0, 1, "recover", "merge", [(0, False), (199, False), (300, True)]),
-    (0, 2, "recover;check;deliver 01020100000101", "merge", [(5, False), (304, False), (405, BY)]),
-    (2, 6, "recover;check;deliver 01020002000101;deliver 01020502000101", "merge", [(0, False), (699, False), (800, BY)]),
-    (5, 6, "recover;check;deliver 01020005000101;deliver 01020205000101", "merge", [(0, False), (99, False), (200, BY)]),
-    # 5
+    (0, 3, "recover;check", "merge", [(0, False), ("deliver 01020100000101", None), ("deliver 01020200000100", None), (1, False), (259, False), (300, BY)]),
+    (0, 1, "recover", "merge", [(0, False), (99, False), (160, True)]),
+    (0, 2, "recover;check;deliver 01020100000101", "merge", [(5, False), (264, False), (305, BY)]),
+    (2, 6, "recover;check;deliver 01020002000101;deliver 01020502000101", "merge", [(0, False), (659, False), (700, BY)]),
+    (5, 6, "recover;check;deliver 01020005000101;deliver 01020205000101", "merge", [(0, False), (59, False), (100, BY)]),
+    # 5, or one more once all have accepted
     (0, 2, INVITING, "accept", [(7, False), (106, False), (107, True), (107, False)]),
+    (0, 2, INVITING, "accept", [(7, False), (ACCEPTS, None), (8, False), (20, False), (27, False), (28, True), (28, False)]),
+    (0, 2, INVITING, "accept", [(7, False), (100, False), (ACCEPTS, None), (101, False), (106, False), (107, True)]),
     # 10
     (0, 2, LEADING, "ready", [(7, False), (206, False), (207, True), (207, False)]),
     # 20 for the task, and then 250 ms for the coordinator's answer
@@ -68,13 +78,15 @@ TIMERS = [
                              (LOOKS, None), (213, True), (806, False), (807, True)]),
     # so it does where it was held up itself, for 1 s at most
     (1, 2, JOINED, "coord", [(7, False), (5000, True), (7999, False), (8000, True)]),
-    # at once behind a check of the coordinator, and then 52 behind the answer, and up to 3 more; another node's check changes nothing
-    (1, 2, JOINED, "coord", [(7, False), ("deliver 010100010000", None), (8, True), (8, False), ("deliver 01040001000a00000000000000000201", None), (9, False), (1048, False), (1109, True)]),
+    # what is asked behind a loss isn't measured, and an answer to it is none to what was asked before
+    (1, 2, JOINED, "coord", [(7, False), (LOOKS, None), (8, True), (HERE_YES, None), (9, False), (300, False), ("lost 0", None), (HERE_YES, None), (301, False), (LOOKS, None), (302, True), (551, False), (552, True)]),
+    # at once behind a check of the coordinator, and then 20 behind the answer, and up to 3 more; another node's check changes nothing
+    (1, 2, JOINED, "coord", [(7, False), ("deliver 010100010000", None), (8, True), (8, False), ("deliver 01040001000a00000000000000000201", None), (9, False), (408, False), (469, True)]),
     (1, 3, JOINED, "coord", [(7, False), ("deliver 010102010000", None), (406, False), (607, True)]),
     # a greater node that looks for others is to merge first: a merge waits twice as long, once; a lesser one changes nothing
-    (0, 2, "recover;check;deliver 01020100000101", "merge", [(0, False), (290, False), ("deliver 010101000000", None), (291, False), (599, False), (800, BY)]),
-    (0, 2, "recover;check;deliver 01020100000101", "merge", [(0, False), (200, False), ("deliver 010101000000", None), (201, False), ("deliver 010101000000", None), (599, False), (800, BY)]),
-    (1, 6, "recover;check;deliver 01020501000101", "merge", [(0, False), (899, False), ("deliver 010100010000", None), (1000, BY)]),
+    (0, 2, "recover;check;deliver 01020100000101", "merge", [(0, False), (250, False), ("deliver 010101000000", None), (251, False), (519, False), (600, BY)]),
+    (0, 2, "recover;check;deliver 01020100000101", "merge", [(0, False), (200, False), ("deliver 010101000000", None), (201, False), ("deliver 010101000000", None), (519, False), (600, BY)]),
+    (1, 6, "recover;check;deliver 01020501000101", "merge", [(0, False), (859, False), ("deliver 010100010000", None), (900, BY)]),
     # at once in a group that is new, then once the oldest job was the same for 5 and a millisecond for each job, and after a quarter more each time, up to 300;
     # never where there is no job
     (0, 1, "recover", "dispatch", [(0, False), (1000, False), (10_000, False), ("submit 0 -", None), (10_001, False), (10_101, False), (10_102, True)]),
@@ -85,12 +97,12 @@ TIMERS = [
                                               (1_500_000, True), (1_600_000, True), (1_700_000, True), (1_800_000, True), (1_900_000, True), (2_000_000, True),
                                               (2_005_999, False), (2_006_000, True), (2_011_999, False), (2_012_000, True)]),
     # each check is counted, and a member that was silent in three of them is given up at the end of the third; an answer that comes late lengthens the waits for others by at most 1 s
-    (0, 2, IN_STEP, "check", [(0, False), (300, BY), (500, NONE), (1500, BY), (1700, NONE), (2180, NONE)]),
-    (0, 2, IN_STEP, "recover", [(0, False), (2280, NONE), (2900, BY), (2900, False)]),
-    (0, 2, IN_STEP, "recover", [(0, False), (2100, NONE), ("deliver 01020100000100", None), (4280, NONE), (8000, BY)]),
+    (0, 2, IN_STEP, "check", [(0, False), (160, BY), (880, NONE), (1080, BY), (1680, NONE)]),
+    (0, 2, IN_STEP, "recover", [(0, False), (1740, NONE), (2100, BY), (2100, False)]),
+    (0, 2, IN_STEP, "recover", [(0, False), (1600, NONE), (NO_1, None), (4600, NONE), (6000, BY)]),
     # a jump of an hour, and of 2^63 ms: what waits is due once
-    (0, 1, "recover", "check", [(0, False), (3_600_000, True), (3_600_000, False), (3_600_399, False), (3_600_899, False), (3_601_399, True)]),
-    (0, 1, "recover", "check", [(0, False), (2**63, True), (2**63, False), (2**63 + 399, False), (2**63 + 899, False), (2**63 + 1399, True)]),
+    (0, 1, "recover", "check", [(0, False), (3_600_000, True), (3_600_000, False), (3_600_399, False), (3_600_739, False), (3_600_820, True)]),
+    (0, 1, "recover", "check", [(0, False), (2**63, True), (2**63, False), (2**63 + 399, False), (2**63 + 739, False), (2**63 + 820, True)]),
     (0, 2, INVITING, "accept", [(7, False), (2**63, False), (2**63 + 19, False), (2**63 + 20, True), (2**63 + 20, False)]),
     # a process that looks more than two round trips late was itself stopped: it gives others one more, once
     (0, 2, LEADING, "ready", [(7, False), (247, True), (247, False)]),
@@ -98,8 +110,8 @@ TIMERS = [
     (0, 2, LEADING, "ready", [(7, False), (1000, False), (9000, True)]),
     (1, 2, JOINED, "coord", [(7, False), (5000, True), (9000, False), (9019, False), (9020, True)]),
     # what came meanwhile is read, and ends the silence
-    (0, 2, IN_STEP, "recover", [(0, False), (2180, NONE), (2700, False), (9000, False), (9019, False), (9020, True)]),
-    (0, 2, IN_STEP, "recover", [(0, False), (2180, NONE), (2700, False), (9000, False), ("deliver 01020100000100", None), (9001, False), (9021, False), (9900, False)]),
+    (0, 2, IN_STEP, "recover", [(0, False), (1680, NONE), (2200, False), (9000, False), (9019, False), (9020, True)]),
+    (0, 2, IN_STEP, "recover", [(0, False), (1680, NONE), (2200, False), (9000, False), (NO_1, None), (9001, False), (9021, False), (9900, False)]),
     # the clock falls back by an hour, by some milliseconds, and to 0: waits go on from there
     (0, 2, INVITING, "accept", [(4_000_000, False), (4_000_060, False), (400_000, False), (400_039, False), (400_040, True), (400_040, False)]),
     (0, 2, INVITING, "accept", [(1000, False), (1050, False), (1049, False), (1098, False), (1099, True)]),
@@ -111,10 +123,13 @@ TIMERS = [
 
 # The same where a round trip is said to be so many milliseconds: all waits are so many of them.
 OF_A_ROUND_TRIP = [
-    ("5", 0, 1, "recover", "check", [(0, False), (49, False), (75, True), (75, False)]),
+    ("5", 0, 1, "recover", "check", [(0, False), (24, False), (40, True), (40, False)]),
     ("5", 0, 2, INVITING, "accept", [(7, False), (31, False), (32, True)]),
     ("1", 1, 2, JOINING, "coord", [(7, False), (26, False), (27, True), (276, False), (277, True)]),
-    ("60", 1, 2, JOINING, "coord", [(7, False), (1206, False), (1207, True), (1806, False), (1807, True)]),
+    ("60", 1, 2, JOINING, "coord", [(7, False), (1206, False), (1207, True), (1506, False), (1507, True)]),
+    # in a settled group they are so many of 25 ms at most
+    ("100", 1, 2, JOINED, "coord", [(7, False), (LOOKS, None), (8, True), (HERE_YES, None), (9, False), (508, False), (584, True)]),
+    ("100", 0, 1, "recover", "check", [(0, False), (499, False), (800, True), (1724, False), (1825, True)]),
     ("60000", 0, 2, INVITING, "accept", [(0, False), (299_999, False), (300_000, True)]),
     ("40", 0, 1, "recover;submit 0 -", "dispatch", [(0, True), (201, False), (202, True)]),
 ]
@@ -240,7 +255,7 @@ def try_jitter(tried):
         text, _ = tried.serve([b"recover\n"] + ["".join(f"tick {time}\n" for time in range(at, at + 50)).encode() for at in range(0, 900, 50)], own, 4)
         answers = re.split(r"^ok .*\n", text, flags=re.MULTILINE)[1:]
         at = [next((time for time, answer in enumerate(answers) if event in fired(answer)), -1) for event in ("check", "merge")]
-        tried.mark("" if 200 <= at[0] <= 300 and 100 <= at[1] - at[0] <= 200 else f"it checks and merges at {at}", ("jitter of node", own))
+        tried.mark("" if 100 <= at[0] <= 160 and 60 <= at[1] - at[0] <= 100 else f"it checks and merges at {at}", ("jitter of node", own))
         seen[tuple(at)] = own
     tried.mark("" if len(seen) == 4 else f"the times are {seen}", "jitter of four nodes")
 

@@ -3,14 +3,15 @@
 
     pacing.py PROGRAM [SCENE..]
 
-Each node is a process over a file of its own. This script carries their messages, each way in a time that it draws, and tells a node the time behind what it is brought and where
-it asked to be told: no time goes by but the script's. A node that is stopped does nothing meanwhile; what came for it is brought behind a tick, once it goes on. The
+Each node is a process over a file of its own. This script carries their messages, each way in a time that it draws, and tells a node the time behind what it is brought, in front of it
+where nothing is due, and where it asked to be told: no time goes by but the script's. A node that is stopped does nothing meanwhile; what came for it is brought behind a tick, once it goes on. The
 bounds are those of docs/TIMERS.md. The last line counts the checks."""
-import heapq, os, random, shutil, subprocess, sys, tempfile
+import heapq, os, random, shutil, statistics, subprocess, sys, tempfile
 
 HERE = os.path.dirname(os.path.abspath(__file__))
-# in round trips: until a coordinator that died is replaced, of three nodes, no message lost
-LONGEST = 100
+# how soon three nodes without a coordinator, or without a member, are one group of two, in ms: the round trip as set, the least time of a message, the median and the longest that are allowed
+REPLACED = [(20, 9, 900, 1300), (20, 0.1, 600, 950), (5, 2, 500, 700), (100, 45, 2500, 3500)]
+DROPPED = [(20, 9, 2500, 3200), (20, 0.1, 2300, 3000)]
 
 
 class Node:
@@ -91,6 +92,8 @@ class Bed:
             if node.stopped_until > self.now:
                 self.at(node.stopped_until, what, own, data)
             elif what == "deliver":
+                if node.due is not None and self.now < node.due:
+                    node.tick()
                 node.ask(f"deliver {data}")
                 node.tick()
             elif data == node.due:
@@ -144,25 +147,65 @@ def formed(tried, bed, within, what):
     return took
 
 
+def dying(bed, unit):
+    """All are one group, and some time goes by."""
+    bed.run(bed.now + 60_000, lambda: bed.is_one(list(range(bed.nodes))))
+    bed.run(bed.now + bed.random.randrange(70 * unit, 120 * unit))
+    return int(bed.node[0].group[1])
+
+
+def until_one(bed, dead):
+    return bed.run(bed.now + 60_000, lambda: bed.is_one([own for own in range(bed.nodes) if own != dead]))
+
+
+def try_dying(tried, rows, of, what, seeds=10):
+    """A node dies at a time that is drawn: how soon the others are one group."""
+    for unit, way, median, longest in rows:
+        times = []
+        for seed in range(seeds):
+            bed = tried.bed(3, unit, way, seed=seed)
+            bed.start()
+            dead = of(dying(bed, unit))
+            bed.node[dead].kill()
+            times.append(until_one(bed, dead) or 10**6)
+            bed.end()
+        good = statistics.median(times) <= median and max(times) <= longest
+        tried.mark(good, f"round trip {2 * way} of {unit} ms: {what} after {sorted(times)} ms, {median} in the median and {longest} allowed")
+
+
 def try_replaced(tried):
-    """A coordinator dies at a time that is drawn, and is replaced: within the longest time of docs/TIMERS.md, and what 250 ms are longer than 10 round trips."""
-    for unit, way in ((20, 9), (20, 0.1), (100, 45)):
-        times, within = [], LONGEST * unit + max(0, 250 - 10 * unit)
+    try_dying(tried, REPLACED, lambda lead: lead, "a dead coordinator is replaced")
+
+
+def try_dropped(tried):
+    try_dying(tried, DROPPED, lambda lead: (lead + 1) % 3, "a dead member's queues have moved")
+
+
+def try_lead(tried):
+    """Members die and come back: the lead stays where it is."""
+    for unit, way in ((20, 9), (20, 0.1)):
+        moved, backs = 0, []
         for seed in range(10):
             bed = tried.bed(3, unit, way, seed=seed)
             bed.start()
-            bed.run(bed.now + 60_000, lambda: bed.is_one([0, 1, 2]))
-            bed.run(bed.now + bed.random.randrange(70 * unit, 120 * unit))
-            dead = int(bed.node[0].group[1])
-            bed.node[dead].kill()
-            times.append(bed.run(bed.now + 60_000, lambda: bed.is_one([own for own in range(3) if own != dead])))
+            for dead in (1, 2):
+                lead = dying(bed, unit)
+                dead = (lead + dead) % 3
+                bed.node[dead].kill()
+                until_one(bed, dead)
+                moved += int(bed.node[lead].group[1]) != lead
+                bed.run(bed.now + bed.random.randrange(70 * unit, 120 * unit))
+                bed.node[dead].start()
+                backs.append(until_one(bed, None) or 10**6)
+                moved += int(bed.node[lead].group[1]) != lead
             bed.end()
-        tried.mark(None not in times and max(times) <= within, f"round trip {2 * way} of {unit} ms: a dead coordinator is replaced after {sorted(times, key=lambda t: t or 10**9)} ms, {within} allowed")
+        tried.mark(moved == 0, f"round trip {2 * way} of {unit} ms: the lead moved {moved} times in 20 deaths of a member and 20 returns, 0 allowed")
+        tried.mark(max(backs) <= 40 * unit, f"round trip {2 * way} of {unit} ms: one that comes back is taken in after {sorted(backs)} ms, {40 * unit} allowed")
 
 
 def try_stalls(tried):
     """The coordinator, or a member, is stopped for a second every three."""
-    for who, most in (("coordinator", 3), ("member", 0)):
+    for who, most in (("coordinator", 2), ("member", 0)):
         for seed in range(3):
             bed = tried.bed(3, 20, 9, seed=seed)
             bed.start()
@@ -187,7 +230,7 @@ def try_storm(tried):
     bed.end()
 
 
-SCENES = {"replaced": try_replaced, "stalls": try_stalls, "storm": try_storm}
+SCENES = {"replaced": try_replaced, "dropped": try_dropped, "lead": try_lead, "stalls": try_stalls, "storm": try_storm}
 
 
 def main():

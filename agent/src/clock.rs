@@ -48,6 +48,11 @@ impl Clock {
         self.was_asked = true;
     }
 
+    /// Whether nothing is due at the node: it may be told the time in front of something, which is to be read before what is over is made of it.
+    pub fn is_nothing_due(&self, now: Instant) -> bool {
+        self.says_next && now < self.next
+    }
+
     /// The time that the node is to be told now, if any.
     pub fn tick(&mut self, now: Instant) -> Option<u64> {
         let is_due = now >= self.next || (self.says_next && self.was_asked);
@@ -113,7 +118,9 @@ mod tests {
         let now = Instant::now();
         let mut clock = Clock::new(20, now);
         clock.tick(now);
+        assert!(!clock.is_nothing_due(now), "no node said yet when something is due");
         clock.ticked(Some(700), now);
+        assert!(clock.is_nothing_due(after(now, 699)) && !clock.is_nothing_due(after(now, 700)), "700");
         assert_eq!(clock.tick(after(now, 500)), None);
         clock.asked();
         assert_eq!(clock.sleep(after(now, 500)), Duration::ZERO);

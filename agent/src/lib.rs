@@ -31,3 +31,5 @@ pub mod service;
 mod system_calls;
 pub mod verify;
 pub mod view;
+
+pub use system_calls::share_memory;

@@ -65,6 +65,8 @@ pub struct Metrics {
     pub dropped: IntCounterVec,
     pub forwarded: IntCounterVec,
     pub farewells: IntCounterVec,
+    pub relayed: IntCounterVec,
+    through: IntGauge,
     pub jobs: IntCounterVec,
     pub durable: IntCounterVec,
     pub groups: IntCounter,
@@ -156,6 +158,8 @@ impl Metrics {
             dropped: maker.counters("dropped", "Datagrams that were dropped, by reason.", "reason")?,
             forwarded: maker.counters("forwarded", "Submissions between agents, by what came of them.", "event")?,
             farewells: maker.counters("farewells", "What agents said that their nodes end: taken, taken of one that began from a copy of its file, or refused as recorded.", "event")?,
+            relayed: maker.counters("relayed", "Datagrams to or of machines that aren't reached by themselves: sent through another one, carried on for others, taken.", "event")?,
+            through: maker.gauge("peers_through", "Other machines that are reached through a third one alone.")?,
             jobs: maker.counters("jobs", "Jobs, by what happened to them.", "event")?,
             durable: maker.counters("commands_durable", DURABLE, "command")?,
             groups: maker.counter("groups", "Changes of the node's group or phase.")?,
@@ -196,13 +200,14 @@ impl Metrics {
 
     /// A count that isn't told before it is one has no rate: so those that an alarm may follow are told from the start.
     fn begin_at_zero(&self) {
-        let known: [(&IntCounterVec, &[&str]); 10] = [
+        let known: [(&IntCounterVec, &[&str]); 11] = [
+            (&self.relayed, &["sent", "carried", "taken"]),
             (&self.leases, &["held", "lost", "given_back"]),
             (&self.lease_messages, &["in", "out"]),
             (&self.messages_in, &KINDS),
             (&self.messages_out, &KINDS),
             (&self.refused, &REFUSALS),
-            (&self.dropped, &["NoRoom", "NotSent", "Forged", "Empty", "Version", "Kernel", "Down", "Stranger", "Obsolete", "Draining", "Unmet"]),
+            (&self.dropped, &["NoRoom", "NotSent", "Forged", "Empty", "Version", "Kernel", "Down", "Stranger", "Obsolete", "Draining", "Unmet", "Relay"]),
             (&self.forwarded, &["taken", "again"]),
             (&self.farewells, &["taken", "copy", "drained", "refused"]),
             (&self.jobs, &["kept", "gone", "taken", "dropped", "failed", "aside"]),
@@ -235,6 +240,7 @@ impl Metrics {
         self.coordinator.set(i64::from(view.is_coordinator()));
         self.majority.set(i64::from(view.is_majority(peers, now)));
         self.members.set(view.group.members.len() as i64);
+        self.through.set(peers.count_through(now) as i64);
         self.nodes.set(view.nodes as i64);
         // a machine may be named later than the agent began; one without others tells it of itself
         peers.others().chain([view.own]).for_each(|node| self.stale.with_label_values(&[&node.to_string()]).inc_by(0));

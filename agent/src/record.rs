@@ -1,8 +1,9 @@
 //! The record of a node: what it was asked and answered, in files that rotate. `dumgerokctl judge` makes a trace of the records of all nodes.
 //!
 //! A file begins with a line `# dumgerok record 1 node N of M part P cluster NAME`. Then stand `start MS` where a process of the node began, with the
-//! Unix time by then, each request behind `> `, and the lines of its answer. A request is asked once the one before it is answered, and stands in the
-//! file before that; an answer stands there before anything that it says is done. An agent that is started anew goes on in the last file where that has
+//! Unix time by then, each request behind `> `, and the lines of answers, in the order of the requests. A request stands in the file before the node is
+//! asked, an answer before anything that it says is done. So where a process ends only what the last requests brought about is in doubt, and nothing of it
+//! left the machine. An agent that is started anew goes on in the last file where that has
 //! room, so that however often it is started no more is kept than the configuration says. Where the record ends while the node runs on, `off` stands
 //! there.
 
@@ -18,6 +19,9 @@ use std::path::{Path, PathBuf};
 const MEGABYTE: u64 = 1_000_000;
 
 const OFF: &[u8] = b"off\n";
+
+/// What is taken between two writes of the agent seldom is more.
+const ROOM: usize = 32 * 1024;
 
 /// A line of the record is shorter.
 const MAX_LINE: u64 = 128 * 1024;
@@ -52,7 +56,7 @@ impl Record {
             Some(begun) => begun,
             None => (create(&part_of(path, part))?, 0),
         };
-        let (path, file, max_files) = (path.to_path_buf(), BufWriter::new(file), u64::from(config.record_files));
+        let (path, file, max_files) = (path.to_path_buf(), BufWriter::with_capacity(ROOM, file), u64::from(config.record_files));
         let mut record = Record { path, node, cluster, part, max_bytes, max_files, file, written, whole: written };
         if is_new {
             record.begin()?;
@@ -75,22 +79,35 @@ impl Record {
 
     fn put(&mut self, line: &str) -> io::Result<()> {
         self.written += line.len() as u64 + 1;
-        writeln!(self.file, "{line}")
+        self.file.write_all(line.as_bytes())?;
+        self.file.write_all(b"\n")
     }
 
-    /// Writes lines; they are with the system before it returns.
-    pub fn write<'a>(&mut self, lines: impl IntoIterator<Item = &'a str>) -> io::Result<()> {
-        for line in lines {
-            self.put(line)?;
+    /// Takes lines; `flush` writes them.
+    pub fn take<'a>(&mut self, lines: impl IntoIterator<Item = &'a str>) -> io::Result<()> {
+        lines.into_iter().try_for_each(|line| self.put(line))
+    }
+
+    /// Takes a request.
+    pub fn take_request(&mut self, text: &str) -> io::Result<()> {
+        self.written += 2;
+        self.file.write_all(b"> ")?;
+        self.put(text)
+    }
+
+    /// Has all that was taken with the system before it returns.
+    pub fn flush(&mut self) -> io::Result<()> {
+        if self.whole == self.written {
+            return Ok(());
         }
-        self.flush()?;
+        self.write_out()?;
         if self.written >= self.max_bytes {
             self.rotate()?;
         }
         Ok(())
     }
 
-    fn flush(&mut self) -> io::Result<()> {
+    fn write_out(&mut self) -> io::Result<()> {
         self.file.flush()?;
         self.whole = self.written;
         Ok(())
@@ -105,10 +122,10 @@ impl Record {
 
     fn rotate(&mut self) -> io::Result<()> {
         self.part += 1;
-        self.file = BufWriter::new(create(&part_of(&self.path, self.part))?);
+        self.file = BufWriter::with_capacity(ROOM, create(&part_of(&self.path, self.part))?);
         (self.written, self.whole) = (0, 0);
         self.begin()?;
-        self.flush()
+        self.write_out()
     }
 }
 
@@ -187,6 +204,10 @@ mod tests {
         folder
     }
 
+    fn write<'a>(record: &mut Record, lines: impl IntoIterator<Item = &'a str>) -> io::Result<()> {
+        record.take(lines).and_then(|()| record.flush())
+    }
+
     fn names(folder: &Path) -> Vec<String> {
         let name = |entry: io::Result<fs::DirEntry>| entry.unwrap().file_name().into_string().unwrap();
         let mut names: Vec<String> = fs::read_dir(folder).unwrap().map(name).collect();
@@ -200,7 +221,7 @@ mod tests {
         let path = folder.join("record");
         let mut record = Record::open(&path, &config).unwrap();
         let line = "x".repeat(400_000);
-        (0..9).for_each(|_| record.write([line.as_str()]).unwrap());
+        (0..9).for_each(|_| write(&mut record, [line.as_str()]).unwrap());
         assert_eq!(names(&folder), ["record.3", "record.4"]);
         drop(record);
         // a part of another node there, and older ones than those that are kept
@@ -208,7 +229,7 @@ mod tests {
         let foreign = format!("record.{}", u64::MAX);
         fs::write(folder.join(&foreign), "of somebody else\n").unwrap();
         fs::write(folder.join("record.4"), "# dumgerok record 1 node 0 of 2 part 4 cluster c\n").unwrap();
-        Record::open(&path, &config).unwrap().write([]).unwrap();
+        Record::open(&path, &config).unwrap().flush().unwrap();
         assert_eq!(names(&folder), [&*foreign, "record.4", "record.5"]);
         let first = fs::read_to_string(folder.join("record.5")).unwrap();
         assert_eq!(first, "# dumgerok record 1 node 1 of 2 part 5 cluster c\n");
@@ -220,7 +241,7 @@ mod tests {
         let (folder, config) = (folder("again"), Config::parse(TEXT).unwrap());
         let path = folder.join("record");
         for start in 0..9 {
-            Record::open(&path, &config).unwrap().write(["start", "> recover"]).unwrap();
+            write(&mut Record::open(&path, &config).unwrap(), ["start", "> recover"]).unwrap();
             // killed in the middle of a line
             let mut file = OpenOptions::new().append(true).open(folder.join("record.1")).unwrap();
             file.write_all(if start % 2 == 0 { b"ok" } else { b"" }).unwrap();
@@ -243,7 +264,7 @@ mod tests {
             assert_eq!(refused, "another agent writes it");
         }
         let line = "x".repeat(400_000);
-        (0..3).for_each(|_| record.write([line.as_str()]).unwrap());
+        (0..3).for_each(|_| write(&mut record, [line.as_str()]).unwrap());
         assert!(Record::open(&path, &other).is_err(), "in its next part, too");
         assert_eq!(names(&folder), ["record.1", "record.2"]);
         drop(record);
@@ -255,7 +276,7 @@ mod tests {
     fn where_it_ends_stands_in_place_of_what_was_not_written_whole() {
         let (folder, config) = (folder("off"), Config::parse(TEXT).unwrap());
         let mut record = Record::open(&folder.join("record"), &config).unwrap();
-        record.write(["start"]).unwrap();
+        write(&mut record, ["start"]).unwrap();
         record.put("a line that stays in memory").unwrap();
         // and one of which a part came through
         let mut file = OpenOptions::new().append(true).open(folder.join("record.1")).unwrap();

@@ -1,5 +1,6 @@
 //! Looks names up in a thread of its own: a name server that doesn't answer stops nobody.
 
+use log::warn;
 use mio::Waker;
 use std::io;
 use std::net::{SocketAddr, ToSocketAddrs};
@@ -14,17 +15,24 @@ pub struct Found {
     pub addresses: Vec<SocketAddr>,
 }
 
-/// One name is looked up at a time.
+/// One name is looked up at a time. The thread begins with the first one: an agent of whom all addresses are spelled out has none.
 pub struct Resolver {
-    to: SyncSender<(usize, String)>,
+    waker: Arc<Waker>,
+    to: Option<SyncSender<(usize, String)>>,
+    back: SyncSender<Found>,
     from: Receiver<Found>,
     is_busy: bool,
 }
 
 impl Resolver {
-    pub fn start(waker: Arc<Waker>) -> io::Result<Resolver> {
-        let (to, names) = sync_channel::<(usize, String)>(1);
+    pub fn new(waker: Arc<Waker>) -> Resolver {
         let (back, from) = sync_channel(1);
+        Resolver { waker, to: None, back, from, is_busy: false }
+    }
+
+    fn begin(&self) -> io::Result<SyncSender<(usize, String)>> {
+        let (to, names) = sync_channel::<(usize, String)>(1);
+        let (back, waker) = (self.back.clone(), Arc::clone(&self.waker));
         thread::Builder::new().spawn(move || {
             for (at, name) in names {
                 let addresses = name.to_socket_addrs().map(Iterator::collect).unwrap_or_default();
@@ -33,15 +41,22 @@ impl Resolver {
                 }
             }
         })?;
-        Ok(Resolver { to, from, is_busy: false })
+        Ok(to)
     }
 
     pub fn is_busy(&self) -> bool {
         self.is_busy
     }
 
+    /// Where there is no thread for it the next turn of the name tries again.
     pub fn look_up(&mut self, at: usize, name: String) {
-        self.is_busy = self.to.try_send((at, name)).is_ok();
+        if self.to.is_none() {
+            match self.begin() {
+                Ok(to) => self.to = Some(to),
+                Err(why) => warn!("{name} can't be looked up: {why}"),
+            }
+        }
+        self.is_busy = self.to.as_ref().map_or(false, |to| to.try_send((at, name)).is_ok());
     }
 
     pub fn found(&mut self) -> Option<Found> {

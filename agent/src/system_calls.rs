@@ -10,6 +10,18 @@ use std::slice;
 /// A process is of no more groups than the kernel has room for (NGROUPS_MAX).
 const MAX_GROUPS: usize = 65_536;
 
+/// All threads take memory from one place: a few that do so once in a while need none each, which no other would use.
+pub fn share_memory() {
+    // SAFETY: it takes numbers alone; where it does nothing each thread has a place of its own
+    unsafe { libc::mallopt(libc::M_ARENA_MAX, 1) };
+}
+
+/// Gives the system back what memory isn't used, as that in which the configuration was read.
+pub fn give_back_memory() {
+    // SAFETY: it takes a number, and touches nothing that is in use
+    unsafe { libc::malloc_trim(0) };
+}
+
 /// Whatever descends from this process, and loses its parent, becomes a child of it.
 pub fn adopt_orphans() -> io::Result<()> {
     // SAFETY: it takes numbers alone

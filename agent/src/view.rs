@@ -14,9 +14,11 @@ const MAX_PAST: usize = 400;
 /// A node that didn't answer for so long isn't alive.
 const SILENCE: Duration = Duration::from_secs(5);
 
-/// A member asks its coordinator 52 to 55 round trips behind its last question, leaves 10 later, and is in the next group some more later. So whoever heard
-/// nobody for as long says no more that it works in a majority: another one may.
-const LEASE: u32 = 70;
+/// A member asks its coordinator 20 to 23 round trips, of 25 ms at most, behind its last question, leaves 5 and 250 ms at least later, and is in the next group some
+/// more later. So whoever heard nobody for as long says no more that it works in a majority: another one may.
+fn lease_of(round_trip_ms: u64) -> Duration {
+    Duration::from_millis(23 * round_trip_ms.min(25) + (5 * round_trip_ms).max(250))
+}
 
 /// For how long the node may say that it works in a group of more than half of all nodes.
 #[derive(Clone, Copy, Debug, PartialEq, Eq)]
@@ -93,6 +95,8 @@ pub struct Member {
     pub queues: Vec<u8>,
     /// How long ago a message of it was taken.
     pub heard_ms: Option<u64>,
+    /// Whose agent carries on what is said to it and by it, where it isn't reached by itself.
+    pub through: Option<u8>,
     /// What its machine was tagged with, and how long ago that was told.
     pub tags: BTreeMap<String, String>,
     pub tags_ms: Option<u64>,
@@ -116,7 +120,7 @@ impl View {
             is_ready: false,
             past: VecDeque::new(),
             worked_in: Group::default(),
-            lease: Duration::from_millis(config.round_trip_ms) * LEASE,
+            lease: lease_of(config.round_trip_ms),
             told_majority: false,
         }
     }
@@ -222,6 +226,7 @@ impl View {
             coordinates: self.group.is_normal() && self.group.coordinator == node,
             queues: self.group.queues_of(node),
             heard_ms: peer.heard.map(|at| ms(now.saturating_duration_since(at))),
+            through: peers.ways.through(node, now),
             tags: peer.tags.clone(),
             tags_ms: peer.tagged.map(|at| ms(now.saturating_duration_since(at))),
         };
@@ -245,7 +250,7 @@ mod tests {
         let now = Instant::now();
         let (mut view, names) = (view(5, now), ["a:1", "b:1", "c:1", "d:1", "e:1"].map(str::to_string));
         let mut peers = Peers::new(1, &names, false, Duration::from_millis(20));
-        let (lease, second) = (Duration::from_millis(1400), Duration::from_secs(1));
+        let (lease, second) = (Duration::from_millis(710), Duration::from_secs(1));
         view.enter(Group::read(&["Normal", "1", "1:1", "0,1,2,4"]).unwrap(), now);
         assert_eq!(view.majority(&peers), Majority::No, "nobody was heard yet");
         for (node, at) in [(0, 3), (2, 2), (4, 1), (3, 9)] {
@@ -254,7 +259,7 @@ mod tests {
         assert_eq!(view.majority(&peers), Majority::Until(now + second * 2 + lease), "two with it are three of five");
         view.enter(Group::read(&["Normal", "4", "4:1", "0,1,2,4"]).unwrap(), now);
         assert_eq!(view.majority(&peers), Majority::Until(now + second + lease), "a member hears its coordinator");
-        let news = [2, 2, 3, 3].map(|at| view.news_of_majority(&peers, now + second * at));
+        let news = [1, 1, 2, 2].map(|at| view.news_of_majority(&peers, now + second * at));
         assert_eq!(news, [Some(true), None, Some(false), None]);
         view.enter(Group::read(&["Normal", "1", "1:9", "1,2"]).unwrap(), now);
         assert!(!view.is_majority(&peers, now), "two of five");

@@ -225,7 +225,8 @@ class Agents:
                 process.wait()
 
     def figures(self, i):
-        """Of the agent and of each process of the program, which is named by its command: seconds of processor, kB of memory, voluntary switches (wakes)."""
+        """Of the agent and of each process of the program, which is named by its command: seconds of processor, kB of memory (RSS), voluntary switches (wakes),
+        kB of memory of which each page counts by how many processes have it (PSS)."""
         rows, own = {}, self.processes[i].pid
         with open("/proc/%d/task/%d/children" % (own, own)) as file:
             pids = {command(pid): pid for pid in map(int, file.read().split())}
@@ -238,5 +239,7 @@ class Agents:
                 kb = int(status["VmRSS"].split()[0])
             with open("/proc/%d/stat" % pid) as file:
                 words = file.read().rsplit(")", 1)[1].split()
-            rows[who] = ((int(words[11]) + int(words[12])) / os.sysconf("SC_CLK_TCK"), kb, switches)
+            with open("/proc/%d/smaps_rollup" % pid) as file:
+                shared = next(int(line.split()[1]) for line in file if line.startswith("Pss:"))
+            rows[who] = ((int(words[11]) + int(words[12])) / os.sysconf("SC_CLK_TCK"), kb, switches, shared)
         return rows

@@ -17,7 +17,7 @@ class Model:
         self.lock, self.violations = threading.Lock(), []
         self.kept, self.refused, self.unsure = {}, set(), set()     # texts: with the job that was named, surely refused, neither
         self.text_of, self.given, self.asked_to_finish = {}, collections.Counter(), set()
-        self.leads, self.owner, self.gone = {}, {}, set()
+        self.leads, self.members, self.owner, self.gone = {}, {}, {}, set()
 
     def wrong(self, *what):
         if len(self.violations) < 20:
@@ -58,16 +58,21 @@ class Model:
             if line["event"] == "gone":
                 self.gone.add(job)
 
-    def works_in(self, group, coordinator):
+    def works_in(self, group, coordinator, members):
         with self.lock:
             if self.leads.setdefault(group, coordinator) != coordinator:
                 self.wrong("two coordinators of one group", group, self.leads[group], coordinator)
+            if self.members.setdefault(group, members) != members:
+                self.wrong("two lists of members of one group", group, self.members[group], members)
 
     def at_the_end(self):
+        """No node keeps a job any more: each that was promised was given to somebody, and left because a worker said that it is done."""
         with self.lock:
-            for text in self.kept:
+            for text, job in self.kept.items():
                 if not self.given[text]:
-                    self.wrong("a job that was kept was given to nobody", text, self.kept[text])
+                    self.wrong("a job that was kept was given to nobody", text, job)
+                if job not in self.asked_to_finish:
+                    self.wrong("a job that was kept is gone, and nobody finished it", text, job)
             for text in self.refused & set(self.given):
                 self.wrong("a job was given that was surely refused", text)
             return self.violations
@@ -144,7 +149,7 @@ class Clients:
                 if line.get("event") in ("state", "group"):
                     group = line["group"] if line["phase"] == "Normal" else None
                     if group:
-                        self.model.works_in(group, line["coordinator"])
+                        self.model.works_in(group, line["coordinator"], line["members"])
                 elif "event" in line:
                     self.model.event(i, group, line)
                 if not self.runs:

@@ -138,6 +138,7 @@ def odd_pages(bed):
                                  ("/status", "evil.example", 421), ("http://evil.example/status", "localhost", 421)):
         said = asked("GET %s HTTP/1.1" % target, "Host: " + host)
         check("%s of %s is answered with %d" % (target, host, status), said.startswith("HTTP/1.1 %d " % status), said[:200])
+    check("one that is refused on the loopback is told whom to ask", said.endswith(": ask localhost or an address of the loopback, as 127.0.0.1\n"), said)
     elsewhere(agents, check, asked)
     said = asked("DELETE / HTTP/1.1")
     check("another method is told which there are", said.startswith("HTTP/1.1 405 ") and "\r\nAllow: GET, HEAD\r\n" in said, said[:300])
@@ -157,6 +158,7 @@ def elsewhere(agents, check, asked):
     for host, status in (("10.1.2.3:7080", 200), ("[fe80::1]", 200), ("localhost", 200), ("evil.example", 421), ("10.1.2.3.evil.example", 421)):
         said = asked("GET /healthz HTTP/1.1", "Host: " + host)
         check("of %s it is answered with %d" % (host, status), said.startswith("HTTP/1.1 %d " % status), said[:200])
+    check("one that is refused beyond the loopback is told so, too", said.endswith(": ask an address, localhost, or a host that `nodes` names\n"), said)
 
 
 def old_messages(bed):

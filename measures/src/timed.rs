@@ -202,6 +202,9 @@ impl Timed {
     }
 
     fn answer(&mut self, told: Told, now: u64) -> Result<(), &'static str> {
+        if let Told::Message(_) = told {
+            self.pace.pass(now);
+        }
         self.take(told)?;
         self.note(now)?;
         self.finish(now)
@@ -292,7 +295,7 @@ impl Timed {
         if due.is_some() || !self.repeats || !self.waiting.is_answered(&snapshot) {
             return due;
         }
-        self.pace.answered();
+        self.pace.answered(&snapshot);
         self.pace.tick(&snapshot)
     }
 

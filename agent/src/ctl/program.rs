@@ -5,10 +5,11 @@ use super::Failure;
 use crate::config::Config;
 use crate::draw::{draw, DrawError, Form};
 use crate::judge;
+use crate::say::say;
 use std::fs;
 use std::io::{self, Read};
 use std::path::{Path, PathBuf};
-use std::process::{Command, ExitStatus, Stdio};
+use std::process::{Command, ExitStatus, Output, Stdio};
 
 pub fn read(path: &Path) -> Result<Config, Failure> {
     Config::read(path).map_err(|why| Failure::Usage(format!("{}: {why}", path.display())))
@@ -31,16 +32,33 @@ pub fn trace_of(files: &[PathBuf]) -> Result<judge::Trace, Failure> {
     read.map_err(|why| Failure::Usage(why.to_string()))
 }
 
-/// Lets `invite trace` judge the records of all nodes.
+/// Lets `invite trace` judge the records of all nodes. Where they are no run, and all that is left of them waits for messages that nobody sent, as where a record
+/// lost its end, that is said.
 pub fn judge(files: &[PathBuf], program: &Path) -> Result<(), Failure> {
     let trace = trace_of(files)?;
     let named = |why| Failure::Usage(format!("{}: {why}", program.display()));
-    let mut child = Command::new(program).arg("trace").stdin(Stdio::piped()).spawn().map_err(named)?;
+    let judged = judged(program, &[], &trace, [Stdio::inherit(), Stdio::inherit()]).map_err(named)?;
+    if judged.status.code() == Some(1) {
+        let ongoing = judged_ongoing(program, &trace).map_err(named)?;
+        if ongoing {
+            say("dumgerokctl: each entry that is left waits for a message that no record has: did one lose its end, as by a loss of power?");
+        }
+    }
+    Failure::of_status(judged.status)
+}
+
+/// Whether a trace may be that of a run that goes on.
+fn judged_ongoing(program: &Path, trace: &judge::Trace) -> io::Result<bool> {
+    judged(program, &["--ongoing"], trace, [Stdio::piped(), Stdio::null()]).map(|done| done.status.success() && done.stdout.starts_with(b"Ongoing"))
+}
+
+fn judged(program: &Path, options: &[&str], trace: &judge::Trace, [out, error]: [Stdio; 2]) -> io::Result<Output> {
+    let mut child = Command::new(program).arg("trace").args(options).stdin(Stdio::piped()).stdout(out).stderr(error).spawn()?;
     if let Some(input) = child.stdin.take() {
         // where it doesn't read to the end its status says why
         let _unread = trace.write(&mut io::BufWriter::new(input));
     }
-    Failure::of_status(child.wait().map_err(named)?)
+    child.wait_with_output()
 }
 
 /// The run of a trace, drawn, and how the program ended that read it.

@@ -118,6 +118,7 @@ fn heard(member: &Value, coordinator: Option<&Value>) -> String {
     let is_true = |node: &Value, name: &str| node[name] == true;
     match coordinator.filter(|node| !is_true(node, "is_self")) {
         _ if is_true(member, "is_self") => "this node".to_string(),
+        _ if !member["through"].is_null() => format!("{}, through node {}", ago(&member["heard_ms"]), member["through"]),
         Some(other) if is_true(member, "in_group") && other != member => format!("by node {}", other["node"]),
         _ if member["heard_ms"].is_null() => "not yet".to_string(),
         _ => ago(&member["heard_ms"]),
@@ -208,6 +209,14 @@ mod tests {
             let column = text.find("HEARD").unwrap();
             assert_eq!(text.lines().skip(1).map(|line| &line[column..]).collect::<Vec<_>>(), said);
         }
+    }
+
+    #[test]
+    fn one_that_is_reached_through_another_node_is_told() {
+        let row = |node: u8, through: Value| json!({"node": node, "name": "n", "is_self": node == 0, "in_group": true, "coordinates": node == 2, "queues": [], "heard_ms": 900, "through": through});
+        let text = members(&json!({"members": [row(0, json!(null)), row(1, json!(2)), row(2, json!(null))]}));
+        let column = text.find("HEARD").unwrap();
+        assert_eq!(text.lines().skip(1).map(|line| &line[column..]).collect::<Vec<_>>(), ["this node", "0.9 s, through node 2", "0.9 s"]);
     }
 
     #[test]

@@ -1,11 +1,12 @@
 //! What the node answers.
 
-use super::{Asker, Daemon, FILE_DAMAGED, FILE_IS_COPY, NO_MEMORY};
+use super::{Asker, Daemon, Origin, FILE_DAMAGED, FILE_IS_COPY, NO_MEMORY};
 use crate::forward::{Given, Numbers, Outcome};
 use crate::metrics::{kind_of, ANSWERS};
 use crate::node::{Answer, Closing, Group, Job, JobKey, Line, Refusal};
 use crate::protocol::Reply;
 use crate::service::{Given as GivenJob, Hand};
+use crate::system_calls::give_back_memory;
 use log::{error, info, warn};
 use serde::Serialize;
 use std::net::SocketAddr;
@@ -143,10 +144,10 @@ impl Daemon {
         match answer.asker {
             Asker::Start => self.started(&answer.closing),
             Asker::Tick => self.clock.ticked(due_of(&answer.lines), now),
-            Asker::Datagram { sender, from, kind, .. } if is_of_earlier(&answer) => {
+            Asker::Datagram { sender, from, kind } if is_of_earlier(&answer) => {
                 self.delivered((sender, from), kind, &Closing::Refused(Refusal::Stale), now);
             }
-            Asker::Datagram { sender, from, kind, .. } => self.delivered((sender, from), kind, &answer.closing, now),
+            Asker::Datagram { sender, from, kind } => self.delivered((sender, from), kind, &answer.closing, now),
             Asker::Submission { serial, key } => {
                 self.outbox.own_answered(serial);
                 self.settled(key, &answer.closing, now);
@@ -175,7 +176,7 @@ impl Daemon {
                 let reply = jobs_of(&answer.lines, &self.hand, queue, skip, limit).tagged(&tag);
                 self.clients.answer(client, &reply);
             }
-            Asker::Lost => {}
+            Asker::Lost | Asker::Time => {}
             Asker::Page => {
                 self.listings -= 1;
                 self.count_jobs(&answer.lines);
@@ -183,13 +184,10 @@ impl Daemon {
         }
     }
 
-    fn delivered(&mut self, (sender, from): (u8, SocketAddr), kind: &str, closing: &Closing, now: Instant) {
+    fn delivered(&mut self, (sender, from): (u8, Origin), kind: &str, closing: &Closing, now: Instant) {
         match closing {
             Closing::Ok(_) => {
-                if self.peers.hear(sender, from, now) {
-                    let name = self.peers.all().get(usize::from(sender)).map_or("?", |peer| peer.name.as_str());
-                    warn!("node {sender}: it is heard from {from}, which isn't {name}: another node of this id, or another way back?");
-                }
+                self.hear_from(sender, from, now);
                 self.metrics.messages_in.with_label_values(&[kind]).inc();
                 if ANSWERS.contains(&kind) {
                     self.peers.answered(sender);
@@ -202,17 +200,28 @@ impl Daemon {
             Closing::Bad => {
                 self.metrics.refused.with_label_values(&["NoMessage"]).inc();
                 if kind != kind_of(&[]) {
-                    self.doubt(sender, from, now);
+                    self.doubt(sender, from.at, now);
                 }
             }
-            Closing::Refused(Refusal::Forged) => self.doubt(sender, from, now),
+            Closing::Refused(Refusal::Forged) => self.doubt(sender, from.at, now),
             Closing::Refused(Refusal::Stale) => {
                 self.metrics.stale.with_label_values(&[&sender.to_string()]).inc();
                 if self.peers.is_stale(sender, now) {
-                    warn!("node {sender}: all that comes in its name from {from} is older than what it said before: is this recorded, or was its file put back from a copy?");
+                    warn!("node {sender}: all that comes in its name from {} is older than what it said before: is this recorded, or was its file put back from a copy?", from.at);
                 }
             }
             _ => {}
+        }
+    }
+
+    /// The node took a message.
+    fn hear_from(&mut self, sender: u8, from: Origin, now: Instant) {
+        if from.through.is_some() {
+            return self.peers.hear_through(sender, now);
+        }
+        if self.peers.hear(sender, from.at, now) {
+            let name = self.peers.all().get(usize::from(sender)).map_or("?", |peer| peer.name.as_str());
+            warn!("node {sender}: it is heard from {}, which isn't {name}: another node of this id, or another way back?", from.at);
         }
     }
 
@@ -230,6 +239,8 @@ impl Daemon {
         }
         if let Closing::Ok(_) = closing {
             self.view.is_ready = true;
+            // that in which its configuration was read, and what its file holds looked at
+            give_back_memory();
             self.notify.ready();
         } else {
             let why = tell_unmounted(&self.config.file, closing);
@@ -241,7 +252,7 @@ impl Daemon {
 
 /// Whether the node was given a message that a machine which has the key sealed for another process of it, since gone.
 fn is_of_earlier(answer: &Answer<Asker>) -> bool {
-    matches!((&answer.asker, &answer.closing), (Asker::Datagram { was_encrypted: true, .. }, Closing::Refused(Refusal::Forged)))
+    matches!((&answer.asker, &answer.closing), (Asker::Datagram { from: Origin { was_encrypted: true, .. }, .. }, Closing::Refused(Refusal::Forged)))
 }
 
 /// When the node says that something is due next.

@@ -7,15 +7,24 @@ use crate::service::ClientId;
 use std::net::SocketAddr;
 use std::time::Instant;
 
+/// Where a datagram came from.
+#[derive(Clone, Copy, Debug)]
+pub struct Origin {
+    pub at: SocketAddr,
+    /// Then it is of a machine that has the key.
+    pub was_encrypted: bool,
+    /// Whose agent carried it on, where it didn't come from its sender's.
+    pub through: Option<u8>,
+}
+
 #[derive(Clone, Debug)]
 pub enum Asker {
     Start,
     Tick,
-    /// A message that names `sender` and came from this address, of this kind; where it was encrypted, from a machine that has the key.
+    /// A message that names `sender`, of this kind.
     Datagram {
         sender: u8,
-        from: SocketAddr,
-        was_encrypted: bool,
+        from: Origin,
         kind: &'static str,
     },
     /// A submission of a local client, by its number in the outbox.
@@ -48,6 +57,8 @@ pub enum Asker {
     },
     /// A node is given up.
     Lost,
+    /// It is told the time in front of something, and not since something is due.
+    Time,
     /// The page asks for the jobs.
     Page,
 }
@@ -55,7 +66,7 @@ pub enum Asker {
 impl Asker {
     pub fn lane(&self) -> Lane {
         match self {
-            Asker::Datagram { .. } | Asker::Forwarded { .. } => Lane::Network,
+            Asker::Datagram { .. } | Asker::Forwarded { .. } | Asker::Time => Lane::Network,
             _ => Lane::Local,
         }
     }

@@ -1,9 +1,9 @@
 //! What comes over the network, and what goes out.
 
-use super::{Asker, Daemon};
+use super::{Asker, Daemon, Origin};
 use crate::config::Config;
-use crate::forward::{is_of_agents, marked, About, Datagram, Seal};
-use crate::metrics::{kind_of, OF_LEADING, QUESTIONS};
+use crate::forward::{is_of_agents, is_relayed, marked, About, Datagram, Seal};
+use crate::metrics::{kind_of, ANSWERS, OF_LEADING, QUESTIONS};
 use crate::net::{is_encrypted, GroupBytes, Leaves, MAX_DATAGRAM};
 use crate::node::Lane;
 use log::{info, warn};
@@ -19,7 +19,7 @@ const MAX_AT_A_TIME: usize = 256;
 
 /// What waits until the node has room for it.
 pub(super) enum Waiting {
-    Message { message: Vec<u8>, from: SocketAddr, was_encrypted: bool },
+    Message { message: Vec<u8>, from: Origin },
     OfAgent(Datagram),
 }
 
@@ -43,7 +43,7 @@ impl Daemon {
         }
         while self.node.has_room(Lane::Network) {
             match self.backlog.take() {
-                Some(Waiting::Message { message, from, was_encrypted }) => self.deliver(&message, (from, was_encrypted)),
+                Some(Waiting::Message { message, from }) => self.deliver(&message, from, now),
                 Some(Waiting::OfAgent(datagram)) => self.obey_agent(datagram, now),
                 None => break,
             }
@@ -51,9 +51,9 @@ impl Daemon {
         let mut bytes = [0; MAX_DATAGRAM];
         for _ in 0..MAX_AT_A_TIME {
             match self.link.receive(&mut bytes) {
-                Some((datagram, from)) => {
+                Some((datagram, at)) => {
                     let datagram = datagram.to_vec();
-                    self.take_datagram(datagram, from, now);
+                    self.take_datagram(datagram, at, now);
                 }
                 None => return,
             }
@@ -61,31 +61,56 @@ impl Daemon {
     }
 
     /// What came, encrypted or not: whether a key was needed to say it, its seal tells.
-    fn take_datagram(&mut self, datagram: Vec<u8>, from: SocketAddr, now: Instant) {
-        if !is_encrypted(&datagram) {
-            self.metrics.opened.with_label_values(&["none"]).inc();
-            return self.take_clear(datagram, (from, false), now);
+    fn take_datagram(&mut self, datagram: Vec<u8>, at: SocketAddr, now: Instant) {
+        let sender = sender_of(&datagram);
+        match self.opened(datagram) {
+            Some((clear, was_encrypted)) => {
+                let from = Origin { at, was_encrypted, through: None };
+                if was_encrypted {
+                    self.came_from(Some(sender), from, now);
+                }
+                if is_relayed(&clear) {
+                    return self.take_relayed(&clear, was_encrypted.then_some(sender), from, now);
+                }
+                self.take_clear(clear, from, now);
+            }
+            None => {
+                let reason = if self.cipher.encrypts() { "Forged" } else { "Version" };
+                self.metrics.dropped.with_label_values(&[reason]).inc();
+                self.doubt(sender, at, now);
+            }
         }
-        if let Some((clear, key)) = self.cipher.decrypt(&datagram) {
-            let key = self.seal.fingerprints.get(key).map_or("", String::as_str);
-            self.metrics.opened.with_label_values(&[key]).inc();
-            return self.take_clear(clear, (from, true), now);
-        }
-        let reason = if self.cipher.encrypts() { "Forged" } else { "Version" };
-        self.metrics.dropped.with_label_values(&[reason]).inc();
-        self.doubt(sender_of(&datagram), from, now);
     }
 
-    fn take_clear(&mut self, datagram: Vec<u8>, (from, was_encrypted): (SocketAddr, bool), now: Instant) {
+    /// A datagram in clear, and whether it was encrypted; None where no key opens it.
+    pub(super) fn opened(&mut self, datagram: Vec<u8>) -> Option<(Vec<u8>, bool)> {
+        if !is_encrypted(&datagram) {
+            self.metrics.opened.with_label_values(&["none"]).inc();
+            return Some((datagram, false));
+        }
+        let (clear, key) = self.cipher.decrypt(&datagram)?;
+        let key = self.seal.fingerprints.get(key).map_or("", String::as_str);
+        self.metrics.opened.with_label_values(&[key]).inc();
+        Some((clear, true))
+    }
+
+    /// A datagram of a node's agent came that only a machine of the cluster can have sent, as far as that is known.
+    pub(super) fn came_from(&mut self, node: Option<u8>, from: Origin, now: Instant) {
+        if let Some(node) = node.filter(|_| from.through.is_none()) {
+            self.peers.ways.heard(node, now);
+        }
+    }
+
+    pub(super) fn take_clear(&mut self, datagram: Vec<u8>, from: Origin, now: Instant) {
         if is_of_agents(&datagram) {
             self.take_of_agent(&datagram, from, now);
         } else {
-            self.take_sealed(datagram, (from, was_encrypted), now);
+            self.take_sealed(datagram, from, now);
         }
     }
 
     /// A message without a mark: under a key its seal says of which cluster it is, and without one nothing does.
-    fn take_sealed(&mut self, message: Vec<u8>, (from, was_encrypted): (SocketAddr, bool), now: Instant) {
+    fn take_sealed(&mut self, message: Vec<u8>, from: Origin, now: Instant) {
         let sender = sender_of(&message);
         if message.is_empty() {
             return self.metrics.dropped.with_label_values(&["Empty"]).inc();
@@ -93,29 +118,32 @@ impl Daemon {
         if self.config.key.is_none() {
             self.metrics.dropped.with_label_values(&["Version"]).inc();
             if kind_of(&message) != kind_of(&[]) {
-                self.doubt(sender, from, now);
+                self.doubt(sender, from.at, now);
             }
             return;
         }
         if self.introductions.is_stranger(sender) {
             return self.metrics.dropped.with_label_values(&["Stranger"]).inc();
         }
-        self.take_message(message, (from, was_encrypted), now);
+        self.take_message(message, from, now);
     }
 
     /// A message without a seal. One by a mark that isn't known is of another cluster, or of one whose list is another one for a while.
-    pub(super) fn take_marked(&mut self, mark: [u8; 8], message: &[u8], from: SocketAddr, now: Instant) {
+    pub(super) fn take_marked(&mut self, mark: [u8; 8], message: &[u8], from: Origin, now: Instant) {
         let sender = sender_of(message);
         if self.config.key.is_none() && !self.introductions.is_known(sender, mark) {
             self.metrics.dropped.with_label_values(&["Stranger"]).inc();
             return self.ask_stranger(from, sender, now);
         }
-        self.take_message(message.to_vec(), (from, false), now);
+        if self.config.key.is_none() {
+            self.came_from(Some(sender), from, now);
+        }
+        self.take_message(message.to_vec(), Origin { was_encrypted: false, ..from }, now);
     }
 
     /// Half of the node's room is for those who are where the other nodes are, and they alone may wait: a flood from elsewhere keeps none of them from the
     /// node.
-    fn take_message(&mut self, message: Vec<u8>, (from, was_encrypted): (SocketAddr, bool), now: Instant) {
+    fn take_message(&mut self, message: Vec<u8>, from: Origin, now: Instant) {
         if self.opening.is_some() {
             return self.metrics.dropped.with_label_values(&["Down"]).inc();
         }
@@ -127,12 +155,12 @@ impl Daemon {
             }
             return;
         }
-        let peer = self.peers.at(from);
+        let peer = self.peers.at(from.at);
         if self.node.has_half_its_room(Lane::Network) || (peer.is_some() && self.node.has_room(Lane::Network)) {
-            return self.deliver(&message, (from, was_encrypted));
+            return self.deliver(&message, from, now);
         }
         let length = message.len();
-        self.put_off(peer, Waiting::Message { message, from, was_encrypted }, length);
+        self.put_off(peer, Waiting::Message { message, from }, length);
     }
 
     /// Has something of a node wait, where there is room for so many bytes more of it.
@@ -142,11 +170,16 @@ impl Daemon {
         }
     }
 
-    fn deliver(&mut self, message: &[u8], (from, was_encrypted): (SocketAddr, bool)) {
+    /// Gives the node a message, and in front of an answer the time, by which it knows how long that took.
+    fn deliver(&mut self, message: &[u8], from: Origin, now: Instant) {
         if message.is_empty() {
             return self.metrics.dropped.with_label_values(&["Empty"]).inc();
         }
-        let asker = Asker::Datagram { sender: sender_of(message), from, was_encrypted, kind: kind_of(message) };
+        let kind = kind_of(message);
+        if ANSWERS.contains(&kind) && self.clock.is_nothing_due(now) {
+            self.ask(Asker::Time, format!("tick {}", self.clock.node_ms(now)));
+        }
+        let asker = Asker::Datagram { sender: sender_of(message), from, kind };
         self.ask(asker, format!("deliver {}", hex::encode(message)));
     }
 
@@ -189,7 +222,8 @@ impl Daemon {
         }
     }
 
-    /// Sends a datagram to another machine. One that can't be sent is the same as one that is lost.
+    /// Sends a datagram to another machine, or, where that one isn't reached by itself, to one that carries it on. One that can't be sent is the same as one that
+    /// is lost.
     pub(super) fn send(&mut self, to: u8, datagram: &[u8], now: Instant) {
         if self.peers.is_empty_place(to) {
             return;
@@ -198,7 +232,21 @@ impl Daemon {
             Some(datagram) => datagram,
             None => return self.metrics.dropped.with_label_values(&["NotSent"]).inc(),
         };
-        let sent = self.peers.address(to).map(|address| (address, self.link.send(&datagram, address)));
+        let sending = self.peers.sends(to, now);
+        if sending.is_direct {
+            self.send_itself(to, &datagram, now);
+        }
+        if let Some(through) = sending.through {
+            self.send_through(through, to, sending.is_deaf, &datagram, now);
+        }
+        if sending.asks {
+            self.say_hello(to, None, now);
+        }
+    }
+
+    /// Sends what is encrypted already to a machine's own address.
+    pub(super) fn send_itself(&mut self, to: u8, datagram: &[u8], now: Instant) {
+        let sent = self.peers.address(to).map(|address| (address, self.link.send(datagram, address)));
         if !matches!(sent, Some((_, Ok(())))) {
             self.metrics.dropped.with_label_values(&["NotSent"]).inc();
         }

@@ -1,7 +1,7 @@
 //! Submissions on their way between agents.
 
 use super::datagrams::Waiting;
-use super::{Asker, Daemon, FILE_IS_COPY};
+use super::{Asker, Daemon, Origin, FILE_IS_COPY};
 use crate::forward::{is_of_another_version, of_leases, unmarked, About, Client, Datagram, Due, Given, News, Outcome, Submission, Told, Token, Turn, Verdict, What};
 use crate::node::{JobKey, Lane, Refusal};
 use crate::protocol::Reply;
@@ -83,12 +83,12 @@ impl Daemon {
     }
 
     /// A datagram of another agent came.
-    pub(super) fn take_of_agent(&mut self, bytes: &[u8], from: SocketAddr, now: Instant) {
+    pub(super) fn take_of_agent(&mut self, bytes: &[u8], from: Origin, now: Instant) {
         if let Some((mark, message)) = unmarked(bytes) {
             return self.take_marked(mark, message, from, now);
         }
         if of_leases::is_of_leases(bytes) {
-            return self.take_of_leases(bytes, from);
+            return self.take_of_leases(bytes, from, now);
         }
         if is_of_another_version(bytes) {
             return self.metrics.dropped.with_label_values(&["Version"]).inc();
@@ -103,6 +103,7 @@ impl Daemon {
         if !self.peers.has_machine(datagram.from) {
             return self.take_of_unnamed(&datagram, from);
         }
+        self.came_from(Some(datagram.from), from, now);
         let is_submission = matches!(datagram.what, What::Submit { .. });
         if is_submission && !self.node.has_room(Lane::Network) {
             return self.put_off(Some(usize::from(datagram.from)), Waiting::OfAgent(datagram), bytes.len());
@@ -206,7 +207,7 @@ impl Daemon {
     }
 
     /// Whether an agent that introduces itself isn't of this one's cluster. It is told of which one this is, where it asks.
-    fn is_of_stranger(&mut self, datagram: &Datagram, at: SocketAddr, now: Instant) -> bool {
+    fn is_of_stranger(&mut self, datagram: &Datagram, from: Origin, now: Instant) -> bool {
         let about = match datagram.about() {
             Some(about) => about,
             None => return false,
@@ -218,14 +219,19 @@ impl Daemon {
                 return false;
             }
         };
-        if self.introductions.tells_of(at, now) {
-            warn!("{at}: {stranger}: they don't hear each other");
+        if self.introductions.tells_of(from.at, now) {
+            warn!("{}: {stranger}: they don't hear each other", from.at);
         }
-        if matches!(datagram.what, What::Hello { .. }) {
-            let what = What::Stranger { about: self.introductions.about().clone() };
-            self.send_to(at, datagram.from, datagram.token, what);
-        }
+        self.tell_stranger(datagram, from);
         true
+    }
+
+    /// Tells one that asked of which cluster this agent is: not through another one, which carries nothing to strangers.
+    fn tell_stranger(&mut self, datagram: &Datagram, from: Origin) {
+        if matches!(datagram.what, What::Hello { .. }) && from.through.is_none() {
+            let what = What::Stranger { about: self.introductions.about().clone() };
+            self.send_to(from.at, datagram.from, datagram.token, what);
+        }
     }
 
     /// Tells the log of a list that fits and has a machine where this one has none, or none where this one has one.
@@ -236,17 +242,15 @@ impl Daemon {
     }
 
     /// An agent of this cluster speaks for a place that is empty here. It is told so, where it asks.
-    fn take_of_unnamed(&mut self, datagram: &Datagram, at: SocketAddr) {
+    fn take_of_unnamed(&mut self, datagram: &Datagram, from: Origin) {
         self.metrics.dropped.with_label_values(&["Unnamed"]).inc();
-        if matches!(datagram.what, What::Hello { .. }) {
-            let what = What::Stranger { about: self.introductions.about().clone() };
-            self.send_to(at, datagram.from, datagram.token, what);
-        }
+        self.tell_stranger(datagram, from);
     }
 
     /// Asks whoever is at this address, and the node in whose name it speaks, of which cluster it is.
-    pub(super) fn ask_stranger(&mut self, at: SocketAddr, node: u8, now: Instant) {
-        if self.introductions.asks(now) {
+    pub(super) fn ask_stranger(&mut self, from: Origin, node: u8, now: Instant) {
+        let at = from.at;
+        if from.through.is_none() && self.introductions.asks(now) {
             let what = What::Hello { about: Some(self.introductions.about().clone()), news: None };
             let known = self.peers.address(node).filter(|address| *address != at && node != self.config.id);
             for address in known.into_iter().chain([at]) {

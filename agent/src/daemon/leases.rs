@@ -1,7 +1,7 @@
 //! The process of leases beside the node, and those who ask for leases here.
 
 use super::voters::Count;
-use super::{Daemon, PATIENCE_AT_END};
+use super::{Daemon, Origin, PATIENCE_AT_END};
 use crate::boot_time::BootTime;
 use crate::config::Config;
 use crate::forward::{of_leases, Token as AgentToken, What};
@@ -12,7 +12,6 @@ use log::{debug, error, info, warn};
 use mio::{Registry, Token};
 use serde::Serialize;
 use std::collections::BTreeSet;
-use std::net::SocketAddr;
 use std::time::{Duration, Instant};
 
 pub(super) const LEASE_INPUT: Token = Token(6);
@@ -283,7 +282,7 @@ impl Daemon {
     }
 
     /// A datagram with a message of leases came.
-    pub(super) fn take_of_leases(&mut self, bytes: &[u8], from: SocketAddr) {
+    pub(super) fn take_of_leases(&mut self, bytes: &[u8], from: Origin, now: Instant) {
         let (mark, message) = match of_leases::without_head(bytes, self.config.key.is_some()) {
             Some(both) => both,
             None => return self.metrics.dropped.with_label_values(&["Forged"]).inc(),
@@ -297,6 +296,9 @@ impl Daemon {
         if self.config.key.is_none() && of_leases::sender(message).map_or(false, |sender| self.peers.is_empty_place(sender)) {
             return self.metrics.dropped.with_label_values(&["Unnamed"]).inc();
         }
+        if self.config.key.is_none() {
+            self.came_from(of_leases::sender(message), from, now);
+        }
         let process = self.leases.as_mut().and_then(|leases| leases.process.as_mut());
         match process.filter(|process| process.has_room()) {
             Some(process) => {
@@ -304,7 +306,7 @@ impl Daemon {
                 self.metrics.lease_messages.with_label_values(&["in"]).inc();
             }
             None => {
-                debug!("a message of leases of {from} isn't taken");
+                debug!("a message of leases of {} isn't taken", from.at);
                 self.metrics.dropped.with_label_values(&["NoRoom"]).inc();
             }
         }

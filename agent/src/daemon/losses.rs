@@ -14,16 +14,14 @@ impl Looking {
 }
 
 impl Daemon {
-    /// Has the node make a group without another one. A member whose coordinator that was asks it first, and by the second word leaves. Between these the node is
-    /// told the time: else it would take the answer for a late one to what it asked before, and wait for others as long from then on.
+    /// Has the node make a group without another one. A member whose coordinator that was asks it first, and by the second word leaves.
     pub(super) fn lose(&mut self, node: u8, now: Instant) {
         if self.is_next(node, now) {
             // behind a round trip the other members have left, too
             self.looking = Looking(Some(now + Duration::from_millis(self.config.round_trip_ms)));
         }
-        let (lost, time) = (format!("lost {node}"), format!("tick {}", self.clock.node_ms(now)));
-        for line in [lost.clone(), time, lost] {
-            self.ask(Asker::Lost, line);
+        for _ in 0..2 {
+            self.ask(Asker::Lost, format!("lost {node}"));
         }
     }
 

@@ -14,13 +14,14 @@ mod looks;
 mod losses;
 mod opening;
 mod pages;
+mod relaying;
 mod requests;
 mod signals;
 mod voters;
 
 use announcing::Announcing;
 use answers::NOT_IN_HAND;
-pub use asker::Asker;
+pub use asker::{Asker, Origin};
 pub use signals::Beginning;
 
 use crate::clock::Clock;
@@ -182,7 +183,7 @@ impl Daemon {
             cipher: cipher_of(&config)?,
             backlog: Backlog::new(nodes),
             pace: Pace::new(nodes, config.key.is_some(), round_trip, now),
-            resolver: Resolver::start(Arc::clone(&waker))?,
+            resolver: Resolver::new(Arc::clone(&waker)),
             waker,
             clients,
             admin: config.admin()?,
@@ -497,7 +498,7 @@ fn node_of(config: &Config, life: u64, registry: &Registry, begin: SystemTime) -
     if let Some(path) = &config.record {
         node.begin_record(Record::open(path, config).with_context(|| format!("record {}", path.display()))?);
         let since = begin.duration_since(UNIX_EPOCH).unwrap_or_default();
-        node.write_down([format!("start {}", since.as_millis()).as_str()]);
+        node.write_down(&format!("start {}", since.as_millis()));
     }
     Ok(node)
 }

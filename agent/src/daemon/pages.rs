@@ -6,6 +6,7 @@ use super::{Asker, Daemon};
 use crate::http::{Page, Response, PAGE, THREADS};
 use crate::node::{Lane, Line};
 use crate::protocol::QUEUES;
+use crate::system_calls::give_back_memory;
 use serde_json::json;
 use std::time::{Duration, Instant};
 
@@ -56,8 +57,10 @@ impl Daemon {
                 self.metrics.record_wanted.set(i64::from(self.wants_record));
                 self.metrics.cut_off.set(self.clients.cut_off as i64);
                 self.link.drops().into_iter().for_each(|drops| self.metrics.count_kernel_drops(drops));
-                let content_type = "text/plain; version=0.0.4";
-                Response { status: 200, content_type, body: self.metrics.text(&self.view, &self.peers, now) }
+                let (content_type, body) = ("text/plain; version=0.0.4", self.metrics.text(&self.view, &self.peers, now));
+                // what it is made in is as large as all that the agent has else
+                give_back_memory();
+                Response { status: 200, content_type, body }
             }
             "/" => Response { status: 200, content_type: "text/html; charset=utf-8", body: PAGE.to_string() },
             _ => Response::text(404, "no such page"),

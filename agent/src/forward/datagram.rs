@@ -2,6 +2,7 @@
 
 use super::about::Mark;
 use super::of_leases::is_of_leases;
+use super::relayed::is_relayed;
 use super::{About, Key, Knows, Numbers, Seal, Told};
 use crate::lease::Voting;
 use crate::node::{JobKey, Payload, Refusal};
@@ -129,7 +130,7 @@ pub fn unmarked(bytes: &[u8]) -> Option<(Mark, &[u8])> {
 
 /// Whether it is one of agents of another version than this one.
 pub fn is_of_another_version(bytes: &[u8]) -> bool {
-    is_of_agents(bytes) && bytes.get(1).map_or(false, |version| ![HEAD[1], HEAD_OF_MESSAGE[1]].contains(version)) && !is_of_leases(bytes)
+    is_of_agents(bytes) && bytes.get(1).map_or(false, |version| ![HEAD[1], HEAD_OF_MESSAGE[1]].contains(version)) && !is_of_leases(bytes) && !is_relayed(bytes)
 }
 
 impl Datagram {
@@ -170,8 +171,8 @@ mod tests {
         assert!(is_of_agents(&bytes) && bytes.len() + 32 + LONGER < MAX_DATAGRAM.min(1400), "{}", bytes.len());
         assert_eq!(Datagram::decode(&bytes, &Seal::default()), Some(datagram));
         assert_eq!(Datagram::decode(&bytes[1..], &Seal::default()), None);
-        let versions = [&bytes[..], &[0xd6, 2], &[0xd6, 3], &[0xd6, 4], &[0xd6], &[1, 2]].map(is_of_another_version);
-        assert_eq!(versions, [false, false, false, true, false, false]);
+        let versions = [&bytes[..], &[0xd6, 2], &[0xd6, 3], &[0xd6, 4], &[0xd6], &[1, 2], &[0xd6, 6]].map(is_of_another_version);
+        assert_eq!(versions, [false, false, false, true, false, false, false]);
     }
 
     #[test]

@@ -12,6 +12,7 @@ mod model;
 mod numbers;
 pub mod of_leases;
 mod outbox;
+mod relayed;
 mod seal;
 mod stamps;
 
@@ -22,6 +23,7 @@ pub use key_file::{read_keys, KeyError};
 pub use keys::{Key, Keys, Knows, Turn};
 pub use numbers::{Ledger, Numbers, OwnNumbers, Told};
 pub use outbox::{Client, Due, Given, Outbox};
+pub use relayed::{is_relayed, Leg, Relayed};
 pub use seal::Seal;
 
 use std::io::Read;

@@ -18,6 +18,14 @@ pub enum Hosts {
 }
 
 impl Hosts {
+    /// What one that asked in the name of another host is told.
+    pub fn advice(&self) -> &'static str {
+        match self {
+            Hosts::Loopback => "this is asked of another host: ask localhost or an address of the loopback, as 127.0.0.1",
+            Hosts::Anywhere(_) => "this is asked of another host: ask an address, localhost, or a host that `nodes` names",
+        }
+    }
+
     /// Whether HOST[:PORT] is one of them.
     fn has(&self, host: &str) -> bool {
         let name = match host.rsplit_once(':') {

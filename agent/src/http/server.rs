@@ -1,5 +1,6 @@
-//! The server: a few threads, each for one request at a time, which the loop answers. It reads no more of a request than its head, for so long at most,
-//! and ends the connection behind each answer: so however many come, they take no more than these threads.
+//! The server: a thread takes connections, and each has one of its own for its only request, which the loop answers. It reads no more of a request than its
+//! head, for so long at most, and ends the connection behind the answer: so however many come, they take no more than a few threads, and none while nobody
+//! asks.
 
 use super::request::{read_head, Head, Hosts};
 use log::warn;
@@ -42,8 +43,8 @@ impl Response {
         Response { status: 200, content_type: "application/json", body }
     }
 
-    /// All of it, or its head alone.
-    fn bytes(&self, is_head: bool) -> Vec<u8> {
+    /// What stands before its body.
+    fn head(&self) -> String {
         let reason = match self.status {
             200 => "OK",
             404 => "Not Found",
@@ -62,7 +63,7 @@ impl Response {
             "Allow: GET, HEAD".to_string(),
             "Connection: close".to_string(),
         ];
-        format!("{}\r\n\r\n{}", head.join("\r\n"), if is_head { "" } else { &self.body }).into_bytes()
+        head.join("\r\n") + "\r\n\r\n"
     }
 }
 
@@ -85,12 +86,10 @@ pub struct Server {
 
 impl Server {
     pub fn start(at: SocketAddr, hosts: Hosts, waker: Arc<Waker>) -> io::Result<Server> {
-        let (listener, hosts) = (Arc::new(TcpListener::bind(at)?), Arc::new(hosts));
+        let listener = TcpListener::bind(at)?;
         let (to, from) = sync_channel(THREADS);
-        for _ in 0..THREADS {
-            let (listener, hosts, to, waker) = (Arc::clone(&listener), Arc::clone(&hosts), to.clone(), Arc::clone(&waker));
-            thread::Builder::new().spawn(move || serve(&listener, &hosts, &to, &waker))?;
-        }
+        let desk = Arc::new(Desk { hosts, to, waker });
+        thread::Builder::new().spawn(move || serve(&listener, &desk))?;
         Ok(Server { from })
     }
 
@@ -100,36 +99,67 @@ impl Server {
     }
 }
 
-fn serve(listener: &TcpListener, hosts: &Hosts, to: &SyncSender<Page>, waker: &Waker) {
-    loop {
-        match listener.accept() {
-            // one that went away isn't told
-            Ok((stream, _)) => drop(serve_one(&stream, hosts, to, waker)),
-            Err(error) if matches!(error.kind(), io::ErrorKind::Interrupted | io::ErrorKind::ConnectionAborted) => {}
-            Err(error) => {
-                warn!("HTTP: {error}");
-                thread::sleep(Duration::from_secs(1));
-            }
+/// What each request needs.
+struct Desk {
+    hosts: Hosts,
+    to: SyncSender<Page>,
+    waker: Arc<Waker>,
+}
+
+/// Takes connections while there are threads for them; those behind them wait in the system's queue.
+fn serve(listener: &TcpListener, desk: &Arc<Desk>) {
+    let (free, turns) = sync_channel(THREADS);
+    for _ in 0..THREADS {
+        let _has_room = free.try_send(());
+    }
+    while turns.recv().is_ok() {
+        let (desk, own) = (Arc::clone(desk), free.clone());
+        let begun = accepted(listener).and_then(|stream| {
+            thread::Builder::new().spawn(move || {
+                // one that went away isn't told
+                drop(serve_one(&stream, &desk));
+                let _has_room = own.try_send(());
+            })
+        });
+        if let Err(error) = begun {
+            warn!("HTTP: {error}");
+            thread::sleep(Duration::from_secs(1));
+            let _has_room = free.try_send(());
         }
     }
 }
 
-fn serve_one(stream: &TcpStream, hosts: &Hosts, to: &SyncSender<Page>, waker: &Waker) -> io::Result<()> {
+/// The next connection.
+fn accepted(listener: &TcpListener) -> io::Result<TcpStream> {
+    loop {
+        match listener.accept() {
+            Ok((stream, _)) => return Ok(stream),
+            Err(error) if matches!(error.kind(), io::ErrorKind::Interrupted | io::ErrorKind::ConnectionAborted) => {}
+            Err(error) => return Err(error),
+        }
+    }
+}
+
+fn serve_one(stream: &TcpStream, desk: &Desk) -> io::Result<()> {
     let until = Instant::now() + PATIENCE;
-    let (response, is_head) = match read_head(&mut Timed { stream, until }, hosts)? {
-        Head::Get { path, is_head } => (response_to(path, to, waker), is_head),
+    let (response, is_head) = match read_head(&mut Timed { stream, until }, &desk.hosts)? {
+        Head::Get { path, is_head } => (response_to(path, desk), is_head),
         Head::Other => (Response::text(405, "GET and HEAD alone"), false),
-        Head::Elsewhere => (Response::text(421, "this is asked of another host: ask an address, localhost, or a host that `nodes` names"), false),
+        Head::Elsewhere => (Response::text(421, desk.hosts.advice()), false),
         Head::Unreadable => (Response::text(400, "this is no request"), false),
     };
     let until = Instant::now() + PATIENCE;
-    Timed { stream, until }.write_all(&response.bytes(is_head))?;
+    let mut out = Timed { stream, until };
+    out.write_all(response.head().as_bytes())?;
+    if !is_head {
+        out.write_all(response.body.as_bytes())?;
+    }
     stream.shutdown(Shutdown::Write)
 }
 
-fn response_to(path: String, to: &SyncSender<Page>, waker: &Waker) -> Response {
+fn response_to(path: String, desk: &Desk) -> Response {
     let (back, response) = sync_channel(1);
-    let is_taken = to.try_send(Page { path, to: back }).is_ok() && waker.wake().is_ok();
+    let is_taken = desk.to.try_send(Page { path, to: back }).is_ok() && desk.waker.wake().is_ok();
     let answered = if is_taken { response.recv_timeout(PATIENCE).ok() } else { None };
     answered.unwrap_or_else(|| Response::text(503, "the agent doesn't answer"))
 }

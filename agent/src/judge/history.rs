@@ -1,17 +1,18 @@
 //! What one node did, as the entries of a trace.
 
+use super::doubt::{ends, puts, Seen};
 use super::message::{message_of, Begin};
 use super::order::{Message, Sent, Turn};
 use super::{NodeRecord, RecordError};
 use crate::node::{Closing, Group, Phase};
 use serde_json::{json, Map, Value};
-use std::collections::HashMap;
+use std::collections::{BTreeSet, HashMap, VecDeque};
 
 /// The requests that are no events. `tick` and `lost` name theirs.
 const NO_EVENTS: [&str; 3] = ["compact", "state", "jobs"];
 
-/// So many groups that a node made without an answer are put into a trace beyond those of its recoveries: one answer names fewer.
-const MAX_UNKNOWN: u64 = 64;
+/// A request makes a node begin fewer groups: so many timers fire at most by one.
+const MAX_GROUPS: u64 = 16;
 
 /// An event and the lines that stand behind it in the answer.
 struct Event<'a> {
@@ -23,14 +24,6 @@ impl<'a> Event<'a> {
     fn sent(&self) -> impl Iterator<Item = &'a str> + '_ {
         self.lines.iter().filter_map(|line| line.strip_prefix("send ")?.split(' ').nth(1))
     }
-}
-
-/// What the node's file keeps: the count of groups, the next id, how many jobs.
-#[derive(Clone, Copy)]
-struct Kept {
-    count: u64,
-    next: u64,
-    pending: u64,
 }
 
 pub struct History<'a> {
@@ -48,20 +41,21 @@ pub struct History<'a> {
     untimed: usize,
     /// Of each message that was sent, as the trace has it, the last turn that sent it, and its place there.
     sent: HashMap<Message, (usize, usize)>,
-    kept: Kept,
+    /// What the node's file keeps: the count of groups, from the begin of the record on; the next id; and the ids of the jobs.
+    count: u64,
+    next: u64,
+    pending: BTreeSet<u64>,
+    /// Whether a process mounted the file, and whether it still has it.
+    has_begun: bool,
     is_up: bool,
-    leads: bool,
-    phase: Phase,
-    is_checking: bool,
-    /// The request that a kill left without an answer; empty where there was none.
-    doubt: Option<String>,
-    /// Recoveries that kills left without an answer since.
-    recoveries: u64,
+    /// The requests that kills left without an answer since the file was mounted.
+    doubts: Vec<&'a str>,
 }
 
 impl<'a> History<'a> {
-    /// Reads a record. At a kill one request at most is in doubt: what the next recovery finds says whether its command counted.
-    pub fn of(own: u8, record: &NodeRecord, begins: &'a [Begin]) -> Result<History<'a>, RecordError> {
+    /// Reads a record. An answer is that to the first request that has none. At a kill some requests are in doubt: what the next recovery finds says how many
+    /// of their commands counted.
+    pub fn of(own: u8, record: &'a NodeRecord, begins: &'a [Begin]) -> Result<History<'a>, RecordError> {
         let mut history = History {
             own,
             begins,
@@ -71,27 +65,38 @@ impl<'a> History<'a> {
             began: 0,
             untimed: 0,
             sent: HashMap::new(),
-            kept: Kept { count: 1, next: 0, pending: 0 },
+            count: 1,
+            next: 0,
+            pending: BTreeSet::new(),
+            has_begun: false,
             is_up: false,
-            leads: true,
-            phase: Phase::Normal,
-            is_checking: false,
-            doubt: None,
-            recoveries: 0,
+            doubts: Vec::new(),
         };
-        let (mut request, mut answer): (Option<&str>, Vec<&str>) = (None, Vec::new());
-        for line in record.lines() {
-            if let Some(asked) = line.strip_prefix("> ") {
-                request = Some(asked);
-                answer.clear();
-                history.told(asked);
+        let (mut asked, mut answer): (VecDeque<&str>, Vec<&str>) = (VecDeque::new(), Vec::new());
+        let mut lines = record.lines();
+        while let Some(line) = lines.next() {
+            if let Some(request) = line.strip_prefix("> ") {
+                asked.push_back(request);
             } else if let Some(start) = line.strip_prefix("start") {
+                asked.iter().for_each(|request| history.told(request));
                 history.began = start.trim().parse().unwrap_or(history.time);
                 history.untimed = history.turns.len();
-                history.killed(request.take());
+                history.doubts.extend(asked.drain(..));
+                history.is_up = false;
+                answer.clear();
             } else if let Some(closing) = Closing::read(line) {
                 let fault = || RecordError::Line { node: record.node, line: line.to_string() };
-                history.answered(request.take().ok_or_else(fault)?, &answer, &closing).ok_or_else(fault)?;
+                let request = asked.pop_front().ok_or_else(fault)?;
+                history.told(request);
+                match history.kept_by(request, &answer) {
+                    Some(keeps) => {
+                        let no_state = || RecordError::NoState { node: record.node, keeps: keeps.to_string() };
+                        history.recovered(keeps, lines.clone()).ok_or_else(no_state)?;
+                        history.follow(&answer).ok_or_else(fault)?;
+                    }
+                    None => history.answered(request, &answer, &closing).ok_or_else(fault)?,
+                }
+                answer.clear();
             } else {
                 answer.push(line);
             }
@@ -145,18 +150,8 @@ impl<'a> History<'a> {
         }
     }
 
-    /// The process ended, with this request unanswered.
-    fn killed(&mut self, request: Option<&str>) {
-        if self.is_up {
-            self.is_up = false;
-            self.doubt = Some(request.unwrap_or_default().to_string());
-        } else if request == Some("recover") {
-            self.recoveries += 1;
-        }
-    }
-
     /// The lines of an answer belong to the event of the request, or each to the event that was fired before it.
-    fn answered(&mut self, request: &str, answer: &[&str], closing: &Closing) -> Option<()> {
+    fn answered(&mut self, request: &'a str, answer: &[&str], closing: &Closing) -> Option<()> {
         let word = request.split(' ').next()?;
         let mut events = vec![Event { name: word, lines: Vec::new() }];
         for line in answer {
@@ -181,43 +176,40 @@ impl<'a> History<'a> {
         }
         match closing {
             Closing::Ok(Some(id)) => {
-                self.kept.next = id.wrapping_sub(self.begins[usize::from(self.own)].id).wrapping_add(1);
-                self.kept.pending = self.kept.pending.saturating_add(1);
+                self.next = id.wrapping_add(1);
+                self.pending.insert(*id);
             }
-            Closing::Fault => self.killed(Some(request)),
+            Closing::Fault => {
+                self.doubts.push(request);
+                self.is_up = false;
+            }
             _ => {}
         }
         Some(())
     }
 
     fn event(&mut self, event: &Event, request: &str) -> Option<()> {
-        if event.name == "recover" && !self.is_up {
-            let keeps = event.lines.iter().find_map(|line| line.strip_prefix("keeps "))?;
-            self.recovered(keeps)?;
-        } else {
-            let sent: Vec<&str> = event.sent().collect();
-            let fields = self.fields_of(event.name, request)?;
-            self.put(event.name, request, &sent, fields);
-        }
-        if ["check", "merge"].contains(&event.name) {
-            self.is_checking = event.name == "check";
-        }
-        for line in &event.lines {
+        let sent: Vec<&str> = event.sent().collect();
+        let fields = self.fields_of(event.name, request)?;
+        self.put(event.name, request, &sent, fields);
+        self.follow(&event.lines)
+    }
+
+    /// Takes the node's group, and the jobs that it keeps, from the lines of an event.
+    fn follow(&mut self, lines: &[&str]) -> Option<()> {
+        for line in lines {
             if let Some(words) = line.strip_prefix("group ") {
                 self.entered(&Group::read(&words.split(' ').collect::<Vec<_>>()).ok()?);
-            } else if line.starts_with("gone ") {
-                self.kept.pending = self.kept.pending.saturating_sub(1);
+            } else if let Some(id) = line.strip_prefix("gone ") {
+                self.pending.remove(&id.parse().ok()?);
             }
         }
         Some(())
     }
 
     fn entered(&mut self, group: &Group) {
-        self.phase = group.phase;
-        self.leads = group.coordinator == self.own;
-        self.is_checking = false;
         if group.number.creator == self.own && group.phase != Phase::Down {
-            self.kept.count = self.own_count(group.number.count);
+            self.count = self.own_count(group.number.count);
         }
     }
 
@@ -225,78 +217,71 @@ impl<'a> History<'a> {
         count.wrapping_sub(self.begins[usize::from(self.own)].count)
     }
 
-    /// The file was mounted: the command in doubt counted where something else was found than was known.
-    fn recovered(&mut self, keeps: &str) -> Option<()> {
+    /// What the file keeps that a node mounted, by its answer to a request.
+    fn kept_by<'l>(&self, request: &str, answer: &[&'l str]) -> Option<&'l str> {
+        let is_mounted = request == "recover" && !self.is_up;
+        answer.iter().find_map(|line| line.strip_prefix("keeps ")).filter(|_| is_mounted)
+    }
+
+    /// The file was mounted: puts what became of the requests in doubt. None where it can't keep that.
+    fn recovered(&mut self, keeps: &str, later: impl Iterator<Item = &'a str>) -> Option<()> {
         let numbers: Vec<u64> = keeps.split(' ').filter_map(|word| word.parse().ok()).collect();
-        let begin = self.begins[usize::from(self.own)];
-        let found = match numbers.as_slice() {
-            [count, next, pending] => {
-                Kept { count: self.own_count(*count), next: next.wrapping_sub(begin.id), pending: *pending }
-            }
+        let (count, next, pending) = match numbers.as_slice() {
+            [count, next, pending] => (self.own_count(*count), *next, usize::try_from(*pending).ok()?),
             _ => return None,
         };
-        let is_first = self.entries.is_empty() && self.doubt.is_none() && found.count <= 1;
-        if !is_first {
-            let doubt = self.doubt.take().unwrap_or_default();
-            self.settle(&doubt, found)?;
+        let doubts = std::mem::take(&mut self.doubts);
+        // what stands before the first one is before the begin of the trace
+        if std::mem::replace(&mut self.has_begun, true) {
+            let groups = count.checked_sub(self.count)?.checked_sub(1)?;
+            if groups > MAX_GROUPS.saturating_mul(doubts.len() as u64) {
+                return None;
+            }
+            self.put_crash(groups);
+            self.put_doubts(&doubts, next, pending, later)?;
         }
-        self.kept = found;
-        (self.is_up, self.doubt, self.recoveries) = (true, None, 0);
+        (self.count, self.next, self.is_up) = (count, next, true);
         Some(())
     }
 
-    /// Puts what became of the request in doubt, and the recoveries behind it.
-    fn settle(&mut self, doubt: &str, found: Kept) -> Option<()> {
-        let word = doubt.split(' ').next().unwrap_or_default();
-        let mut raised = found.count.checked_sub(1)?.checked_sub(self.kept.count)?;
-        let mut has_counted = true;
-        if found.next > self.kept.next || found.pending < self.kept.pending {
-            let fields = self.fields_of(word, doubt)?;
-            self.put_failed(word, doubt, "device", fields);
-        } else if raised > self.recoveries {
-            raised -= 1;
-            let event = if ["tick", "lost"].contains(&word) { self.raiser() } else { word };
-            let fields = self.fields_of(event, doubt)?;
-            self.put_failed(event, doubt, if event == "recover" { "raise" } else { "device" }, fields);
-        } else {
-            has_counted = false;
-            self.put("crash", doubt, &[], Map::new());
-        }
-        // so the process ended when the node was told the time last
+    /// The process ended, when the node was told the time last. Each group that it began unseen is one of a recovery that failed behind it.
+    fn put_crash(&mut self, groups: u64) {
+        self.put("crash", "", &[], Map::new());
         self.untimed = self.turns.len();
-        if raised > self.recoveries.saturating_add(MAX_UNKNOWN) {
-            return None;
+        for place in 0..=groups {
+            let mut fields = Map::new();
+            fields.insert("kept".to_string(), json!(place > 0));
+            if place < groups {
+                fields.insert("fault".to_string(), json!("raise"));
+            }
+            self.put("recover", "", &[], fields);
         }
-        for _ in 0..raised {
-            self.put_recovery(has_counted, Some("raise"));
-            has_counted = true;
+    }
+
+    /// The commands in doubt that counted stand behind the recovery, where the node is alone: what they made it send there is nothing, as nothing of it left the
+    /// machine.
+    fn put_doubts(&mut self, doubts: &[&'a str], next: u64, count: usize, later: impl Iterator<Item = &'a str>) -> Option<()> {
+        let (own, mut later) = (self.own, Some(later));
+        let mut seen = None;
+        let mut see = || seen.get_or_insert_with(|| Seen::of(own, later.take().into_iter().flatten())).clone();
+        let put = puts(doubts, self.next..next, &mut see)?;
+        let ended = ends(own, doubts, &self.pending, (self.pending.len() + put.len()).checked_sub(count)?, &mut see)?;
+        for (id, request) in (self.next..).zip(put) {
+            let fields = self.fields_of("submit", request)?;
+            self.put("submit", request, &[], fields);
+            self.pending.insert(id);
         }
-        self.put_recovery(has_counted, None);
+        // a job is ended by who has it in hand
+        if ended.iter().any(|(_, request)| request.starts_with("finish ")) {
+            self.put("dispatch", "", &[], Map::new());
+        }
+        for (id, request) in ended {
+            let name = request.split(' ').next()?;
+            let fields = self.fields_of(name, request)?;
+            self.put(name, request, &[], fields);
+            self.pending.remove(&id);
+        }
         Some(())
-    }
-
-    fn put_failed(&mut self, name: &str, request: &str, fault: &str, mut fields: Map<String, Value>) {
-        fields.insert("fault".to_string(), json!(fault));
-        self.put(name, request, &[], fields);
-    }
-
-    fn put_recovery(&mut self, kept: bool, fault: Option<&str>) {
-        let mut fields = Map::new();
-        fields.insert("kept".to_string(), json!(kept));
-        match fault {
-            Some(fault) => self.put_failed("recover", "", fault, fields),
-            None => self.put("recover", "", &[], fields),
-        }
-    }
-
-    /// The timer that begins a group, where the node is.
-    fn raiser(&self) -> &'static str {
-        match (self.leads, self.phase, self.is_checking) {
-            (false, _, _) => "coord",
-            (_, Phase::Reorganization, _) => "ready",
-            (_, _, true) => "merge",
-            _ => "recover",
-        }
     }
 
     /// The fields of an event's entry.
@@ -318,6 +303,7 @@ impl<'a> History<'a> {
                 let begin = self.begins.get(usize::from(origin)).copied().unwrap_or_default();
                 json!({"origin": origin, "id": id.parse::<u64>().ok()?.wrapping_sub(begin.id)})
             }
+            // of a node that isn't down
             ("recover", _) => json!({"kept": false}),
             _ => json!({}),
         };
@@ -355,17 +341,75 @@ mod tests {
         assert_eq!(entries(&lines), put);
     }
 
+    /// What a run comes to that a kill ends with these lines, and in which the next process finds these numbers and says these lines.
+    fn killed(last: &str, keeps: &str, later: &str) -> Result<Vec<String>, String> {
+        let lines = format!("{START}{last}start\n> recover\ngroup Normal 0 0:{} 0\nkeeps {keeps}\nok 1\n{later}", keeps.split(' ').next().unwrap());
+        let (record, begins) = (NodeRecord::of_text(0, &lines), [Begin { count: 100, id: 5 }]);
+        let history = History::of(0, &record, &begins).map_err(|why| why.to_string())?;
+        Ok(values(&history.entries().0).iter().map(short).collect())
+    }
+
+    /// An entry in a few words.
+    fn short(entry: &Value) -> String {
+        let word = |name: &str| entry.get(name).map(|value| format!(" {}", value.as_str().map_or_else(|| value.to_string(), str::to_string)));
+        assert_eq!(entry["sent"], json!([]));
+        entry["do"].as_str().unwrap().to_string() + &["kept", "fault", "queue", "payload", "priority", "origin", "id", "msg"].iter().filter_map(|name| word(name)).collect::<String>()
+    }
+
+    const AGAIN: [&str; 2] = ["crash", "recover false"];
+
+    fn again_and(more: &[&str]) -> Result<Vec<String>, String> {
+        Ok(AGAIN.iter().chain(more).map(|word| word.to_string()).collect())
+    }
+
     #[test]
     fn what_a_kill_left_in_doubt_is_known_by_what_is_found() {
-        let kept =
-            entries(&format!("{START}> submit 3 -\nstart\n> recover\ngroup Normal 0 0:102 0\nkeeps 102 6 1\nok 1\n"));
-        assert_eq!(kept[0], r#"{"do":"submit","fault":"device","payload":"","queue":3,"sent":[]}"#);
-        assert_eq!(kept[1], r#"{"do":"recover","kept":true,"sent":[]}"#);
-        let lost =
-            entries(&format!("{START}> submit 3 -\nstart\n> recover\ngroup Normal 0 0:102 0\nkeeps 102 5 0\nok 1\n"));
-        assert_eq!(lost, [r#"{"do":"crash","sent":[]}"#, r#"{"do":"recover","kept":false,"sent":[]}"#]);
-        let raised = entries(&format!("{START}> merge\nstart\n> recover\nkeeps 103 5 0\nok 1\n"));
-        assert_eq!(raised[0], r#"{"do":"merge","fault":"device","sent":[]}"#);
+        assert_eq!(killed("> submit 3 -\n", "102 6 1", ""), again_and(&["submit 3 "]));
+        assert_eq!(killed("> submit 3 -\n", "102 5 0", ""), again_and(&[]));
+        assert_eq!(killed("", "102 5 0", ""), again_and(&[]));
+        // groups that were begun unseen are those of recoveries
+        let raised = ["crash", "recover false raise", "recover true raise", "recover true"].map(str::to_string).to_vec();
+        assert_eq!(killed("> merge\n> tick 3\n", "104 5 0", ""), Ok(raised));
+    }
+
+    #[test]
+    fn all_that_was_asked_and_has_no_answer_is_in_doubt() {
+        let two = "> submit 3 6869\n> submit 4 - 7\n";
+        assert_eq!(killed(two, "102 7 2", ""), again_and(&["submit 3 6869", "submit 4  7"]));
+        // an answer of which a part came through is none
+        assert_eq!(killed(&format!("{two}take 0 5 3 6869\n"), "102 7 2", ""), again_and(&["submit 3 6869", "submit 4  7"]));
+        assert_eq!(killed(&format!("{two}take 0 5 3 6869\nok 2 id 5\n"), "102 7 2", ""), Ok(["submit 3 6869", "crash", "recover false", "submit 4  7"].map(str::to_string).to_vec()));
+        // requests of two processes of which none was answered
+        assert_eq!(killed("> submit 3 6869\nstart\n> recover\n> submit 4 -\n", "102 7 2", ""), again_and(&["submit 3 6869", "submit 4 "]));
+    }
+
+    #[test]
+    fn which_ones_counted_is_known_by_what_is_said_of_the_jobs() {
+        let asked = "> submit 3 6869\n> submit 4 -\n> submit 3 6868 9\n";
+        let said = |line: &str| killed(asked, "102 6 1", &format!("> tick 9\nfired dispatch\n{line}\nok 2\n> tick 10\nfired dispatch\nok 3\n"));
+        assert_eq!(said("take 0 5 4 -").unwrap()[2..], ["submit 4 ", "dispatch", "dispatch"]);
+        assert_eq!(said("take 0 5 3 6868 9").unwrap()[2..], ["submit 3 6868 9", "dispatch", "dispatch"]);
+        assert_eq!(killed(asked, "102 6 1", "> jobs\npending 5 3 6868 9\nok 2\n").unwrap()[2], "submit 3 6868 9");
+        assert_eq!(killed(asked, "102 6 1", "").unwrap()[2], "submit 3 6869", "of a job that is never named it may be any");
+        let sent = "> state\nsend 1 010b0001001700000000000000006600000000000000050309000268680000\nok 2\n";
+        assert_eq!(killed(asked, "102 6 1", sent).unwrap()[2], "submit 3 6868 9");
+        let refused = said("take 0 5 7 -").unwrap_err();
+        let why = "its file said \"102 6 1\" when it was mounted, which nothing that stands before can have brought about, unless lines are lost there, as by a loss of power";
+        assert!(refused.ends_with(why), "{refused}");
+    }
+
+    #[test]
+    fn ends_of_jobs_in_doubt_that_counted() {
+        let kept = |last: &str| format!("> submit 3 -\nok 2 id 5\n> submit 4 -\nok 3 id 6\n> submit 5 -\nok 4 id 7\n{last}");
+        let ended = |last: &str, keeps: &str, later: &str| killed(&kept(last), keeps, later).map(|entries| entries[5..].to_vec());
+        let done = "> deliver 010a010000080000000000000006\n";
+        assert_eq!(ended(done, "102 8 2", "").unwrap(), ["deliver 010a010000080000000000000001"]);
+        assert_eq!(ended(done, "102 8 3", "").unwrap(), [""; 0]);
+        assert_eq!(ended(&format!("{done}{done}> finish 0 5\n> finish 1 7\n"), "102 8 1", "").unwrap(), ["dispatch", "deliver 010a010000080000000000000001", "finish 0 0"]);
+        // one that is named later on was still pending
+        let both = format!("{done}> finish 0 5\n> submit 1 -\n");
+        assert_eq!(ended(&both, "102 9 3", "> tick 9\nfired dispatch\ntake 0 6 4 -\ntake 0 7 5 -\ntake 0 8 1 -\nok 2\n").unwrap()[..3], ["submit 1 ", "dispatch", "finish 0 0"]);
+        assert!(ended(done, "102 8 1", "").is_err() && ended("", "102 8 2", "").is_err(), "nobody ended two, or one");
     }
 
     #[test]
@@ -391,14 +435,18 @@ mod tests {
     }
 
     #[test]
-    fn counts_that_no_node_reaches_are_refused() {
-        let lines = format!("{START}> merge\nstart\n> recover\nkeeps 18446744073709551615 5 0\nok 1\n");
-        assert!(History::of(0, &NodeRecord::of_text(0, &lines), &[Begin { count: 100, id: 5 }]).is_err());
+    fn numbers_that_nothing_in_doubt_brings_about_are_refused() {
+        for keeps in ["18446744073709551615 5 0", "119 5 0", "101 5 0", "102 4 0", "102 5 1", "102 6 1", "102 5"] {
+            assert!(killed("> merge\n", keeps, "").is_err(), "{keeps}");
+        }
+        assert!(killed("> merge\n", "118 5 0", "").is_ok() && killed("", "103 5 0", "").is_err(), "no more groups than requests can begin");
     }
 
     #[test]
     fn a_failed_device_leaves_its_event_in_doubt() {
         let lines = format!("{START}> submit 3 -\ngroup Down\nfault 2 Device\nstart\n> recover\nkeeps 102 5 0\nok 1\n");
         assert_eq!(entries(&lines), [r#"{"do":"crash","sent":[]}"#, r#"{"do":"recover","kept":false,"sent":[]}"#]);
+        let kept = lines.replace("keeps 102 5 0", "keeps 102 6 1");
+        assert_eq!(entries(&kept)[2], r#"{"do":"submit","payload":"","queue":3,"sent":[]}"#);
     }
 }

@@ -1,5 +1,6 @@
 //! Makes one trace of the records of a cluster's nodes, which `invite trace` judges.
 
+mod doubt;
 mod history;
 mod message;
 mod order;

@@ -27,6 +27,8 @@ pub enum RecordError {
     NoBegin { node: usize, what: &'static str },
     #[error("the record of node {node} can't be judged: it ends somewhere, and the node ran on")]
     Ended { node: usize },
+    #[error("the record of node {node}: its file said {keeps:?} when it was mounted, which nothing that stands before can have brought about, unless lines are lost there, as by a loss of power")]
+    NoState { node: usize, keeps: String },
     #[error("the record of node {node}: {line:?} can't be read")]
     Line { node: usize, line: String },
 }
@@ -45,7 +47,7 @@ impl NodeRecord {
         NodeRecord { node, is_there: false, parts: Vec::new() }
     }
 
-    pub fn lines(&self) -> impl Iterator<Item = &str> {
+    pub fn lines(&self) -> impl Iterator<Item = &str> + Clone {
         self.parts.iter().flat_map(Text::lines)
     }
 

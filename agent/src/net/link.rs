@@ -7,8 +7,9 @@ use socket2::SockRef;
 use std::io::{self, ErrorKind};
 use std::net::{SocketAddr, ToSocketAddrs};
 
-/// A sealed message of the node, and one of an agent, are far shorter; what is longer is cut, and refused by its form.
-pub const MAX_DATAGRAM: usize = 2048 + super::LONGER;
+/// A sealed message of the node, and one of an agent, are far shorter, and one that is carried on is encrypted twice; what is longer is cut, and refused by its
+/// form.
+pub const MAX_DATAGRAM: usize = 2048 + 2 * super::LONGER + 16;
 
 /// The system is asked for room for so many bytes of datagrams that weren't taken yet, each with its own upkeep: for more long jobs at once than a node
 /// keeps. It gives what it permits (net.core.rmem_max), twice.

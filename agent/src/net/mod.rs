@@ -6,9 +6,11 @@ mod kernel;
 mod link;
 mod pace;
 mod peers;
+mod ways;
 
 pub use backlog::Backlog;
 pub use cipher::{is_encrypted, Cipher, LONGER};
 pub use link::{Link, MAX_DATAGRAM};
 pub use pace::{GroupBytes, Leaves, Pace};
 pub use peers::{News, Peer, Peers};
+pub use ways::{Sending, Ways};

@@ -1,5 +1,6 @@
 //! The other nodes: where they are, and when they were heard.
 
+use super::{Sending, Ways};
 use crate::config::EMPTY;
 use std::collections::BTreeMap;
 use std::net::SocketAddr;
@@ -86,6 +87,11 @@ impl Peer {
         }
     }
 
+    /// Whether what is sent to its address has had no answer from there for long, though it may be heard through another one.
+    fn is_unheard_at(&self, now: Instant) -> bool {
+        self.tried.map_or(false, |tried| now.saturating_duration_since(tried) >= SILENCE)
+    }
+
     /// Whether its place has a machine.
     pub fn is_machine(&self) -> bool {
         self.name != EMPTY
@@ -93,6 +99,8 @@ impl Peer {
 }
 
 pub struct Peers {
+    /// Which of them are reached by themselves.
+    pub ways: Ways,
     own: usize,
     is_ipv6: bool,
     unanswered: Duration,
@@ -103,7 +111,7 @@ impl Peers {
     pub fn new(own: u8, names: &[String], is_ipv6: bool, round_trip: Duration) -> Peers {
         let unanswered = (round_trip * UNANSWERED).max(SILENCE);
         let peers = names.iter().map(|name| Peer::new(name)).collect();
-        let mut peers = Peers { own: usize::from(own), is_ipv6, unanswered, peers };
+        let mut peers = Peers { ways: Ways::new(own, names.len(), round_trip), own: usize::from(own), is_ipv6, unanswered, peers };
         (0..peers.peers.len()).for_each(|at| peers.take_literal(at));
         peers
     }
@@ -159,6 +167,25 @@ impl Peers {
         }
         peer.elsewhere = Some((from, now));
         true
+    }
+
+    /// The node took one that another agent carried on: that says nothing of where this one is.
+    pub fn hear_through(&mut self, node: u8, now: Instant) {
+        if let Some(peer) = self.peers.get_mut(usize::from(node)) {
+            peer.heard = Some(now);
+        }
+    }
+
+    /// Something is to be sent to a node.
+    pub fn sends(&mut self, to: u8, now: Instant) -> Sending {
+        let (own, peers) = (self.own, &self.peers);
+        let others = (0..).zip(peers.iter().enumerate()).filter(|(_, (at, peer))| *at != own && peer.is_machine()).map(|(node, _)| node);
+        self.ways.sends(to, others, now)
+    }
+
+    /// Of how many it isn't reached by itself, and is through another one.
+    pub fn count_through(&self, now: Instant) -> usize {
+        self.others().filter(|node| self.ways.through(*node, now).is_some()).count()
     }
 
     /// What came in the name of this node was refused, as of nobody who has the key. Whether an operator is to be told, once in a while: not where the node
@@ -259,6 +286,7 @@ impl Peers {
         for (at, name) in names.iter().enumerate().take(self.peers.len()) {
             if (name == EMPTY) == self.peers[at].is_machine() {
                 self.peers[at] = Peer::new(name);
+                self.ways.forget(at);
                 self.take_literal(at);
             }
             if self.peers[at].name != *name {
@@ -294,7 +322,7 @@ impl Peers {
         let is_old = |at: Option<Instant>| at.map_or(true, |at| now.saturating_duration_since(at) >= SILENCE);
         let own = self.own;
         let others = self.peers.iter_mut().enumerate().filter(|(at, _)| *at != own);
-        let is_doubtful = |peer: &Peer| is_old(peer.heard) || peer.heard_from != peer.address;
+        let is_doubtful = |peer: &Peer| is_old(peer.heard) || peer.heard_from != peer.address || peer.is_unheard_at(now);
         let is_name = |peer: &Peer| peer.is_machine() && peer.name.parse::<SocketAddr>().is_err();
         let is_wanted = |peer: &Peer| is_name(peer) && is_doubtful(peer) && is_old(peer.looked_up);
         let (at, peer) = others.filter(|(_, peer)| is_wanted(peer)).min_by_key(|(_, peer)| peer.looked_up)?;

@@ -52,8 +52,6 @@ pub struct NodeProcess<A> {
     output: pipe::Receiver,
     /// Whether more of its output may be waiting.
     is_readable: bool,
-    /// Requests that wait for the answers before them: only where there is a record.
-    waiting: VecDeque<Request<A>>,
     asked: VecDeque<Request<A>>,
     on_the_way: [usize; 2],
     record: Option<Record>,
@@ -106,7 +104,6 @@ impl<A> NodeProcess<A> {
             is_waiting_for_room: false,
             output: from,
             is_readable: false,
-            waiting: VecDeque::new(),
             asked: VecDeque::new(),
             on_the_way: [0; 2],
             record: None,
@@ -135,31 +132,18 @@ impl<A> NodeProcess<A> {
         !self.asked.is_empty()
     }
 
-    /// Takes a request; `flush` writes it.
+    /// Takes a request; `flush` writes it, to the record first.
     pub fn ask(&mut self, asker: A, lane: Lane, text: String) {
         self.on_the_way[lane as usize] += text.len() + 1;
-        self.waiting.push_back(Request { asker, lane, text, is_recorded: false });
-        self.go_on();
+        self.record_by(|record| record.take_request(&text));
+        self.unwritten.extend_from_slice(text.as_bytes());
+        self.unwritten.push(b'\n');
+        self.asked.push_back(Request { asker, lane, text, is_recorded: self.is_recorded() });
     }
 
     /// Tells the node in which life another one opens what is sealed: it answers nothing.
     pub fn tell_life(&mut self, other: u8, life: u64) {
         self.unwritten.extend_from_slice(format!("life {other} {}\n", digits_of(life)).as_bytes());
-    }
-
-    /// Hands on the requests that may be asked now. With a record each waits for the answer before it, so that after a kill one is in doubt at most.
-    fn go_on(&mut self) {
-        while self.record.is_none() || self.asked.is_empty() {
-            let mut request = match self.waiting.pop_front() {
-                Some(request) => request,
-                None => return,
-            };
-            self.write_down([format!("> {}", request.text).as_str()]);
-            request.is_recorded = self.is_recorded();
-            self.unwritten.extend_from_slice(request.text.as_bytes());
-            self.unwritten.push(b'\n');
-            self.asked.push_back(request);
-        }
     }
 
     /// Begins the record. Where requests are on their way it begins behind them.
@@ -178,9 +162,14 @@ impl<A> NodeProcess<A> {
         self.record.is_some()
     }
 
-    /// Writes lines to the record. Where that fails there is none from then on.
-    pub fn write_down<'a>(&mut self, lines: impl IntoIterator<Item = &'a str>) {
-        if let Some(Err(why)) = self.record.as_mut().map(|record| record.write(lines)) {
+    /// Writes a line to the record.
+    pub fn write_down(&mut self, line: &str) {
+        self.record_by(|record| record.take([line]).and_then(|()| record.flush()));
+    }
+
+    /// Does something to the record. Where that fails there is none from then on.
+    fn record_by(&mut self, write: impl FnOnce(&mut Record) -> io::Result<()>) {
+        if let Some(Err(why)) = self.record.as_mut().map(write) {
             error!("the record ends: {why}");
             self.end_record();
         }
@@ -188,6 +177,7 @@ impl<A> NodeProcess<A> {
 
     /// Writes what the pipe takes now. A node that is gone is noticed at its output.
     pub fn flush(&mut self) {
+        self.record_by(Record::flush);
         while let (Some(input), false) = (self.input.as_mut(), self.unwritten.is_empty()) {
             match input.write(&self.unwritten) {
                 Ok(count) if count > 0 => drop(self.unwritten.drain(..count)),
@@ -222,8 +212,15 @@ impl<A> NodeProcess<A> {
         self.is_readable
     }
 
-    /// Reads some of what the node wrote, and answers whether it goes on. Whole answers are put to `answers`; a piece of one that has no end is dropped.
+    /// Reads some of what the node wrote, and answers whether it goes on. Whole answers are put to `answers`, and stand in the record by then; a piece of one
+    /// that has no end is dropped.
     pub fn read_answers(&mut self, answers: &mut Vec<Answer<A>>) -> bool {
+        let goes_on = self.read_some(answers);
+        self.record_by(Record::flush);
+        goes_on
+    }
+
+    fn read_some(&mut self, answers: &mut Vec<Answer<A>>) -> bool {
         let mut piece = [0; 16 * 1024];
         for _ in 0..MAX_AT_A_TIME / piece.len() {
             match self.output.read(&mut piece) {
@@ -270,9 +267,8 @@ impl<A> NodeProcess<A> {
         let request = self.asked.pop_front()?;
         self.on_the_way[request.lane as usize] -= request.text.len() + 1;
         if request.is_recorded {
-            self.write_down(texts.iter().chain([&text]).map(String::as_str));
+            self.record_by(|record| record.take(texts.iter().chain([&text]).map(String::as_str)));
         }
-        self.go_on();
         let (answer, faults) = Answer::of(self.own, request.asker, &texts, closing);
         if !faults.is_empty() {
             let word = request.text.split(' ').next().unwrap_or_default();

@@ -51,7 +51,7 @@ one_epoch runs relies law terms steps are name time_a time_b c d a b first secon
     let is = (runs terms steps are name).0 in
     let x = relies run is c time_a a (holds terms steps are name time_a c a first) in
     let y = relies run is d time_b b (holds terms steps are name time_b d b second) in
-    sym x.1 ∙ (law run is time_a time_b a b x.0 y.0 same ∙ y.1)
+    sym x.1 ∙ (law run is time_a time_b a b x.0.granted y.0.granted same ∙ y.1)
 
 pub epochs_follow : StepsAreRuns → HolderRelies → run_laws.EpochsFollow → EpochsFollow
 epochs_follow runs relies law terms steps are clocks name time_a time_b c d a b first second le =
@@ -59,12 +59,12 @@ epochs_follow runs relies law terms steps are clocks name time_a time_b c d a b 
     let is = runs terms steps are name in
     let x = relies run is.0 c time_a a (holds terms steps are name time_a c a first) in
     let y = relies run is.0 d time_b b (holds terms steps are name time_b d b second) in
-    elim (law run is.0 (is.1 clocks) time_a time_b a b x.0 y.0 le) [ inl less ↦ inl less | inr same ↦ inr (sym x.1 ∙ (same ∙ y.1)) ]
+    elim (law run is.0 (is.1 clocks) time_a time_b a b x.0.granted y.0 le) [ inl less ↦ inl less | inr same ↦ inr (sym x.1 ∙ (same ∙ y.1)) ]
 
-pub held_was_asked : StepsAreRuns → HolderRelies → run_laws.ReliedWasAsked → HeldWasAsked
+pub held_was_asked : StepsAreRuns → HolderRelies → run_laws.GrantedWasAsked → HeldWasAsked
 held_was_asked runs relies law terms steps are name time client ask h =
     let run = run_of terms name steps in
     let is = (runs terms steps are name).0 in
     let x = relies run is client time ask (holds terms steps are name time client ask h) in
     subst (λ (c : Client). IsAmong (record { at = ask.sent; by = c; what = sends (request name c ask.number ask.epoch) }) steps) x.1
-    (was_sent terms steps are name ask (law run is time ask x.0))
+    (was_sent terms steps are name ask (law run is time ask x.0.granted))

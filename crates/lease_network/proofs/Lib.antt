@@ -3,6 +3,7 @@ mod Voters
 mod Clients
 mod Runs
 mod Held
+mod Relying
 mod Witness
 mod Happens
 mod Suspended

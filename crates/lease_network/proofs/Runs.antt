@@ -79,7 +79,7 @@ votes_there all name n (p ∷ past) s what (inl e) by event = among_second (mome
     by_test false is = absurd cc
 
 -- an act of a client is one of a step of its process
-record IsDone (all : List Step) (name : Name) (past : List Step) (at : ℕ) (client : Client) (what : ClientEvent) : Type 0 where
+pub record IsDone (all : List Step) (name : Name) (past : List Step) (at : ℕ) (client : Client) (what : ClientEvent) : Type 0 where
   pub step : Step
   pub among : IsAmong step past
   pub by : client ≡ step.by
@@ -92,7 +92,7 @@ done_here p at client what [] i = absurd i
 done_here p at client what (w ∷ whats) (inl e) = (ap (λ (a : Act). a.client) e, ap (λ (a : Act). a.at) e, inl (ap (λ (a : Act). a.what) e))
 done_here p at client what (w ∷ whats) (inr i) = (let rest = done_here p at client what whats i in (rest.0, rest.1, inr rest.2))
 
-is_done : (all : List Step) (name : Name) (past : List Step) (at : ℕ) (client : Client) (what : ClientEvent) → IsAmong (act_at at client what) (acts all name past) → IsDone all name past at client what
+pub is_done : (all : List Step) (name : Name) (past : List Step) (at : ℕ) (client : Client) (what : ClientEvent) → IsAmong (act_at at client what) (acts all name past) → IsDone all name past at client what
 is_done all name [] at client what i = absurd i
 is_done all name (p ∷ past) at client what i =
     elim (among_both (act_at at client what) (acts all name past) (map (act_at p.at p.by) (client_events all name p.at p.what)) i) [
@@ -106,7 +106,7 @@ is_done all name (p ∷ past) at client what i =
     here : (client ≡ p.by) × (at ≡ p.at) × IsAmong what (client_events all name p.at p.what) → IsDone all name (p ∷ past) at client what
     here h = record { step = p; among = inl refl; by = h.0; then_at = h.1; event = h.2 }
 
-does_there : (all : List Step) (name : Name) (past : List Step) (s : Step) (what : ClientEvent) → IsAmong s past → IsAmong what (client_events all name s.at s.what)
+pub does_there : (all : List Step) (name : Name) (past : List Step) (s : Step) (what : ClientEvent) → IsAmong s past → IsAmong what (client_events all name s.at s.what)
     → IsAmong (act_at s.at s.by what) (acts all name past)
 does_there all name [] s what i event = absurd i
 does_there all name (p ∷ past) s what (inr i) event = among_first (act_at s.at s.by what) (acts all name past) _ (does_there all name past s what i event)
@@ -206,8 +206,30 @@ asks_is : (all : List Step) (name : Name) (client : Client) (number epoch at : �
 asks_is all name client number epoch at what is = subst (λ (x : Event). IsAmong (asks (ask_at client number epoch at)) (client_events all name at x)) (sym is)
     (one_among (bytes_eq name name) (asks (ask_at client number epoch at)) (is_name name))
 
-stops_is : (all : List Step) (name : Name) (client : Client) (epoch at : ℕ) (what : Event) → what ≡ sends (release name client epoch) → IsAmong (stops epoch) (client_events all name at what)
+pub stops_is : (all : List Step) (name : Name) (client : Client) (epoch at : ℕ) (what : Event) → what ≡ sends (release name client epoch) → IsAmong (stops epoch) (client_events all name at what)
 stops_is all name client epoch at what is = subst (λ (x : Event). IsAmong (stops epoch) (client_events all name at x)) (sym is) (one_among (bytes_eq name name) (stops epoch) (is_name name))
+
+stops_same : (d e : ℕ) → stops d ≡ stops e → d ≡ e
+stops_same d e is = cc
+
+stop_of : (n name : Name) (c : Client) (e epoch : ℕ) → IsAmong (stops epoch) (when (bytes_eq n name) (stops e)) → sends (release n c e) ≡ sends (release name c epoch)
+stop_of n name c e epoch i =
+    let x = among_one (bytes_eq n name) (stops e) (stops epoch) i in
+    ap (λ (y : Name). sends (release y c e)) (name_is n name x.0) ∙ ap (λ (y : ℕ). sends (release name c y)) (sym (stops_same epoch e x.1))
+
+-- a client that gives up sent a release
+pub is_stopping : (all : List Step) (name : Name) (at epoch : ℕ) (what : Event) → IsAmong (stops epoch) (client_events all name at what)
+    → (client : Client) × (what ≡ sends (release name client epoch))
+is_stopping all name at epoch (begins floor) i = absurd i
+is_stopping all name at epoch (reserves bound) i = absurd i
+is_stopping all name at epoch (sends (request n c k e)) i =
+    absurd (let e : stops epoch ≡ asks (ask_at c k e at) = (among_one (bytes_eq n name) (asks (ask_at c k e at)) (stops epoch) i).1 in cc)
+is_stopping all name at epoch (sends (grant n c k voter)) i = absurd i
+is_stopping all name at epoch (sends (release n c e)) i = (c, stop_of n name c e epoch i)
+is_stopping all name at epoch (takes (request n c k e)) i = absurd i
+is_stopping all name at epoch (takes (grant n c k voter)) i =
+    absurd (let e : stops epoch ≡ hears voter (asked_for all name c k) = (among_one (bytes_eq n name) (hears voter (asked_for all name c k)) (stops epoch) i).1 in cc)
+is_stopping all name at epoch (takes (release n c e)) i = absurd i
 
 asks_same : (a b : Ask) → asks a ≡ asks b → a ≡ b
 asks_same a b is = cc

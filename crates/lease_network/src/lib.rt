@@ -4,7 +4,7 @@
 //! Each law is the contract of a function that does nothing; a caller takes the law by calling it.
 #![tactic(auto)]
 
-ghost use Rattle.lease_network.specs.Laws.{EpochsFollow, EpochsRise, HeldWasAsked, LeasesHappen, OneEpoch, OneHolder, TwoMayHold};
+ghost use Rattle.lease_network.specs.Laws.{EpochsFollow, EpochsRise, HeldEpochsFollow, HeldEpochsRise, HeldOneEpoch, HeldWasAsked, HolderSentNone, LeasesHappen, OneEpoch, OneHolder, OneRelies, TwoMayHold};
 ghost use Rattle.lease_network.specs.Projection.{StepsAreRuns};
 
 /// Epochs of a name rise, with no word on clocks.
@@ -38,6 +38,31 @@ pub fn one_holder()
 {
     steps_are_runs();
     lease_runs::holders_rely();
+    lease_runs::one_holder();
+}
+
+/// Who was told once that it holds a lease may rely on it until its time is over, or it sent a release.
+pub fn held_may_rely()
+    // Promise: Of two leases of a name that clients held at any moments, even if for no time at all, if the first was held before the
+    // second was asked for, its epoch is smaller, or they are one client's, of one epoch; and no two clients ever held leases of a
+    // name of one epoch, over any network, with no word on clocks.
+    // Also: one.
+    // Refuses: grant_that_nobody_gave, request_that_nobody_sent, process_number_had_before, floor_below_the_bound.
+    ensures rise { HeldEpochsRise }
+    ensures one { HeldOneEpoch }
+    // Promise: At each moment of true time one client at most may rely on a lease of a name that it held once, which is until its time is
+    // over by its own clock, or it sends a release, where clocks keep to their bound, whatever became of its process; and who may rely
+    // on one has a greater epoch than each other client that held one by then.
+    // Also: follow.
+    // Refuses: release_of_another_client, release_that_nobody_sent, lease_runs::no_margin_for_drift.
+    ensures relies { OneRelies }
+    ensures follow { HeldEpochsFollow }
+    // Promise: Who holds a lease sent no release of its epoch, or of a greater one, by then.
+    ensures silent { HolderSentNone }
+{
+    steps_are_runs();
+    lease_runs::holders_rely();
+    lease_runs::epochs_rise();
     lease_runs::one_holder();
 }
 

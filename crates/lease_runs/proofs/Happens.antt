@@ -190,18 +190,14 @@ stops_later client at epoch (inr (inr (inr (inr (inr (inr (inr i))))))) = absurd
 
 relies_first : Relies run 201 first
 relies_first = record {
-  quorum = low;
-  most = omega arith;
-  heard = low_heard;
+  granted = record { quorum = low; most = omega arith; heard = low_heard };
   lasts = omega arith;
   goes_on = λ at epoch i le. omega (arith, (stops_later ann at epoch i).0);
 }
 
 relies_second : Relies run 221 second
 relies_second = record {
-  quorum = high;
-  most = omega arith;
-  heard = high_heard;
+  granted = record { quorum = high; most = omega arith; heard = high_heard };
   lasts = omega arith;
   goes_on = λ at epoch i le. absurd (omega (arith, (stops_later bob at epoch i).1));
 }

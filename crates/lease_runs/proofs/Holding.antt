@@ -4,9 +4,9 @@ use Rattle.std.proofs.lemmas.Bool.{ltb-true, leb-false, eqb-true}
 use Rattle.std.specs.Prelude.{◌*◌, ◌==◌, ◌&&◌, leb, if◌then◌else◌}
 use Rattle.lease_runs.specs.Lists.{IsAmong, count}
 use Rattle.lease_runs.specs.Voter.{Client, Ask}
-use Rattle.lease_runs.specs.Run.{ClientEvent, asks, hears, stops, Does}
+use Rattle.lease_runs.specs.Run.{Run, ClientEvent, asks, hears, stops, Does, WasGranted, IsRun}
 use Rattle.lease_runs.specs.Candidate.{ClientMoment, Candidate, MayAct, FollowsFrom, above, after_act, beginning, is_most, is_taken, left, taken, voted, with_vote}
-use Rattle.lease_runs.specs.Holding.{HeldEpochsRise, HolderRelies, OneHolds}
+use Rattle.lease_runs.specs.Holding.{HeldEpochsRise, HolderRelies, KeptLease, KeptWasGranted, OneHolds}
 use Rattle.lease_runs.proofs.Apart.{one_holder}
 use Rattle.lease_runs.proofs.Epochs.{epochs_rise}
 
@@ -218,24 +218,41 @@ among_first x (y ∷ xs) ys (inr i) = inr (among_first x xs ys i)
 nothing_kept : (nodes : ℕ) (client : Client) (all : List ClientMoment) → Kept nodes client all 0 beginning
 nothing_kept nodes client all = record { opened = λ o is. absurd cc; voted = λ o is voter vote. absurd cc; leased = λ l is. absurd cc }
 
-pub holder_relies : HolderRelies
-holder_relies run is_run client time ask holds =
+-- what a client kept as its lease is granted, and not given up then
+lease_is : (run : Run) → IsRun run → (client : Client) (time : ℕ) (ask : Ask) → (k : KeptLease run client time ask)
+    → IsGranted run.nodes client (k.past ++ k.later) time ask × ((left run.nodes run.relies_for (run.clock client.machine client.boot) beginning k.past).given_up < ask.epoch)
+lease_is run is_run client time ask k =
     let nodes = run.nodes in
     let clock = run.clock client.machine client.boot in
-    let of = holds.is_client in
-    let all = holds.past ++ holds.later in
+    let of = k.is_client in
+    let all = k.past ++ k.later in
     let asked : AllAsked nodes client all = λ at voter a i own below.
     (let heard = is_run.answered voter below at client a (of.did at (hears voter a) i) in
     let was = is_run.asked voter below heard.0 a heard.2 in
     of.all a.sent (asks a) (subst (λ (c : Client). Does run a.sent c (asks a)) own was.1)) in
     let numbered : AreNumbered all = one_number nodes run.relies_for clock client 0 beginning all of.follows in
-    let kept = kept_all nodes run.relies_for clock client all asked numbered 0 time beginning holds.past holds.later of.follows (λ m i. among_first m holds.past holds.later i) (omega arith) holds.before (nothing_kept nodes client all) in
-    let lease = kept.leased ask holds.lease in
+    let kept = kept_all nodes run.relies_for clock client all asked numbered 0 time beginning k.past k.later of.follows (λ m i. among_first m k.past k.later i) (omega arith) k.before (nothing_kept nodes client all) in
+    kept.leased ask k.lease
+
+granted_is : (run : Run) (client : Client) (time : ℕ) (ask : Ask) → (k : KeptLease run client time ask) → IsGranted run.nodes client (k.past ++ k.later) time ask → WasGranted run time ask
+granted_is run client time ask k g = record {
+  quorum = g.quorum;
+  most = g.most;
+  heard = λ voter below vote. (let h = g.heard voter vote in (h.0, h.1, subst (λ (c : Client). Does run h.0 c (hears voter ask)) (sym g.own) (k.is_client.did h.0 (hears voter ask) h.2)));
+}
+
+pub kept_was_granted : KeptWasGranted
+kept_was_granted run is_run client time ask k = (let lease = lease_is run is_run client time ask k in (granted_is run client time ask k lease.0, lease.0.own))
+
+pub holder_relies : HolderRelies
+holder_relies run is_run client time ask holds =
+    let clock = run.clock client.machine client.boot in
+    let of = holds.is_client in
+    let k : KeptLease run client time ask = record { past = holds.past; later = holds.later; is_client = of; before = holds.before; lease = holds.lease } in
+    let lease = lease_is run is_run client time ask k in
     let own = lease.0.own in (
       record {
-        quorum = lease.0.quorum;
-        most = lease.0.most;
-        heard = λ voter below vote. (let h = lease.0.heard voter vote in (h.0, h.1, subst (λ (c : Client). Does run h.0 c (hears voter ask)) (sym own) (of.did h.0 (hears voter ask) h.2)));
+        granted = granted_is run client time ask k lease.0;
         lasts = subst (λ (c : Client). run.clock c.machine c.boot time < run.clock c.machine c.boot ask.sent + run.relies_for) (sym own) (ltb-true (clock time) (clock ask.sent + run.relies_for) holds.in_time);
         goes_on = λ at epoch does le.
             stops_behind at epoch le lease.1 (among_both (moment at (stops epoch)) holds.past holds.later (of.all at (stops epoch) (subst (λ (c : Client). Does run at c (stops epoch)) own does)));
@@ -259,4 +276,4 @@ pub held_epochs_rise : HeldEpochsRise
 held_epochs_rise run is_run time_a time_b c d a b first second before =
     let x = holder_relies run is_run c time_a a first in
     let y = holder_relies run is_run d time_b b second in
-    elim (epochs_rise run is_run time_a time_b a b x.0 y.0 before) [ inl less ↦ inl less | inr same ↦ inr (sym x.1 ∙ (same.0 ∙ y.1), same.1) ]
+    elim (epochs_rise run is_run time_a time_b a b x.0.granted y.0.granted before) [ inl less ↦ inl less | inr same ↦ inr (sym x.1 ∙ (same.0 ∙ y.1), same.1) ]

@@ -44,12 +44,15 @@ Releases run voter at client epoch = IsAmong (record { at = at; what = releases 
 abbrev pub Does : Run → ℕ → Client → ClientEvent → Type 0
 Does run at client what = IsAmong (record { at = at; client = client; what = what }) run.acts
 
--- At this true time the client of the request relies on what it asked for by it. A renewal is a request of the same epoch.
-pub record Relies (run : Run) (time : ℕ) (ask : Ask) : Type 0 where
-  -- it heard of the grants of more than half of the voters
+-- By this true time the client of the request had heard of the grants of more than half of the voters.
+pub record WasGranted (run : Run) (time : ℕ) (ask : Ask) : Type 0 where
   pub quorum : ℕ → Bool
   pub most : run.nodes < 2 * count quorum run.nodes
   pub heard : (voter : ℕ) → voter < run.nodes → quorum voter ≡ true → (at : ℕ) × (at ≤ time) × Does run at ask.client (hears voter ask)
+
+-- At this true time the client of the request relies on what it asked for by it. A renewal is a request of the same epoch.
+pub record Relies (run : Run) (time : ℕ) (ask : Ask) : Type 0 where
+  pub granted : WasGranted run time ask
   -- by its own clock less than its time passed since it sent the request
   pub lasts : run.clock ask.client.machine ask.client.boot time < run.clock ask.client.machine ask.client.boot ask.sent + run.relies_for
   -- it hasn't stopped

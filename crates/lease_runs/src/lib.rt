@@ -9,8 +9,8 @@ mod client_id;
 mod voter;
 
 ghost use Rattle.lease_runs.specs.Growing.{HistoryGoesOn};
-ghost use Rattle.lease_runs.specs.Holding.{HeldEpochsRise, HolderRelies, OneHolds};
-ghost use Rattle.lease_runs.specs.Laws.{EpochsFollow, EpochsRise, LeasesHappen, OneClient, OneHolder, ReliedWasAsked};
+ghost use Rattle.lease_runs.specs.Holding.{HeldEpochsRise, HolderRelies, KeptWasGranted, OneHolds};
+ghost use Rattle.lease_runs.specs.Laws.{EpochsFollow, EpochsRise, LeasesHappen, OneClient, OneHolder, GrantedWasAsked};
 
 pub use candidate::{LeaseCandidate, MOST_VOTERS, Request};
 pub use client_id::ClientId;
@@ -18,13 +18,13 @@ pub use voter::LeaseVoter;
 
 /// Epochs rise, with no word on clocks, and no two clients have one.
 pub fn epochs_rise()
-    // Promise: Of two leases of a name, if the first was relied on before the second was asked for, its epoch is smaller. A lease is
-    // one client's, of one epoch, with its renewals.
+    // Promise: Of two leases of a name, if the first was granted by more than half before the second was asked for, its epoch is smaller. A
+    // lease is one client's, of one epoch, with its renewals.
     ensures rise { EpochsRise }
     // Promise: No two clients ever have one epoch of a name.
     ensures client { OneClient }
-    // Promise: What is relied on was asked for, by its client, when the request says.
-    ensures asked { ReliedWasAsked }
+    // Promise: What was granted by more than half was asked for, by its client, when the request says.
+    ensures asked { GrantedWasAsked }
 {}
 
 /// One process at most relies on a lease at a time, where clocks keep to their bound.
@@ -32,7 +32,7 @@ pub fn one_holder()
     // Promise: At each moment of true time at most one client relies on a lease of a name, where each clock moves by 31/32 to 33/32
     // of the true time, but for rounding, and a voter keeps a grant by that much longer than a holder relies on it.
     ensures holder { OneHolder }
-    // Promise: Of two clients that rely on leases of a name one after the other, the later has the greater epoch, where clocks keep
+    // Promise: Who relies on a lease of a name has a greater epoch than each other client that was granted one by then, where clocks keep
     // to the bound.
     ensures follow { EpochsFollow }
 {}
@@ -58,6 +58,8 @@ pub fn holders_rely()
     // Refuses: unnumbered_grant_counted, counted_from_the_grant, renewal_revives_a_lease, minority_is_enough, stopped_holder_goes_on,
     // held_without_end.
     ensures relies { HolderRelies }
+    // Promise: What such a client kept as its lease, at any of its moments, more than half of the voters had granted by then.
+    ensures granted { KeptWasGranted }
     ensures one { OneHolds }
     ensures rise { HeldEpochsRise }
 {}

@@ -1,5 +1,5 @@
 -- Calls of a process's machine, as turns.
-use Rattle.std.proofs.Common.{◌≡◌, ℕ, ◌+◌, ◌<◌, ◌≤◌, Bool, true, false, List, [], ◌∷◌, Option, Some, None, refl, sym, ◌∙◌, ap, subst, inl, inr, arith}
+use Rattle.std.proofs.Common.{◌≡◌, ℕ, ◌+◌, ◌<◌, ◌≤◌, Bool, true, false, List, [], ◌∷◌, ◌++◌, Option, Some, None, refl, sym, ◌∙◌, ap, subst, inl, inr, arith}
 use Rattle.std.proofs.lemmas.List.{append-nil}
 use Rattle.std.specs.Prelude.{is_some}
 use Rattle.lease_runs.specs.Lists.{IsAmong}
@@ -26,10 +26,15 @@ use Rattle.lease_machine.specs.Claims.{Hears, Relies}
 use Rattle.lease_machine.specs.Standing.{Stands}
 use Rattle.lease_steps.specs.StandsFor.{AreOf, Did, DidNothing, StandsFor, clock_of}
 use Rattle.lease_session.specs.declared.process.LeaseProcess.{LeaseProcess}
-use Rattle.lease_session.specs.Rows.{asker, said, said_by}
-use Rattle.lease_session.specs.Turns.{claim_of, did, Follow, GaveUp, GoesTo, IsClientOf, Requested, IsAt, IsBefore, IsHeld, IsTheClients, Stood, Turn, Voted, key_of, sent_in, who}
+use Rattle.lease_session.specs.Rows.{asker, lost, row_text, said, said_by}
+use Rattle.lease_session.specs.Telling.{NoneUpTo, told_row}
+use Rattle.lease_session.specs.declared.told.Told.{Told}
+use Rattle.lease_session.specs.declared.refusing.Halt.TheVariants.{NoMemory}
+use Rattle.std.specs.Global.{Vec}
+use Rattle.lease_session.specs.Marks.{did, wrote}
+use Rattle.lease_session.specs.Turns.{claim_of, Follow, GaveUp, GoesTo, IsClientOf, Requested, IsAt, IsBefore, IsHeld, IsTheClients, Stood, TellsUser, Turn, Voted, key_of, sent_in, who}
 use Rattle.lease_session.proofs.Machines.{by_client, by_name, own_at, shows_still}
-use Rattle.lease_session.proofs.Turns.{Rest, deed, is_there, itself, its_machine, no_deed, nothing_had, sends_still, sent_still, stands, text_same, then_had}
+use Rattle.lease_session.proofs.Turns.{Rest, deed, is_at_quiet, is_there, itself, its_machine, no_deed, nothing_had, sends_still, sent_still, shows, stands, text_same, then_had}
 
 pub by_bool : {P : Type 0} (b : Bool) → (b ≡ true → P) → (b ≡ false → P) → P
 by_bool true positive negative = positive refl
@@ -58,7 +63,7 @@ pub voted : {client : Client} {epoch now : ℕ} {a b : LeaseProcess} {x y : Leas
     → (result ≡ vote.Granted → Did x y now (itself a) (takes (request name client number epoch))) → (result ≡ vote.Refused → DidNothing x y now)
     → (result ≡ vote.Full → DidNothing x y now) → Voted result name client number epoch now a b
 voted {client = client} {epoch = epoch} {a = a} vote.Granted name number r was is granted refused full =
-    record { turn = deed (itself a) (takes (request name client number epoch)) r was is (granted refl) refl refl (λ p h. h) (inl (inl refl)); grants = λ e. inl refl }
+    record { turn = deed (itself a) (takes (request name client number epoch)) r was is (granted refl) refl refl (λ p h. h) (inl (inl refl)) tt; grants = λ e. inl refl }
 voted vote.Refused name number r was is granted refused full = record { turn = no_deed r was is (refused refl); grants = λ e. absurd cc }
 voted vote.Full name number r was is granted refused full = record { turn = no_deed r was is (full refl); grants = λ e. absurd cc }
 
@@ -143,6 +148,8 @@ begun {now = now} {a = a} {b = b} {y = y} {bound = bound} r was is of_terms of_p
   key = ap key_of r.seal;
   halts = λ out. r.halt ∙ out;
   text = λ goes. text_same r ∙ sym (append-nil a.text.items);
+  told = λ goes. ap (λ t. t.items) r.told;
+  careful = λ goes. (tt, (tt, tt));
   goes = λ terms at m clock at_old. steps terms at m clock (subst (λ (o : Option LeaseMachine). Stood a.terms a.start o terms now m) was at_old);
 }
   where
@@ -211,9 +218,47 @@ pub claim_there : {x : LeaseMachine} {o : Option LeaseMachine} {r : Option Claim
 claim_there {r = r} name has is = subst (λ (o : Option LeaseMachine). claim_of o name ≡ r) has is
 
 pub gave_up : {now : ℕ} {a b : LeaseProcess} {x y : LeaseMachine} (client : Client) (name : Name) (epoch : ℕ) → Rest a b → a.machine ≡ Some x → b.machine ≡ Some y
-    → Did x y now client (sends (release name client epoch)) → client.machine ≡ a.terms.machine → client.boot ≡ a.start.process → GaveUp name client epoch now a b
-gave_up client name epoch r was is did_it machine process =
-    record { turn = deed client (sends (release name client epoch)) r was is did_it machine process (λ p h. h) tt; sends = inl refl }
+    → Did x y now client (sends (release name client epoch)) → client.machine ≡ a.terms.machine → client.boot ≡ a.start.process → NoneUpTo name epoch a.told.items
+    → GaveUp name client epoch now a b
+gave_up client name epoch r was is did_it machine process none =
+    record { turn = deed client (sends (release name client epoch)) r was is did_it machine process (λ p h. h) tt (inl none); sends = inl refl }
+
+-- and its user is told
+pub gave_up_lost : {now told : ℕ} {a b c : LeaseProcess} {x y : LeaseMachine} (client : Client) (name : Name) (epoch : ℕ) → Rest a b → a.machine ≡ Some x → b.machine ≡ Some y
+    → Did x y now client (sends (release name client epoch)) → client.machine ≡ a.terms.machine → client.boot ≡ a.start.process → told ≤ epoch → a.halt ≡ None
+    → TellsUser (lost name told) b c → GaveUp name client epoch now a c
+gave_up_lost {now = now} {told = told} {a = a} {b = b} {c = c} {x = x} {y = y} client name epoch r was is did_it machine process covers going tells = record {
+  turn = record {
+    marks = did client (sends (release name client epoch)) ∷ wrote (lost name told) ∷ [];
+    terms = tells.quiet.terms ∙ r.terms;
+    start = tells.quiet.start ∙ r.start;
+    key = tells.quiet.key ∙ ap key_of r.seal;
+    halts = λ out. absurd (let bad : None ≡ Some NoMemory = sym going ∙ out in cc);
+    text = λ goes. elim tells.said [
+      | inl out ↦ absurd (goes out)
+      | inr said ↦ said.1 ∙ ap (λ (t : List ℕ). t ++ row_text (lost name told)) (text_same r) ∙ ap (λ (t : List ℕ). a.text.items ++ t) (sym (append-nil (row_text (lost name told))))
+    ];
+    told = λ goes. elim tells.said [ inl out ↦ absurd (goes out) | inr said ↦ said.2 ∙ ap (λ (t : Vec Told). told_row t.items (lost name told)) r.told ];
+    careful = λ goes. (inr refl, tt);
+    goes = λ terms at m clock at_old.
+        let s = stands a x terms now m was at_old in
+        let h = did_it terms at m (shows a x terms now at was clock) s in (
+          (
+            record {
+              machine = machine;
+              process = process;
+              runs = s.process ∙ ap (λ (p : ℕ). Some p) (a.own x was).own_process;
+              may = h.0;
+              had = tt;
+            },
+            (record { client = client; up_to = epoch; covers = covers; released = inl refl }, tt),
+          ),
+          is_at_quiet b c terms now (done terms client m at (sends (release name client epoch))) tells.quiet
+              (is_there b y terms now (done terms client m at (sends (release name client epoch))) is h.1),
+        );
+  };
+  sends = inl refl;
+}
 
 the_client : ℕ → ℕ → ℕ → Client
 the_client machine boot number = record { machine = machine; boot = boot; number = number }
@@ -269,6 +314,14 @@ pub named_machine : (p : LeaseProcess) (x : LeaseMachine) (name : Name) → p.ma
 named_machine p x name has h it same = ap (λ (c : Client). c.machine) same
     ∙ (ap (λ (c : ClientId). c.machine) (sym h.as_client) ∙ of_machine p x name h.claim has (claim_there name has h.claimed))
 
+-- who asks here is of this machine
+pub client_of_machine : (p : LeaseProcess) (name : Name) {asks : ClientId} → IsClientOf p.machine name asks → asks.machine ≡ p.terms.machine
+client_of_machine p name {asks = asks} h = by_machine p.machine refl h.claimed
+  where
+    by_machine : (o : Option LeaseMachine) → p.machine ≡ o → claim_of o name ≡ Some h.claim → asks.machine ≡ p.terms.machine
+    by_machine None is none = absurd cc
+    by_machine (Some x) is claimed = ap (λ (c : ClientId). c.machine) (sym h.as_client) ∙ of_machine p x name h.claim is claimed
+
 pub requested : {now : ℕ} {a b c : LeaseProcess} {x y : LeaseMachine} (name : Name) (asks : ClientId) (number epoch : ℕ) → Rest a b → a.machine ≡ Some x → b.machine ≡ Some y
     → (h : IsClientOf a.machine name asks) → Did x y now (client_of h.claim.candidate.client) (sends (request name (client_of h.claim.candidate.client) number epoch))
     → (it : LeaseClient) → asker it ≡ client_of asks → Turn (request name (asker it) number epoch ∷ []) [] now b c → Requested name asks number epoch now a c
@@ -278,7 +331,7 @@ requested {now = now} {a = a} {x = x} {y = y} name asks number epoch r was is h 
     let at = claim_there name was h.claimed in
     let its : Did x y now by (sends message) = subst (λ (c : ClientId). Did x y now (client_of c) (sends (request name (client_of c) number epoch))) h.as_client did_it in
     let t = deed {sent = []} {brought = []} by (sends message) r was is its (ap (λ (c : ClientId). c.machine) (sym h.as_client) ∙ of_machine a x name h.claim was at)
-    (ap (λ (c : ClientId). c.boot) (sym h.as_client) ∙ of_process a x name h.claim was at) (λ p g. g) tt in
+    (ap (λ (c : ClientId). c.boot) (sym h.as_client) ∙ of_process a x name h.claim was at) (λ p g. g) tt tt in
     record {
       turn = then_had t sends_it (requested_of (ap (λ (c : Client). request name c number epoch) same)) (nothing_had [] (message ∷ []));
       sends = sent_still (message ∷ []) sends_it.marks message (inl refl);
@@ -288,16 +341,14 @@ pub gave_up_sent : {now : ℕ} {a b c : LeaseProcess} {name : Name} {client : Cl
     → Turn (release name client epoch ∷ []) [] now b c → Turn [] [] now a c
 gave_up_sent g t = then_had g.turn t (one_of (sent_in [] g.turn.marks) g.sends) (nothing_had [] (sent_in [] g.turn.marks))
 
--- with the line that says so, the own vote, and the messages to others
-pub gave_up_told : {now : ℕ} {a b c d e : LeaseProcess} {name : Name} {client other : Client} {epoch : ℕ} → other ≡ client → GaveUp name client epoch now a b
-    → Turn (release name client epoch ∷ []) [] now b c → Turn [] (release name other epoch ∷ []) now c d → Turn (release name other epoch ∷ []) [] now d e → Turn [] [] now a e
-gave_up_told {a = a} {c = c} {d = d} {name = name} {client = client} {other = other} {epoch = epoch} same g lost takes_it sends_it =
+-- with the own vote, and the messages to others
+pub gave_up_told : {now : ℕ} {a b d e : LeaseProcess} {name : Name} {client other : Client} {epoch : ℕ} → other ≡ client → GaveUp name client epoch now a b
+    → Turn [] (release name other epoch ∷ []) now b d → Turn (release name other epoch ∷ []) [] now d e → Turn [] [] now a e
+gave_up_told {a = a} {name = name} {client = client} {other = other} {epoch = epoch} same g takes_it sends_it =
     let e = ap (λ (k : Client). release name k epoch) same in
     let sent : IsAmong (release name other epoch) (sent_in [] g.turn.marks) = subst (λ (m : Message). IsAmong m (sent_in [] g.turn.marks)) (sym e) g.sends in
-    let t = then_had g.turn lost (one_of (sent_in [] g.turn.marks) g.sends) (nothing_had [] (sent_in [] g.turn.marks)) in
-    let more = sends_still (release name other epoch) [] g.turn.marks lost.marks sent in
-    let u = then_had t takes_it (λ x i. absurd i) (λ x i. inr (one_of (sent_in [] t.marks) more x i)) in
-    then_had u sends_it (one_of (sent_in [] u.marks) (sends_still (release name other epoch) [] t.marks takes_it.marks more)) (nothing_had [] (sent_in [] u.marks))
+    let u = then_had g.turn takes_it (λ x i. absurd i) (λ x i. inr (one_of (sent_in [] g.turn.marks) sent x i)) in
+    then_had u sends_it (one_of (sent_in [] u.marks) (sends_still (release name other epoch) [] g.turn.marks takes_it.marks sent)) (nothing_had [] (sent_in [] u.marks))
 
 pub some_is : {A : Type 0} (o : Option A) {b : Bool} → b ≡ is_some o → b ≡ true → (x : A) × (o ≡ Some x)
 some_is None is some = absurd cc

@@ -4,10 +4,11 @@ use Rattle.std.specs.Prelude.{◌&&◌, ◌^◌, leb, ltb}
 use Rattle.std.proofs.lemmas.List.{append-nil}
 use Rattle.line_words.specs.Lines.{bytes_of}
 use Rattle.lease_runs.specs.Lists.{IsAmong}
-use Rattle.lease_network.specs.Network.{Message, Step, Terms, Machine, AreSteps, last_time, machines}
+use Rattle.lease_network.specs.Network.{Message, Step, Terms, Machine, machines}
 use Rattle.lease_machine.specs.declared.state.LeaseMachine.{LeaseMachine}
 use Rattle.lease_steps.specs.Laws.{StandsOn}
 use Rattle.lease_session.specs.declared.asked.Came.{Came}
+use Rattle.lease_session.specs.declared.asked.Came.TheVariants as came
 use Rattle.lease_session.specs.declared.process.LeaseProcess.{LeaseProcess}
 use Rattle.lease_session.specs.declared.refusing.Halt.{Halt}
 use Rattle.lease_session.specs.declared.refusing.Halt.TheVariants.{Device, NoMemory}
@@ -18,10 +19,13 @@ use Rattle.lease_session.specs.Lines.{Comes, ComesBy, ComesOf, DeliversBy, Deliv
 use Rattle.lease_session.specs.Opening.{BringsBy}
 use Rattle.lease_session.specs.Reading.{Meaning, Bad, Tick, Deliver, Acquire, Release, meaning_of}
 use Rattle.lease_session.specs.Rows.{refused, row_text}
-use Rattle.lease_session.specs.Steps.{GoesOn, IsDelivered, IsSound, LinesAreSteps, RunsOrIsNew, TellsTime, WasSentIn, steps_with}
-use Rattle.lease_session.specs.Turns.{Mark, wrote, Who, who, IsAt, IsStill, Stood, Tells, Turn, key_of}
+use Rattle.lease_session.specs.Steps.{IsAnswered, IsDelivered, IsSound, LinesAreSteps, MayCome, TellsTime, WasSentIn, steps_with}
+use Rattle.lease_session.specs.Marks.{Mark, wrote}
+use Rattle.lease_session.specs.Turns.{Who, who, IsAt, IsStill, Stood, Tells, Turn, key_of}
 use Rattle.lease_session.proofs.Steps.{go, turn_goes_on}
-use Rattle.lease_session.proofs.Turns.{is_at_same, then, who_is, written}
+use Rattle.lease_session.specs.Telling.{told_row}
+use Rattle.lease_session.specs.declared.told.Told.{Told}
+use Rattle.lease_session.proofs.Turns.{is_at_same, quiet_of, then, written}
 
 -- ---- the line that ends an answer
 
@@ -31,11 +35,17 @@ still_ended b c e = record {
   terms = ap (λ (p : LeaseProcess). p.terms) e.same;
   start = ap (λ (p : LeaseProcess). p.start) e.same;
   key = ap (λ (p : LeaseProcess). key_of p.seal) e.same;
+  told = ap (λ (p : LeaseProcess). p.told) e.same;
 }
 
 tells_last : (stops : Bool) (due : Option ℕ) (terms : Terms) (w : Who) (at : ℕ) (m : Machine) (sent : List Message) → Tells terms w at m sent (last_row stops due)
 tells_last true due terms w at m sent = tt
 tells_last false due terms w at m sent = tt
+
+-- it tells users nothing
+told_last : (stops : Bool) (due : Option ℕ) (ts : List Told) → told_row ts (last_row stops due) ≡ ts
+told_last true due ts = refl
+told_last false due ts = refl
 
 halt_ended : {due : Option ℕ} {stops : Bool} (b c : LeaseProcess) → IsEnded due stops b c → c.halt ≡ b.halt
 halt_ended b c e = ap (λ (p : LeaseProcess). p.halt) e.same
@@ -46,7 +56,7 @@ not_out false halt is out = absurd (let bad : None ≡ Some NoMemory = sym is �
 
 pub ended_turn : {brought : List Message} {now : ℕ} {due : Option ℕ} {stops : Bool} (a b c : LeaseProcess) → Turn [] brought now a b → IsEnded due stops b c → Turn [] brought now a c
 ended_turn {due = due} {stops = stops} a b c t e =
-    then t (written (last_row stops due) (still_ended b c e) (λ out. halt_ended b c e ∙ out) e.text (λ terms at m clock is. tells_last stops due terms (who b) at m []))
+    then t (written (last_row stops due) (quiet_of (still_ended b c e)) (λ out. halt_ended b c e ∙ out) e.text (ap (λ t. t.items) (still_ended b c e).told ∙ sym (told_last stops due b.told.items)) (λ terms at m clock is. tells_last stops due terms (who b) at m []))
 
 sound_by : (stops : Bool) (b c : LeaseProcess) → IsHalted stops b.halt → c.halt ≡ b.halt → stops ≡ false → c.halt ≡ None
 sound_by true b c is same off = absurd cc
@@ -73,100 +83,132 @@ told_before told now on = by_parts (leb told now) (ltb now (2 ^ 62)) refl on
 
 -- ---- one line
 
--- all that is known of the line of a process that goes on
-record Given (terms : Terms) (at : ℕ) (past : List Step) (old : At) : Type 0 where
-  pub going : old.process.halt ≡ None
-  pub are : AreSteps terms past
-  pub last : last_time past ≤ at
-  pub runs : RunsOrIsNew past (who old.process).self (machines terms past old.process.terms.machine).process
-  pub stands : IsAt terms old.told old.process (machines terms past old.process.terms.machine)
+-- there are marks of the answer
+abbrev Marked : List ℕ → At → At → Type 0
+Marked line old new = (marks : List Mark) × IsAnswered marks line old new
 
-turned : {due : Option ℕ} (later : StandsOn) (terms : Terms) (at now : ℕ) (past : List Step) (brought : List Message) (old new : At) (behind : LeaseProcess) → Given terms at past old
-    → terms.clock old.process.terms.machine old.process.start.process at ≡ now → old.told ≤ now → ((message : Message) → IsAmong message brought → WasSentIn past message)
-    → Turn [] brought now old.process behind → new.told ≡ now → IsEnded due new.stopped behind new.process → GoesOn terms at past old new
-turned later terms at now past brought old new behind g clock less had t then_now e =
-    let whole = ended_turn old.process behind new.process t e in
-    let added = turn_goes_on terms at now past brought old.process new.process whole clock g.are g.last g.runs had
-    (at_later later terms old.told now old.process (machines terms past old.process.terms.machine) less g.stands) in
-    record {
-      marks = whole.marks;
-      text = whole.text (λ out. not_out new.stopped behind.halt e.halted (sym (halt_ended behind new.process e) ∙ out));
-      adds = added.0;
-      stands = subst (λ (time : ℕ). IsAt terms time new.process (machines terms (steps_with at past whole.marks) old.process.terms.machine)) (sym then_now) added.1;
-      same = who_is old.process new.process whole.terms whole.start whole.key;
-      sound = λ off. sound_by new.stopped behind new.process e.halted (halt_ended behind new.process e) off;
-    }
+-- what is known of a line of this meaning, wherever it may be answered
+abbrev Given : List ℕ → At → Meaning → Type 0
+Given line old meaning = (terms : Terms) (at : ℕ) (past : List Step) → MayCome terms at past line old
+    → TellsTime (terms.clock old.process.terms.machine old.process.start.process at) meaning × IsDelivered past old.process meaning
 
-refuses : {due : Option ℕ} (terms : Terms) (at : ℕ) (past : List Step) (reason : Refused) (old new : At) (behind : LeaseProcess) → Given terms at past old
-    → Refuses reason old.told new.told old.process behind → IsEnded due new.stopped behind new.process → GoesOn terms at past old new
-refuses {due = due} terms at past reason old new behind g r e =
-    let here = machines terms past old.process.terms.machine in
+abbrev WasBrought : List ℕ → At → ℕ → List Message → Type 0
+WasBrought line old now brought = (terms : Terms) (at : ℕ) (past : List Step) → MayCome terms at past line old
+    → (terms.clock old.process.terms.machine old.process.start.process at ≡ now) × ((message : Message) → IsAmong message brought → WasSentIn past message)
+
+turned : {due : Option ℕ} (later : StandsOn) (now : ℕ) (brought : List Message) (line : List ℕ) (old new : At) (behind : LeaseProcess) → old.told ≤ now → WasBrought line old now brought
+    → Turn [] brought now old.process behind → new.told ≡ now → IsEnded due new.stopped behind new.process → Marked line old new
+turned later now brought line old new behind less given t then_now e =
+    let whole = ended_turn old.process behind new.process t e in (
+      whole.marks,
+      record {
+        text = whole.text (λ out. not_out new.stopped behind.halt e.halted (sym (halt_ended behind new.process e) ∙ out));
+        terms = whole.terms;
+        start = whole.start;
+        key = whole.key;
+        told = whole.told (λ out. not_out new.stopped behind.halt e.halted (sym (halt_ended behind new.process e) ∙ out));
+        careful = whole.careful (λ out. not_out new.stopped behind.halt e.halted (sym (halt_ended behind new.process e) ∙ out));
+        sound = λ off. sound_by new.stopped behind new.process e.halted (halt_ended behind new.process e) off;
+        goes = λ terms at past m.
+            let g = given terms at past m in
+            let added = turn_goes_on terms at now past brought old.process new.process whole g.0 m.are m.last m.runs g.1
+            (at_later later terms old.told now old.process (machines terms past old.process.terms.machine) less m.stands) in
+            (added.0, subst (λ (time : ℕ). IsAt terms time new.process (machines terms (steps_with at past whole.marks) old.process.terms.machine)) (sym then_now) added.1);
+      },
+    )
+
+refuses : {due : Option ℕ} (reason : Refused) (line : List ℕ) (old new : At) (behind : LeaseProcess) → old.process.halt ≡ None
+    → Refuses reason old.told new.told old.process behind → IsEnded due new.stopped behind new.process → Marked line old new
+refuses {due = due} reason line old new behind going r e =
     let rows : List Mark = wrote (refused reason) ∷ wrote (last_row new.stopped due) ∷ [] in
     let last = still_ended behind new.process e in
-    let says = r.2 g.going (λ out. not_out new.stopped behind.halt e.halted out) in
-    record {
-      marks = rows;
-      text = e.text ∙ (ap (λ (t : List ℕ). t ++ row_text (last_row new.stopped due)) says.1
-          ∙ (append_assoc old.process.text.items (row_text (refused reason)) (row_text (last_row new.stopped due))
-          ∙ ap (λ (t : List ℕ). old.process.text.items ++ (row_text (refused reason) ++ t)) (sym (append-nil (row_text (last_row new.stopped due))))));
-      adds = go terms (who old.process) at past [] [] rows g.are g.last g.runs (λ x i. absurd i) (λ x i. absurd i)
-          (tt, (tells_last new.stopped due terms (who old.process) at here [], tt));
-      stands = subst (λ (time : ℕ). IsAt terms time new.process here) (sym r.1)
-          (is_at_same behind new.process terms old.told here last (is_at_same old.process behind terms old.told here r.0 g.stands));
-      same = who_is old.process new.process (last.terms ∙ r.0.terms) (last.start ∙ r.0.start) (last.key ∙ r.0.key);
-      sound = λ off. sound_by new.stopped behind new.process e.halted (halt_ended behind new.process e) off;
-    }
+    let says = r.2 going (λ out. not_out new.stopped behind.halt e.halted out) in (
+      rows,
+      record {
+        text = e.text ∙ (ap (λ (t : List ℕ). t ++ row_text (last_row new.stopped due)) says.1
+            ∙ (append_assoc old.process.text.items (row_text (refused reason)) (row_text (last_row new.stopped due))
+            ∙ ap (λ (t : List ℕ). old.process.text.items ++ (row_text (refused reason) ++ t)) (sym (append-nil (row_text (last_row new.stopped due))))));
+        terms = last.terms ∙ r.0.terms;
+        start = last.start ∙ r.0.start;
+        key = last.key ∙ r.0.key;
+        told = ap (λ t. t.items) last.told ∙ (ap (λ t. t.items) r.0.told ∙ sym (told_last new.stopped due old.process.told.items));
+        careful = tt;
+        sound = λ off. sound_by new.stopped behind new.process e.halted (halt_ended behind new.process e) off;
+        goes = λ terms at past m.
+            let here = machines terms past old.process.terms.machine in (
+              go terms (who old.process) at past [] [] rows m.are m.last m.runs (λ x i. absurd i) (λ x i. absurd i)
+                  (tt, (tells_last new.stopped due terms (who old.process) at here [], tt)),
+              subst (λ (time : ℕ). IsAt terms time new.process here) (sym r.1)
+                  (is_at_same behind new.process terms old.told here last (is_at_same old.process behind terms old.told here r.0 m.stands)),
+            );
+      },
+    )
 
-timed : {due : Option ℕ} (later : StandsOn) (terms : Terms) (at now : ℕ) (past : List Step) (old new : At) (behind : LeaseProcess) → Given terms at past old
-    → terms.clock old.process.terms.machine old.process.start.process at ≡ now → Comes now [] old.told new.told old.process behind → IsEnded due new.stopped behind new.process
-    → GoesOn terms at past old new
-timed later terms at now past old new behind g clock came e = by_time (goes_on old.told now) refl came
+timed : {due : Option ℕ} (later : StandsOn) (now : ℕ) (line : List ℕ) (old new : At) (behind : LeaseProcess) → old.process.halt ≡ None → WasBrought line old now []
+    → Comes now [] old.told new.told old.process behind → IsEnded due new.stopped behind new.process → Marked line old new
+timed later now line old new behind going given came e = by_time (goes_on old.told now) refl came
   where
-    by_time : (b : Bool) → goes_on old.told now ≡ b → ComesBy b now [] old.told new.told old.process behind → GoesOn terms at past old new
-    by_time true on c = turned later terms at now past [] old new behind g clock (told_before old.told now on) (λ x i. absurd i) c.0 c.1 e
-    by_time false off c = refuses terms at past why.Time old new behind g c e
+    by_time : (b : Bool) → goes_on old.told now ≡ b → ComesBy b now [] old.told new.told old.process behind → Marked line old new
+    by_time true on c = turned later now [] line old new behind (told_before old.told now on) given c.0 c.1 e
+    by_time false off c = refuses why.Time line old new behind going c e
 
-delivered : {due : Option ℕ} (later : StandsOn) (terms : Terms) (at now : ℕ) (word : List ℕ) (past : List Step) (old new : At) (behind : LeaseProcess) → Given terms at past old
-    → terms.clock old.process.terms.machine old.process.start.process at ≡ now → IsDelivered past old.process (Deliver now word)
-    → ComesOf (Deliver now word) old.told new.told old.process behind → IsEnded due new.stopped behind new.process → GoesOn terms at past old new
-delivered later terms at now word past old new behind g clock had came e = by_time (goes_on old.told now) refl came
+-- the message that came was sent, if one came
+was_brought : (past : List Step) (p : LeaseProcess) (now : ℕ) (word : List ℕ) (it : Came) → IsDelivered past p (Deliver now word) → BringsBy p.seal (bytes_of word) (Some it)
+    → (x : Message) → IsAmong x (brought_by it) → WasSentIn past x
+was_brought past p now word came.Nothing had brings x i = absurd i
+was_brought past p now word (came.Message message) had brings x i = had message brings x i
+was_brought past p now word (came.Unsealed why) had brings x i = absurd i
+was_brought past p now word (came.Acquire name user) had brings x i = absurd i
+was_brought past p now word (came.Release name user) had brings x i = absurd i
+
+delivered : {due : Option ℕ} (later : StandsOn) (now : ℕ) (word line : List ℕ) (old new : At) (behind : LeaseProcess) → old.process.halt ≡ None → Given line old (Deliver now word)
+    → ComesOf (Deliver now word) old.told new.told old.process behind → IsEnded due new.stopped behind new.process → Marked line old new
+delivered later now word line old new behind going given came e = by_time (goes_on old.told now) refl came
   where
-    by_brought : (it : Option Came) → old.told ≤ now → BringsBy old.process.seal (bytes_of word) it → DeliversIt it now old.told new.told old.process behind → GoesOn terms at past old new
-    by_brought None less brings c = refuses terms at past why.Bad old new behind g c e
-    by_brought (Some it) less brings c = turned later terms at now past (brought_by it) old new behind g clock less (had (Some it) brings) c.0 c.1 e
+    by_brought : (it : Option Came) → old.told ≤ now → BringsBy old.process.seal (bytes_of word) it → DeliversIt it now old.told new.told old.process behind → Marked line old new
+    by_brought None less brings c = refuses why.Bad line old new behind going c e
+    by_brought (Some it) less brings c =
+        turned later now (brought_by it) line old new behind less (λ terms at past m. (let g = given terms at past m in (g.0, was_brought past old.process now word it g.1 brings))) c.0 c.1 e
 
-    by_time : (b : Bool) → goes_on old.told now ≡ b → DeliversBy b now word old.told new.told old.process behind → GoesOn terms at past old new
+    by_time : (b : Bool) → goes_on old.told now ≡ b → DeliversBy b now word old.told new.told old.process behind → Marked line old new
     by_time true on c = let d = c (λ out. not_out new.stopped behind.halt e.halted out) in by_brought d.0 (told_before old.told now on) d.1 d.2
-    by_time false off c = refuses terms at past why.Time old new behind g c e
+    by_time false off c = refuses why.Time line old new behind going c e
 
-by_meaning : {due : Option ℕ} (later : StandsOn) (terms : Terms) (at : ℕ) (past : List Step) (old new : At) (behind : LeaseProcess) (meaning : Meaning) → Given terms at past old
-    → TellsTime (terms.clock old.process.terms.machine old.process.start.process at) meaning → IsDelivered past old.process meaning
-    → ComesOf meaning old.told new.told old.process behind → IsEnded due new.stopped behind new.process → GoesOn terms at past old new
-by_meaning later terms at past old new behind Bad g clock had came e = refuses terms at past why.Bad old new behind g came e
-by_meaning later terms at past old new behind (Tick now) g clock had came e = timed later terms at now past old new behind g clock came e
-by_meaning later terms at past old new behind (Deliver now word) g clock had came e = delivered later terms at now word past old new behind g clock had came e
-by_meaning later terms at past old new behind (Acquire now name user) g clock had came e = timed later terms at now past old new behind g clock came.0 e
-by_meaning later terms at past old new behind (Release now name user) g clock had came e = timed later terms at now past old new behind g clock came e
+-- a line that brings nothing
+brings_none : (line : List ℕ) (old : At) (now : ℕ) (meaning : Meaning) → ((time : ℕ) → TellsTime time meaning → time ≡ now) → Given line old meaning → WasBrought line old now []
+brings_none line old now meaning tells given =
+    λ terms at past m. (tells (terms.clock old.process.terms.machine old.process.start.process at) (given terms at past m).0, λ message i. absurd i)
+
+by_meaning : {due : Option ℕ} (later : StandsOn) (line : List ℕ) (old new : At) (behind : LeaseProcess) (meaning : Meaning) → old.process.halt ≡ None → Given line old meaning
+    → ComesOf meaning old.told new.told old.process behind → IsEnded due new.stopped behind new.process → Marked line old new
+by_meaning later line old new behind Bad going given came e = refuses why.Bad line old new behind going came e
+by_meaning later line old new behind (Tick now) going given came e = timed later now line old new behind going (brings_none line old now (Tick now) (λ time t. t) given) came e
+by_meaning later line old new behind (Deliver now word) going given came e = delivered later now word line old new behind going given came e
+by_meaning later line old new behind (Acquire now name user) going given came e =
+    timed later now line old new behind going (brings_none line old now (Acquire now name user) (λ time t. t) given) came.0 e
+by_meaning later line old new behind (Release now name user) going given came e =
+    timed later now line old new behind going (brings_none line old now (Release now name user) (λ time t. t) given) came e
 
 -- nothing is answered
-silent : (terms : Terms) (at : ℕ) (past : List Step) (old new : At) → new ≡ old → IsSound old → AreSteps terms past → last_time past ≤ at
-    → RunsOrIsNew past (who old.process).self (machines terms past old.process.terms.machine).process
-    → IsAt terms old.told old.process (machines terms past old.process.terms.machine) → GoesOn terms at past old new
-silent terms at past old new same sound are last runs stands = subst (λ (b : At). GoesOn terms at past old b) (sym same) (record {
-  marks = [];
-  text = sym (append-nil old.process.text.items);
-  adds = go terms (who old.process) at past [] [] [] are last runs (λ x i. absurd i) (λ x i. absurd i) tt;
-  stands = stands;
-  same = refl;
-  sound = sound;
-})
+silent : (line : List ℕ) (old new : At) → new ≡ old → IsSound old → Marked line old new
+silent line old new same sound = subst (λ (b : At). Marked line old b) (sym same) (
+  [],
+  record {
+    text = sym (append-nil old.process.text.items);
+    terms = refl;
+    start = refl;
+    key = refl;
+    told = refl;
+    careful = tt;
+    sound = sound;
+    goes = λ terms at past m. (go terms (who old.process) at past [] [] [] m.are m.last m.runs (λ x i. absurd i) (λ x i. absurd i) tt, m.stands);
+  },
+)
 
 pub lines : StandsOn → LinesAreSteps
-lines later terms at past line old new answers sound clock had are last runs stands = by_stopped old.stopped refl line answers clock had
+lines later line old new answers sound = by_stopped old.stopped refl line answers (λ terms at past m. (m.clock, m.brought))
   where
-    by_stopped : (b : Bool) → old.stopped ≡ b → (line : List ℕ) → AnswersBy b line old new
-        → TellsTime (terms.clock old.process.terms.machine old.process.start.process at) (meaning_of line) → IsDelivered past old.process (meaning_of line) → GoesOn terms at past old new
-    by_stopped true is line same clock had = silent terms at past old new same sound are last runs stands
-    by_stopped false is [] same clock had = silent terms at past old new same sound are last runs stands
-    by_stopped false is (c ∷ line) a clock had = by_meaning later terms at past old new a.behind (meaning_of (c ∷ line))
-        (record { going = sound is; are = are; last = last; runs = runs; stands = stands }) clock had a.came a.ended
+    by_stopped : (b : Bool) → old.stopped ≡ b → (line : List ℕ) → AnswersBy b line old new → Given line old (meaning_of line) → Marked line old new
+    by_stopped true is line same given = silent line old new same sound
+    by_stopped false is [] same given = silent [] old new same sound
+    by_stopped false is (c ∷ line) a given = by_meaning later (c ∷ line) old new a.behind (meaning_of (c ∷ line)) (sound is) given a.came a.ended

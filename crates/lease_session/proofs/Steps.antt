@@ -1,15 +1,17 @@
 -- Turns of processes, as steps over a network.
-use Rattle.std.proofs.Common.{◌≡◌, ℕ, ◌+◌, ◌<◌, ◌≤◌, Bool, true, false, List, [], ◌∷◌, ◌++◌, Option, Some, refl, sym, ◌∙◌, ap, subst, inl, inr, arith}
+use Rattle.std.proofs.Common.{◌≡◌, ◌≢◌, ◌⊎◌, ℕ, ◌+◌, ◌<◌, ◌≤◌, Bool, true, false, List, [], ◌∷◌, ◌++◌, Option, Some, refl, sym, ◌∙◌, ap, subst, inl, inr, arith}
 use Rattle.std.specs.Prelude.{◌==◌, if◌then◌else◌, leb, ltb}
-use Rattle.std.proofs.lemmas.Bool.{eq-eqb}
+use Rattle.std.proofs.lemmas.Bool.{eq-eqb, eqb-true}
 use Rattle.lease_runs.specs.Lists.{IsAmong}
 use Rattle.lease_runs.specs.Voter.{Client}
 use Rattle.lease_network.specs.Network.{Message, request, grant, release, Event, begins, reserves, sends, takes, Step, Sends, WasSent, IsRunning, IsNext, Terms, Machine, MayDo, AreSteps, done, last_time, machines}
 use Rattle.lease_network.specs.Laws.{up_to}
-use Rattle.lease_session.specs.Rows.{Row, send, held, lost, refused, unserved, next, fault}
-use Rattle.lease_session.specs.Turns.{Mark, did, wrote, Who, who, Follow, IsAt, IsHad, Runs, Tells, after_marks, sent_by}
+use Rattle.lease_message.specs.declared.message.LeaseMessage.{LeaseMessage}
+use Rattle.lease_session.specs.Rows.{Row, send, held, lost, refused, unserved, next, fault, said}
+use Rattle.lease_session.specs.Marks.{Mark, did, wrote}
+use Rattle.lease_session.specs.Turns.{Who, who, AreAmong, Follow, IsAt, IsHad, Runs, Tells, after_marks, sent_by}
 use Rattle.lease_session.specs.Steps.{Adds, HeldLinesHold, HoldsThen, RunsOrIsNew, TurnGoesOn, TurnsAreSteps, WasSentIn}
-use Rattle.lease_session.proofs.Turns.{among_both}
+use Rattle.lease_session.proofs.Turns.{among_both, sent_still}
 
 step : ℕ → Client → Event → Step
 step at by what = record { at = at; by = by; what = what }
@@ -23,6 +25,14 @@ machine_then terms past at by what n same = test (by.machine == n) refl
     test : (b : Bool) → (by.machine == n) ≡ b → (if b then done terms by (machines terms past by.machine) at what else machines terms past n) ≡ done terms by (machines terms past n) at what
     test true is = ap (λ (k : ℕ). done terms by (machines terms past k) at what) same
     test false is = absurd (let bad : true ≡ false = sym (eq-eqb by.machine n same) ∙ is in cc)
+
+machine_else : (terms : Terms) (past : List Step) (at : ℕ) (by : Client) (what : Event) (n : ℕ) → (by.machine ≡ n → ⊥)
+    → machines terms (record { at = at; by = by; what = what } ∷ past) n ≡ machines terms past n
+machine_else terms past at by what n other = test (by.machine == n) refl
+  where
+    test : (b : Bool) → (by.machine == n) ≡ b → (if b then done terms by (machines terms past by.machine) at what else machines terms past n) ≡ machines terms past n
+    test true is = absurd (other (eqb-true by.machine n is))
+    test false is = refl
 
 process_then : (terms : Terms) (at boot : ℕ) (by : Client) (m : Machine) (what : Event) → by.boot ≡ boot → Runs boot m.process what → (done terms by m at what).process ≡ Some boot
 process_then terms at boot by m (begins floor) same runs = ap (λ (n : ℕ). Some n) same
@@ -86,20 +96,21 @@ ltb_is : (a b : ℕ) → a < b → ltb a b ≡ true
 ltb_is a b less = grind (arith, less)
 
 pub held_holds : HeldLinesHold
-held_holds terms w at past name user epoch until last are h = (
-  record { machine = w.self.machine; boot = w.self.boot; number = h.number },
-  h.ask,
-  record {
+held_holds terms w at past name user epoch until last are h = record {
+  client = record { machine = w.self.machine; boot = w.self.boot; number = h.number };
+  ask = h.ask;
+  holds = record {
     running = subst (λ (l : List Step). (machines terms l w.self.machine).process ≡ Some w.self.boot) (sym (up_to_all at past last)) h.running;
     lease = subst (λ (l : List Step). ((machines terms l w.self.machine).candidate h.number name).lease ≡ Some h.ask) (sym (up_to_all at past last)) h.lease;
     in_time = ltb_is (terms.clock w.self.machine w.self.boot at) (terms.clock w.self.machine w.self.boot h.ask.sent + terms.relies_for)
         (let less = h.in_time in let ends = h.ends in omega (arith, less, ends));
-  },
-  h.of_epoch,
-  refl,
-  refl,
-  h.ends,
-)
+  };
+  has = record { kept = past; later = []; parts = refl; by = last; running = h.running; lease = h.lease };
+  of_epoch = h.of_epoch;
+  machine = refl;
+  boot = refl;
+  ends = h.ends;
+}
 
 -- so it is of each line
 holds_then : (terms : Terms) (w : Who) (at : ℕ) (past : List Step) (had : List Message) (row : Row) → last_time past ≤ at → AreSteps terms past
@@ -112,12 +123,37 @@ holds_then terms w at past had (unserved why name user) last are h = tt
 holds_then terms w at past had (next time) last are h = tt
 holds_then terms w at past had fault last are h = tt
 
+-- ---- what is handed out
+
+abbrev row_of : Mark → Row → Row
+row_of (wrote row) other = row
+row_of (did by what) other = other
+
+-- what a line sends was sent
+told_sent : (terms : Terms) (w : Who) (at : ℕ) (m : Machine) (sent : List Message) (row : Row) (to : ℕ) (message : LeaseMessage) (bytes : List ℕ)
+    → wrote row ≡ wrote (send to message bytes) → Tells terms w at m sent row → AreAmong (said message) sent
+told_sent terms w at m sent row to message bytes same tells =
+    (subst (λ (r : Row). Tells terms w at m sent r) (ap (λ (k : Mark). row_of k row) same) tells).by_step
+
+no_line : (by : Client) (what : Event) (to : ℕ) (message : LeaseMessage) (bytes : List ℕ) → wrote (send to message bytes) ≡ did by what → ⊥
+no_line by what to message bytes e = absurd cc
+
 -- ---- all of them
 
 pub go : (terms : Terms) (w : Who) (at : ℕ) (past : List Step) (brought sent : List Message) (marks : List Mark) → AreSteps terms past → last_time past ≤ at
     → RunsOrIsNew past w.self (machines terms past w.self.machine).process → ((x : Message) → IsAmong x brought → WasSentIn past x)
     → ((x : Message) → IsAmong x sent → WasSentIn past x) → Follow terms w at brought sent (machines terms past w.self.machine) marks → Adds terms w at past marks sent
-go terms w at past brought sent [] are last runs had before f = record { are = are; kept = refl; last = last; sends = before; runs = runs; held = tt }
+go terms w at past brought sent [] are last runs had before f = record {
+  are = are;
+  kept = refl;
+  last = last;
+  sends = before;
+  runs = runs;
+  held = tt;
+  own = λ s i. inl i;
+  others = λ n other. refl;
+  handed = λ to message bytes i. absurd i;
+}
 go terms w at past brought sent (wrote row ∷ marks) are last runs had before f =
     let rest = go terms w at past brought sent marks are last runs had before f.1 in
     record {
@@ -127,6 +163,12 @@ go terms w at past brought sent (wrote row ∷ marks) are last runs had before f
       sends = rest.sends;
       runs = rest.runs;
       held = (holds_then terms w at past sent row last are f.0, rest.held);
+      own = rest.own;
+      others = rest.others;
+      handed = λ to message bytes i. elim i [
+        | inl e ↦ λ x j. rest.sends x (sent_still sent marks x ((told_sent terms w at (machines terms past w.self.machine) sent row to message bytes (sym e) f.0) x j))
+        | inr j ↦ rest.handed to message bytes j
+      ];
     }
 go terms w at past brought sent (did by what ∷ marks) are last runs had before f =
     let may = f.0 in
@@ -151,8 +193,18 @@ go terms w at past brought sent (did by what ∷ marks) are last runs had before
       sends = rest.sends;
       runs = rest.runs;
       held = rest.held;
+      own = λ x i. elim (rest.own x i) [ inl j ↦ own_step x j | inr its ↦ inr its ];
+      others = λ n other. rest.others n other ∙ elsewhere n other;
+      handed = λ to message bytes i. elim i [ inl e ↦ absurd (no_line by what to message bytes e) | inr j ↦ rest.handed to message bytes j ];
     }
   where
+    own_step : (x : Step) → IsAmong x (record { at = at; by = by; what = what } ∷ past) → IsAmong x past ⊎ ((x.by.machine ≡ w.self.machine) × (x.by.boot ≡ w.self.boot))
+    own_step x (inl e) = inr (ap (λ (s : Step). s.by.machine) e ∙ f.0.machine, ap (λ (s : Step). s.by.boot) e ∙ f.0.process)
+    own_step x (inr i) = inl i
+
+    elsewhere : (n : ℕ) → n ≢ w.self.machine → machines terms (record { at = at; by = by; what = what } ∷ past) n ≡ machines terms past n
+    elsewhere n other = machine_else terms past at by what n (λ same. other (sym same ∙ f.0.machine))
+
     le_self : at ≤ at
     le_self = omega arith
 

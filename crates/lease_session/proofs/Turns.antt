@@ -3,7 +3,7 @@ use Rattle.std.proofs.Common.{◌≡◌, ◌⊎◌, ℕ, List, [], ◌∷◌, �
 use Rattle.std.proofs.lemmas.List.{append-nil}
 use Rattle.lease_runs.specs.Lists.{IsAmong}
 use Rattle.lease_runs.specs.Voter.{Client}
-use Rattle.lease_network.specs.Network.{Message, release, Event, begins, reserves, sends, takes, Terms, Machine, done}
+use Rattle.lease_network.specs.Network.{Message, request, grant, release, Event, begins, reserves, sends, takes, Terms, Machine, done}
 use Rattle.lease_machine.specs.declared.terms.LeaseTerms.{LeaseTerms}
 use Rattle.lease_machine.specs.declared.state.LeaseMachine.{LeaseMachine}
 use Rattle.lease_steps.specs.StandsFor.{Did, DidNothing, StandsFor, clock_of}
@@ -11,7 +11,14 @@ use Rattle.lease_session.specs.declared.process.LeaseProcess.{LeaseProcess}
 use Rattle.lease_session.specs.declared.process.Start.{Start}
 use Rattle.lease_session.specs.declared.refusing.Halt.TheVariants.{NoMemory}
 use Rattle.lease_session.specs.Rows.{Row, send, held, lost, refused, unserved, next, fault, row_text}
-use Rattle.lease_session.specs.Turns.{Mark, did, wrote, text_of, sent_by, sent_in, after_marks, Who, who, key_of, AreAmong, Tells, Runs, IsHad, Follow, Stood, IsAt, IsOut, IsStill, Turn}
+use Rattle.lease_session.specs.Telling.{AreTold, IsTold, SaysLost, told_after, told_row}
+use Rattle.lease_session.specs.declared.told.Told.{Told}
+use Rattle.lease_session.specs.declared.seals.LeaseSeal.{LeaseSeal}
+use Rattle.lease_session.specs.Own.{IsOwn}
+use Rattle.std.specs.Global.{Vec, Global}
+use Rattle.std.specs.Option.{ForSome}
+use Rattle.lease_session.specs.Marks.{Mark, did, wrote}
+use Rattle.lease_session.specs.Turns.{text_of, sent_by, sent_in, after_marks, Who, who, key_of, AreAmong, Tells, Runs, IsHad, Follow, Stood, IsAt, IsOut, IsQuiet, IsStill, Turn}
 
 -- ---- lists
 
@@ -63,6 +70,31 @@ sent_both sent (wrote row ∷ xs) ys = sent_both sent xs ys
 
 pub sends_still : (x : Message) (sent : List Message) (xs ys : List Mark) → IsAmong x (sent_in sent xs) → IsAmong x (sent_in sent (xs ++ ys))
 sends_still x sent xs ys i = subst (λ (l : List Message). IsAmong x l) (sym (sent_both sent xs ys)) (sent_still (sent_in sent xs) ys x i)
+
+-- ---- what users are told
+
+pub told_both : (ts : List Told) (xs ys : List Mark) → told_after ts (xs ++ ys) ≡ told_after (told_after ts xs) ys
+told_both ts [] ys = refl
+told_both ts (did by what ∷ xs) ys = told_both ts xs ys
+told_both ts (wrote row ∷ xs) ys = told_both (told_row ts row) xs ys
+
+says_more : (name : List ℕ) (xs ys : List Mark) → SaysLost name xs → SaysLost name (xs ++ ys)
+says_more name [] ys h = absurd h
+says_more name (did by what ∷ xs) ys h = absurd h
+says_more name (wrote row ∷ xs) ys h = h
+
+is_told_more : (ts : List Told) (what : Event) (xs ys : List Mark) → IsTold ts what xs → IsTold ts what (xs ++ ys)
+is_told_more ts (begins floor) xs ys h = tt
+is_told_more ts (reserves bound) xs ys h = tt
+is_told_more ts (sends (request name client number epoch)) xs ys h = tt
+is_told_more ts (sends (grant name client number voter)) xs ys h = tt
+is_told_more ts (sends (release name client epoch)) xs ys h = elim h [ inl none ↦ inl none | inr says ↦ inr (says_more name xs ys says) ]
+is_told_more ts (takes message) xs ys h = tt
+
+pub careful_both : (ts : List Told) (xs ys : List Mark) → AreTold ts xs → AreTold (told_after ts xs) ys → AreTold ts (xs ++ ys)
+careful_both ts [] ys a b = b
+careful_both ts (did by what ∷ xs) ys a b = (is_told_more ts what xs ys a.0, careful_both ts xs ys a.1 b)
+careful_both ts (wrote row ∷ xs) ys a b = careful_both (told_row ts row) xs ys a b
 
 -- ---- what may be taken
 
@@ -128,6 +160,9 @@ then_had {sent = sent} {brought = brought} {more = more} {took = took} {now = no
   halts = λ out. u.halts (t.halts out);
   text = λ goes. u.text goes ∙ (ap (λ (x : List ℕ). x ++ text_of u.marks) (t.text (λ out. goes (u.halts out)))
       ∙ (append_assoc a.text.items (text_of t.marks) (text_of u.marks) ∙ ap (λ (x : List ℕ). a.text.items ++ x) (sym (text_both t.marks u.marks))));
+  told = λ goes. u.told goes ∙ (ap (λ (x : List Told). told_after x u.marks) (t.told (λ out. goes (u.halts out))) ∙ sym (told_both a.told.items t.marks u.marks));
+  careful = λ goes. careful_both a.told.items t.marks u.marks (t.careful (λ out. goes (u.halts out)))
+      (subst (λ (x : List Told). AreTold x u.marks) (t.told (λ out. goes (u.halts out))) (u.careful goes));
   goes = λ terms at m clock is. steps terms at m clock is;
 }
   where
@@ -164,11 +199,17 @@ then_too {sent = sent} {brought = brought} t u = then_had t u (λ x i. absurd i)
 
 -- ---- where the machine does nothing
 
-pub is_at_same : (a b : LeaseProcess) (terms : Terms) (now : ℕ) (m : Machine) → IsStill a b → IsAt terms now a m → IsAt terms now b m
-is_at_same a b terms now m s is =
+pub quiet_of : {a b : LeaseProcess} → IsStill a b → IsQuiet a b
+quiet_of s = record { machine = s.machine; terms = s.terms; start = s.start; key = s.key }
+
+pub is_at_quiet : (a b : LeaseProcess) (terms : Terms) (now : ℕ) (m : Machine) → IsQuiet a b → IsAt terms now a m → IsAt terms now b m
+is_at_quiet a b terms now m s is =
     subst (λ (x : Option LeaseMachine). Stood b.terms b.start x terms now m) (sym s.machine)
     (subst (λ (x : Start). Stood b.terms x a.machine terms now m) (sym s.start)
     (subst (λ (x : LeaseTerms). Stood x a.start a.machine terms now m) (sym s.terms) is))
+
+pub is_at_same : (a b : LeaseProcess) (terms : Terms) (now : ℕ) (m : Machine) → IsStill a b → IsAt terms now a m → IsAt terms now b m
+is_at_same a b terms now m s is = is_at_quiet a b terms now m (quiet_of s) is
 
 pub stayed : {sent brought : List Message} {now : ℕ} {a b : LeaseProcess} → IsStill a b → (IsOut a → IsOut b) → b.text.items ≡ a.text.items → Turn sent brought now a b
 stayed {now = now} {a = a} {b = b} s halts text = record {
@@ -178,11 +219,13 @@ stayed {now = now} {a = a} {b = b} s halts text = record {
   key = s.key;
   halts = halts;
   text = λ goes. text ∙ sym (append-nil a.text.items);
+  told = λ goes. ap (λ t. t.items) s.told;
+  careful = λ goes. tt;
   goes = λ terms at m clock is. (tt, is_at_same a b terms now m s is);
 }
 
 pub stay : {sent brought : List Message} {now : ℕ} (a : LeaseProcess) → Turn sent brought now a a
-stay a = stayed (record { machine = refl; terms = refl; start = refl; key = refl }) (λ out. out) refl
+stay a = stayed (record { machine = refl; terms = refl; start = refl; key = refl; told = refl }) (λ out. out) refl
 
 -- the same process
 pub from_same : {sent brought : List Message} {now : ℕ} {a b c : LeaseProcess} → b ≡ a → Turn sent brought now b c → Turn sent brought now a c
@@ -192,7 +235,7 @@ pub to_same : {sent brought : List Message} {now : ℕ} {a b c : LeaseProcess} �
 to_same {sent = sent} {brought = brought} {now = now} {a = a} same t = subst (λ (x : LeaseProcess). Turn sent brought now a x) (sym same) t
 
 -- the line can't be written
-pub failed : {sent brought : List Message} {now : ℕ} {a b : LeaseProcess} → IsStill a b → IsOut b → Turn sent brought now a b
+pub failed : {sent brought : List Message} {now : ℕ} {a b : LeaseProcess} → IsQuiet a b → IsOut b → Turn sent brought now a b
 failed {now = now} {a = a} {b = b} s out = record {
   marks = [];
   terms = s.terms;
@@ -200,23 +243,39 @@ failed {now = now} {a = a} {b = b} s out = record {
   key = s.key;
   halts = λ was. out;
   text = λ goes. absurd (goes out);
-  goes = λ terms at m clock is. (tt, is_at_same a b terms now m s is);
+  told = λ goes. absurd (goes out);
+  careful = λ goes. tt;
+  goes = λ terms at m clock is. (tt, is_at_quiet a b terms now m s is);
 }
 
 pub ran_out : {sent brought : List Message} {now : ℕ} {a b : LeaseProcess} → b ≡ record a { halt = Some NoMemory } → Turn sent brought now a b
 ran_out same = to_same same (failed (record { machine = refl; terms = refl; start = refl; key = refl }) refl)
 
-pub written : {sent brought : List Message} {now : ℕ} {a b : LeaseProcess} (row : Row) → IsStill a b → (IsOut a → IsOut b) → b.text.items ≡ a.text.items ++ row_text row
+-- no memory was left, and the machine did nothing
+pub fell : {sent brought : List Message} {now : ℕ} {a c : LeaseProcess} {alloc : Global} {t : LeaseTerms} {start : Start} {m : Option LeaseMachine} {claims : ℕ} {seal : Option LeaseSeal}
+    {text : Vec ℕ} {told : Vec Told} {own : ForSome m (IsOwn t start claims)} → m ≡ a.machine → t ≡ a.terms → start ≡ a.start → key_of seal ≡ key_of a.seal
+    → c ≡ record { alloc = alloc; terms = t; start = start; machine = m; claims = claims; seal = seal; text = text; told = told; halt = Some NoMemory; own = own } → Turn sent brought now a c
+fell machine terms start key same = failed (record {
+  machine = ap (λ (p : LeaseProcess). p.machine) same ∙ machine;
+  terms = ap (λ (p : LeaseProcess). p.terms) same ∙ terms;
+  start = ap (λ (p : LeaseProcess). p.start) same ∙ start;
+  key = ap (λ (p : LeaseProcess). key_of p.seal) same ∙ key;
+}) (ap (λ (p : LeaseProcess). p.halt) same)
+
+pub written : {sent brought : List Message} {now : ℕ} {a b : LeaseProcess} (row : Row) → IsQuiet a b → (IsOut a → IsOut b) → b.text.items ≡ a.text.items ++ row_text row
+    → b.told.items ≡ told_row a.told.items row
     → ((terms : Terms) (at : ℕ) (m : Machine) → terms.clock a.terms.machine a.start.process at ≡ now → IsAt terms now a m → Tells terms (who a) at m sent row)
     → Turn sent brought now a b
-written {now = now} {a = a} {b = b} row s halts text tells = record {
+written {now = now} {a = a} {b = b} row s halts text told tells = record {
   marks = wrote row ∷ [];
   terms = s.terms;
   start = s.start;
   key = s.key;
   halts = halts;
   text = λ goes. text ∙ ap (λ (t : List ℕ). a.text.items ++ t) (sym (append-nil (row_text row)));
-  goes = λ terms at m clock is. ((tells terms at m clock is, tt), is_at_same a b terms now m s is);
+  told = λ goes. told;
+  careful = λ goes. tt;
+  goes = λ terms at m clock is. ((tells terms at m clock is, tt), is_at_quiet a b terms now m s is);
 }
 
 -- ---- where it does one thing
@@ -228,6 +287,7 @@ pub record Rest (a b : LeaseProcess) : Type 0 where
   pub seal : b.seal ≡ a.seal
   pub text : b.text ≡ a.text
   pub halt : b.halt ≡ a.halt
+  pub told : b.told ≡ a.told
 
 pub stands : (a : LeaseProcess) (x : LeaseMachine) (terms : Terms) (now : ℕ) (m : Machine) → a.machine ≡ Some x → IsAt terms now a m → StandsFor terms now x m
 stands a x terms now m has is = subst (λ (o : Option LeaseMachine). Stood a.terms a.start o terms now m) has is
@@ -244,14 +304,16 @@ text_same r = ap (λ t. t.items) r.text
 
 abbrev pub deed : {sent brought : List Message} {now : ℕ} {a b : LeaseProcess} {x y : LeaseMachine} (by : Client) (what : Event) → Rest a b → a.machine ≡ Some x → b.machine ≡ Some y
     → Did x y now by what → by.machine ≡ a.terms.machine → by.boot ≡ a.start.process → ((process : Option ℕ) → process ≡ Some a.start.process → Runs a.start.process process what)
-    → IsHad brought sent what → Turn sent brought now a b
-deed {now = now} {a = a} {b = b} {x = x} {y = y} by what r was is did_it of_machine of_process runs had = record {
+    → IsHad brought sent what → IsTold a.told.items what [] → Turn sent brought now a b
+deed {now = now} {a = a} {b = b} {x = x} {y = y} by what r was is did_it of_machine of_process runs had told = record {
   marks = did by what ∷ [];
   terms = r.terms;
   start = r.start;
   key = ap key_of r.seal;
   halts = λ out. r.halt ∙ out;
   text = λ goes. text_same r ∙ sym (append-nil a.text.items);
+  told = λ goes. ap (λ t. t.items) r.told;
+  careful = λ goes. (told, tt);
   goes = λ terms at m clock at_old.
       let s = stands a x terms now m was at_old in
       let h = did_it terms at m (shows a x terms now at was clock) s in (
@@ -278,6 +340,8 @@ no_deed {now = now} {a = a} {b = b} {x = x} {y = y} r was is did_none = record {
   key = ap key_of r.seal;
   halts = λ out. r.halt ∙ out;
   text = λ goes. text_same r ∙ sym (append-nil a.text.items);
+  told = λ goes. ap (λ t. t.items) r.told;
+  careful = λ goes. tt;
   goes = λ terms at m clock at_old. (tt, is_there b y terms now m is (did_none terms m (stands a x terms now m was at_old)));
 }
 

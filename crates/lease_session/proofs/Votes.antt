@@ -32,6 +32,8 @@ as_sent {messages = messages} {a = a} t = record {
   key = t.key;
   halts = t.halts;
   text = t.text;
+  told = t.told;
+  careful = t.careful;
   goes = λ terms at m clock is. let h = t.goes terms at m clock is in
       (follow_more terms (who a) at messages [] [] messages m t.marks (λ x i. inr i) (λ x i. absurd i) h.0, h.1);
 }
@@ -44,6 +46,8 @@ as_brought {messages = messages} {a = a} t = record {
   key = t.key;
   halts = t.halts;
   text = t.text;
+  told = t.told;
+  careful = t.careful;
   goes = λ terms at m clock is. let h = t.goes terms at m clock is in
       (follow_more terms (who a) at [] [] messages [] m t.marks (λ x i. absurd i) (λ x i. i) h.0, h.1);
 }

@@ -19,7 +19,7 @@ at process told stopped = record { process = process; told = told; stopped = sto
 -- a process that was told nothing yet
 abbrev pub IsNew : LeaseTerms → Start → List ℕ → At → Type 0
 IsNew terms start kept a =
-    (kept ≡ []) × (a.stopped ≡ false) × (a.told ≡ 0) × (a.process.machine ≡ None) × (a.process.terms ≡ terms) × (a.process.start ≡ start) × (a.process.halt ≡ None)
+    (kept ≡ []) × (a.stopped ≡ false) × (a.told ≡ 0) × (a.process.machine ≡ None) × (a.process.terms ≡ terms) × (a.process.start ≡ start) × (a.process.halt ≡ None) × (a.process.told.items ≡ [])
 
 -- what comes of a line, and behind it the line that ends the answer
 pub record IsAnswer (meaning : Meaning) (old new : At) : Type 0 where

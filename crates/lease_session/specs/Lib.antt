@@ -1,10 +1,12 @@
 pub mod Feeding
 pub mod Key
 pub mod Lines
+pub mod Marks
 pub mod Opening
 pub mod Own
 pub mod Reading
 pub mod Replies
 pub mod Rows
 pub mod Steps
+pub mod Telling
 pub mod Turns

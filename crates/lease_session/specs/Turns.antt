@@ -24,14 +24,11 @@ use Rattle.lease_session.specs.declared.process.Start.{Start}
 use Rattle.lease_session.specs.declared.seals.LeaseSeal.{LeaseSeal}
 use Rattle.lease_session.specs.declared.voting.Answer.{Answer}
 use Rattle.lease_session.specs.declared.voting.Answer.TheVariants as answer
+use Rattle.lease_session.specs.Marks.{Mark, did, wrote}
 use Rattle.lease_session.specs.Rows.{Row, send, held, lost, row_text, said}
+use Rattle.lease_session.specs.Telling.{AreTold, told_after, told_row}
 
 -- ---- marks
-
--- a step of the network, by a client of the process, and a line of the answer
-pub data Mark : Type 0 where
-  did : Client → Event → Mark
-  wrote : Row → Mark
 
 -- the lines among them
 abbrev pub text_of : List Mark → List ℕ
@@ -168,14 +165,27 @@ abbrev pub IsOut : LeaseProcess → Type 0
 IsOut p = p.halt ≡ Some NoMemory
 
 -- its machine does nothing
-pub record IsStill (old new : LeaseProcess) : Type 0 where
+pub record IsQuiet (old new : LeaseProcess) : Type 0 where
   pub machine : new.machine ≡ old.machine
   pub terms : new.terms ≡ old.terms
   pub start : new.start ≡ old.start
   pub key : key_of new.seal ≡ key_of old.seal
 
--- A process went on: at one time of its clock it made these steps and wrote these lines, where these messages were sent by steps before, and a line brought those. Once
--- no memory is left, its text isn't to be written.
+-- and no user is told anything of its lease
+pub record IsStill (old new : LeaseProcess) : Type 0 where
+  pub machine : new.machine ≡ old.machine
+  pub terms : new.terms ≡ old.terms
+  pub start : new.start ≡ old.start
+  pub key : key_of new.seal ≡ key_of old.seal
+  pub told : new.told ≡ old.told
+
+-- a process that goes on says this to the user of a name, or no memory is left
+pub record TellsUser (row : Row) (old new : LeaseProcess) : Type 0 where
+  pub quiet : IsQuiet old new
+  pub said : IsOut new ⊎ ((new.halt ≡ None) × (new.text.items ≡ old.text.items ++ row_text row) × (new.told.items ≡ told_row old.told.items row))
+
+-- A process went on: at one time of its clock it made these steps and wrote these lines, where these messages were sent by steps before, and a line brought those. It keeps
+-- what it told users of their leases, and gives up none unsaid. Once no memory is left, its text isn't to be written.
 pub record Turn (sent brought : List Message) (now : ℕ) (old new : LeaseProcess) : Type 0 where
   pub marks : List Mark
   pub terms : new.terms ≡ old.terms
@@ -183,12 +193,10 @@ pub record Turn (sent brought : List Message) (now : ℕ) (old new : LeaseProces
   pub key : key_of new.seal ≡ key_of old.seal
   pub halts : IsOut old → IsOut new
   pub text : (IsOut new → ⊥) → new.text.items ≡ old.text.items ++ text_of marks
+  pub told : (IsOut new → ⊥) → new.told.items ≡ told_after old.told.items marks
+  pub careful : (IsOut new → ⊥) → AreTold old.told.items marks
   pub goes : (terms : Terms) (at : ℕ) (m : Machine) → terms.clock old.terms.machine old.start.process at ≡ now → IsAt terms now old m →
       Follow terms (who old) at brought sent m marks × IsAt terms now new (after_marks terms at m marks)
-
--- a line that says that the epoch is lost, which a client of the process gave up
-abbrev pub TurnGivesUp : Name → ℕ → ℕ → LeaseProcess → LeaseProcess → Type 0
-TurnGivesUp name epoch now old new = (client : Client) → Turn (release name client epoch ∷ []) [] now old new
 
 -- what a client sends
 abbrev pub IsTheClients : LeaseBody → Type 0

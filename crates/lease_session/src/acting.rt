@@ -3,9 +3,11 @@ ghost use Rattle.std.specs.Prelude.{◌≡◌, ◌<◌, ◌^◌, ◌≤◌, ℕ,
 ghost use Rattle.lease_runs.specs.Code.{client_of as by_code};
 ghost use Rattle.lease_network.specs.Network.{request as request_of, grant as grant_of};
 ghost use Rattle.lease_session.specs.Rows.{asker, said};
+ghost use Rattle.lease_session.specs.Telling.{NoneUpTo};
 ghost use Rattle.lease_session.specs.Turns.{AsksAs, GaveUp, IsClientOf, Requested, Turn, Voted, claim_of};
 
 use crate::process::LeaseProcess;
+use crate::told::told_up_to;
 use crate::writing::{client_of, named};
 use group_task::NodeId;
 use lease_machine::Vote;
@@ -109,23 +111,20 @@ impl LeaseProcess {
     }
 
     /// The client that asks here for a name relies on its epoch no more. It says so to its user, where that was told that it holds the lease, and then
-    /// to the voters, of which one is here.
-    pub(crate) fn give_up(&mut self, name: &LeaseName, epoch: u64, is_told: bool)
+    /// to the voters, of which one is here. A process that halts says nothing more, and gives nothing up.
+    pub(crate) fn give_up(&mut self, name: &LeaseName, epoch: u64)
         ensures { (now : ℕ) → Turn [] [] now self.old self.new }
     {
-        lease_steps::asking_is_steps();
-        lease_steps::votes_are_steps();
+        if self.halt.is_some() {
+            return;
+        }
         let Some(gives_up) = self.client_at(name) else {
             return;
         };
         let Some(client) = named(gives_up) else {
             return;
         };
-        let Some(machine) = &mut self.machine else {
-            return;
-        };
-        machine.give_up(name, epoch);
-        self.tell_lost(name, epoch, is_told);
+        self.give_up_told(name, epoch);
         let message = LeaseMessage {
             client,
             voter: self.terms.machine(),
@@ -135,6 +134,24 @@ impl LeaseProcess {
         };
         self.take_release(&message);
         self.send_to_others(&message);
+    }
+
+    /// The client that asks here for a name gives its epochs up to this one up, and its user is told, where that was told that it holds one of them.
+    fn give_up_told(&mut self, name: &LeaseName, epoch: u64)
+        requires { self.old.halt ≡ None }
+        ensures gave { (client : ClientId) → IsClientOf self.old.machine name.now client → (now : ℕ) → GaveUp name.now (by_code client) epoch now self.old self.new }
+        ensures terms { self.new.terms ≡ self.old.terms }
+    {
+        lease_steps::asking_is_steps();
+        let told = told_up_to(&self.told, name, epoch);
+        let Some(machine) = &mut self.machine else {
+            return;
+        };
+        machine.give_up(name, epoch);
+        match told {
+            Some(told) => self.tell_lost(name, told),
+            None => {}
+        }
     }
 
     /// The client that asks here for a name.
@@ -151,7 +168,8 @@ impl LeaseProcess {
         }
     }
 
-    /// A client of this process relies on epochs of a name up to this one no more, for good. False says that the machine hasn't begun.
+    /// A client of this process relies on epochs of a name up to this one no more, for good. False says that the machine hasn't begun, or that a user was
+    /// told that it holds one of them.
     fn stop_relying(&mut self, client: LeaseClient, name: &LeaseName, epoch: u64) -> bool
         requires machine { client.machine ≡ self.old.terms.machine }
         requires process { client.process ≡ self.old.start.process }
@@ -161,6 +179,9 @@ impl LeaseProcess {
         ensures terms { self.new.terms ≡ self.old.terms }
     {
         lease_steps::asking_is_steps();
+        if self.is_told_up_to(name, epoch) {
+            return false;
+        }
         if !self.asks_as(name, client.number) {
             return self.machine.is_some();
         }
@@ -168,6 +189,13 @@ impl LeaseProcess {
             Some(machine) => machine.give_up(name, epoch),
             None => false,
         }
+    }
+
+    /// Whether a user was told that it holds the lease of a name under an epoch up to this one.
+    fn is_told_up_to(&self, name: &LeaseName, epoch: u64) -> bool
+        ensures { result ≡ false → NoneUpTo name.now epoch self.now.told.items }
+    {
+        told_up_to(&self.told, name, epoch).is_some()
     }
 
     /// Whether the client that asks here for a name has this number.

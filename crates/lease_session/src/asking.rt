@@ -204,7 +204,7 @@ impl<S: EpochStore + Drop> Participant<S> {
         if want.stage == Stage::Resting {
             return;
         }
-        self.process.give_up(&want.name, want.epoch, want.is_told());
+        self.process.give_up(&want.name, want.epoch);
         want.rest(now);
     }
 
@@ -343,13 +343,15 @@ impl<S: EpochStore + Drop> Participant<S> {
         }
     }
 
-    /// One who got no majority gives up, and asks anew at a random time within the next round trips.
+    /// One who got no majority gives up, and asks anew at a random time within the next round trips. Where one grant binds more than half of the voters
+    /// nobody split their votes: it waits until that one ends, and then as if it had been refused for the first time.
     fn rest(&mut self, now: u64, want: &mut Want)
         ensures turn { Turn [] [] now self.old.process self.new.process }
         ensures told { self.new.told ≡ self.old.told }
     {
         self.stop(now, want);
         let from = if want.is_blocked(self.process.terms.machines()) {
+            want.tries = 0;
             want.bound.free_at.max(now)
         } else {
             now

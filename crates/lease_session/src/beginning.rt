@@ -25,7 +25,7 @@ fn plain(bytes: &[u8]) -> Option<Came>
 impl LeaseProcess {
     pub(crate) fn new(alloc: Global, terms: LeaseTerms, start: Start) -> LeaseProcess
         ensures machine { result.machine ≡ None }
-        ensures same { (result.terms ≡ terms) × (result.start ≡ start) × (result.seal ≡ None) × (result.text.items ≡ []) × (result.halt ≡ None) }
+        ensures same { (result.terms ≡ terms) × (result.start ≡ start) × (result.seal ≡ None) × (result.text.items ≡ []) × (result.told.items ≡ []) × (result.halt ≡ None) }
     {
         LeaseProcess {
             alloc,
@@ -35,6 +35,7 @@ impl LeaseProcess {
             claims: 0,
             seal: None,
             text: Vec::new(alloc),
+            told: Vec::new(alloc),
             halt: None,
         }
     }

@@ -8,7 +8,7 @@
 //! output.write_all(session.text())?;                              // send 1 .., send 2 .., next 5080
 //! session.clear();
 //! ```
-#![tactic(auto)]
+#![tactic(auto, using(crate::proofs::Turns::stay, crate::proofs::Turns::stayed, crate::proofs::Turns::fell))]
 
 mod acting;
 mod asked;
@@ -24,6 +24,7 @@ mod seals;
 mod sending;
 mod session;
 mod store;
+mod told;
 mod voting;
 mod want;
 mod writing;

@@ -4,6 +4,7 @@ ghost use Rattle.lease_session.specs.Own.{IsOwn};
 
 use crate::refusing::Halt;
 use crate::seals::LeaseSeal;
+use crate::told::Told;
 use lease_machine::{LeaseMachine, LeaseTerms};
 use std::alloc::Global;
 
@@ -30,6 +31,8 @@ pub struct LeaseProcess {
     pub(crate) claims: u64,
     pub(crate) seal: Option<LeaseSeal>,
     pub(crate) text: Vec<u8>,
+    // the leases that users were told last that they hold
+    pub(crate) told: Vec<Told>,
     // why it goes on no more
     pub(crate) halt: Option<Halt>,
     ghost own: { ForSome machine (IsOwn terms start claims) },

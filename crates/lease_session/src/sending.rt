@@ -1,15 +1,17 @@
 // What a process writes.
-ghost use Rattle.std.specs.Prelude.{◌≡◌, ◌++◌, ℕ, List, [], IfOk, None};
+ghost use Rattle.std.specs.Prelude.{◌≡◌, ◌++◌, ℕ, List, [], IfOk, OnOk, None};
 ghost use Rattle.lease_network.specs.Network.{Name};
 ghost use Rattle.lease_message.specs.declared.message.LeaseMessage.{LeaseMessage as Message};
 ghost use Rattle.lease_session.specs.Lines.{IsEnded, Says};
 ghost use Rattle.lease_session.specs.Replies.{IsReplied, IsReply, IsToldWhy};
-ghost use Rattle.lease_session.specs.Rows.{refused, row_text, said, send};
-ghost use Rattle.lease_session.specs.Turns.{Carries, GoesTo, IsStill, IsTheClients, Turn, TurnGivesUp, key_of};
+ghost use Rattle.lease_session.specs.Rows.{held, lost, refused, row_text, said, send};
+ghost use Rattle.lease_session.specs.Telling.{told_row};
+ghost use Rattle.lease_session.specs.Turns.{Carries, GoesTo, IsQuiet, IsStill, IsTheClients, TellsUser, Turn, key_of};
 
 use crate::process::LeaseProcess;
 use crate::refusing::{Halt, Refusal};
 use crate::seals::LeaseSeal;
+use crate::told::{forget_told, keep_told};
 use crate::writing::{
     push_fault, push_held, push_lost, push_next, push_refused, push_send, push_unserved,
 };
@@ -123,22 +125,36 @@ impl LeaseProcess {
         if self.halt.is_some() {
             return;
         }
-        match push_held(&mut self.text, name, user, request.epoch, until) {
+        match self.say_held(name, user, request.epoch, until) {
             Ok(()) => {}
             Err(_) => self.run_out(),
         }
     }
 
-    /// And holds it no more, where it was told that it does.
-    pub(crate) fn tell_lost(&mut self, name: &LeaseName, epoch: u64, is_told: bool)
-        ensures turn { (now : ℕ) → TurnGivesUp name.now epoch now self.old self.new }
+    fn say_held(
+        &mut self,
+        name: &LeaseName,
+        user: u64,
+        epoch: u64,
+        until: u64,
+    ) -> Result<(), AllocError>
+        ensures said { OnOk result (self.new.text.items ≡ self.old.text.items ++ row_text (held name.now user epoch until)) }
+        ensures told { OnOk result (self.new.told.items ≡ told_row self.old.told.items (held name.now user epoch until)) }
+        ensures quiet { IsQuiet self.old self.new }
+        ensures halt { self.new.halt ≡ self.old.halt }
     {
-        if !is_told || self.halt.is_some() {
-            return;
-        }
-        match push_lost(&mut self.text, name, epoch) {
-            Ok(()) => {}
-            Err(_) => self.run_out(),
+        keep_told(&mut self.told, name, epoch)?;
+        push_held(&mut self.text, name, user, epoch, until)
+    }
+
+    /// And holds it no more.
+    pub(crate) fn tell_lost(&mut self, name: &LeaseName, epoch: u64)
+        requires { self.old.halt ≡ None }
+        ensures { TellsUser (lost name.now epoch) self.old self.new }
+    {
+        forget_told(&mut self.told, name);
+        if push_lost(&mut self.text, name, epoch).is_err() {
+            self.run_out();
         }
     }
 

@@ -139,9 +139,4 @@ impl Want {
     pub(crate) fn is_asking_below(&self, epoch: u64) -> bool {
         self.stage == Stage::Asking && self.epoch < epoch
     }
-
-    /// Whether its user was told that it holds the lease.
-    pub(crate) fn is_told(&self) -> bool {
-        matches!(self.stage, Stage::Holding { .. })
-    }
 }

@@ -33,7 +33,7 @@ ends_there seen w first between either = subst (λ (b : Bool). LooksAgain b seen
 twice : (a b : Bool) → a ≡ false → b ≡ true → (not a && b) ≡ true
 twice a b none is = ap (λ (x : Bool). not x && b) none ∙ ap (λ (x : Bool). not false && x) is
 
-pub goes_on : (seen : NodeSnapshot) (w : Waits) (first : Option Event) (between over : Policy) (fired : Option Event) (new : Policy) → is_some first ≡ false → is_answered seen w ≡ true → over ≡ all_answered between
+pub goes_on : (seen : NodeSnapshot) (w : Waits) (first : Option Event) (between over : Policy) (fired : Option Event) (new : Policy) → is_some first ≡ false → is_answered seen w ≡ true → over ≡ all_answered seen between
     → Ticks seen over fired new → LooksAgain (not (is_some first) && is_answered seen w) seen first between fired new
 goes_on seen w first between over fired new none is told ticks =
     subst (λ (b : Bool). LooksAgain b seen first between fired new) (sym (twice (is_some first) (is_answered seen w) none is)) (subst (λ (p : Policy). Ticks seen p fired new) told ticks)

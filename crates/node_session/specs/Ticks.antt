@@ -1,19 +1,20 @@
 -- What one look at the policy of timers does, said as exactly as `TimerPolicy::tick` says it, and when something is due next.
-use Rattle.std.specs.Prelude.{ℕ, ◌≡◌, ◌<◌, ◌≤◌, ◌-◌, ◌^◌, ◌⊎◌, [], IfSome, Option, Some, None, is_some, true}
+use Rattle.std.specs.Prelude.{ℕ, ◌≡◌, ◌≢◌, ◌<◌, ◌≤◌, ◌-◌, ◌^◌, ◌⊎◌, [], IfSome, Option, Some, None, is_some, true}
 use Rattle.node_core.specs.declared.event.Event.{Event}
 use Rattle.node_core.specs.declared.event.Event.TheVariants as on
 use Rattle.pace.specs.declared.wait.Wait.{Wait}
 use Rattle.pace.specs.declared.deadline.Deadline.{Deadline}
 use Rattle.pace.specs.declared.snapshot.NodeSnapshot.{NodeSnapshot}
-use Rattle.pace.specs.Timers.{IsSet, comes_soon, soon_left, wait_of}
-use Rattle.pace.specs.Policy.{Policy, Counts, Dispatches, HasCome, IsDue, IsWorkDue, MayFire, MovesDeadline, Runs, asked_at, event_at, passed, slowest_at}
+use Rattle.pace.specs.Timers.{prompted_left, soon_left, wait_of}
+use Rattle.pace.specs.Policy.{Policy, Counts, Dispatches, HasCome, IsDue, IsWorkDue, MayFire, MovesDeadline, Runs, Sets, asked_at, event_at, passed, slowest_at}
 use Rattle.pace.specs.Retransmission.{Waits, has_come, sent_again}
 
 -- a deadline is set, where none ran
 abbrev pub SetsDeadline : NodeSnapshot → Policy → Policy → Type 0
 SetsDeadline s old new = ((d : Deadline) → Runs old s d → ⊥) → (wait : Wait) → wait_of s ≡ Some wait
-    → (d : Deadline) × (new.deadline ≡ Some d) × IsSet (comes_soon old.soon wait) old.setting old.settled old.raise old.slowest wait s.group d
+    → (d : Deadline) × (new.deadline ≡ Some d) × Sets old wait s.group d
     × (new.asked ≡ asked_at wait old) × (new.slowest ≡ slowest_at wait old) × (new.soon ≡ soon_left old.soon wait)
+    × (new.prompted ≡ prompted_left old.soon old.prompted wait)
 
 -- all that is said of a tick that answered this
 pub record Ticks (s : NodeSnapshot) (old : Policy) (fired : Option Event) (new : Policy) : Type 0 where
@@ -24,7 +25,8 @@ pub record Ticks (s : NodeSnapshot) (old : Policy) (fired : Option Event) (new :
   pub down : wait_of s ≡ None → (fired ≡ None) × (new ≡ old)
   pub moves : MovesDeadline s old new
   pub sets : SetsDeadline s old new
-  pub recovers : fired ≡ Some on.Recover → new.soon ≡ 2
+  pub recovers : fired ≡ Some on.Recover → (new.soon ≡ 2) × (new.prompted ≡ true)
+  pub stays : fired ≢ Some on.Recover → (d : Deadline) → Runs old s d → (new.soon ≡ old.soon) × (new.prompted ≡ old.prompted)
   pub checks : Counts fired old new
   pub dispatches : Dispatches fired s old new
   pub kept : new ≡ record old {
@@ -37,6 +39,7 @@ pub record Ticks (s : NodeSnapshot) (old : Policy) (fired : Option Event) (new :
     soon = new.soon;
     asked = new.asked;
     slowest = new.slowest;
+    prompted = new.prompted;
   }
 
 -- at a node that stays as it is seen, where it is so late now, something is due next at this time; 2^64 - 1 stands also for never

@@ -14,7 +14,7 @@ use Rattle.histories.specs.NodeState.{NodeState}
 use Rattle.pace.specs.declared.snapshot.NodeSnapshot.{NodeSnapshot}
 use Rattle.pace.specs.declared.timer_settings.TimerSettings.{TimerSettings}
 use Rattle.pace.specs.Hearing.{told_by}
-use Rattle.pace.specs.Policy.{Policy, all_answered, fresh, in_new_group, passed, spent}
+use Rattle.pace.specs.Policy.{Policy, all_answered, fresh, gives_up, in_new_group, passed, spent, without_asked}
 use Rattle.pace.specs.Retransmission.{Waits, is_answered, waits_on}
 use Rattle.pace.specs.Snapshots.{snapshot_of}
 use Rattle.pace.specs.Timers.{raise_of}
@@ -49,10 +49,10 @@ abbrev pub heard : Event → Timers → Timers
 heard (on.Deliver m) t = record t { policy = told_by m t.policy }
 heard event t = t
 
--- a coordinator that recovers gives a member up, and looks for others soon
+-- a coordinator that recovers gives a member up, and looks for others soon; when a node asks behind a loss, no time says
 abbrev pub given_up : Event → Timers → Timers
-given_up on.Recover t = record t { policy = record t.policy { soon = 2 } }
-given_up event t = t
+given_up on.Recover t = record t { policy = gives_up (without_asked t.policy) }
+given_up event t = record t { policy = without_asked t.policy }
 
 -- a command of a node in this state took so many milliseconds: they aren't waited for, and where it is the first in a group that the node
 -- made, it was the raise for it, and others are reckoned to take as long
@@ -80,9 +80,9 @@ pub record LooksIn (group : Group) (old new : Timers) : Type 0 where
   pub same : old.looked_in ≡ Some group → new ≡ old
   pub other : old.looked_in ≢ Some group → new ≡ record old { policy = in_new_group old.policy; looked_in = Some group }
 
--- where nothing is due and all have answered a check, the check is over, and the timers are looked at once more
+-- where nothing is due, and all have answered a check or accepted an invitation, that is over or soon is, and the timers are looked at once more
 abbrev pub LooksAgain : Bool → NodeSnapshot → Option Event → Policy → Option Event → Policy → Type 0
-LooksAgain true seen first between fired new = Ticks seen (all_answered between) fired new
+LooksAgain true seen first between fired new = Ticks seen (all_answered seen between) fired new
 LooksAgain false seen first between fired new = (fired ≡ first) × (new ≡ between)
 
 -- a look at the timers of a node of which this is seen, and which waits for these messages: this event is due, or none

@@ -63,10 +63,11 @@ impl Timers {
         }
     }
 
-    /// The policy learns that a coordinator leaves a member behind that the transport gave up.
+    /// The policy learns that the transport gave a node up, and that a coordinator leaves a member behind.
     pub(crate) fn give_up(&mut self, event: &Event)
         ensures { self.new ≡ given_up event.now self.old }
     {
+        self.policy.lost();
         if let Event::Recover = event {
             self.policy.gave_up();
         }
@@ -98,7 +99,7 @@ impl Timers {
         if due.is_some() || !waiting.is_answered(snapshot) {
             return due;
         }
-        self.policy.answered();
+        self.policy.answered(snapshot);
         self.policy.tick(snapshot)
     }
 

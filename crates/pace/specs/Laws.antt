@@ -3,6 +3,7 @@ use Rattle.std.specs.Prelude.{ℕ, ◌≡◌, ◌≤◌, ◌*◌, min, Bool, len
 use Rattle.group_task.specs.Group.{Group}
 use Rattle.node_core.specs.declared.event.Event.TheVariants as on
 use Rattle.node_core.specs.declared.timer.Timer.TheVariants as timer
+use Rattle.pace.specs.declared.timer_settings.TimerSettings.{TimerSettings}
 use Rattle.pace.specs.declared.wait.Wait.{Wait}
 use Rattle.pace.specs.declared.deadline.Deadline.{Deadline}
 use Rattle.pace.specs.declared.snapshot.NodeSnapshot.{NodeSnapshot}
@@ -12,8 +13,8 @@ use Rattle.pace.specs.Policy.{Policy, HasCome, IsWorkDue, Dispatches, IsWithin, 
 
 -- a deadline that is set now has not come, whatever is seen
 abbrev pub TimerFiresOnce : Type 0
-TimerFiresOnce = (p : Policy) (s : NodeSnapshot) (soon : Option Bool) (settled : Bool) (raise slowest : ℕ) (wait : Wait) (group : Group) (d : Deadline) →
-    IsSet soon p.setting settled raise slowest wait group d → HasCome p s d → ⊥
+TimerFiresOnce = (p : Policy) (s : NodeSnapshot) (setting : TimerSettings) (soon : Option Bool) (settled : Bool) (raise slowest : ℕ) (wait : Wait) (group : Group) (d : Deadline) →
+    IsSet soon setting settled raise slowest wait group d → HasCome p s d → ⊥
 
 -- work that was dispatched now is not due, whatever is seen
 abbrev pub WorkFiresOnce : Type 0

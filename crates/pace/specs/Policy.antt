@@ -2,6 +2,7 @@
 use Rattle.std.specs.Prelude.{ℕ, ◌≡◌, ◌≢◌, ◌⊎◌, ◌+◌, ◌-◌, ◌/◌, ◌≤◌, ◌<◌, ◌^◌, max, min, Bool, true, false, not, ◌&&◌, ◌||◌, ◌==◌, nat_le, nat_lt, if◌then◌else◌, List, slice_index, slice_set, replicate, Option, Some, None, is_some}
 use Rattle.std.specs.List.{list_any}
 use Rattle.std.specs.Option.{unwrap_or}
+use Rattle.group_task.specs.Group.{Group}
 use Rattle.group_task.specs.declared.node.TheConstants.{NODES}
 use Rattle.node_core.specs.declared.event.Event.{Event}
 use Rattle.node_core.specs.declared.event.Event.TheVariants as on
@@ -12,7 +13,7 @@ use Rattle.pace.specs.declared.wait.Wait.{Wait}
 use Rattle.pace.specs.declared.wait.Wait.TheVariants.{Merge}
 use Rattle.pace.specs.declared.deadline.Deadline.{Deadline}
 use Rattle.pace.specs.declared.snapshot.NodeSnapshot.{NodeSnapshot}
-use Rattle.pace.specs.Timers.{answered, at_once, is_behind_question, is_late, wait_of, timer_of, first_pause, graced, is_led_by, lasts, lateness, later, longer_pause, put_off}
+use Rattle.pace.specs.Timers.{IsSet, answered, at_once, comes_soon, is_behind_question, is_check_wait, is_late, paced, wait_of, timer_of, first_pause, graced, is_led_by, lasts, lateness, later, longer_pause, put_off}
 
 -- the policy of a node: the time that was told last, how much of what comes isn't waited for, the deadline that is set, whether its group is settled
 -- (a check was made or heard of in it), how many checks were fired and how many of them before each node was last heard, the oldest job that was seen, how long work rests and for how long it has to before it is
@@ -35,6 +36,10 @@ pub record Policy : Type 0 where
   -- when the node asked others last, and how long the slowest answer took, or this node itself was held up
   pub asked : Option ℕ
   pub slowest : ℕ
+  -- how long a round trip was measured to take
+  pub round_trip : ℕ
+  -- whether another coordinator's check prompted the node to its next one
+  pub prompted : Bool
 
 abbrev pub fresh : TimerSettings → ℕ → Policy
 fresh setting id = record {
@@ -53,6 +58,8 @@ fresh setting id = record {
   soon = 0;
   asked = None;
   slowest = 0;
+  round_trip = setting.unit;
+  prompted = false;
 }
 
 -- how long ago a time was told, where it is so late now: a clock that fell back begins anew
@@ -79,9 +86,12 @@ spent ms p = record p { skip = min (p.skip + ms) (2 ^ 64 - 1) }
 abbrev pub heard_from : ℕ → Policy → Policy
 heard_from id p = record p { heard = slice_set p.heard id p.checks }
 
--- a member asks at once behind a check of its coordinator, by which its group is settled; a greater node that looks for other coordinators is to merge first
+-- a member asks at once behind a check of its coordinator, by which its group is settled; the coordinator of a settled group looks for others at once behind a check of another one; elsewhere a greater node
+-- that looks for other coordinators is to merge first
 abbrev pub asked_with : ℕ → Policy → Deadline → Policy
-asked_with from p d = if is_led_by from d then record p { deadline = Some (at_once d); settled = true } else record p { deadline = Some (if nat_lt p.id from then put_off d else d) }
+asked_with from p d =
+    if is_led_by from d then record p { deadline = Some (at_once d); settled = true }
+    else (if is_check_wait d.wait && p.settled then record p { deadline = Some (at_once d); prompted = true } else record p { deadline = Some (if nat_lt p.id from then put_off d else d) })
 
 abbrev pub asked_where : ℕ → Policy → Option Deadline → Policy
 asked_where from p None = p
@@ -91,23 +101,29 @@ asked_where from p (Some d) = asked_with from p d
 abbrev pub asked_by : ℕ → Policy → Policy
 asked_by from p = asked_where from p p.deadline
 
-abbrev pub answered_deadline : Option Deadline → Option Deadline
-answered_deadline None = None
-answered_deadline (Some d) = Some (answered d)
+abbrev pub answered_deadline : TimerSettings → Bool → Option Deadline → Option Deadline
+answered_deadline s found None = None
+answered_deadline s found (Some d) = Some (answered s found d)
 
--- all whom the node asked have answered, and none of them leads
-abbrev pub all_answered : Policy → Policy
-all_answered p = record p { deadline = answered_deadline p.deadline }
+-- all whom the node asked have answered, or all that it invited have accepted
+abbrev pub all_answered : NodeSnapshot → Policy → Policy
+all_answered s p = record p { deadline = answered_deadline p.setting (is_some s.merge_wait) p.deadline }
 
 -- an answer took so long, or the node itself was held up for so long, and others may be, too
 abbrev pub slowest_late : ℕ → Policy → ℕ
 slowest_late late p = max p.slowest (min late p.setting.slowest_most)
 
+-- how long a round trip is taken to be once an answer took so long: as long as the longest of the last ones, each of which counts an eighth less with the next; no longer than is set, and a quarter of that at least
+abbrev pub trip_with : ℕ → Policy → ℕ
+trip_with took p = max (min (max took (p.round_trip - (p.round_trip / 8 + 1))) p.setting.unit) (p.setting.unit / 4)
+
 -- an answer came to what the node asked
+abbrev pub answer_took : ℕ → Policy → Policy
+answer_took took p = record p { slowest = slowest_late took p; round_trip = trip_with took p }
 
 abbrev pub answer_since : Option ℕ → Policy → Policy
 answer_since None p = p
-answer_since (Some asked) p = record p { slowest = slowest_late (unwrap_or p.told 0 - asked) p }
+answer_since (Some asked) p = answer_took (unwrap_or p.told 0 - asked) p
 
 abbrev pub answer_came : Policy → Policy
 answer_came p = answer_since p.asked p
@@ -122,6 +138,18 @@ slowest_at wait p = if is_behind_question wait then p.slowest - (p.slowest / 128
 -- the node is in another group than before
 abbrev pub in_new_group : Policy → Policy
 in_new_group p = record p { settled = false; rested = 0; pause = 0 }
+
+-- a coordinator recovers without a member: its next two checks come soon, and what it finds is merged with soon
+abbrev pub gives_up : Policy → Policy
+gives_up p = record p { soon = 2; prompted = true }
+
+-- what the node asks from now on wasn't asked at a time that was told
+abbrev pub without_asked : Policy → Policy
+without_asked p = record p { asked = None }
+
+-- the deadline of this wait is set
+abbrev pub Sets : Policy → Wait → Group → Deadline → Type 0
+Sets p wait group d = IsSet (comes_soon p.soon p.prompted wait) (paced p.setting p.round_trip p.settled wait) p.settled p.raise p.slowest wait group d
 
 -- its times are numbers of 64 bits
 abbrev pub IsWithinDeadline : Option Deadline → Type 0

@@ -1,5 +1,5 @@
 -- The messages that a node sent and still waits for.
-use Rattle.std.specs.Prelude.{ℕ, ◌++◌, ◌+◌, ◌-◌, ◌*◌, ◌^◌, min, nat_le, List, [], take, drop, map, Bool, true, false, not, ◌&&◌, ◌||◌, ◌==◌, if◌then◌else◌, Option, Some, None, is_some}
+use Rattle.std.specs.Prelude.{ℕ, ◌++◌, ◌+◌, ◌-◌, ◌*◌, ◌^◌, min, nat_le, List, [], take, drop, map, Bool, true, false, not, ◌&&◌, ◌||◌, ◌==◌, if◌then◌else◌, Option, Some, None}
 use Rattle.std.specs.List.{filter, list_any}
 use Rattle.group_task.specs.Group.{Group, same_group}
 use Rattle.group_task.specs.Ids.{has}
@@ -100,12 +100,18 @@ waits_since answered sent s w = record w { repeats = filter (is_waited_still ans
 abbrev pub waits_behind : Option Event → List Envelope → State → Waits → Waits
 waits_behind event sent s w = waits_since (answerer event) sent s w
 
-abbrev pub asks : List Repeat → Bool
-asks repeats = list_any (λ r. is_check r.message.body) repeats
+-- what others answer: a question of a check, or an invitation
+abbrev pub is_answerable : Body → Bool
+is_answerable says.AreYouCoordinator = true
+is_answerable (says.Invitation group) = true
+is_answerable body = false
 
--- a check is over: it found no other coordinator, and all have answered
+abbrev pub asks : List Repeat → Bool
+asks repeats = list_any (λ r. is_answerable r.message.body) repeats
+
+-- all whom a node asked in a check have answered, or all that it invited have accepted
 abbrev pub is_answered : NodeSnapshot → Waits → Bool
-is_answered s w = s.checking && (not (is_some s.merge_wait) && not (asks w.repeats))
+is_answered s w = (s.checking || in_phase Election s.phase) && not (asks w.repeats)
 
 -- the next time has come; it is a unit away at most, or the clock fell back
 abbrev pub has_come : ℕ → Waits → Bool

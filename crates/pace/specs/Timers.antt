@@ -1,5 +1,5 @@
 -- What a node waits for, for how long, and the timer that fires then.
-use Rattle.std.specs.Prelude.{ℕ, ◌≡◌, ◌+◌, ◌-◌, ◌*◌, ◌/◌, ◌^◌, ◌≤◌, max, min, Bool, true, false, not, nat_lt, ◌&&◌, ◌==◌, if◌then◌else◌, Option, Some, None}
+use Rattle.std.specs.Prelude.{ℕ, ◌≡◌, ◌+◌, ◌-◌, ◌*◌, ◌/◌, ◌^◌, ◌≤◌, max, min, Bool, true, false, not, nat_lt, ◌&&◌, ◌==◌, if◌then◌else◌, Option, Some, None, is_some}
 use Rattle.group_task.specs.Group.{Group}
 use Rattle.node_core.specs.declared.phase.Phase.{Phase}
 use Rattle.node_core.specs.declared.phase.Phase.TheVariants.{Down, Election, Reorganization, Normal}
@@ -57,12 +57,16 @@ abbrev pub steps : Wait → Option ℕ → ℕ
 steps Merge (Some n) = n
 steps wait found = 0
 
+-- what comes soon waits for nobody's turn
+abbrev pub turns_of : Deadline → Option ℕ → ℕ
+turns_of d merge_wait = if d.soon then 0 else steps d.wait merge_wait
+
 abbrev pub times : Bool → ℕ → ℕ
 times twice n = if twice then 2 * n else n
 
 -- how long a wait lasts, where the node's last raise took so long: a turn has room for the raise of who merges first
 abbrev pub lasts : TimerSettings → ℕ → Option ℕ → Deadline → ℕ
-lasts s raise merge_wait d = min (times d.put_off (d.length + steps d.wait merge_wait * (s.turn * s.unit + raise))) (2 ^ 64 - 1)
+lasts s raise merge_wait d = min (times d.put_off (d.length + turns_of d merge_wait * (s.turn * s.unit + raise))) (2 ^ 64 - 1)
 
 -- so many milliseconds later
 abbrev pub later : ℕ → Deadline → Deadline
@@ -72,9 +76,17 @@ abbrev pub is_merge : Wait → Bool
 is_merge Merge = true
 is_merge wait = false
 
--- a merge waits twice as long
+abbrev pub is_check_wait : Wait → Bool
+is_check_wait Check = true
+is_check_wait wait = false
+
+abbrev pub is_accept : Wait → Bool
+is_accept Accept = true
+is_accept wait = false
+
+-- a merge waits twice as long, but for one that comes soon
 abbrev pub put_off : Deadline → Deadline
-put_off d = if is_merge d.wait then record d { put_off = true } else d
+put_off d = if is_merge d.wait && not d.soon then record d { put_off = true } else d
 
 -- a wait is over at once
 abbrev pub at_once : Deadline → Deadline
@@ -98,9 +110,13 @@ lateness s raise merge_wait d = if d.had_grace then 0 else d.waited - lasts s ra
 abbrev pub graced : TimerSettings → ℕ → Option ℕ → Deadline → Deadline
 graced s raise merge_wait d = record d { waited = lasts s raise merge_wait d - s.unit; had_grace = true }
 
--- a look for other coordinators is over
-abbrev pub answered : Deadline → Deadline
-answered d = if is_merge d.wait then at_once d else d
+-- once all that were invited have accepted, those whom they bring are waited for so much longer, and no longer than was meant
+abbrev pub joined : TimerSettings → Deadline → Deadline
+joined s d = if d.had_grace then d else record d { length = min d.length (d.waited + s.joining * s.unit); had_grace = true }
+
+-- all have answered: a look for other coordinators is over, where it found none or waits for nobody's turn, and soon an election is
+abbrev pub answered : TimerSettings → Bool → Deadline → Deadline
+answered s found d = if is_merge d.wait then (if found && not d.soon then d else at_once d) else (if is_accept d.wait then joined s d else d)
 
 -- what a node waits for once it asked: the coordinator, or all who may lead
 abbrev pub is_behind_question : Wait → Bool
@@ -128,13 +144,31 @@ patience s Ready raise slowest = raise + (slowest - s.ready * s.unit)
 patience s Answer raise slowest = raise + (answer_least s slowest - s.answer * s.unit)
 patience s wait raise slowest = 0
 
+-- how long a round trip is taken to be in a wait, in milliseconds: as long as was measured before the first check of a group, and behind each check. Where a group is settled, checks and questions come
+-- as often in a slow network as in one whose round trip takes so long at most
+abbrev pub unit_at : TimerSettings → ℕ → Bool → Wait → ℕ
+unit_at s round_trip settled Check = if settled then min s.unit s.rest_most else round_trip
+unit_at s round_trip settled Merge = round_trip
+unit_at s round_trip settled Coordinator = if settled then min s.unit s.rest_most else s.unit
+unit_at s round_trip settled wait = s.unit
+
+abbrev pub paced : TimerSettings → ℕ → Bool → Wait → TimerSettings
+paced s round_trip settled wait = record s { unit = unit_at s round_trip settled wait }
+
 -- a check that comes soon: the first of two at once, the second two round trips later
 abbrev pub soon_by : ℕ → Option Bool
 soon_by soon = if soon == 0 then None else Some (soon == 1)
 
-abbrev pub comes_soon : ℕ → Wait → Option Bool
-comes_soon soon Check = soon_by soon
-comes_soon soon wait = None
+-- what comes soon: such a check, and the merge behind a check that another coordinator's one, or a recovery without a silent member, prompted the node to
+abbrev pub comes_soon : ℕ → Bool → Wait → Option Bool
+comes_soon soon prompted Check = soon_by soon
+comes_soon soon prompted Merge = if prompted then Some true else None
+comes_soon soon prompted wait = None
+
+-- whether the next merge comes soon, once the deadline of this wait is set: as long as further checks do
+abbrev pub prompted_left : ℕ → Bool → Wait → Bool
+prompted_left soon prompted Merge = prompted && nat_lt 0 soon
+prompted_left soon prompted wait = prompted
 
 -- how many checks are to come soon once the deadline of this wait is set
 abbrev pub soon_left : ℕ → Wait → ℕ
@@ -155,8 +189,9 @@ pub record IsSet (soon : Option Bool) (s : TimerSettings) (settled : Bool) (rais
   pub from_now : d.waited ≡ 0
   pub in_time : d.put_off ≡ false
   pub has_grace : d.had_grace ≡ false
-  pub least : least_at soon s (least_of s settled wait + patience s wait raise slowest) ≤ d.length
-  pub most : d.length ≤ least_at soon s (least_of s settled wait + jitter_of s settled wait + patience s wait raise slowest)
+  pub comes : d.soon ≡ is_some soon
+  pub least : least_at soon s (least_of s settled wait) + patience s wait raise slowest ≤ d.length
+  pub most : d.length ≤ least_at soon s (least_of s settled wait + jitter_of s settled wait) + patience s wait raise slowest
 
 -- a raise is reckoned with up to so many round trips
 abbrev pub raise_of : TimerSettings → ℕ → ℕ
@@ -178,22 +213,24 @@ longer_pause s pause = min (max (pause + pause / 4) 1) (most_pause s)
 abbrev pub measured : ℕ → TimerSettings
 measured unit = record {
   unit = unit;
-  first_check = 10;
-  first_check_jitter = 5;
-  check = 45;
-  check_jitter = 5;
-  merge = 5;
-  merge_jitter = 5;
+  first_check = 5;
+  first_check_jitter = 3;
+  check = 37;
+  check_jitter = 4;
+  merge = 3;
+  merge_jitter = 2;
   turn = 10;
   accept = 5;
+  joining = 1;
   ready = 10;
   task = 20;
   first_coordinator = 20;
   first_coordinator_jitter = 10;
-  coordinator = 52;
+  coordinator = 20;
   coordinator_jitter = 3;
-  answer = 10;
+  answer = 5;
   answer_least = 250;
+  rest_most = 25;
   slowest_most = 1000;
   dispatch = 5;
   dispatch_most = 300;

@@ -1,5 +1,5 @@
 ghost use Rattle.std.specs.Prelude.{◌≡◌, ◌↔◌, ◌≤◌, ◌<◌, ◌-◌, ◌+◌, ◌*◌, ◌^◌, min, IsTrue};
-ghost use Rattle.pace.specs.Timers.{answered, at_once, graced, is_late, is_led_by, lasts, lateness, later, put_off, times};
+ghost use Rattle.pace.specs.Timers.{answered, at_once, graced, is_check_wait, is_late, is_led_by, joined, lasts, lateness, later, put_off, times, turns_of};
 
 use crate::timer_settings::TimerSettings;
 use crate::wait::Wait;
@@ -18,6 +18,8 @@ pub struct Deadline {
     pub put_off: bool,
     /// Whether it had its grace, or needs none: when it is over its timer fires, however late the process looks.
     pub had_grace: bool,
+    /// Whether it comes soon: a merge that does waits for nobody's turn.
+    pub soon: bool,
 }
 
 impl Deadline {
@@ -38,12 +40,12 @@ impl Deadline {
         }
     }
 
-    /// A merge waits twice as long.
+    /// A merge waits twice as long, but for one that comes soon.
     pub fn put_off(self) -> Deadline
         ensures { result ≡ put_off self }
     {
         match self.wait {
-            Wait::Merge => Deadline {
+            Wait::Merge if !self.soon => Deadline {
                 put_off: true,
                 ..self
             },
@@ -62,14 +64,39 @@ impl Deadline {
         }
     }
 
-    /// A look for other coordinators is over.
-    pub fn answered(self) -> Deadline
-        ensures { result ≡ answered self }
+    /// All that were asked have answered: a look for other coordinators is over, where it `found` none or waits for nobody's turn, and soon an
+    /// election is.
+    pub fn answered(self, setting: &TimerSettings, found: bool) -> Deadline
+        ensures { result ≡ answered setting.now found self }
     {
         match self.wait {
+            Wait::Merge if found && !self.soon => self,
             Wait::Merge => self.at_once(),
+            Wait::Accept => self.joined(setting),
             _ => self,
         }
+    }
+
+    /// All that were invited have accepted. Those whom they bring are waited for a little, once.
+    fn joined(self, setting: &TimerSettings) -> Deadline
+        ensures { result ≡ joined setting.now self }
+    {
+        if self.had_grace {
+            return self;
+        }
+        let more = u64::from(u32::from(setting.joining) * u32::from(setting.unit));
+        Deadline {
+            length: self.length.min(self.waited.saturating_add(more)),
+            had_grace: true,
+            ..self
+        }
+    }
+
+    /// Whether a coordinator waits to look for others.
+    pub fn is_of_check(&self) -> bool
+        ensures { result ≡ is_check_wait self.now.wait }
+    {
+        matches!(self.wait, Wait::Check)
     }
 
     /// Whether a member waits to ask this node, its coordinator.
@@ -133,12 +160,19 @@ impl Deadline {
     pub fn lasts(&self, setting: &TimerSettings, raise: u32, merge_wait: Option<u64>) -> u64
         ensures { result ≡ lasts setting.now raise merge_wait self.now }
     {
-        let turns = match self.wait {
-            Wait::Merge => merge_wait.unwrap_or(0),
-            _ => 0,
-        };
+        let turns = self.turns(merge_wait);
         let turn = u64::from(u32::from(setting.turn) * u32::from(setting.unit)) + u64::from(raise);
         longer(self.length, turns, turn, self.put_off)
+    }
+
+    /// How many turns of other nodes come first.
+    fn turns(&self, merge_wait: Option<u64>) -> u64
+        ensures { result ≡ turns_of self.now merge_wait }
+    {
+        match self.wait {
+            Wait::Merge if !self.soon => merge_wait.unwrap_or(0),
+            _ => 0,
+        }
     }
 }
 

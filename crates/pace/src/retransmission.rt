@@ -1,7 +1,7 @@
 ghost use Rattle.std.specs.Prelude.{◌≡◌, ◌++◌, ◌<◌, ◌≤◌, ℕ, [], IfOk, IfSome, IsNone, OnOk, drop, map, take, true, None, Some};
 ghost use Rattle.std.specs.List.{filter};
 ghost use Rattle.node_core.specs.State.{state_of};
-ghost use Rattle.pace.specs.Retransmission.{answerer, asks, first, has_come, invites, is_answered, is_check, is_of, is_resting, is_waited, is_waited_still, message_of, nearer, none_waited, overdue, rested, sent_again, waits_behind, waits_on, waits_since};
+ghost use Rattle.pace.specs.Retransmission.{answerer, asks, first, has_come, invites, is_answerable, is_answered, is_of, is_resting, is_waited, is_waited_still, message_of, nearer, none_waited, overdue, rested, sent_again, waits_behind, waits_on, waits_since};
 
 use crate::repeat::Repeat;
 use crate::snapshot::NodeSnapshot;
@@ -121,13 +121,14 @@ impl Retransmission {
         self.next <= now || u128::from(now) + u128::from(self.unit) < u128::from(self.next)
     }
 
-    /// Whether a check is over: all whom the node asked have answered, and none of them leads.
+    /// Whether all whom the node asked in a check have answered, or all that it invited have accepted.
     pub fn is_answered(&self, snapshot: &NodeSnapshot) -> bool
-        // Promise: A check counts as answered where no question of it is waited for, and it found no other coordinator.
-        // Refuses: unanswered_check_is_over, found_coordinator_passed_over.
+        // Promise: A check or an election counts as answered where no question or invitation of it is waited for.
+        // Refuses: unanswered_check_is_over, accepted_election_goes_on.
         ensures { result ≡ is_answered snapshot.now self.now }
     {
-        snapshot.checking && snapshot.merge_wait.is_none() && !asks(&self.repeats)
+        let waits = snapshot.checking || matches!(snapshot.phase, Phase::Election);
+        waits && !asks(&self.repeats)
     }
 
     /// What was due is sent: it rests. What is overdue goes first at the next time.
@@ -239,22 +240,25 @@ fn push_waited(
     Ok(())
 }
 
-/// Whether a question of a check is waited for.
+/// Whether the answer to a question of a check, or to an invitation, is waited for.
 fn asks(repeats: &[Repeat]) -> bool
     ensures { result ≡ asks repeats.now }
 {
     for repeat in repeats {
-        if is_check(&repeat.message) {
+        if is_answerable(&repeat.message) {
             return true;
         }
     }
     false
 }
 
-fn is_check(message: &Message) -> bool
-    ensures { result ≡ is_check message.now.body }
+fn is_answerable(message: &Message) -> bool
+    ensures { result ≡ is_answerable message.now.body }
 {
-    matches!(message.body(), Body::AreYouCoordinator)
+    matches!(
+        message.body(),
+        Body::AreYouCoordinator | Body::Invitation(_)
+    )
 }
 
 /// Whether a node still waits for what comes of a message that it sent.

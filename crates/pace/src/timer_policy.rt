@@ -1,12 +1,11 @@
-ghost use Rattle.std.specs.Prelude.{◌≡◌, ◌≢◌, ◌↔◌, ◌<◌, ◌≤◌, ◌^◌, ◌-◌, ℕ, if◌then◌else◌, IfSome, IsNone, IsTrue, is_some, true, Some, None};
+ghost use Rattle.std.specs.Prelude.{◌≡◌, ◌≢◌, ◌↔◌, ◌<◌, ◌≤◌, ◌^◌, ◌-◌, ◌+◌, ℕ, if◌then◌else◌, IfSome, IsNone, IsTrue, is_some, true, Some, None};
 ghost use Rattle.node_core.specs.declared.event.Event.TheVariants as on;
 ghost use Rattle.node_core.specs.declared.timer.Timer.TheVariants as timer;
 ghost use Rattle.node_core.specs.declared.event.Event.{Event};
 ghost use Rattle.pace.specs.declared.deadline.Deadline.{Deadline};
 ghost use Rattle.pace.specs.declared.wait.Wait.{Wait};
-ghost use Rattle.pace.specs.declared.wait.Wait.TheVariants as wait;
-ghost use Rattle.pace.specs.Timers.{wait_of, raise_of, comes_soon, soon_by, soon_left, IsSet};
-ghost use Rattle.pace.specs.Policy.{aged, all_answered, answer_came, slowest_at, slowest_late, asked_at, asked_by, fresh, heard_from, in_new_group, is_silent, has_silent, event_at, looked_at, may_dispatch, passed, rests, since, spent, work_left, Runs, HasCome, IsDue, IsWorkDue, MayFire, Counts, Dispatches, MovesDeadline};
+ghost use Rattle.pace.specs.Timers.{comes_soon, jitter_of, least_at, least_of, paced, patience, prompted_left, raise_of, soon_left, wait_of};
+ghost use Rattle.pace.specs.Policy.{aged, all_answered, answer_came, answer_took, slowest_at, slowest_late, asked_at, asked_by, fresh, gives_up, heard_from, in_new_group, is_silent, has_silent, event_at, looked_at, may_dispatch, passed, rests, since, spent, trip_with, without_asked, work_left, Runs, HasCome, IsDue, IsWorkDue, MayFire, Counts, Dispatches, MovesDeadline, Sets};
 
 use crate::deadline::Deadline;
 use crate::snapshot::NodeSnapshot;
@@ -45,6 +44,10 @@ pub struct TimerPolicy {
     // when the node asked others last, and how long the slowest answer took, or this node itself was held up
     asked: Option<u64>,
     slowest: u32,
+    // how long a round trip was measured to take
+    round_trip: u16,
+    // whether another coordinator's check, or a recovery without a silent member, prompts the node to the next one
+    prompted: bool,
 }
 
 impl Model for TimerPolicy {
@@ -68,6 +71,8 @@ impl Model for TimerPolicy {
       soon = a.soon;
       asked = a.asked;
       slowest = a.slowest;
+      round_trip = a.round_trip;
+      prompted = a.prompted;
     } };
 }
 
@@ -93,6 +98,8 @@ impl TimerPolicy {
             soon: 0,
             asked: None,
             slowest: 0,
+            round_trip: setting.unit,
+            prompted: false,
         }
     }
 
@@ -105,12 +112,12 @@ impl TimerPolicy {
         self.heard[usize::from(from.number())] = self.checks;
     }
 
-    /// This node looks for other coordinators. A member whose coordinator it is asks it at once. Where it is greater, it is to merge first: a
-    /// merge that waits for its turn waits twice as long.
+    /// This node looks for other coordinators. A member whose coordinator it is asks it at once, and the coordinator of a settled group looks for
+    /// others at once. Else, where it is greater, it is to merge first: a merge that waits for its turn waits twice as long.
     pub fn asked(&mut self, from: NodeId)
         // Promise: A member's question is due at once behind a check of its coordinator that it hears, and of nobody else; from then on its
-        // group is settled.
-        // Refuses: question_behind_anyones_check, check_heard_for_nothing.
+        // group is settled. The coordinator of a settled group looks for others at once behind a check of another one, and merges first.
+        // Refuses: question_behind_anyones_check, check_heard_for_nothing, check_of_another_passed_over.
         ensures { self.new ≡ asked_by from self.old }
     {
         let Some(deadline) = self.deadline else {
@@ -119,6 +126,9 @@ impl TimerPolicy {
         if deadline.is_led_by(from) {
             self.deadline = Some(deadline.at_once());
             self.settled = true;
+        } else if self.settled && deadline.is_of_check() {
+            self.deadline = Some(deadline.at_once());
+            self.prompted = true;
         } else if from.number() > self.id.number() {
             self.deadline = Some(deadline.put_off());
         }
@@ -127,27 +137,55 @@ impl TimerPolicy {
     /// An answer came to what the node asked, and so it is known how long that took.
     pub fn answer_came(&mut self)
         // Promise: Others are waited for as long as the slowest answer took, or as the node itself was held up, up to 1 s, and a coordinator's answer
-        // three times as long, and 250 ms at least. That counts a 128th less with each question.
-        // Also: TimerPolicy::delivered, TimerPolicy::tick.
-        // Refuses: slow_answer_forgotten, own_hold_up_forgotten, late_where_it_came_at_once, slow_answers_for_ever, slow_answer_waited_for_once.
+        // three times as long, and 250 ms at least. That counts a 128th less with each question. A round trip is taken to be as long as the longest
+        // of the last answers took, each of which counts an eighth less with the next: no longer than is set, and a quarter of that at least.
+        // Also: TimerPolicy::delivered, TimerPolicy::tick, TimerPolicy::took.
+        // Refuses: slow_answer_forgotten, own_hold_up_forgotten, late_where_it_came_at_once, slow_answers_for_ever, slow_answer_waited_for_once,
+        // fast_network_waited_for_as_set.
         ensures { self.new ≡ answer_came self.old }
     {
         let Some(asked) = self.asked else {
             return;
         };
         let told = self.told.unwrap_or(0);
-        self.slowest = self.slowest_with(told.saturating_sub(asked));
+        self.took(told.saturating_sub(asked));
     }
 
-    /// All whom the node asked whether they lead have answered, and none of them does: its check is over.
-    pub fn answered(&mut self)
-        // Promise: A check is over at once where all have answered and none of them leads.
-        // Refuses: answers_end_no_check.
-        ensures { self.new ≡ all_answered self.old }
+    fn took(&mut self, ms: u64)
+        ensures { self.new ≡ answer_took ms self.old }
+    {
+        self.slowest = self.slowest_with(ms);
+        self.round_trip = self.trip_with(ms);
+    }
+
+    /// How long a round trip is taken to be once an answer took so long.
+    fn trip_with(&self, took: u64) -> u16
+        ensures { result ≡ trip_with took self.now }
+    {
+        let unit = self.setting.unit;
+        let kept = self.round_trip.saturating_sub(self.round_trip / 8 + 1);
+        let took = u16::try_from(took).unwrap_or(unit);
+        took.max(kept).min(unit).max(unit / 4)
+    }
+
+    /// All whom the node asked whether they lead have answered, or all that it invited have accepted.
+    pub fn answered(&mut self, snapshot: &NodeSnapshot)
+        // Promise: A check is over at once where all have answered and none of them leads, or the node waits for nobody's turn. An election is over a
+        // round trip after all that were invited have accepted.
+        // Refuses: answers_end_no_check, found_coordinator_passed_over, accepted_election_goes_on.
+        ensures { self.new ≡ all_answered snapshot.now self.old }
     {
         if let Some(deadline) = self.deadline {
-            self.deadline = Some(deadline.answered());
+            let found = snapshot.merge_wait.is_some();
+            self.deadline = Some(deadline.answered(&self.setting, found));
         }
+    }
+
+    /// The transport gave a node up, and this one asks or leaves: when, the policy isn't told, and so no answer is one to what it asked before.
+    pub fn lost(&mut self)
+        ensures { self.new ≡ without_asked self.old }
+    {
+        self.asked = None;
     }
 
     /// The node is in another group than before: the jobs that it keeps are due at once, and no check was made in it.
@@ -161,11 +199,12 @@ impl TimerPolicy {
         self.pause = 0;
     }
 
-    /// The node recovers without a member that is silent, or that the transport gave up: its next two checks come soon.
+    /// The node recovers without a member that is silent, or that the transport gave up: its next two checks come soon, and it merges first.
     pub fn gave_up(&mut self)
-        ensures { self.new ≡ record self.old { soon = 2 } }
+        ensures { self.new ≡ gives_up self.old }
     {
         self.soon = 2;
+        self.prompted = true;
     }
 
     /// It is so late now. What is waited for is nearer by the time that went by since it was told last, less what the node spent itself; where
@@ -218,13 +257,17 @@ impl TimerPolicy {
         ensures moves { MovesDeadline snapshot.now self.old self.new }
         // Promise: Where no deadline is set, one is, for its wait's length, at most its jitter more, and a raise more where others may be in one. Behind a
         // recovery that gives up a silent member the next check comes at once, and the one behind it two round trips later; each
-        // check that was set soon is counted, and nothing else is.
-        // Also: recovers, TimerPolicy::gave_up.
-        // Refuses: jitter_above_its_bound, raise_of_others_not_waited_for, no_check_comes_soon, every_check_comes_soon.
+        // check that was set soon is counted, and nothing else is. The merge behind these, and behind a check to which another one's prompted the
+        // node, comes two round trips later, and waits for nobody's turn.
+        // Also: recovers, stays, TimerPolicy::gave_up.
+        // Refuses: jitter_above_its_bound, raise_of_others_not_waited_for, no_check_comes_soon, every_check_comes_soon, prompted_merge_waits_for_its_turn,
+        // every_merge_comes_soon.
         ensures set { ((d : Deadline) → Runs self.old snapshot.now d → ⊥) → (wait : Wait) → wait_of snapshot.now ≡ Some wait
-            → (d : Deadline) × (self.new.deadline ≡ Some d) × IsSet (comes_soon self.old.soon wait) self.old.setting self.old.settled self.old.raise self.old.slowest wait snapshot.now.group d
-            × (self.new.asked ≡ asked_at wait self.old) × (self.new.slowest ≡ slowest_at wait self.old) × (self.new.soon ≡ soon_left self.old.soon wait) }
-        ensures recovers { result ≡ Some on.Recover → self.new.soon ≡ 2 }
+            → (d : Deadline) × (self.new.deadline ≡ Some d) × Sets self.old wait snapshot.now.group d
+            × (self.new.asked ≡ asked_at wait self.old) × (self.new.slowest ≡ slowest_at wait self.old) × (self.new.soon ≡ soon_left self.old.soon wait)
+            × (self.new.prompted ≡ prompted_left self.old.soon self.old.prompted wait) }
+        ensures recovers { result ≡ Some on.Recover → (self.new.soon ≡ 2) × (self.new.prompted ≡ true) }
+        ensures stays { result ≢ Some on.Recover → (d : Deadline) → Runs self.old snapshot.now d → (self.new.soon ≡ self.old.soon) × (self.new.prompted ≡ self.old.prompted) }
         // Promise: Each check is counted and settles the group; behind a dispatch work rests anew, the longer the longer it did; where the oldest job is
         // another one than was seen, it begins to; nothing else changes.
         // Also: dispatches, kept.
@@ -241,6 +284,7 @@ impl TimerPolicy {
           soon = self.new.soon;
           asked = self.new.asked;
           slowest = self.new.slowest;
+          prompted = self.new.prompted;
         } }
     {
         let wait = Wait::of(snapshot)?;
@@ -382,9 +426,9 @@ impl TimerPolicy {
     fn fire(&mut self, wait: Wait, snapshot: &NodeSnapshot) -> Event
         ensures value { result ≡ event_at self.old snapshot.now wait }
         ensures checks { Counts (Some result) self.old self.new }
-        ensures recovers { result ≡ on.Recover → self.new.soon ≡ 2 }
-        ensures goes_on { result ≢ on.Recover → self.new.soon ≡ self.old.soon }
-        ensures kept { self.new ≡ record self.old { checks = self.new.checks; settled = self.new.settled; soon = self.new.soon } }
+        ensures recovers { result ≡ on.Recover → (self.new.soon ≡ 2) × (self.new.prompted ≡ true) }
+        ensures goes_on { result ≢ on.Recover → (self.new.soon ≡ self.old.soon) × (self.new.prompted ≡ self.old.prompted) }
+        ensures kept { self.new ≡ record self.old { checks = self.new.checks; settled = self.new.settled; soon = self.new.soon; prompted = self.new.prompted } }
     {
         match wait {
             Wait::Check => {
@@ -422,53 +466,77 @@ impl TimerPolicy {
 
     /// Sets the deadline of this wait, with its jitter.
     fn set(&mut self, wait: Wait, group: GroupNo)
-        ensures deadline { (d : Deadline) × (self.new.deadline ≡ Some d) × IsSet (comes_soon self.old.soon wait) self.old.setting self.old.settled self.old.raise self.old.slowest wait group d }
-        ensures kept { self.new ≡ record self.old { deadline = self.new.deadline; soon = soon_left self.old.soon wait; asked = asked_at wait self.old; slowest = slowest_at wait self.old } }
+        ensures deadline { (d : Deadline) × (self.new.deadline ≡ Some d) × Sets self.old wait group d }
+        ensures kept { self.new ≡ record self.old {
+          deadline = self.new.deadline;
+          soon = soon_left self.old.soon wait;
+          asked = asked_at wait self.old;
+          slowest = slowest_at wait self.old;
+          prompted = prompted_left self.old.soon self.old.prompted wait;
+        } }
     {
-        if let Wait::Check = wait {
-            if self.soon > 0 {
-                self.set_soon(group);
-                return;
-            }
-        }
-        let range = u64::from(wait.jitter(&self.setting, self.settled)) + 1;
-        let jitter = u64::from(self.random.next_word()) % range;
+        let soon = self.comes_soon(wait).is_some();
+        let length = self.length(wait);
+        self.count(wait);
         self.deadline = Some(Deadline {
             wait,
-            group,
-            length: u64::from(wait.least(&self.setting, self.settled))
-                + jitter
-                + wait.patience(&self.setting, self.raise, self.slowest),
-            waited: 0,
-            put_off: false,
-            had_grace: false,
-        });
-        if wait.is_behind_question() {
-            self.asked = self.told;
-            self.slowest = self.slowest.saturating_sub(self.slowest / 128 + 1);
-        }
-    }
-
-    /// Sets the deadline of a check that comes soon: the first at once, the second two round trips later.
-    fn set_soon(&mut self, group: GroupNo)
-        requires { 0 < self.old.soon }
-        ensures deadline { (d : Deadline) × (self.new.deadline ≡ Some d) × IsSet (soon_by self.old.soon) self.old.setting self.old.settled self.old.raise self.old.slowest wait.Check group d }
-        ensures kept { self.new ≡ record self.old { deadline = self.new.deadline; soon = self.old.soon - 1 } }
-    {
-        let length = if self.soon == 1 {
-            (2 * u64::from(self.setting.unit)).max(1)
-        } else {
-            1
-        };
-        self.soon = self.soon - 1;
-        self.deadline = Some(Deadline {
-            wait: Wait::Check,
             group,
             length,
             waited: 0,
             put_off: false,
             had_grace: false,
+            soon,
         });
+    }
+
+    /// Whether what the node waits for comes soon: at once, or two round trips later.
+    fn comes_soon(&self, wait: Wait) -> Option<bool>
+        ensures { result ≡ comes_soon self.now.soon self.now.prompted wait }
+    {
+        match wait {
+            Wait::Check if self.soon > 0 => Some(self.soon == 1),
+            Wait::Merge if self.prompted => Some(true),
+            _ => None,
+        }
+    }
+
+    /// How long this wait is to last.
+    fn length(&mut self, wait: Wait) -> u64
+        ensures least { let s = paced self.old.setting self.old.round_trip self.old.settled wait
+            in least_at (comes_soon self.old.soon self.old.prompted wait) s (least_of s self.old.settled wait) + patience s wait self.old.raise self.old.slowest ≤ result }
+        ensures most { let s = paced self.old.setting self.old.round_trip self.old.settled wait
+            in result ≤ least_at (comes_soon self.old.soon self.old.prompted wait) s (least_of s self.old.settled wait + jitter_of s self.old.settled wait) + patience s wait self.old.raise self.old.slowest }
+        ensures kept { self.new ≡ self.old }
+    {
+        let soon = self.comes_soon(wait);
+        let setting = self.setting.paced(self.round_trip, self.settled, wait);
+        let patience = wait.patience(&setting, self.raise, self.slowest);
+        if let Some(second) = soon {
+            return setting.soon_length(second) + patience;
+        }
+        let range = u64::from(wait.jitter(&setting, self.settled)) + 1;
+        let jitter = u64::from(self.random.next_word()) % range;
+        u64::from(wait.least(&setting, self.settled)) + jitter + patience
+    }
+
+    /// The deadline of this wait is set.
+    fn count(&mut self, wait: Wait)
+        ensures { self.new ≡ record self.old {
+          soon = soon_left self.old.soon wait;
+          asked = asked_at wait self.old;
+          slowest = slowest_at wait self.old;
+          prompted = prompted_left self.old.soon self.old.prompted wait;
+        } }
+    {
+        match wait {
+            Wait::Check => self.soon = self.soon.saturating_sub(1),
+            Wait::Merge => self.prompted = self.prompted && self.soon > 0,
+            _ => {}
+        }
+        if wait.is_behind_question() {
+            self.asked = self.told;
+            self.slowest = self.slowest.saturating_sub(self.slowest / 128 + 1);
+        }
     }
 
     /// The work of a Normal node is dispatched, the rarer the longer it rests. Where it doesn't rest, it begins to.

@@ -1,7 +1,8 @@
 ghost use Rattle.std.specs.Prelude.{◌≡◌, ◌<◌, ◌^◌};
-ghost use Rattle.pace.specs.Timers.{first_pause, measured, most_pause, longer_pause, raise_of};
+ghost use Rattle.pace.specs.Timers.{first_pause, measured, most_pause, longer_pause, paced, raise_of, soon_length, unit_at};
 
 use crate::deadline::product;
+use crate::wait::Wait;
 
 /// How long a node waits for what, counted in round trips of the link.
 ///
@@ -26,6 +27,8 @@ pub struct TimerSettings {
     pub turn: u16,
     /// For those that accept an invitation.
     pub accept: u16,
+    /// Once all that it was sent to have accepted: for the members that they bring.
+    pub joining: u16,
     /// For those that say that they have their task.
     pub ready: u16,
     /// For the task, at a node that accepted an invitation.
@@ -42,6 +45,8 @@ pub struct TimerSettings {
     pub answer: u16,
     /// And at least so many milliseconds, whatever a round trip takes: a process may be held up for so long.
     pub answer_least: u16,
+    /// In a settled group a round trip counts at most so many milliseconds, where a node waits to ask.
+    pub rest_most: u16,
     /// The slowest answer is reckoned with as one of at most so many milliseconds.
     pub slowest_most: u16,
     /// So long work rests before it is dispatched, and a twentieth of one more for each job; a quarter longer after each dispatch.
@@ -62,27 +67,61 @@ impl TimerSettings {
     {
         TimerSettings {
             unit,
-            first_check: 10,
-            first_check_jitter: 5,
-            check: 45,
-            check_jitter: 5,
-            merge: 5,
-            merge_jitter: 5,
+            first_check: 5,
+            first_check_jitter: 3,
+            check: 37,
+            check_jitter: 4,
+            merge: 3,
+            merge_jitter: 2,
             turn: 10,
             accept: 5,
+            joining: 1,
             ready: 10,
             task: 20,
             first_coordinator: 20,
             first_coordinator_jitter: 10,
-            coordinator: 52,
+            coordinator: 20,
             coordinator_jitter: 3,
-            answer: 10,
+            answer: 5,
             answer_least: 250,
+            rest_most: 25,
             slowest_most: 1000,
             dispatch: 5,
             dispatch_most: 300,
             raise_most: 100,
             silent_checks: 3,
+        }
+    }
+
+    /// The settings of a wait, where a round trip was measured to take so many milliseconds. How long a node waits for a first check of a group, and
+    /// for the answers to a check, goes by that; a settled group's checks and questions come as often in a slow network as in one of `rest_most`.
+    pub fn paced(&self, round_trip: u16, settled: bool, wait: Wait) -> TimerSettings
+        ensures { result ≡ paced self.now round_trip settled wait }
+    {
+        TimerSettings {
+            unit: self.unit_at(round_trip, settled, wait),
+            ..*self
+        }
+    }
+
+    fn unit_at(&self, round_trip: u16, settled: bool, wait: Wait) -> u16
+        ensures { result ≡ unit_at self.now round_trip settled wait }
+    {
+        match wait {
+            Wait::Check | Wait::Coordinator if settled => self.unit.min(self.rest_most),
+            Wait::Check | Wait::Merge => round_trip,
+            _ => self.unit,
+        }
+    }
+
+    /// How long it takes to what comes soon, in milliseconds: at once, or two round trips.
+    pub fn soon_length(&self, second: bool) -> u64
+        ensures { result ≡ soon_length self.now second }
+    {
+        if second {
+            (2 * u64::from(self.unit)).max(1)
+        } else {
+            1
         }
     }
 

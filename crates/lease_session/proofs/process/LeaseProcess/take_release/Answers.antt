@@ -7,8 +7,8 @@ use Rattle.lease_session.proofs.process.LeaseProcess.take_release.Goals as goal
 
 pub returns-in-Some : goal.returns-in-Some
 returns-in-Some c = λ now. by_bool c.release.result
-    (λ taken. deed (itself c.args.self.now) (takes (release c.args.message.now.name (client_of c.client_of.result) c.args.message.now.epoch)) (record { terms = refl; start = refl; seal = refl; text = refl; halt = refl }) c.in-Some.is refl
+    (λ taken. deed (itself c.args.self.now) (takes (release c.args.message.now.name (client_of c.client_of.result) c.args.message.now.epoch)) (record { terms = refl; start = refl; seal = refl; text = refl; halt = refl; told = refl }) c.in-Some.is refl
     (c.votes_are_steps.ensures.releases c.in-Some.machine c.release.new.self now c.args.message.now.epoch c.args.message.now.name c.client_of.result (itself c.args.self.now)
     (its_machine c.args.self.now c.in-Some.machine c.in-Some.is) (c.release.ensures.frees taken) c.release.ensures.others c.release.ensures.claim c.release.ensures.goes_on)
-    refl refl (λ p h. h) (inl (release_said c.args.message.now c.requires (client_of c.client_of.result) c.client_of.ensures)))
-    (λ passed. no_deed (record { terms = refl; start = refl; seal = refl; text = refl; halt = refl }) c.in-Some.is refl (all_still (c.release.ensures.passes passed).0 c.release.ensures.goes_on))
+    refl refl (λ p h. h) (inl (release_said c.args.message.now c.requires (client_of c.client_of.result) c.client_of.ensures)) tt)
+    (λ passed. no_deed (record { terms = refl; start = refl; seal = refl; text = refl; halt = refl; told = refl }) c.in-Some.is refl (all_still (c.release.ensures.passes passed).0 c.release.ensures.goes_on))

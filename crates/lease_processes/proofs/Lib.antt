@@ -1,0 +1,3 @@
+mod Standing
+mod Printed
+mod Words
