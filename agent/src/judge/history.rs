@@ -68,9 +68,7 @@ struct Recovery {
     /// What it keeps, in the words of the answer.
     keeps: String,
     answer: Vec<String>,
-    /// The last line, and where it stands.
     last: String,
-    place: Place,
 }
 
 /// A recovery of which it isn't known yet which requests in doubt counted.
@@ -239,7 +237,7 @@ impl History {
         let request = self.asked.pop_front().ok_or_else(|| self.fault(line))?;
         self.told(&request);
         match self.kept_by(&request, &answer) {
-            Some(keeps) => self.recovered(Recovery { keeps, answer, last: line.to_string(), place: self.place }),
+            Some(keeps) => self.recovered(Recovery { keeps, answer, last: line.to_string() }),
             None => self.answered(&request, &answer, closing).ok_or_else(|| self.fault(line)),
         }
     }
@@ -441,7 +439,6 @@ impl History {
 
     /// Puts what became of the requests in doubt, by what was said of jobs since where that had to be known.
     fn settle(&mut self, recovery: &Recovery, found: &Found, seen: &Seen) -> Result<(), RecordError> {
-        self.place = recovery.place;
         if found.doubts.is_some() {
             self.put_crash(found.groups);
             self.put_doubts(found, seen).ok_or_else(|| self.no_state(recovery))?;

@@ -26,6 +26,9 @@ use std::time::Duration;
 /// A signal is noticed so late at most.
 const LOOK: Duration = Duration::from_millis(100);
 
+/// Commands are started for so long at a time: on a busy machine each takes a while, and an agent that hears nothing of its client meanwhile takes it for stopped.
+const TURN: Duration = Duration::from_millis(50);
+
 /// For so long it is waited for the agent's answers at the end.
 const PATIENCE_AT_END: Duration = Duration::from_millis(500);
 
@@ -102,9 +105,9 @@ impl Lead<'_> {
         interrupts: &Interrupts,
     ) -> Result<Option<ExitStatus>, Failure> {
         let begin = BootTime::now();
-        let mut has_run = false;
+        let (mut has_run, mut has_more) = (false, false);
         while !interrupts.have_come() {
-            if follow.wait(LOOK)? {
+            if follow.wait(if has_more { Duration::ZERO } else { LOOK })? {
                 for (shard, slot) in slots.iter_mut() {
                     match slot.reap(self.grace, BootTime::now()).map_err(|why| Failure::NotDone(why.to_string()))? {
                         Some((status, _)) if matches!(self.what, What::Once { .. }) => return Ok(Some(status)),
@@ -113,7 +116,7 @@ impl Lead<'_> {
                     }
                 }
             }
-            self.look_after(follow, slots);
+            has_more = self.look_after(follow, slots);
             let is_idle = slots.values().all(Slot::is_idle);
             match self.what {
                 What::Once { .. } if has_run && is_idle => {
@@ -135,13 +138,13 @@ impl Lead<'_> {
         say(format!("dumgerokctl: the command{of} ended ({status}), it starts again in {} ms", pause.as_millis()));
     }
 
-    /// Asks for the leases that are wanted, gives back those that aren't and that nothing runs under, and sees to each command.
-    fn look_after(&self, follow: &mut Follow, slots: &mut BTreeMap<u32, Slot>) {
+    /// Asks for the leases that are wanted, gives back those that aren't and that nothing runs under, and sees to each command. Whether some are left to be started.
+    fn look_after(&self, follow: &mut Follow, slots: &mut BTreeMap<u32, Slot>) -> bool {
         let gate = match (self.gate, &follow.last) {
             (Some(gate), _) => gate,
             (None, Some(said)) if said.has_leases() => Gate::Lease,
             (None, Some(_)) => Gate::Group,
-            (None, None) => return,
+            (None, None) => return false,
         };
         if gate == Gate::Lease {
             let wanted = self.wanted(follow);
@@ -152,15 +155,23 @@ impl Lead<'_> {
             let others = wanted.difference(&follow.claimed()).cloned().collect();
             follow.claim_some(&others);
         }
-        let now = BootTime::now();
+        let (now, mut until, mut has_more) = (BootTime::now(), None, false);
         for (shard, slot) in slots.iter_mut() {
             let right = match gate {
                 Gate::Lease => self.leased(follow, *shard),
                 _ => self.grouped(follow, *shard, gate == Gate::Majority, slot.is_idle()),
             };
             let right = right.filter(|right| now.after(self.grace) < right.until);
+            if right.as_ref().map_or(false, |right| slot.would_start(right, self.grace, now)) {
+                let now = BootTime::now();
+                has_more |= now > *until.get_or_insert(now.after(TURN));
+                if has_more {
+                    continue;
+                }
+            }
             slot.look_after(right.as_ref(), self.command, self.grace, now);
         }
+        has_more
     }
 
     /// The name of the lease of a shard, or of all.

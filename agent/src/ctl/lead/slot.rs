@@ -86,6 +86,11 @@ impl Slot {
         }
     }
 
+    /// Whether a command would be started by this right.
+    pub fn would_start(&self, right: &Right, grace: Duration, now: BootTime) -> bool {
+        self.is_idle() && self.may_start(right, grace, now)
+    }
+
     fn may_start(&self, right: &Right, grace: Duration, now: BootTime) -> bool {
         let is_over = self.not_before.map_or(true, |at| now >= at);
         is_over && now.after(MARGIN + grace + LEAST) < right.until
