@@ -1,5 +1,8 @@
 """`dumgerokctl judge --follow` over records that grow: of a cluster that is as it should be, and of one whose record lacks a message."""
-import os, re, subprocess, threading, time
+import concurrent.futures, os, re, subprocess, threading, time
+
+# The last line of an answer.
+CLOSES = re.compile(r"(ok|refused|bad|fault) ")
 
 
 class Mirror:
@@ -9,7 +12,8 @@ class Mirror:
     def __init__(self, agents, folder):
         self.agents, self.folder = agents, folder
         self.read, self.lines, self.wanted, self.spoiled, self.runs = {}, {}, None, None, True
-        self.is_answer = {}
+        # of each record the requests that have no answer yet: a record waits for none
+        self.asked = {}
         os.makedirs(folder)
         self.copy()
         self.thread = threading.Thread(target=self.run, daemon=True)
@@ -35,17 +39,23 @@ class Mirror:
 
     def taken(self, name, line):
         """What stands in the copy for a line."""
-        self.is_answer[name] = line.startswith("> deliver ") or self.is_answer.get(name, False) and not line.startswith((">", "ok "))
-        if self.wanted == "lost" and not self.spoiled and self.is_answer[name] and line.startswith("send "):
+        asked = self.asked.setdefault(name, [])
+        if self.wanted == "lost" and not self.spoiled and line.startswith("send ") and asked and asked[0].startswith("> deliver "):
             self.spoiled = (name, self.lines[name] + 1, time.monotonic())
             return ""
         self.lines[name] = self.lines.get(name, 0) + line.count("\n")
-        if self.wanted == "forged" and not self.spoiled and line.startswith("> tick "):
+        if self.wanted == "forged" and not self.spoiled and line.startswith("> tick ") and not asked:
             # the answer of a node to itself: no node sends that
             self.spoiled = (name, self.lines[name] + 1, time.monotonic())
             own = int(re.search(r"(\d+)\.", name)[1]) if re.search(r"(\d+)\.", name) else 0
             self.lines[name] += 2
-            return "> deliver 010a%02x%02x0008ffffffffffffff00\nok 0\n%s" % ((own + 1) % 3, own, line)
+            line = "> deliver 010a%02x%02x0008ffffffffffffff00\nok 0\n%s" % ((own + 1) % 3, own, line)
+        if line.startswith("start"):
+            asked.clear()
+        elif line.startswith("> "):
+            asked.append(line.splitlines()[-1])
+        elif asked and CLOSES.match(line):
+            asked.pop(0)
         return line
 
     def stop(self):
@@ -56,6 +66,11 @@ class Mirror:
 def follow(bed, paths, *words):
     ctl = os.path.join(bed.programs, "dumgerokctl")
     return subprocess.Popen([ctl, "judge", "--follow", "--program", bed.program, *words, *paths], stdout=subprocess.PIPE, stderr=subprocess.PIPE, text=True)
+
+
+def ended(process):
+    """What it printed, and when it was over."""
+    return (*process.communicate(timeout=60), time.monotonic())
 
 
 def number(path, name):
@@ -90,9 +105,11 @@ def followed(bed):
     check("and the monitor is told", entries > 100 and number(metrics, "alarm") == 0 and number(metrics, "absent_nodes") == 0, open(metrics).read())
     for what, mirror in mirrors.items():
         mirror.wanted = what
+    with concurrent.futures.ThreadPoolExecutor() as pool:
+        printed = dict(zip(others, pool.map(ended, others.values())))
     for what, late, mirror in (("lost", 2, mirrors["lost"]), ("forged", 3, mirrors["forged"])):
-        out, errors = others[what].communicate(timeout=60)
-        took = time.monotonic() - mirror.spoiled[2]
+        out, errors, end = printed[what]
+        took = end - mirror.spoiled[2]
         name, line = mirror.spoiled[:2]
         mirror.stop()
         with open(os.path.join(mirror.folder, name)) as file:
