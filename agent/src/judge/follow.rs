@@ -18,15 +18,14 @@ struct Growing {
     part: usize,
     offset: u64,
     line: u32,
-    /// The lines that wait for the others to begin, and where they stand.
-    held: Vec<(Place, String)>,
+    /// What its file kept when it began; none before it began.
     begin: Option<Begin>,
 }
 
 impl Growing {
     fn of(node: usize, parts: Vec<(Head, PathBuf)>) -> Growing {
         let paths = parts.into_iter().map(|(_, path)| path).collect();
-        Growing { node, paths, part: 0, offset: 0, line: 0, held: Vec::new(), begin: None }
+        Growing { node, paths, part: 0, offset: 0, line: 0, begin: None }
     }
 
     /// Reads the whole lines that are new, and gives them on with where they stand.
@@ -70,16 +69,26 @@ impl Growing {
         Ok(self.offset > begun)
     }
 
-    /// Holds a line until the others have begun, and reads how this one did.
-    fn hold(&mut self, place: Place, line: &str) -> Result<(), RecordError> {
-        if self.held.is_empty() && !line.starts_with("start") {
-            return Err(RecordError::NoBegin { node: self.node, what: "the node ran already" });
+    /// Looks how it began, if it has; whether that is new.
+    fn look_for_begin(&mut self) -> Result<bool, RecordError> {
+        if self.begin.is_some() {
+            return Ok(false);
         }
-        if self.begin.is_none() && line.starts_with("keeps ") {
-            self.begin = Some(kept_at(self.node, line)?);
+        let path = self.paths[0].clone();
+        let unreadable = |why| RecordError::Unreadable { path: path.clone(), why };
+        let mut lines = BufReader::new(File::open(&path).map_err(unreadable)?).split(b'\n').skip(1);
+        let is_keeps = |line: &io::Result<Vec<u8>>| line.as_ref().map_or(true, |line| line.starts_with(b"keeps "));
+        let text = |line: io::Result<Vec<u8>>| line.map(|line| String::from_utf8_lossy(&line).into_owned()).map_err(unreadable);
+        match lines.next().map(text).transpose()? {
+            Some(line) if !line.is_empty() && !"start".starts_with(&line) && !line.starts_with("start") => {
+                return Err(RecordError::NoBegin { node: self.node, what: "the node ran already" });
+            }
+            _ => {}
         }
-        self.held.push((place, line.to_string()));
-        Ok(())
+        // what stands there last may be half a line: then the record has nothing of the answer's end, and it is looked at again
+        let keeps = lines.find(is_keeps).map(text).transpose()?.filter(|_| lines.next().is_some());
+        self.begin = keeps.map(|line| kept_at(self.node, &line)).transpose()?;
+        Ok(self.begin.is_some())
     }
 }
 
@@ -124,10 +133,9 @@ impl Following {
         let mut is_new = false;
         if self.histories.is_empty() {
             for record in self.records.iter_mut().flatten() {
-                is_new |= record.read_held()?;
+                is_new |= record.look_for_begin()?;
             }
-            self.begin_all()?;
-            return Ok(is_new);
+            self.begin_all();
         }
         for (record, history) in self.records.iter_mut().zip(&mut self.histories) {
             if let Some(record) = record {
@@ -139,20 +147,11 @@ impl Following {
     }
 
     /// Once all nodes have begun, their messages can be read: by what each began with.
-    fn begin_all(&mut self) -> Result<(), RecordError> {
-        if self.records.iter().flatten().any(|record| record.begin.is_none()) {
-            return Ok(());
+    fn begin_all(&mut self) {
+        if self.absent().is_empty() {
+            let begins: Rc<[Begin]> = self.records.iter().map(|record| record.as_ref().and_then(|record| record.begin).unwrap_or_default()).collect();
+            self.histories = (0..).zip(&self.records).map(|(own, _)| History::new(own, Rc::clone(&begins), Detail::Entries)).collect();
         }
-        let begins: Rc<[Begin]> = self.records.iter().map(|record| record.as_ref().and_then(|record| record.begin).unwrap_or_default()).collect();
-        self.histories = (0..).zip(&self.records).map(|(own, _)| History::new(own, Rc::clone(&begins), Detail::Entries)).collect();
-        for (record, history) in self.records.iter_mut().zip(&mut self.histories) {
-            if let Some(record) = record {
-                for (place, line) in std::mem::take(&mut record.held) {
-                    heard(record.node, history, place, &line)?;
-                }
-            }
-        }
-        Ok(())
     }
 
     /// The nodes whose records have no start of them yet.
@@ -186,18 +185,6 @@ impl Following {
     pub fn place(&self, node: usize, entry: usize) -> Option<(&PathBuf, u32)> {
         let (part, line) = self.histories.get(node)?.places().get(entry)?;
         Some((self.records.get(node)?.as_ref()?.paths.get(*part as usize)?, *line))
-    }
-}
-
-impl Growing {
-    fn read_held(&mut self) -> Result<bool, RecordError> {
-        let mut lines: Vec<(Place, String)> = Vec::new();
-        let is_new = self.read(&mut |place, line| {
-            lines.push((place, line.to_string()));
-            Ok(())
-        })?;
-        lines.into_iter().try_for_each(|(place, line)| self.hold(place, &line))?;
-        Ok(is_new)
     }
 }
 

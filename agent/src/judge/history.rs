@@ -68,9 +68,7 @@ struct Recovery {
     /// What it keeps, in the words of the answer.
     keeps: String,
     answer: Vec<String>,
-    /// The last line, and where it stands.
     last: String,
-    place: Place,
 }
 
 /// A recovery of which it isn't known yet which requests in doubt counted.
@@ -90,8 +88,8 @@ pub struct History {
     /// What an order needs to know of each entry; nothing where none is asked for.
     turns: Vec<Turn>,
     detail: Detail,
-    /// Entries whose time isn't known yet.
-    untold: Vec<Map<String, Value>>,
+    /// Where the entries begin whose time isn't known yet.
+    untold: Vec<usize>,
     /// Where each entry stands in the record, and the line that is read.
     places: Vec<Place>,
     place: Place,
@@ -239,7 +237,7 @@ impl History {
         let request = self.asked.pop_front().ok_or_else(|| self.fault(line))?;
         self.told(&request);
         match self.kept_by(&request, &answer) {
-            Some(keeps) => self.recovered(Recovery { keeps, answer, last: line.to_string(), place: self.place }),
+            Some(keeps) => self.recovered(Recovery { keeps, answer, last: line.to_string() }),
             None => self.answered(&request, &answer, closing).ok_or_else(|| self.fault(line)),
         }
     }
@@ -275,19 +273,17 @@ impl History {
     /// The entries so far were by now.
     fn timed(&mut self) {
         self.untimed = self.turns.len();
-        for mut entry in std::mem::take(&mut self.untold) {
-            if self.time >= LEAST_TIME {
-                entry.insert("at".to_string(), json!(self.time));
-            }
-            self.append(entry);
+        let untold = std::mem::take(&mut self.untold);
+        let first = match untold.first() {
+            Some(first) if self.time >= LEAST_TIME => *first,
+            _ => return,
+        };
+        let tail = self.entries.split_off(first);
+        for (place, begin) in untold.iter().enumerate() {
+            let end = untold.get(place + 1).map_or(tail.len(), |next| next - first);
+            self.entries.push_str(&format!("{{\"at\":{},", self.time));
+            self.entries.push_str(&tail[begin - first + 1..end]);
         }
-    }
-
-    fn append(&mut self, entry: Map<String, Value>) {
-        if !self.entries.is_empty() {
-            self.entries.push(',');
-        }
-        self.entries.push_str(&Value::Object(entry).to_string());
     }
 
     /// Puts an entry of an event that a request, if any, brought.
@@ -297,10 +293,13 @@ impl History {
         self.places.push(self.place);
         entry.insert("do".to_string(), json!(name));
         entry.insert("sent".to_string(), json!(messages));
-        match self.detail {
-            Detail::Times => self.untold.push(entry),
-            _ => self.append(entry),
+        if !self.entries.is_empty() {
+            self.entries.push(',');
         }
+        if self.detail == Detail::Times {
+            self.untold.push(self.entries.len());
+        }
+        self.entries.push_str(&Value::Object(entry).to_string());
         if self.detail == Detail::Entries {
             return;
         }
@@ -440,7 +439,6 @@ impl History {
 
     /// Puts what became of the requests in doubt, by what was said of jobs since where that had to be known.
     fn settle(&mut self, recovery: &Recovery, found: &Found, seen: &Seen) -> Result<(), RecordError> {
-        self.place = recovery.place;
         if found.doubts.is_some() {
             self.put_crash(found.groups);
             self.put_doubts(found, seen).ok_or_else(|| self.no_state(recovery))?;
