@@ -2,6 +2,7 @@
 """Clusters of `invite node` under a clock of this script: when they become one group, and when they give one up.
 
     pacing.py PROGRAM [SCENE..]
+    pacing.py PROGRAM table NODES LOSS SEEDS     a row of the table of TIMERS.md: LOSS in hundredths
 
 Each node is a process over a file of its own. This script carries their messages, each way in a time that it draws, and tells a node the time behind what it is brought, in front of it
 where nothing is due, and where it asked to be told: no time goes by but the script's. A node that is stopped does nothing meanwhile; what came for it is brought behind a tick, once it goes on. The
@@ -230,6 +231,36 @@ def try_storm(tried):
     bed.end()
 
 
+def life(bed):
+    """A cluster comes up within 10 round trips, rests for 200, loses its coordinator, has it back, and loses a member; messages are counted while it rests."""
+    begun, times = bed.now, {}
+    for at, own in sorted((bed.random.randrange(10 * bed.unit), own) for own in range(bed.nodes)):
+        bed.run(begun + at)
+        bed.node[own].start()
+    until_one(bed, None)
+    times["until one group"] = bed.now - begun
+    sent, groups = bed.sent, len(bed.groups)
+    bed.run(bed.now + 200 * bed.unit)
+    times["messages in 200 round trips"], times["groups made in these"] = bed.sent - sent, len(bed.groups) - groups
+    lead = dying(bed, bed.unit)
+    bed.node[lead].kill()
+    times["coordinator replaced"] = until_one(bed, lead)
+    bed.node[lead].start()
+    times["taken back"] = until_one(bed, None)
+    dead = (dying(bed, bed.unit) + 1) % bed.nodes
+    bed.node[dead].kill()
+    times["queues of a member moved"] = until_one(bed, dead)
+    bed.end()
+    return times
+
+
+def table(tried, nodes, loss, seeds):
+    lives = [life(tried.bed(nodes, 20, 6, loss=loss / 100, seed=seed)) for seed in range(seeds)]
+    for what in lives[0]:
+        found = sorted(each[what] if each[what] is not None else 10**6 for each in lives)
+        print(f"pacing.py: {nodes} nodes, {loss} % lost: {what}: {statistics.median(found):.0f} in the median, {found[-1]} at most", flush=True)
+
+
 SCENES = {"replaced": try_replaced, "dropped": try_dropped, "lead": try_lead, "stalls": try_stalls, "storm": try_storm}
 
 
@@ -240,6 +271,9 @@ def main():
         return 0
     with tempfile.TemporaryDirectory() as folder:
         tried = Tried(program, folder)
+        if sys.argv[2:3] == ["table"]:
+            table(tried, *map(int, sys.argv[3:]))
+            return 0
         for name in sys.argv[2:] or SCENES:
             SCENES[name](tried)
     print(f"{tried.passed} passed, {tried.failed} failed")

@@ -28,8 +28,8 @@ PICTURES = [
         "a question and its answer",
         ASKED,
         336,
-        r"""<svg x="97" y="140" width="78" height="61"><title>node 0, from turn 0 until turn 3: Normal in group 0:1, coordinator 0, members 0</title><rect width="100%" height="100%" class="g1"/><line x2="100%" y1="20" y2="20" class="normal"/><text x="3" y="46" class="group">0:1</text><text x="3" y="57">0 of 0</text></svg>
-<svg x="97" y="250" width="78" height="61"><title>node 1, from turn 0 until turn 3: Normal in group 1:1, coordinator 1, members 1</title><rect width="100%" height="100%" class="g4"/><line x2="100%" y1="20" y2="20" class="normal"/><text x="3" y="46" class="group">1:1</text><text x="3" y="57">1 of 1</text></svg>
+        r"""<svg x="97" y="140" width="78" height="61"><title>node 0, from turn 0 until turn 3: Normal in group 0:1, coordinator 0, members 0</title><rect width="100%" height="100%" class="g0"/><line x2="100%" y1="20" y2="20" class="normal"/><text x="3" y="46" class="group">0:1</text><text x="3" y="57">0 of 0</text></svg>
+<svg x="97" y="250" width="78" height="61"><title>node 1, from turn 0 until turn 3: Normal in group 1:1, coordinator 1, members 1</title><rect width="100%" height="100%" class="g1"/><line x2="100%" y1="20" y2="20" class="normal"/><text x="3" y="46" class="group">1:1</text><text x="3" y="57">1 of 1</text></svg>
 <text class="name" x="88" y="160">node 0</text>
 <text class="name" x="88" y="270">node 1</text>
 <path class="message" d="M110 160L136 270"><title>0 to 1: AreYouCoordinator</title></path>
@@ -45,8 +45,8 @@ PICTURES = [
         "a crash and recoveries",
         r'{"nodes":1,"histories":[[{"do":"crash","sent":[]},{"do":"recover","kept":false,"sent":[]},{"do":"recover","kept":false,"sent":[]},{"do":"none","sent":[]}]]}',
         226,
-        r"""<svg x="123" y="140" width="26" height="61"><title>node 0, from turn 1 until turn 2: Normal in group 0:2, coordinator 0, members 0</title><rect width="100%" height="100%" class="g2"/><line x2="100%" y1="20" y2="20" class="normal"/><text x="3" y="46" class="group">0:2</text><text x="3" y="57">0 of 0</text></svg>
-<svg x="149" y="140" width="52" height="61"><title>node 0, from turn 2 until turn 4: Normal in group 0:3, coordinator 0, members 0</title><rect width="100%" height="100%" class="g3"/><line x2="100%" y1="20" y2="20" class="normal"/><text x="3" y="46" class="group">0:3</text><text x="3" y="57">0 of 0</text></svg>
+        r"""<svg x="123" y="140" width="26" height="61"><title>node 0, from turn 1 until turn 2: Normal in group 0:2, coordinator 0, members 0</title><rect width="100%" height="100%" class="g0"/><line x2="100%" y1="20" y2="20" class="normal"/><text x="3" y="46" class="group">0:2</text><text x="3" y="57">0 of 0</text></svg>
+<svg x="149" y="140" width="52" height="61"><title>node 0, from turn 2 until turn 4: Normal in group 0:3, coordinator 0, members 0</title><rect width="100%" height="100%" class="g1"/><line x2="100%" y1="20" y2="20" class="normal"/><text x="3" y="46" class="group">0:3</text><text x="3" y="57">0 of 0</text></svg>
 <text class="name" x="88" y="160">node 0</text>
 <g transform="translate(110 160)"><title>turn 0: node 0, entry 0: crash</title><circle r="4" class="fail"/><path class="crash" d="M-8 -8L8 8M-8 8L8 -8"/><text x="-3" y="14" class="entry">0</text><text class="deed">crash</text></g>
 <g transform="translate(136 160)"><title>turn 1: node 0, entry 1: recover</title><circle r="4" class="rise"/><text x="-3" y="14" class="entry">1</text><text class="deed">recover</text></g>
@@ -62,8 +62,8 @@ PICTURES = [
         r'{"do":"submit","queue":3,"priority":255,"payload":"6869","sent":[]},{"do":"finish","origin":0,"id":0,"sent":[]},{"do":"submit","queue":0,"payload":"","fault":"device","sent":[]},'
         r'{"do":"recover","kept":false,"fault":"mount","sent":[]},{"do":"recover","kept":false,"fault":"raise","sent":[]},{"do":"crash","sent":[]},{"do":"recover","kept":true,"sent":[]}]]}',
         226,
-        r"""<svg x="97" y="140" width="234" height="61"><title>node 0, from turn 0 until turn 9: Normal in group 0:1, coordinator 0, members 0</title><rect width="100%" height="100%" class="g1"/><line x2="100%" y1="20" y2="20" class="normal"/><text x="3" y="46" class="group">0:1</text><text x="3" y="57">0 of 0</text></svg>
-<svg x="435" y="140" width="26" height="61"><title>node 0, from turn 13 until turn 14: Normal in group 0:3, coordinator 0, members 0</title><rect width="100%" height="100%" class="g3"/><line x2="100%" y1="20" y2="20" class="normal"/><text x="3" y="46" class="group">0:3</text><text x="3" y="57">0 of 0</text></svg>
+        r"""<svg x="97" y="140" width="234" height="61"><title>node 0, from turn 0 until turn 9: Normal in group 0:1, coordinator 0, members 0</title><rect width="100%" height="100%" class="g0"/><line x2="100%" y1="20" y2="20" class="normal"/><text x="3" y="46" class="group">0:1</text><text x="3" y="57">0 of 0</text></svg>
+<svg x="435" y="140" width="26" height="61"><title>node 0, from turn 13 until turn 14: Normal in group 0:3, coordinator 0, members 0</title><rect width="100%" height="100%" class="g1"/><line x2="100%" y1="20" y2="20" class="normal"/><text x="3" y="46" class="group">0:3</text><text x="3" y="57">0 of 0</text></svg>
 <text class="name" x="88" y="160">node 0</text>
 <g transform="translate(110 160)"><title>turn 0: node 0, entry 0: none</title><circle r="4" class="rest"/><text x="-3" y="14" class="entry">0</text></g>
 <g transform="translate(136 160)"><title>turn 1: node 0, entry 1: check</title><circle r="4" class="done"/><text x="-3" y="14" class="entry">1</text><text class="deed">check</text></g>
@@ -87,8 +87,8 @@ PICTURES = [
         "the last sender",
         r'{"nodes":2,"histories":[[{"do":"check","sent":["010100010000"]},{"do":"check","sent":["010100010000"]}],[{"do":"deliver","msg":"010100010000","sent":["01020100000101"]}]]}',
         336,
-        r"""<svg x="97" y="140" width="78" height="61"><title>node 0, from turn 0 until turn 3: Normal in group 0:1, coordinator 0, members 0</title><rect width="100%" height="100%" class="g1"/><line x2="100%" y1="20" y2="20" class="normal"/><text x="3" y="46" class="group">0:1</text><text x="3" y="57">0 of 0</text></svg>
-<svg x="97" y="250" width="78" height="61"><title>node 1, from turn 0 until turn 3: Normal in group 1:1, coordinator 1, members 1</title><rect width="100%" height="100%" class="g4"/><line x2="100%" y1="20" y2="20" class="normal"/><text x="3" y="46" class="group">1:1</text><text x="3" y="57">1 of 1</text></svg>
+        r"""<svg x="97" y="140" width="78" height="61"><title>node 0, from turn 0 until turn 3: Normal in group 0:1, coordinator 0, members 0</title><rect width="100%" height="100%" class="g0"/><line x2="100%" y1="20" y2="20" class="normal"/><text x="3" y="46" class="group">0:1</text><text x="3" y="57">0 of 0</text></svg>
+<svg x="97" y="250" width="78" height="61"><title>node 1, from turn 0 until turn 3: Normal in group 1:1, coordinator 1, members 1</title><rect width="100%" height="100%" class="g1"/><line x2="100%" y1="20" y2="20" class="normal"/><text x="3" y="46" class="group">1:1</text><text x="3" y="57">1 of 1</text></svg>
 <text class="name" x="88" y="160">node 0</text>
 <text class="name" x="88" y="270">node 1</text>
 <path class="unsure" d="M136 160L162 270"><title>0 to 1: AreYouCoordinator, perhaps from another turn</title></path>

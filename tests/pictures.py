@@ -6,15 +6,16 @@ message came; and of traces by chance, against that and a model of the nodes: ho
 
 The agent is built first (agent/build), unless $DUMGEROK_AGENT names the folder of its programs. Traces that are written here are drawn first, then those of
 picture_rows.py, to the byte. Without schedules, of all that stand in the folder schedules. Each is recorded, and the record is drawn as it is, without the numbers
-of its messages, without its order, and with an order in which its entries can't be taken. The last line counts the checks."""
-import glob, html, json, os, random, re, shutil, subprocess, sys, tempfile
+of its messages, without its order, with an order in which its entries can't be taken, and with an entry spoiled or an end lost (picture_orders.py). Last
+come what is written for tools of others (picture_exports.py) and pages in a browser (picture_pages.py). The last line counts the checks."""
+import glob, json, os, random, re, subprocess, sys
 from xml.etree import ElementTree
 
 HERE = os.path.dirname(os.path.abspath(__file__))
 TOP = os.path.join(HERE, "..")
 sys.dont_write_bytecode = True
 sys.path.append(os.path.join(HERE, "hostile"))
-import picture_rows, traces
+import picture_exports, picture_orders as orders, picture_pages, picture_rows, traces
 from inputs import Inputs
 from turns import Watched, first_other
 
@@ -23,6 +24,7 @@ TRACES, SEED = 150, 1982
 
 SVG = "{http://www.w3.org/2000/svg}"
 POINT = r"(\d+) (\d+)"
+RECORDED, NONE = "in the order that was recorded.", "in an order in which they can have come: no order was recorded."
 MARK = re.compile(r'<g transform="translate\((\d+) (\d+)\)"><title>turn (\d+): node (\d+), entry (\d+): ([a-z]+)</title>')
 ARROW = re.compile(r'<path class="(message|unsure)" d="M(\d+) (\d+)L(\d+) (\d+)">')
 STUB = re.compile(r'<g class="untaken"><title>no turn was brought what it sent to ([0-9, and]+)</title>')
@@ -58,6 +60,11 @@ def order_of(trace):
     """The nodes of the order beside a trace, and the numbers of the messages that they were brought."""
     words = trace["order"].split()
     return [int(word) for word in words[0::2]], [None if word == "-" else int(word) for word in words[1::2]]
+
+
+def up_to(count):
+    """What is said where so many turns, the first ones, are in the recorded order."""
+    return f"in the order that was recorded up to turn {count - 1}, and behind that in one that can be." if count else NONE
 
 
 class Model:
@@ -125,11 +132,16 @@ def check(programs, schedule):
     if "order" in trace:
         nodes, numbers = order_of(trace)
         drawn = programs.draw(record.stdout)
-        yield "the record", drawn, Model(trace, nodes, numbers), 0, True
-        yield "without its numbers", programs.draw(json.dumps(dict(trace, order=" ".join(f"{node} -" for node in nodes)))), Model(trace, nodes, []), 0, True
+        yield "the record", drawn, Model(trace, nodes, numbers), 0, RECORDED
+        yield "without its numbers", programs.draw(json.dumps(dict(trace, order=" ".join(f"{node} -" for node in nodes)))), Model(trace, nodes, []), 0, RECORDED
         other = programs.draw(json.dumps(dict(trace, order=trace["order"] + " 0 -")))
-        yield "an order of too many", other, Model(trace, [int(word) for word in verdict[1:]], []), 0, False
-    yield "without its order", programs.draw(json.dumps(bare)), Model(trace, [int(word) for word in verdict[1:]], []), 0, False
+        yield "an order of too many", other, Model(trace, nodes, numbers), 0, up_to(len(nodes))
+        for what, spoiled, first, are_all, counted in orders.spoiled(trace, nodes, numbers):
+            drawn = programs.draw(json.dumps(spoiled))
+            rest = [] if are_all else [int(match[4]) for line in drawn.stdout.split("\n") for match in [MARK.match(line)] if match][len(first):]
+            left = any((first + rest).count(node) < len(history) for node, history in enumerate(spoiled["histories"]))
+            yield what, drawn, Model(spoiled, first + rest, counted), int(left), up_to(len(first))
+    yield "without its order", programs.draw(json.dumps(bare)), Model(trace, [int(word) for word in verdict[1:]], []), 0, NONE
 
 
 QUESTION, ANSWER, OTHER = "010100010000", "01020100000101", "01020100000100"
@@ -153,63 +165,7 @@ def written(programs):
     """What is drawn of written traces."""
     for name, histories, order, nodes, numbers, status in WRITTEN:
         trace = {"nodes": len(histories), "histories": histories, **({"order": order} if order else {})}
-        yield name, programs.draw(json.dumps(trace)), Model(trace, nodes, numbers), status, bool(order)
-
-
-# What is done on the page of a trace, and what has to stand in the text under it then.
-ON_PAGES = [
-    ("find('turn 1')", "turn 1: node 1, entry 0: deliver"),
-    ("find('node 0 entry 1')", "turn 3: node 0, entry 1: recover"),
-    ("find('1,1')", "turn 2: node 1, entry 1: crash"),
-    # from here on, so the delivery; it names its sender, and has its digits
-    ("find('" + QUESTION.upper() + "')", "sent by turn 0, entry 0 of node 0"),
-    ("find('areyou')", "0 to 1: AreYouCoordinator; its bytes: " + QUESTION),
-    ("find('01')", "turn 1: "),
-    # the number of a group is found where a node enters it
-    ("find('0:2')", "then it is Normal in group 0:2, coordinator 0, members 0"),
-    ("find('crash')", "then it is down"),
-    ("find('0:22')", "nothing is found for 0:22"),
-    ("find('turn 4')", "nothing is found for turn 4"),
-    ("KEYS['n']()", "turn 3: "),
-    ("KEYS['p']()", "turn 2: "),
-    ("find('turn 1'); KEYS['n'](); KEYS['0']()", "turn 2: "),
-]
-PAGED = {"nodes": 2, "histories": [[ASKS, {"do": "recover", "kept": False, "sent": []}], [ASKED, {"do": "crash", "sent": []}]], "order": "0 - 1 0 1 - 0 -"}
-
-
-def told_by_page(browser, page, acts):
-    """What stands beside the buttons of a page, under the picture after each of these acts, and what went wrong in its script."""
-    catch = "<script>const wrong = []; addEventListener('error', event => wrong.push(event.message));</script>"
-    ask = f"<script>const seen = {json.dumps(acts)}.map(act => {{ eval(act); draw(); return told.textContent; }});document.title = JSON.stringify([snapshot.textContent, seen, wrong]);</script>"
-    with tempfile.TemporaryDirectory() as folder:
-        with open(f"{folder}/run.html", "w") as file:
-            file.write(page.replace("<head>", "<head>" + catch).replace("</body>", ask + "</body>"))
-        words = [browser, "--headless", "--no-sandbox", "--disable-gpu", f"--user-data-dir={folder}/kept", "--dump-dom", f"file://{folder}/run.html"]
-        dom = subprocess.run(words, capture_output=True, text=True, timeout=120).stdout
-    title = re.search("<title>(.*?)</title>", dom, re.S)
-    return json.loads(html.unescape(title[1])) if title else [None, [], ["no page"]]
-
-
-def check_page(browser, programs, trace, sight, acts):
-    """What is wrong with the page of a trace in a browser, or nothing."""
-    page = programs.draw(json.dumps(trace), "--to", "html").stdout
-    try:
-        seen, told, wrong = told_by_page(browser, page, [act for act, _ in acts])
-    except (subprocess.SubprocessError, ValueError) as error:
-        return repr(error)
-    if wrong or seen != sight:
-        return f"{wrong or seen}"
-    return next((f"{act}: {text!r}" for (act, part), text in zip(acts, told) if part not in text), "")
-
-
-def pages(programs):
-    """The problem with each page that is tried in a browser, if there is one to try them in."""
-    browser = shutil.which("chromium") or shutil.which("chromium-browser") or shutil.which("google-chrome")
-    if not browser:
-        print("pictures.py: there is no chromium, so pages are not tried in it")
-        return
-    yield "a page", check_page(browser, programs, PAGED, "turns 0 to 3 of 4", ON_PAGES)
-    yield "a page of no turns", check_page(browser, programs, {"nodes": 2, "histories": [[], []]}, "no turns", [("find('0')", "nothing is found for 0"), ("KEYS['n']()", ""), ("KEYS['0']()", "")])
+        yield name, programs.draw(json.dumps(trace)), Model(trace, nodes, numbers), status, RECORDED if order else NONE
 
 
 class Picture:
@@ -302,13 +258,22 @@ def to_the_byte(programs):
 def of_schedules(programs, schedules):
     """What is wrong with each picture of written traces, and of the records of schedules."""
     for schedule in ["written here", *schedules]:
-        for what, drawn, model, status, recorded in written(programs) if schedule == "written here" else check(programs, schedule):
+        for what, drawn, model, status, order in written(programs) if schedule == "written here" else check(programs, schedule):
             problem = check_picture(drawn.stdout, model)
             if drawn.returncode != status:
                 problem = f"status {drawn.returncode}"
-            if ("in the order that was recorded" in drawn.stdout) != recorded:
-                problem = "says the wrong thing of its order"
+            if f">Time goes right, by turns, {order}</text>" not in drawn.stdout:
+                problem = f"doesn't say of its order: {order}"
             yield f"{schedule}, {what}", problem
+
+
+def exported(programs, schedules):
+    """What is wrong with what is written of the records of schedules for tools of others."""
+    for schedule in schedules:
+        record = programs.run("record", open(schedule).read())
+        trace = json.loads(record.stdout) if record.returncode == 0 else {}
+        if "order" in trace:
+            yield from ((f"{schedule}, {what}", problem) for what, problem in picture_exports.exports(programs, trace, Model(trace, *order_of(trace))))
 
 
 def main():
@@ -320,7 +285,8 @@ def main():
     programs = Programs(program, os.path.abspath(folder))
     os.chdir(TOP)
     passed = failed = 0
-    parts = [of_schedules(programs, schedules or sorted(glob.glob("schedules/*.txt"))), to_the_byte(programs), by_chance(programs), pages(programs)]
+    schedules = schedules or sorted(glob.glob("schedules/*.txt"))
+    parts = [of_schedules(programs, schedules), to_the_byte(programs), by_chance(programs), exported(programs, schedules), picture_pages.pages(programs)]
     for what, problem in (pair for part in parts for pair in part):
         passed, failed = passed + (not problem), failed + bool(problem)
         if problem:

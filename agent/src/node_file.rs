@@ -43,7 +43,8 @@ pub fn places(path: &Path) -> Option<usize> {
 
 /// The label of a node's file, as far as both versions have it, and where the last sector ends.
 fn label_of(path: &Path) -> Option<([u8; OLDER_LABEL as usize], u64)> {
-    let file = File::open(path).ok()?;
+    // a pipe would be waited for
+    let file = path.is_file().then(|| File::open(path).ok()).flatten()?;
     let length = file.metadata().ok()?.len();
     let (behind, mut label) = (length % SECTOR, [0; OLDER_LABEL as usize]);
     if behind != LABEL && behind != OLDER_LABEL {
@@ -87,5 +88,16 @@ mod tests {
         }
         std::fs::remove_file(&path).unwrap();
         assert_eq!((slots(&path), places(&path)), (None, None));
+    }
+
+    #[test]
+    fn a_pipe_is_not_waited_for() {
+        let path = std::env::temp_dir().join(format!("dumgerok-pipe-{}", std::process::id()));
+        assert!(std::process::Command::new("mkfifo").arg(&path).status().unwrap().success());
+        let (to, from) = std::sync::mpsc::channel();
+        let own = path.clone();
+        std::thread::spawn(move || to.send((slots(&own), places(&own))));
+        assert_eq!(from.recv_timeout(std::time::Duration::from_secs(60)), Ok((None, None)));
+        std::fs::remove_file(&path).unwrap();
     }
 }

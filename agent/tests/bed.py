@@ -224,13 +224,33 @@ class Agents:
                 process.kill()
                 process.wait()
 
-    def figures(self, i):
-        """Of the agent and of each process of the program, which is named by its command: seconds of processor, kB of memory (RSS), voluntary switches (wakes),
-        kB of memory of which each page counts by how many processes have it (PSS)."""
-        rows, own = {}, self.processes[i].pid
+    def own_processes(self, i):
+        """The numbers of the agent and of each process of the program, which is named by its command."""
+        own = self.processes[i].pid
         with open("/proc/%d/task/%d/children" % (own, own)) as file:
-            pids = {command(pid): pid for pid in map(int, file.read().split())}
-        for who, pid in dict(agent=own, **pids).items():
+            return dict(agent=own, **{command(pid): pid for pid in map(int, file.read().split())})
+
+    def memory(self, i):
+        """kB of memory of a machine's processes in all, of which what is of one file counts once: the greatest part of it that one of them has."""
+        own, files = 0, {}
+        for pid in self.own_processes(i).values():
+            of_files, name = {}, None
+            with open("/proc/%d/smaps" % pid) as file:
+                for words in map(str.split, file):
+                    if "-" in words[0]:
+                        name = words[5] if len(words) > 5 else ""
+                    elif words[0] == "Rss:":
+                        of_files[name] = of_files.get(name, 0) + int(words[1])
+                    elif words[0] == "Anonymous:":
+                        own += int(words[1])
+                        of_files[name] -= int(words[1])
+            files = {name: max(files.get(name, 0), of_files.get(name, 0)) for name in {**files, **of_files}}
+        return own + sum(files.values())
+
+    def figures(self, i):
+        """Of the agent and of each process of the program, which is named by its command: seconds of processor, kB of memory (RSS), voluntary switches (wakes)."""
+        rows = {}
+        for who, pid in self.own_processes(i).items():
             switches = kb = 0
             for task in os.listdir("/proc/%d/task" % pid):
                 with open("/proc/%d/task/%s/status" % (pid, task)) as file:
@@ -239,7 +259,5 @@ class Agents:
                 kb = int(status["VmRSS"].split()[0])
             with open("/proc/%d/stat" % pid) as file:
                 words = file.read().rsplit(")", 1)[1].split()
-            with open("/proc/%d/smaps_rollup" % pid) as file:
-                shared = next(int(line.split()[1]) for line in file if line.startswith("Pss:"))
-            rows[who] = ((int(words[11]) + int(words[12])) / os.sysconf("SC_CLK_TCK"), kb, switches, shared)
+            rows[who] = ((int(words[11]) + int(words[12])) / os.sysconf("SC_CLK_TCK"), kb, switches)
         return rows

@@ -2,6 +2,7 @@
 import http.client, json, os, re, shutil, signal, socket, subprocess, time, urllib.request
 
 from bed import PATIENCE, free_port
+from records import answered
 
 
 def judged(bed, agents, name, are_sealed=False):
@@ -26,10 +27,11 @@ def spoiled(bed, agents):
     with open(longest) as file:
         text = file.read()
     # one of the answer to a message: what a tick sends again no event of a trace has
-    sent = re.search(r"^> deliver .*\n(?:(?!> |ok |refused |bad |fault ).*\n)*?(send .*\n)", text, re.MULTILINE)
+    answers = (lines + [begin] for request, lines, begin in answered(text) if request and request.startswith("deliver ") and lines[0].startswith("send "))
+    sent, *_, begin = next(answers)
     spoiled_path = longest + ".spoiled"
     with open(spoiled_path, "w") as file:
-        file.write(text[:sent.start(1)] + text[sent.end(1):])
+        file.write(text[:begin] + text[begin + len(sent):])
     done = agents.ctl(0, "judge", "--program", agents.program, spoiled_path, *[file for file in files if file != longest])
     bed.tally.check("a record without a message that was sent isn't judged Run", done.returncode == 1 and done.stdout.startswith("NotARun"), done)
 

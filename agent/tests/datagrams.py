@@ -4,6 +4,7 @@ import json, os, random, shutil, signal, socket, time
 from bed import HERE, PATIENCE, free_port
 from cluster import judged, metric, told
 from machine import compiled
+from records import answered, parts
 
 # Recorded datagrams come for so many seconds, and so many at least.
 WINDOW, MANY = 4, 1000
@@ -272,17 +273,13 @@ def recorded(agents, timed):
 
 def delivered(agents, i):
     """The messages that the node of agent i was given in each of its lives, as digits, with the first and the last word of what it answered."""
-    parts = sorted((name for name in os.listdir(agents.folder) if name.startswith("%d.record." % i)), key=lambda name: int(name.rsplit(".", 1)[1]))
-    lives, message = [], None
-    for name in parts:
-        with open(os.path.join(agents.folder, name)) as file:
-            for words in map(str.split, file):
-                if words[0] == "start":
-                    lives.append([])
-                elif words[0] == ">":
-                    message = words[2] if words[1] == "deliver" else None
-                elif message and words[0] in ("ok", "refused", "bad", "fault"):
-                    lives[-1].append((message, words[0], words[-1]))
+    lives = []
+    for request, lines, _ in answered("".join(open(path).read() for path in parts(agents, i))):
+        if request is None:
+            lives.append([])
+        elif request.startswith("deliver "):
+            words = lines[-1].split()
+            lives[-1].append((request.split()[1], words[0], words[-1]))
     return lives
 
 

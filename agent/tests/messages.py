@@ -234,11 +234,22 @@ def told_of_the_network(bed):
     lead = agents.status(0)["coordinator"]
     one, other = [i for i in range(3) if i != lead]
     agents.relay.one_way.add((lead, one))
+    agents.until(lambda: said(lead, "node %d isn't reached by itself: what is said to it goes through node %d" % (one, other)))
+    agents.relay.one_way.clear()
+    agents.until(lambda: said(lead, "node %d is reached by itself again" % one))
+    check("a way that is cut in one direction is told, and once it is mended", not said(other, "by itself"), said(other, "by itself"))
+    # without a third machine nothing goes round it
+    agents.kill(other)
+    agents.one_group([lead, one])
+    lead = agents.status(one)["coordinator"]
+    one = next(i for i in range(3) if i not in (lead, other))
+    agents.relay.one_way.add((lead, one))
     text = "node %d is heard and answers nothing: what is sent to it is lost" % one
     agents.until(lambda: said(lead, text))
-    timed("a way that is cut in one direction is told where it begins", not said(other, "answers nothing") and not said(one, "answers nothing"))
+    timed("a way that is cut in one direction is told where it begins", not said(one, "answers nothing"))
     timed("and once", len(said(lead, text)) == 1)
     agents.relay.one_way.clear()
+    agents.start(other)
     agents.one_group()
     lead = agents.status(0)["coordinator"]
     gone = next(i for i in range(3) if i != lead)

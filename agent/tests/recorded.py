@@ -3,12 +3,12 @@ covers isn't."""
 import json, os, random, re, signal, threading, time
 
 from cluster import judged
+from records import CLOSES, answered
 
 # What a client has on its way at a time.
 AT_ONCE = 48
 # So many answers before each start are taken away: then they are in doubt, though they count.
 TAKEN_AWAY = (1, 3, 12)
-CLOSES = re.compile(r"(ok|refused|bad|fault) ")
 LOST = "did one lose its end"
 
 
@@ -174,6 +174,12 @@ def cut(bed, agents, chance, name, texts, borne):
     bed.tally.check("%s: a record that ends anywhere in its last kilobytes is borne" % name, not failed, failed[:2])
 
 
+def sent_in(text):
+    """Messages of answers to messages, and where they stand: what a tick sends again no event of a trace has."""
+    answers = [(begin, lines) for request, lines, begin in answered(text) if request and request.startswith("deliver ") and lines[0].startswith("send ")]
+    return [(begin, lines[0]) for begin, lines in answers]
+
+
 def wrong(bed, agents, name, texts):
     """An answer before the doubtful end that the node can't have given."""
     path = next(iter(texts))
@@ -182,7 +188,13 @@ def wrong(bed, agents, name, texts):
     another = text[:last.start(1)] + str(int(last[1]) + 1) + text[last.end(1):]
     done = said_of(agents, {**texts, path: another})
     bed.tally.check("%s: another id before the doubtful end is refused" % name, not is_borne(done) and done.returncode in (1, 2), short(done))
-    ends = [match for match in re.finditer(r"^gone \d+\n", text, re.M) if match.end() < text.rindex("\nstart")]
-    if ends:
-        done = said_of(agents, {**texts, path: text[:ends[-1].start()] + text[ends[-1].end():]})
-        bed.tally.check("%s: so is an end of a job that isn't said" % name, not is_borne(done) and done.returncode in (1, 2), short(done))
+    before = text[:text.rindex("\nstart")]
+    if len(texts) == 1:
+        # nobody else can have ended it meanwhile
+        gone = list(re.finditer(r"^gone \d+\n", before, re.M))[-1]
+        name_of, spoiled = "an end of a job that isn't said", text[:gone.start()] + text[gone.end():]
+    else:
+        begin, line = sent_in(before)[-1]
+        name_of, spoiled = "a message that isn't said", text[:begin] + text[begin + len(line):]
+    done = said_of(agents, {**texts, path: spoiled})
+    bed.tally.check("%s: so is %s" % (name, name_of), not is_borne(done) and done.returncode in (1, 2), short(done))

@@ -61,8 +61,11 @@ def relayed(bed):
         check("%s: nobody is reached through another one" % name, [through(agents, i, j) for i in range(3) for j in range(3)] == [None] * 9)
         agents.relay.cuts.add(frozenset((keeper, other)))
         workers = Workers(agents)
+        groups = agents.groups()
         took = agents.until(lambda: agents.status(keeper)["pending"] == 0)
         bed.tally.note("%s: jobs between two that can't reach each other are done after %.2f s" % (name, took))
+        # in another group another machine may have their queue
+        timed("%s: in the group in which it was cut" % name, groups == agents.groups(), (groups, agents.groups()))
         timed("%s: jobs between two that can't reach each other are done soon" % name, took < SOON * bed.round_trip / 1000, took)
         told(bed, agents, name, (keeper, lead, other))
         whole(bed, agents, name, (keeper, lead, other))

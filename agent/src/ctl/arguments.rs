@@ -237,6 +237,8 @@ pub enum Command {
         salvage: bool,
     },
     /// Has the records of all nodes judged: whether a cluster can have done what stands there
+    ///
+    /// With --follow they are judged again as they grow, with the parts that come, until an entry can't have been: then that is said, and the status is 1.
     #[command(after_help = "Example: dumgerokctl judge node*/record.*")]
     Judge {
         /// The files of the records of all nodes, in any order
@@ -246,18 +248,30 @@ pub enum Command {
         #[arg(long, value_name = "PATH", default_value = "/usr/lib/dumgerok/invite")]
         program: PathBuf,
         /// Prints the trace, and has nothing judged
-        #[arg(long)]
+        #[arg(long, conflicts_with = "follow")]
         trace: bool,
+        /// Goes on as the records grow
+        #[arg(long)]
+        follow: bool,
+        /// Writes numbers for Prometheus to this file
+        #[arg(long, value_name = "FILE", requires = "follow")]
+        metrics: Option<PathBuf>,
+        /// A message may be missing for so long in its sender's record
+        #[arg(long, value_name = "SECONDS", value_parser = seconds, default_value = "1", requires = "follow")]
+        patience: Duration,
+        /// Ends with status 1 where entries take more megabytes
+        #[arg(long, value_name = "MB", default_value_t = 1000, requires = "follow")]
+        most: usize,
     },
     /// Draws the run of a trace: a row for each node, a mark for each entry, an arrow for each message that came
     ///
-    /// The order is the one that stands beside the trace, where all entries can be taken in it, else one that the proved program finds. The status is
-    /// that of `invite trace`.
+    /// The order is the one that stands beside the trace, as far as it goes, and then one that the proved program finds. The status is that of
+    /// `invite trace`.
     #[command(after_help = "Example: dumgerokctl judge --trace node*/record.* | dumgerokctl draw --to html > run.html")]
     Draw {
         /// The file of the trace; else standard input
         file: Option<PathBuf>,
-        /// A picture, or a page that scrolls, zooms and searches, for long runs
+        /// A picture, a page for long runs, or a file for Perfetto or ShiViz
         #[arg(long, value_name = "FORM", value_enum, default_value = "svg")]
         to: Form,
         /// The proved program

@@ -2,6 +2,7 @@
 
 use super::agent::{socket, Agent, PATIENCE};
 use super::arguments::{Arguments, Command, OnOff};
+use super::follow::Follower;
 use super::worker::{self, Worker};
 use super::format::{make_leases, Format};
 use super::{drain, event, file, key, program, show, Failure};
@@ -21,7 +22,7 @@ const NODE_PATIENCE: Duration = Duration::from_secs(60);
 const MAX_INPUT: u64 = 4096;
 
 /// Writes text; a reader that went away ends the command without a word.
-fn print(text: &str) -> Result<(), Failure> {
+pub(super) fn print(text: &str) -> Result<(), Failure> {
     let mut out = io::stdout().lock();
     printed(out.write_all(text.as_bytes()).and_then(|()| out.flush()))
 }
@@ -65,8 +66,11 @@ pub fn run(arguments: Arguments) -> Result<(), Failure> {
         Command::Key { file } => print(&key::make(file)?),
         Command::Inspect { look, verify } => shown(program::look(look, "inspect", verify.then_some("--verify"))?, look.json || before.json, file::inspected),
         Command::Export { look, salvage } => shown(program::look(look, "export", salvage.then_some("--salvage"))?, look.json || before.json, file::exported),
-        Command::Judge { files, program: _, trace: true } => print_trace(&program::trace_of(files)?),
-        Command::Judge { files, program, trace: false } => program::judge(files, program),
+        Command::Judge { files, trace: true, .. } => print_trace(&program::trace_of(files, true)?),
+        Command::Judge { files, program, follow: true, metrics, patience, most, .. } => {
+            Follower { program, metrics: metrics.as_deref(), patience: *patience, most: *most }.follow(files)
+        }
+        Command::Judge { files, program, .. } => program::judge(files, program),
         Command::Draw { file, to, program } => {
             let (text, status) = program::drawn(file.as_deref(), *to, program)?;
             print(&text)?;

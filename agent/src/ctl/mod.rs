@@ -6,6 +6,7 @@ mod commands;
 mod drain;
 mod event;
 mod file;
+mod follow;
 mod format;
 mod guarded;
 mod interrupts;

@@ -1,6 +1,7 @@
 //! Commands that the proved program does, over the file of a configuration.
 
 use super::arguments::Look;
+use super::commands::print;
 use super::Failure;
 use crate::config::Config;
 use crate::draw::{draw, DrawError, Form};
@@ -26,39 +27,50 @@ pub fn look(look: &Look, word: &str, option: Option<&str>) -> Result<(String, Ex
     Ok((String::from_utf8_lossy(&done.stdout).into_owned(), done.status))
 }
 
-/// One trace of the records of all nodes.
-pub fn trace_of(files: &[PathBuf]) -> Result<judge::Trace, Failure> {
-    let read = judge::read(files).and_then(judge::trace_of);
+/// One trace of the records of all nodes, whose entries say when they were, where that is asked for.
+pub fn trace_of(files: &[PathBuf], has_times: bool) -> Result<judge::Trace, Failure> {
+    let read = judge::read(files).and_then(|records| judge::trace_of(records, has_times));
     read.map_err(|why| Failure::Usage(why.to_string()))
 }
 
-/// Lets `invite trace` judge the records of all nodes. Where they are no run, and all that is left of them waits for messages that nobody sent, as where a record
-/// lost its end, that is said.
+/// Lets `invite trace` judge the records of all nodes. Where they are no run it says where the entry stands that can't have been; and where all that is left of
+/// them waits for messages that nobody sent, as where a record lost its end, that.
 pub fn judge(files: &[PathBuf], program: &Path) -> Result<(), Failure> {
-    let trace = trace_of(files)?;
+    let trace = trace_of(files, false)?;
     let named = |why| Failure::Usage(format!("{}: {why}", program.display()));
-    let judged = judged(program, &[], &trace, [Stdio::inherit(), Stdio::inherit()]).map_err(named)?;
-    if judged.status.code() == Some(1) {
-        let ongoing = judged_ongoing(program, &trace).map_err(named)?;
-        if ongoing {
-            say("dumgerokctl: each entry that is left waits for a message that no record has: did one lose its end, as by a loss of power?");
-        }
+    let done = judged(program, &[], &trace, Stdio::inherit()).map_err(named)?;
+    let verdict = String::from_utf8_lossy(&done.stdout);
+    print(&verdict)?;
+    if let Some((path, line)) = culprit(&verdict).and_then(|(node, entry)| trace.place(node, entry)) {
+        say(format_args!("dumgerokctl: that entry ends in {}, line {line}", path.display()));
     }
-    Failure::of_status(judged.status)
+    if done.status.code() == Some(1) && judged_ongoing(program, &trace).map_err(named)? {
+        say("dumgerokctl: each entry that is left waits for a message that no record has: did one lose its end, as by a loss of power?");
+    }
+    Failure::of_status(done.status)
 }
 
 /// Whether a trace may be that of a run that goes on.
 fn judged_ongoing(program: &Path, trace: &judge::Trace) -> io::Result<bool> {
-    judged(program, &["--ongoing"], trace, [Stdio::piped(), Stdio::null()]).map(|done| done.status.success() && done.stdout.starts_with(b"Ongoing"))
+    judged(program, &["--ongoing"], trace, Stdio::null()).map(|done| done.status.success() && done.stdout.starts_with(b"Ongoing"))
 }
 
-fn judged(program: &Path, options: &[&str], trace: &judge::Trace, [out, error]: [Stdio; 2]) -> io::Result<Output> {
-    let mut child = Command::new(program).arg("trace").args(options).stdin(Stdio::piped()).stdout(out).stderr(error).spawn()?;
+/// What the program prints of a trace, and how it ends.
+fn judged(program: &Path, options: &[&str], trace: &judge::Trace, errors: Stdio) -> io::Result<Output> {
+    let mut child = Command::new(program).arg("trace").args(options).stdin(Stdio::piped()).stdout(Stdio::piped()).stderr(errors).spawn()?;
     if let Some(input) = child.stdin.take() {
         // where it doesn't read to the end its status says why
         let _unread = trace.write(&mut io::BufWriter::new(input));
     }
     child.wait_with_output()
+}
+
+/// The node and the entry that a verdict names: `NotARun NODE INDEX`.
+pub fn culprit(verdict: &str) -> Option<(usize, usize)> {
+    match verdict.split_whitespace().collect::<Vec<_>>().as_slice() {
+        ["NotARun", node, entry] => Some((node.parse().ok()?, entry.parse().ok()?)),
+        _ => None,
+    }
 }
 
 /// The run of a trace, drawn, and how the program ended that read it.

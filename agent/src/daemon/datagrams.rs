@@ -233,6 +233,7 @@ impl Daemon {
             None => return self.metrics.dropped.with_label_values(&["NotSent"]).inc(),
         };
         let sending = self.peers.sends(to, now);
+        self.tell_way(to, now);
         if sending.is_direct {
             self.send_itself(to, &datagram, now);
         }

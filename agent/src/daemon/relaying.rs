@@ -2,6 +2,7 @@
 
 use super::{Daemon, Origin};
 use crate::forward::{is_relayed, Leg, Relayed};
+use log::{info, warn};
 use std::time::Instant;
 
 impl Daemon {
@@ -10,6 +11,15 @@ impl Daemon {
         let relayed = Relayed { leg: Leg::First, is_deaf, from: self.config.id, to, by: self.config.id, mark: self.introductions.mark(), inner: datagram };
         self.metrics.relayed.with_label_values(&["sent"]).inc();
         self.send_relayed(through, &relayed, now);
+    }
+
+    /// Tells the log where a machine isn't reached by itself any more, or is so again.
+    pub(super) fn tell_way(&mut self, node: u8, now: Instant) {
+        match self.peers.ways.news(node, now) {
+            Some(Some(through)) => warn!("node {node} isn't reached by itself: what is said to it goes through node {through}"),
+            Some(None) => info!("node {node} is reached by itself again"),
+            None => {}
+        }
     }
 
     fn send_relayed(&mut self, to: u8, relayed: &Relayed, now: Instant) {
@@ -25,11 +35,14 @@ impl Daemon {
 
     /// A datagram came that is carried on, or was. `sender` is whose agent encrypted it, where there is a key.
     pub(super) fn take_relayed(&mut self, bytes: &[u8], sender: Option<u8>, from: Origin, now: Instant) {
+        if self.config.key.is_some() && sender.is_none() {
+            return self.metrics.dropped.with_label_values(&["Forged"]).inc();
+        }
         let relayed = match Relayed::decode(bytes) {
             Some(relayed) if self.may_relay(&relayed) => relayed,
             _ => return self.metrics.dropped.with_label_values(&["Relay"]).inc(),
         };
-        if self.config.key.is_some() && sender != Some(relayed.by) {
+        if sender.map_or(false, |sender| sender != relayed.by) {
             return self.metrics.dropped.with_label_values(&["Forged"]).inc();
         }
         match relayed.leg {

@@ -1,12 +1,19 @@
-//! Draws the run of a trace, as an SVG or as a page. What only the proved program can know it says: `invite trace --turns` the order in which the
+//! Draws the run of a trace, as an SVG or as a page, or writes it for tools of others. What only the proved program can know it says: `invite trace --turns` the order in which the
 //! entries can have come, how each node stands then and what is left, and `invite show` what each message says. Where each message came from and
 //! which came to none follows from the trace and that order.
 
 mod asked;
+mod colours;
+mod jobs;
+mod lines;
+mod message;
+mod order;
 mod page;
+mod perfetto;
 mod picture;
 mod places;
 mod run;
+mod shiviz;
 mod sources;
 mod stays;
 mod trace;
@@ -35,6 +42,10 @@ pub enum Form {
     Svg,
     /// A page of HTML, which scrolls, zooms and searches; it needs no other file.
     Html,
+    /// Chrome's trace events, which Perfetto reads.
+    Perfetto,
+    /// A log with vector clocks, which ShiViz reads.
+    Shiviz,
 }
 
 /// The run of a trace, drawn, and how `invite trace --turns` ended; of a text that is no trace what that printed. Why entries are left it says on
@@ -46,6 +57,8 @@ pub fn draw(program: &Path, text: &[u8], form: Form) -> Result<(String, ExitStat
         Some(run) => match form {
             Form::Svg => picture::svg(&run),
             Form::Html => page::html(&run),
+            Form::Perfetto => perfetto::text(&run),
+            Form::Shiviz => shiviz::text(&run),
         },
     };
     Ok((drawn, status))

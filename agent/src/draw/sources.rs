@@ -13,8 +13,9 @@ pub struct Post<'a> {
 /// Where a message came from.
 #[derive(Clone, Copy, Debug, PartialEq, Eq)]
 pub struct Source {
-    /// The turn that sent it.
+    /// The turn that sent it, and its place among what that sent.
     pub turn: usize,
+    pub place: usize,
     /// Whether it is known to be this one: the record names it, or no other entry of the trace sent the same.
     pub sure: bool,
 }
@@ -23,6 +24,7 @@ pub struct Source {
 struct Sending {
     message: usize,
     turn: usize,
+    place: usize,
     came: bool,
 }
 
@@ -38,11 +40,11 @@ pub fn sources(posts: &[Post], sent: &HashMap<usize, usize>) -> Vec<(Option<Sour
             let number = named.or_else(|| latest.get(&message).copied())?;
             sendings[number].came = true;
             let sure = named.is_some() || sent.get(&message) == Some(&1);
-            Some(Source { turn: sendings[number].turn, sure })
+            Some(Source { turn: sendings[number].turn, place: sendings[number].place, sure })
         }));
-        for message in post.sent {
+        for (place, message) in post.sent.iter().enumerate() {
             latest.insert(*message, sendings.len());
-            sendings.push(Sending { message: *message, turn, came: false });
+            sendings.push(Sending { message: *message, turn, place, came: false });
         }
     }
     let mut all: Vec<(Option<Source>, Vec<usize>)> = found.into_iter().map(|source| (source, Vec::new())).collect();
@@ -70,7 +72,7 @@ mod tests {
 
     #[test]
     fn a_sending_that_is_named_is_the_one() {
-        let source = |turn, sure| Some(Source { turn, sure });
+        let source = |turn, sure| Some(Source { turn, place: 0, sure });
         assert_eq!(asked(2, Some(0), 0), (source(0, true), vec![1]));
         assert_eq!(asked(2, None, 0), (source(1, false), vec![0]));
         // one that comes behind isn't yet sent
@@ -80,10 +82,10 @@ mod tests {
 
     #[test]
     fn one_is_sure_where_no_other_entry_sends_the_same() {
-        let posts = [Post { brought: None, number: None, sent: &[QUESTION] }, Post { brought: Some(QUESTION), number: None, sent: &[] }];
+        let posts = [Post { brought: None, number: None, sent: &[QUESTION + 1, QUESTION] }, Post { brought: Some(QUESTION), number: None, sent: &[] }];
         for times in [1, 2] {
             let found = sources(&posts, &HashMap::from([(QUESTION, times)]));
-            assert_eq!(found[1].0, Some(Source { turn: 0, sure: times == 1 }));
+            assert_eq!(found[1].0, Some(Source { turn: 0, place: 1, sure: times == 1 }));
         }
     }
 }

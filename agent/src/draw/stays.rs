@@ -23,6 +23,8 @@ pub struct Stay {
     pub since: usize,
     pub until: usize,
     pub stand: Stand,
+    /// The colour of its group.
+    pub colour: usize,
 }
 
 /// The longest spans in which these nodes are up and stand the same way, by the node of each turn and how it stands then; none is empty.
@@ -30,7 +32,7 @@ pub fn stays(nodes: usize, turns: &[(usize, Option<Stand>)]) -> Vec<Stay> {
     let mut now: Vec<(usize, Option<Stand>)> = (0..nodes).map(|node| (0, Some(Stand::first(node)))).collect();
     let mut all = Vec::new();
     let mut end = |node: usize, (since, stand): (usize, Option<Stand>), until: usize| {
-        all.extend(stand.filter(|_| since < until).map(|stand| Stay { node, since, until, stand }));
+        all.extend(stand.filter(|_| since < until).map(|stand| Stay { node, since, until, stand, colour: 0 }));
     };
     for (turn, (node, stand)) in turns.iter().enumerate() {
         if now[*node].1 != *stand {
@@ -52,7 +54,7 @@ mod tests {
     fn a_stay_ends_where_another_begins() {
         let second = Stand { group: "0:2".to_string(), ..Stand::first(0) };
         let turns = [(0, Some(Stand::first(0))), (0, None), (1, Some(Stand::first(1))), (0, Some(second.clone())), (0, Some(second.clone()))];
-        let stay = |node, since, until, stand| Stay { node, since, until, stand };
+        let stay = |node, since, until, stand| Stay { node, since, until, stand, colour: 0 };
         assert_eq!(stays(2, &turns), [stay(0, 0, 1, Stand::first(0)), stay(0, 3, 5, second), stay(1, 0, 5, Stand::first(1))]);
         // what ends at the turn at which it began is none
         assert_eq!(stays(1, &[(0, None)]), []);

@@ -16,30 +16,31 @@ const ID: usize = 16;
 type Words = String;
 
 /// The jobs of a node's own that a record names from some place on, up to the end of the first answer in which it dispatches: it names each pending one there.
-/// The words are missing of one that was only said to be gone.
-#[derive(Clone)]
-pub struct Seen(BTreeMap<u64, Option<Words>>);
+#[derive(Default)]
+pub struct Seen {
+    /// The words are missing of one that was only said to be gone.
+    jobs: BTreeMap<u64, Option<Words>>,
+    dispatches: bool,
+}
 
 impl Seen {
-    pub fn of<'r>(own: u8, lines: impl Iterator<Item = &'r str>) -> Seen {
-        let (mut seen, mut dispatches) = (Seen(BTreeMap::new()), false);
-        for line in lines {
-            match line.split_once(' ') {
-                Some(("ok", _)) if dispatches => break,
-                Some(("fired", "dispatch")) => dispatches = true,
-                Some(("gone", id)) => seen.name(id.parse().ok(), None),
-                Some(("pending", job)) => seen.name_job(job),
-                Some(("take", job)) => seen.name_job(job.strip_prefix(&format!("{own} ")).unwrap_or_default()),
-                Some(("send", rest)) => seen.name_sent(rest.split(' ').nth(1).unwrap_or_default()),
-                _ => {}
-            }
+    /// Reads the next line. Whether it is the last that counts.
+    pub fn hears(&mut self, own: u8, line: &str) -> bool {
+        match line.split_once(' ') {
+            Some(("ok", _)) => return self.dispatches,
+            Some(("fired", "dispatch")) => self.dispatches = true,
+            Some(("gone", id)) => self.name(id.parse().ok(), None),
+            Some(("pending", job)) => self.name_job(job),
+            Some(("take", job)) => self.name_job(job.strip_prefix(&format!("{own} ")).unwrap_or_default()),
+            Some(("send", rest)) => self.name_sent(rest.split(' ').nth(1).unwrap_or_default()),
+            _ => {}
         }
-        seen
+        false
     }
 
     fn name(&mut self, id: Option<u64>, words: Option<Words>) {
         if let Some(id) = id {
-            let known = self.0.entry(id).or_default();
+            let known = self.jobs.entry(id).or_default();
             *known = known.take().or(words);
         }
     }
@@ -72,7 +73,7 @@ impl Seen {
     }
 
     fn may_be(&self, id: u64, words: &str) -> bool {
-        self.0.get(&id).and_then(Option::as_ref).map_or(true, |known| *known == plain(words))
+        self.jobs.get(&id).and_then(Option::as_ref).map_or(true, |known| *known == plain(words))
     }
 }
 
@@ -93,35 +94,46 @@ fn plain(words: &str) -> Words {
     words.join(" ")
 }
 
+/// Whether more requests may have put jobs, or ended some, than the file says that did, and some did: then it goes by what is said of jobs later on.
+pub fn is_open(own: u8, requests: &[&str], ids: Range<u64>, pending: &BTreeSet<u64>, ended: usize) -> bool {
+    let (put, may_put) = (ids.end.saturating_sub(ids.start), submissions(requests).count() as u64);
+    (0 < put && put < may_put) || (0 < ended && ended < ends_of(own, requests, pending).len())
+}
+
 /// The submissions among the requests that put the jobs of these ids. None where there are none such.
-pub fn puts<'r>(requests: &[&'r str], ids: Range<u64>, seen: impl FnOnce() -> Seen) -> Option<Vec<&'r str>> {
-    let submissions: Vec<(&str, &str)> = requests.iter().filter_map(|request| Some((*request, request.strip_prefix("submit ")?))).collect();
-    let is_all = submissions.len() as u64 == ids.end.checked_sub(ids.start)?;
+pub fn puts<'r>(requests: &[&'r str], ids: Range<u64>, seen: &Seen) -> Option<Vec<&'r str>> {
+    let is_all = submissions(requests).count() as u64 == ids.end.checked_sub(ids.start)?;
     if is_all {
-        return Some(submissions.into_iter().map(|(request, _)| request).collect());
+        return Some(submissions(requests).map(|(request, _)| request).collect());
     }
-    if ids.is_empty() {
-        return Some(Vec::new());
-    }
-    let (seen, mut left) = (seen(), submissions.into_iter());
+    let mut left = submissions(requests);
     ids.map(|id| left.find(|(_, words)| seen.may_be(id, words)).map(|(request, _)| request)).collect()
 }
 
 /// The requests that ended `count` of the jobs that were pending, each with the job's id. None where there are none such.
-pub fn ends<'r>(own: u8, requests: &[&'r str], pending: &BTreeSet<u64>, count: usize, seen: impl FnOnce() -> Seen) -> Option<Vec<(u64, &'r str)>> {
-    let mut named = BTreeSet::new();
-    let named_once = |request: &&'r str| ended_by(own, request).filter(|id| pending.contains(id) && named.insert(*id)).map(|id| (id, *request));
-    let mut ends: Vec<(u64, &'r str)> = requests.iter().filter_map(named_once).collect();
+pub fn ends<'r>(own: u8, requests: &[&'r str], pending: &BTreeSet<u64>, count: usize, seen: &Seen) -> Option<Vec<(u64, &'r str)>> {
+    let mut ends = ends_of(own, requests, pending);
     if ends.len() > count && count > 0 {
         // one that is named later on was still pending
-        let seen = seen();
-        ends.retain(|(id, _)| !seen.0.contains_key(id));
+        ends.retain(|(id, _)| !seen.jobs.contains_key(id));
     }
     if ends.len() < count {
         return None;
     }
     ends.truncate(count);
     Some(ends)
+}
+
+/// The submissions among requests, each with the words of its job.
+fn submissions<'a, 'r>(requests: &'a [&'r str]) -> impl Iterator<Item = (&'r str, &'r str)> + 'a {
+    requests.iter().filter_map(|request| Some((*request, request.strip_prefix("submit ")?)))
+}
+
+/// The requests that may have ended pending jobs, one for each.
+fn ends_of<'r>(own: u8, requests: &[&'r str], pending: &BTreeSet<u64>) -> Vec<(u64, &'r str)> {
+    let mut named = BTreeSet::new();
+    let named_once = |request: &&'r str| ended_by(own, request).filter(|id| pending.contains(id) && named.insert(*id)).map(|id| (id, *request));
+    requests.iter().filter_map(named_once).collect()
 }
 
 /// The own job that a request may end.

@@ -1,12 +1,13 @@
-//! What one node did, as the entries of a trace.
+//! What one node did, as the entries of a trace. A record is read line by line, whether it is whole or grows.
 
-use super::doubt::{ends, puts, Seen};
+use super::doubt::{ends, is_open, puts, Seen};
 use super::message::{message_of, Begin};
 use super::order::{Message, Sent, Turn};
 use super::{NodeRecord, RecordError};
 use crate::node::{Closing, Group, Phase};
 use serde_json::{json, Map, Value};
 use std::collections::{BTreeSet, HashMap, VecDeque};
+use std::rc::Rc;
 
 /// The requests that are no events. `tick` and `lost` name theirs.
 const NO_EVENTS: [&str; 3] = ["compact", "state", "jobs"];
@@ -26,13 +27,72 @@ impl<'a> Event<'a> {
     }
 }
 
-pub struct History<'a> {
+/// What is made beside the entries.
+#[derive(Clone, Copy, Debug, PartialEq, Eq)]
+pub enum Detail {
+    Entries,
+    /// What an order needs to know of them.
+    Order,
+    /// That, and when each was, which no judgement needs.
+    Times,
+}
+
+/// No clock of a machine that runs says less, in milliseconds since 1970; a record that has no time counts from the beginning of a process.
+const LEAST_TIME: u64 = 1_000_000_000_000;
+
+/// Where a line stands in a record: its part, counted from 0, and its number there, from 1.
+pub type Place = (u32, u32);
+
+type PlacedLine = (Place, String);
+
+/// What a process found in the node's file when it mounted it.
+struct Found {
+    /// So many groups were begun unseen since the file was mounted before.
+    groups: u64,
+    count: u64,
+    next: u64,
+    /// So many jobs were ended unseen.
+    ended: usize,
+    /// The requests in doubt; none where the trace begins.
+    doubts: Option<Vec<String>>,
+}
+
+impl Found {
+    fn doubts(&self) -> Vec<&str> {
+        self.doubts.iter().flatten().map(String::as_str).collect()
+    }
+}
+
+/// The answer by which a node says that it mounted its file.
+struct Recovery {
+    /// What it keeps, in the words of the answer.
+    keeps: String,
+    answer: Vec<String>,
+    last: String,
+}
+
+/// A recovery of which it isn't known yet which requests in doubt counted.
+struct Waiting {
+    recovery: Recovery,
+    found: Found,
+    /// The lines behind it, and what they say of jobs.
+    lines: Vec<PlacedLine>,
+    seen: Seen,
+}
+
+pub struct History {
     own: u8,
-    begins: &'a [Begin],
+    begins: Rc<[Begin]>,
     /// The entries as JSON, with commas between them.
     entries: String,
-    /// What an order needs to know of each entry.
+    /// What an order needs to know of each entry; nothing where none is asked for.
     turns: Vec<Turn>,
+    detail: Detail,
+    /// Where the entries begin whose time isn't known yet.
+    untold: Vec<usize>,
+    /// Where each entry stands in the record, and the line that is read.
+    places: Vec<Place>,
+    place: Place,
     /// The node's clock as it was told last: the time of the machine where the record has it, else what its processes took.
     time: u64,
     /// What that clock was when this process began.
@@ -48,19 +108,26 @@ pub struct History<'a> {
     /// Whether a process mounted the file, and whether it still has it.
     has_begun: bool,
     is_up: bool,
+    /// The requests without an answer, and what there is of the answer to the first one.
+    asked: VecDeque<String>,
+    answer: Vec<String>,
     /// The requests that kills left without an answer since the file was mounted.
-    doubts: Vec<&'a str>,
+    doubts: Vec<String>,
+    waiting: Option<Waiting>,
 }
 
-impl<'a> History<'a> {
-    /// Reads a record. An answer is that to the first request that has none. At a kill some requests are in doubt: what the next recovery finds says how many
-    /// of their commands counted.
-    pub fn of(own: u8, record: &'a NodeRecord, begins: &'a [Begin]) -> Result<History<'a>, RecordError> {
-        let mut history = History {
+impl History {
+    /// The history of a node that hasn't begun.
+    pub fn new(own: u8, begins: Rc<[Begin]>, detail: Detail) -> History {
+        History {
             own,
             begins,
             entries: String::new(),
             turns: Vec::new(),
+            detail,
+            untold: Vec::new(),
+            places: Vec::new(),
+            place: (0, 0),
             time: 0,
             began: 0,
             untimed: 0,
@@ -70,42 +137,127 @@ impl<'a> History<'a> {
             pending: BTreeSet::new(),
             has_begun: false,
             is_up: false,
+            asked: VecDeque::new(),
+            answer: Vec::new(),
             doubts: Vec::new(),
-        };
-        let (mut asked, mut answer): (VecDeque<&str>, Vec<&str>) = (VecDeque::new(), Vec::new());
-        let mut lines = record.lines();
-        while let Some(line) = lines.next() {
-            if let Some(request) = line.strip_prefix("> ") {
-                asked.push_back(request);
-            } else if let Some(start) = line.strip_prefix("start") {
-                asked.iter().for_each(|request| history.told(request));
-                history.began = start.trim().parse().unwrap_or(history.time);
-                history.untimed = history.turns.len();
-                history.doubts.extend(asked.drain(..));
-                history.is_up = false;
-                answer.clear();
-            } else if let Some(closing) = Closing::read(line) {
-                let fault = || RecordError::Line { node: record.node, line: line.to_string() };
-                let request = asked.pop_front().ok_or_else(fault)?;
-                history.told(request);
-                match history.kept_by(request, &answer) {
-                    Some(keeps) => {
-                        let no_state = || RecordError::NoState { node: record.node, keeps: keeps.to_string() };
-                        history.recovered(keeps, lines.clone()).ok_or_else(no_state)?;
-                        history.follow(&answer).ok_or_else(fault)?;
-                    }
-                    None => history.answered(request, &answer, &closing).ok_or_else(fault)?,
-                }
-                answer.clear();
-            } else {
-                answer.push(line);
-            }
+            waiting: None,
         }
+    }
+
+    /// Reads a whole record.
+    pub fn of(own: u8, record: &NodeRecord, begins: &Rc<[Begin]>, detail: Detail) -> Result<History, RecordError> {
+        let mut history = History::new(own, Rc::clone(begins), detail);
+        record.placed_lines().try_for_each(|(place, line)| history.reads(place, line))?;
+        history.end()?;
         Ok(history)
     }
 
+    /// Reads the next line. An answer is that to the first request that has none. At a kill some requests are in doubt: what the next recovery finds says how many
+    /// of their commands counted. Where it leaves open which ones, later lines say so: until then they wait, and nothing becomes an entry.
+    pub fn reads(&mut self, place: Place, line: &str) -> Result<(), RecordError> {
+        match self.waiting {
+            None => self.read_now(place, line),
+            Some(_) => self.read_all(VecDeque::from([(place, line.to_string())])),
+        }
+    }
+
+    /// Whether lines wait for later ones.
+    pub fn is_waiting(&self) -> bool {
+        self.waiting.is_some()
+    }
+
+    /// How many bytes the entries and the lines that wait have.
+    pub fn bytes(&self) -> usize {
+        self.entries.len() + self.waiting.iter().flat_map(|waiting| &waiting.lines).map(|(_, line)| line.len()).sum::<usize>()
+    }
+
+    /// No line comes any more: what waits for one has to go without.
+    fn end(&mut self) -> Result<(), RecordError> {
+        while self.is_waiting() {
+            let mut left = VecDeque::new();
+            self.go_on(&mut left)?;
+            self.read_all(left)?;
+        }
+        self.process_ended();
+        Ok(())
+    }
+
+    fn read_all(&mut self, mut left: VecDeque<PlacedLine>) -> Result<(), RecordError> {
+        while let Some((place, line)) = left.pop_front() {
+            if let Some(waiting) = &mut self.waiting {
+                let is_known = waiting.seen.hears(self.own, &line);
+                waiting.lines.push((place, line));
+                if is_known {
+                    self.go_on(&mut left)?;
+                }
+            } else {
+                self.read_now(place, &line)?;
+            }
+        }
+        Ok(())
+    }
+
+    /// Settles what waits by what was said since. The lines that waited are those to be read first.
+    fn go_on(&mut self, left: &mut VecDeque<PlacedLine>) -> Result<(), RecordError> {
+        if let Some(Waiting { recovery, found, lines, seen }) = self.waiting.take() {
+            lines.into_iter().rev().for_each(|line| left.push_front(line));
+            self.settle(&recovery, &found, &seen)?;
+        }
+        Ok(())
+    }
+
+    fn read_now(&mut self, place: Place, line: &str) -> Result<(), RecordError> {
+        self.place = place;
+        if let Some(request) = line.strip_prefix("> ") {
+            self.asked.push_back(request.to_string());
+        } else if let Some(start) = line.strip_prefix("start") {
+            self.process_ended();
+            self.began = start.trim().parse().unwrap_or(self.time);
+        } else if let Some(closing) = Closing::read(line) {
+            self.closed(line, &closing)?;
+        } else {
+            self.answer.push(line.to_string());
+        }
+        Ok(())
+    }
+
+    /// The node's process ended; what it was asked and didn't answer is in doubt.
+    fn process_ended(&mut self) {
+        let asked = std::mem::take(&mut self.asked);
+        asked.iter().for_each(|request| self.told(request));
+        self.timed();
+        self.doubts.extend(asked);
+        self.is_up = false;
+        self.answer.clear();
+    }
+
+    /// An answer came to its last line.
+    fn closed(&mut self, line: &str, closing: &Closing) -> Result<(), RecordError> {
+        let answer = std::mem::take(&mut self.answer);
+        let request = self.asked.pop_front().ok_or_else(|| self.fault(line))?;
+        self.told(&request);
+        match self.kept_by(&request, &answer) {
+            Some(keeps) => self.recovered(Recovery { keeps, answer, last: line.to_string() }),
+            None => self.answered(&request, &answer, closing).ok_or_else(|| self.fault(line)),
+        }
+    }
+
+    fn fault(&self, line: &str) -> RecordError {
+        RecordError::Line { node: usize::from(self.own), line: line.to_string() }
+    }
+
+    /// The entries as JSON, with commas between them.
+    pub fn entries(&self) -> &str {
+        &self.entries
+    }
+
+    /// Where each entry stands in the record.
+    pub fn places(&self) -> &[Place] {
+        &self.places
+    }
+
     /// The entries, and what an order needs to know of each.
-    pub fn entries(self) -> (String, Vec<Turn>) {
+    pub fn into_parts(self) -> (String, Vec<Turn>) {
         (self.entries, self.turns)
     }
 
@@ -114,22 +266,45 @@ impl<'a> History<'a> {
         if let Some(Ok(ms)) = request.strip_prefix("tick ").map(str::parse::<u64>) {
             self.time = self.time.max(self.began.saturating_add(ms));
             self.turns[self.untimed..].iter_mut().for_each(|turn| turn.time = self.time);
-            self.untimed = self.turns.len();
+            self.timed();
+        }
+    }
+
+    /// The entries so far were by now.
+    fn timed(&mut self) {
+        self.untimed = self.turns.len();
+        let untold = std::mem::take(&mut self.untold);
+        let first = match untold.first() {
+            Some(first) if self.time >= LEAST_TIME => *first,
+            _ => return,
+        };
+        let tail = self.entries.split_off(first);
+        for (place, begin) in untold.iter().enumerate() {
+            let end = untold.get(place + 1).map_or(tail.len(), |next| next - first);
+            self.entries.push_str(&format!("{{\"at\":{},", self.time));
+            self.entries.push_str(&tail[begin - first + 1..end]);
         }
     }
 
     /// Puts an entry of an event that a request, if any, brought.
     fn put(&mut self, name: &str, request: &str, sent: &[&str], fields: Map<String, Value>) {
         let mut entry = fields;
-        let messages: Vec<String> = sent.iter().map(|digits| message_of(digits, self.begins)).collect();
-        let turn = self.turns.len();
-        self.sent.extend(messages.iter().map(|digits| Message::of(digits)).zip((0..).map(|place| (turn, place))));
+        let messages: Vec<String> = sent.iter().map(|digits| message_of(digits, &self.begins)).collect();
+        self.places.push(self.place);
         entry.insert("do".to_string(), json!(name));
         entry.insert("sent".to_string(), json!(messages));
         if !self.entries.is_empty() {
             self.entries.push(',');
         }
+        if self.detail == Detail::Times {
+            self.untold.push(self.entries.len());
+        }
         self.entries.push_str(&Value::Object(entry).to_string());
+        if self.detail == Detail::Entries {
+            return;
+        }
+        let turn = self.turns.len();
+        self.sent.extend(messages.iter().map(|digits| Message::of(digits)).zip((0..).map(|place| (turn, place))));
         let brought = if name == "deliver" { request.split(' ').nth(1) } else { None };
         self.turns.push(Turn {
             time: self.time,
@@ -140,8 +315,11 @@ impl<'a> History<'a> {
 
     /// A message that is sent again, under another seal, is that of the turn that sent it.
     fn sent_again(&mut self, event: &Event) {
+        if self.detail == Detail::Entries {
+            return;
+        }
         for digits in event.sent() {
-            if let Some((turn, place)) = self.sent.get(&Message::of(&message_of(digits, self.begins))) {
+            if let Some((turn, place)) = self.sent.get(&Message::of(&message_of(digits, &self.begins))) {
                 let (sent, copy) = (&mut self.turns[*turn].sent[*place], Message::of(digits));
                 if sent.first != copy {
                     sent.again.push(copy);
@@ -151,7 +329,7 @@ impl<'a> History<'a> {
     }
 
     /// The lines of an answer belong to the event of the request, or each to the event that was fired before it.
-    fn answered(&mut self, request: &'a str, answer: &[&str], closing: &Closing) -> Option<()> {
+    fn answered(&mut self, request: &str, answer: &[String], closing: &Closing) -> Option<()> {
         let word = request.split(' ').next()?;
         let mut events = vec![Event { name: word, lines: Vec::new() }];
         for line in answer {
@@ -172,7 +350,7 @@ impl<'a> History<'a> {
             }
         }
         if word == "tick" {
-            self.untimed = self.turns.len();
+            self.timed();
         }
         match closing {
             Closing::Ok(Some(id)) => {
@@ -180,7 +358,7 @@ impl<'a> History<'a> {
                 self.pending.insert(*id);
             }
             Closing::Fault => {
-                self.doubts.push(request);
+                self.doubts.push(request.to_string());
                 self.is_up = false;
             }
             _ => {}
@@ -192,11 +370,11 @@ impl<'a> History<'a> {
         let sent: Vec<&str> = event.sent().collect();
         let fields = self.fields_of(event.name, request)?;
         self.put(event.name, request, &sent, fields);
-        self.follow(&event.lines)
+        self.follow(event.lines.iter().copied())
     }
 
     /// Takes the node's group, and the jobs that it keeps, from the lines of an event.
-    fn follow(&mut self, lines: &[&str]) -> Option<()> {
+    fn follow<'l>(&mut self, lines: impl Iterator<Item = &'l str>) -> Option<()> {
         for line in lines {
             if let Some(words) = line.strip_prefix("group ") {
                 self.entered(&Group::read(&words.split(' ').collect::<Vec<_>>()).ok()?);
@@ -218,36 +396,61 @@ impl<'a> History<'a> {
     }
 
     /// What the file keeps that a node mounted, by its answer to a request.
-    fn kept_by<'l>(&self, request: &str, answer: &[&'l str]) -> Option<&'l str> {
+    fn kept_by(&self, request: &str, answer: &[String]) -> Option<String> {
         let is_mounted = request == "recover" && !self.is_up;
-        answer.iter().find_map(|line| line.strip_prefix("keeps ")).filter(|_| is_mounted)
+        answer.iter().find_map(|line| line.strip_prefix("keeps ")).filter(|_| is_mounted).map(str::to_string)
     }
 
-    /// The file was mounted: puts what became of the requests in doubt. None where it can't keep that.
-    fn recovered(&mut self, keeps: &str, later: impl Iterator<Item = &'a str>) -> Option<()> {
+    /// The file was mounted: what became of the requests in doubt is known at once, or by later lines.
+    fn recovered(&mut self, recovery: Recovery) -> Result<(), RecordError> {
+        let found = self.found(&recovery.keeps).ok_or_else(|| self.no_state(&recovery))?;
+        let seen = Seen::default();
+        if is_open(self.own, &found.doubts(), self.next..found.next, &self.pending, found.ended) {
+            self.waiting = Some(Waiting { recovery, found, lines: Vec::new(), seen });
+            return Ok(());
+        }
+        self.settle(&recovery, &found, &seen)
+    }
+
+    fn no_state(&self, recovery: &Recovery) -> RecordError {
+        RecordError::NoState { node: usize::from(self.own), keeps: recovery.keeps.clone() }
+    }
+
+    /// What the numbers of a file that was mounted say. None where nothing in doubt brings them about.
+    fn found(&mut self, keeps: &str) -> Option<Found> {
         let numbers: Vec<u64> = keeps.split(' ').filter_map(|word| word.parse().ok()).collect();
         let (count, next, pending) = match numbers.as_slice() {
-            [count, next, pending] => (self.own_count(*count), *next, usize::try_from(*pending).ok()?),
+            [count, next, pending] => (self.own_count(*count), *next, *pending),
             _ => return None,
         };
         let doubts = std::mem::take(&mut self.doubts);
         // what stands before the first one is before the begin of the trace
-        if std::mem::replace(&mut self.has_begun, true) {
-            let groups = count.checked_sub(self.count)?.checked_sub(1)?;
-            if groups > MAX_GROUPS.saturating_mul(doubts.len() as u64) {
-                return None;
-            }
-            self.put_crash(groups);
-            self.put_doubts(&doubts, next, pending, later)?;
+        if !std::mem::replace(&mut self.has_begun, true) {
+            return Some(Found { groups: 0, count, next, ended: 0, doubts: None });
         }
-        (self.count, self.next, self.is_up) = (count, next, true);
-        Some(())
+        let groups = count.checked_sub(self.count)?.checked_sub(1)?;
+        if groups > MAX_GROUPS.saturating_mul(doubts.len() as u64) {
+            return None;
+        }
+        let known = next.checked_sub(self.next)?.checked_add(self.pending.len() as u64)?;
+        let ended = usize::try_from(known.checked_sub(pending)?).ok()?;
+        Some(Found { groups, count, next, ended, doubts: Some(doubts) })
+    }
+
+    /// Puts what became of the requests in doubt, by what was said of jobs since where that had to be known.
+    fn settle(&mut self, recovery: &Recovery, found: &Found, seen: &Seen) -> Result<(), RecordError> {
+        if found.doubts.is_some() {
+            self.put_crash(found.groups);
+            self.put_doubts(found, seen).ok_or_else(|| self.no_state(recovery))?;
+        }
+        (self.count, self.next, self.is_up) = (found.count, found.next, true);
+        self.follow(recovery.answer.iter().map(String::as_str)).ok_or_else(|| self.fault(&recovery.last))
     }
 
     /// The process ended, when the node was told the time last. Each group that it began unseen is one of a recovery that failed behind it.
     fn put_crash(&mut self, groups: u64) {
         self.put("crash", "", &[], Map::new());
-        self.untimed = self.turns.len();
+        self.timed();
         for place in 0..=groups {
             let mut fields = Map::new();
             fields.insert("kept".to_string(), json!(place > 0));
@@ -260,12 +463,10 @@ impl<'a> History<'a> {
 
     /// The commands in doubt that counted stand behind the recovery, where the node is alone: what they made it send there is nothing, as nothing of it left the
     /// machine.
-    fn put_doubts(&mut self, doubts: &[&'a str], next: u64, count: usize, later: impl Iterator<Item = &'a str>) -> Option<()> {
-        let (own, mut later) = (self.own, Some(later));
-        let mut seen = None;
-        let mut see = || seen.get_or_insert_with(|| Seen::of(own, later.take().into_iter().flatten())).clone();
-        let put = puts(doubts, self.next..next, &mut see)?;
-        let ended = ends(own, doubts, &self.pending, (self.pending.len() + put.len()).checked_sub(count)?, &mut see)?;
+    fn put_doubts(&mut self, found: &Found, seen: &Seen) -> Option<()> {
+        let doubts = found.doubts();
+        let put = puts(&doubts, self.next..found.next, seen)?;
+        let ended = ends(self.own, &doubts, &self.pending, found.ended, seen)?;
         for (id, request) in (self.next..).zip(put) {
             let fields = self.fields_of("submit", request)?;
             self.put("submit", request, &[], fields);
@@ -288,7 +489,7 @@ impl<'a> History<'a> {
     fn fields_of(&self, event: &str, request: &str) -> Option<Map<String, Value>> {
         let words: Vec<&str> = request.split(' ').collect();
         let fields = match (event, words.as_slice()) {
-            ("deliver", [_, digits]) => json!({"msg": message_of(digits, self.begins)}),
+            ("deliver", [_, digits]) => json!({"msg": message_of(digits, &self.begins)}),
             ("submit", [_, queue, payload, rest @ ..]) => {
                 let (queue, payload) = (queue.parse::<u8>().ok()?, payload.trim_start_matches('-'));
                 match rest.first() {
@@ -322,10 +523,36 @@ mod tests {
         serde_json::from_str(&format!("[{entries}]")).unwrap()
     }
 
+    fn begins() -> Rc<[Begin]> {
+        Rc::new([Begin { count: 100, id: 5 }])
+    }
+
+    /// What so many lines come to that a record has so far.
+    fn grown(lines: &str, count: usize) -> Result<History, RecordError> {
+        let mut history = History::new(0, begins(), Detail::Entries);
+        (2..).zip(lines.lines().take(count)).try_for_each(|(number, line)| history.reads((0, number), line))?;
+        Ok(history)
+    }
+
+    /// A whole record. One that grows to it comes to the same in the end, and before to nothing else than its begin.
+    fn whole(lines: &str) -> Result<History, RecordError> {
+        let whole = History::of(0, &NodeRecord::of_text(0, lines), &begins(), Detail::Order);
+        let count = lines.lines().count();
+        let ended = grown(lines, count).and_then(|mut history| history.end().map(|()| history));
+        match (&whole, &ended) {
+            (Ok(whole), Ok(ended)) => assert_eq!((ended.entries(), ended.places()), (whole.entries(), whole.places()), "{lines}"),
+            _ => assert_eq!(whole.as_ref().err().map(RecordError::to_string), ended.as_ref().err().map(RecordError::to_string), "{lines}"),
+        }
+        for so_far in (0..count).map_while(|count| grown(lines, count).ok()) {
+            if let Ok(whole) = &whole {
+                assert!(whole.entries().starts_with(so_far.entries()) && whole.places().starts_with(so_far.places()), "{lines}");
+            }
+        }
+        whole
+    }
+
     fn entries(lines: &str) -> Vec<String> {
-        let begins = [Begin { count: 100, id: 5 }];
-        let (entries, _) = History::of(0, &NodeRecord::of_text(0, lines), &begins).unwrap().entries();
-        values(&entries).iter().map(Value::to_string).collect()
+        values(whole(lines).unwrap().entries()).iter().map(Value::to_string).collect()
     }
 
     const START: &str = "start\n> recover\ngroup Normal 0 0:101 0\nkeeps 101 5 0\nok 1\n";
@@ -344,9 +571,8 @@ mod tests {
     /// What a run comes to that a kill ends with these lines, and in which the next process finds these numbers and says these lines.
     fn killed(last: &str, keeps: &str, later: &str) -> Result<Vec<String>, String> {
         let lines = format!("{START}{last}start\n> recover\ngroup Normal 0 0:{} 0\nkeeps {keeps}\nok 1\n{later}", keeps.split(' ').next().unwrap());
-        let (record, begins) = (NodeRecord::of_text(0, &lines), [Begin { count: 100, id: 5 }]);
-        let history = History::of(0, &record, &begins).map_err(|why| why.to_string())?;
-        Ok(values(&history.entries().0).iter().map(short).collect())
+        let history = whole(&lines).map_err(|why| why.to_string())?;
+        Ok(values(history.entries()).iter().map(short).collect())
     }
 
     /// An entry in a few words.
@@ -413,6 +639,35 @@ mod tests {
     }
 
     #[test]
+    fn a_record_that_grows_waits_where_it_is_open_which_requests_counted() {
+        let lines = |keeps: &str| {
+            let again = format!("start\n> recover\ngroup Normal 0 0:102 0\nkeeps {keeps}\nok 1\n");
+            format!("{START}> submit 3 6869\n> submit 4 -\n{again}> tick 9\nfired check\nok 2\n> tick 10\nfired dispatch\ntake 0 5 4 -\nok 3\n")
+        };
+        // none before the recovery's last line, which is the twelfth; then so many by that one, by the next answer, and by the one in which the node dispatches
+        for (keeps, counts) in [("102 5 0", [2, 3, 4]), ("102 7 2", [4, 5, 6]), ("102 6 1", [0, 0, 5])] {
+            let lines = lines(keeps);
+            let at = |count: usize| grown(&lines, count).unwrap();
+            assert_eq!([11, 12, 14, 15, 18, 19].map(|count| at(count).places().len()), [0, counts[0], counts[0], counts[1], counts[1], counts[2]], "{keeps}");
+            assert_eq!([11, 12, 18, 19].map(|count| at(count).is_waiting()), [false, counts[0] == 0, counts[0] == 0, false], "{keeps}");
+        }
+        let lines = lines("102 6 1");
+        assert_eq!(grown(&lines, 13).unwrap().bytes(), "> tick 9".len());
+        assert_eq!(whole(&lines).unwrap().places(), [(0, 13), (0, 13), (0, 13), (0, 16), (0, 20)]);
+    }
+
+    #[test]
+    fn lines_that_wait_are_killed_again() {
+        let again = |keeps: &str| format!("start\n> recover\ngroup Normal 0 0:{} 0\nkeeps {keeps}\nok 1\n", keeps.split(' ').next().unwrap());
+        let asked = ["> submit 3 6869\n> submit 4 -\n", "> submit 5 -\n> submit 6 -\n"];
+        let lines = format!("{START}{}{}{}{}", asked[0], again("102 6 1"), asked[1], again("103 7 2"));
+        let put = |later: &str| values(whole(&format!("{lines}{later}")).unwrap().entries()).iter().map(short).collect::<Vec<_>>();
+        let dispatched = "> tick 9\nfired dispatch\ntake 0 5 4 -\ntake 0 6 6 -\nok 2\n";
+        assert_eq!(put(dispatched), ["crash", "recover false", "submit 4 ", "crash", "recover false", "submit 6 ", "dispatch"]);
+        assert_eq!(put(""), ["crash", "recover false", "submit 3 6869", "crash", "recover false", "submit 5 "]);
+    }
+
+    #[test]
     fn a_clock_that_fell_back_or_jumped_orders_no_turn_before_an_earlier_one() {
         let tick = |ms: u64| format!("> tick {ms}\nfired check\nok 2\n");
         let again = |ms: u64| format!("start {ms}\n> recover\nkeeps 102 5 0\nok 1\n");
@@ -422,8 +677,7 @@ mod tests {
             (90_000, [5009, 90_001, 90_001, 91_900]),
         ] {
             let lines = START.replace("start", "start 5000") + &tick(9) + &again(second) + &tick(1) + &tick(1900);
-            let begins = [Begin { count: 100, id: 5 }];
-            let (entries, turns) = History::of(0, &NodeRecord::of_text(0, &lines), &begins).unwrap().entries();
+            let (entries, turns) = whole(&lines).unwrap().into_parts();
             let entries = values(&entries);
             let seen: Vec<(&str, u64)> =
                 entries.iter().zip(&turns).map(|(entry, turn)| (entry["do"].as_str().unwrap(), turn.time)).collect();

@@ -1,31 +1,40 @@
 //! Makes one trace of the records of a cluster's nodes, which `invite trace` judges.
 
 mod doubt;
+mod follow;
 mod history;
 mod message;
 mod order;
 mod records;
 
+pub use follow::Following;
 pub use records::{read, NodeRecord, RecordError};
 
-use history::History;
+use history::{Detail, History, Place};
 use message::Begin;
 use std::io::{self, Write};
+use std::path::PathBuf;
+use std::rc::Rc;
 
 /// The trace of a cluster: the text of each node's history, and the order of all turns where one is found.
 pub struct Trace {
     histories: Vec<String>,
     order: Option<String>,
+    /// Of each node its files, and where each of its entries stands in them.
+    places: Vec<(Vec<PathBuf>, Vec<Place>)>,
 }
 
 impl Trace {
+    /// The file and the line of an entry, from 1: there what it says was over.
+    pub fn place(&self, node: usize, entry: usize) -> Option<(&PathBuf, u32)> {
+        let (paths, places) = self.places.get(node)?;
+        let (part, line) = places.get(entry)?;
+        Some((paths.get(*part as usize)?, *line))
+    }
+
     /// Writes it as JSON, without a copy of it.
     pub fn write(&self, out: &mut impl Write) -> io::Result<()> {
-        write!(out, "{{\"histories\":[")?;
-        for (node, entries) in self.histories.iter().enumerate() {
-            write!(out, "{}[{entries}]", if node == 0 { "" } else { "," })?;
-        }
-        write!(out, "],\"nodes\":{}", self.histories.len())?;
+        write_histories(out, self.histories.iter().map(String::as_str))?;
         if let Some(order) = &self.order {
             write!(out, ",\"order\":\"{order}\"")?;
         }
@@ -34,16 +43,29 @@ impl Trace {
     }
 }
 
+/// Writes the beginning of a trace: all but its order and its end.
+fn write_histories<'a>(out: &mut impl Write, histories: impl ExactSizeIterator<Item = &'a str>) -> io::Result<()> {
+    let nodes = histories.len();
+    write!(out, "{{\"histories\":[")?;
+    for (node, entries) in histories.enumerate() {
+        write!(out, "{}[{entries}]", if node == 0 { "" } else { "," })?;
+    }
+    write!(out, "],\"nodes\":{nodes}")
+}
+
 /// The trace of the records of all nodes, in their order. Each record is let go of once its history is made: it is about as large.
-pub fn trace_of(records: Vec<NodeRecord>) -> Result<Trace, RecordError> {
-    let begins = records.iter().map(begin_of).collect::<Result<Vec<Begin>, _>>()?;
-    let (mut histories, mut turns) = (Vec::new(), Vec::new());
+/// With times each entry says when it was, which no judgement needs.
+pub fn trace_of(records: Vec<NodeRecord>, has_times: bool) -> Result<Trace, RecordError> {
+    let begins: Rc<[Begin]> = records.iter().map(begin_of).collect::<Result<Vec<Begin>, _>>()?.into();
+    let (mut histories, mut turns, mut places) = (Vec::new(), Vec::new(), Vec::new());
     for (own, record) in (0..).zip(records) {
-        let (entries, its_turns) = History::of(own, &record, &begins)?.entries();
+        let history = History::of(own, &record, &begins, if has_times { Detail::Times } else { Detail::Order })?;
+        places.push((record.paths, history.places().to_vec()));
+        let (entries, its_turns) = history.into_parts();
         histories.push(entries);
         turns.push(its_turns);
     }
-    Ok(Trace { histories, order: order::of(&turns) })
+    Ok(Trace { histories, order: order::of(&turns), places })
 }
 
 /// What the file of a node kept when its record began: a trace begins with count 1 and id 0.
@@ -58,8 +80,16 @@ fn begin_of(record: &NodeRecord) -> Result<Begin, RecordError> {
     if record.lines().any(|line| line == "off") {
         return Err(RecordError::Ended { node: record.node });
     }
-    let keeps = record.lines().find_map(|line| line.strip_prefix("keeps "));
-    let numbers: Vec<u64> = keeps.unwrap_or_default().split(' ').filter_map(|word| word.parse().ok()).collect();
+    match record.lines().find(|line| line.starts_with("keeps ")) {
+        Some(keeps) => kept_at(record.node, keeps),
+        None => Err(fault("it has no start of the node")),
+    }
+}
+
+/// What a file kept, by the line that the first recovery prints.
+fn kept_at(node: usize, keeps: &str) -> Result<Begin, RecordError> {
+    let fault = |what| RecordError::NoBegin { node, what };
+    let numbers: Vec<u64> = keeps.split(' ').filter_map(|word| word.parse().ok()).collect();
     match numbers.as_slice() {
         [count, next, 0] => Ok(Begin { count: count.saturating_sub(1), id: *next }),
         [_, _, _] => Err(fault("the node kept jobs already")),
@@ -81,7 +111,19 @@ mod tests {
         let record = NodeRecord::of_text(0, lines);
         let mut empty = NodeRecord::of_text(1, "");
         empty.is_there = false;
-        trace_of(vec![record, empty]).map_or_else(|why| why.to_string(), |trace| written(&trace)["nodes"].to_string())
+        trace_of(vec![record, empty], false).map_or_else(|why| why.to_string(), |trace| written(&trace)["nodes"].to_string())
+    }
+
+    #[test]
+    fn entries_are_told_when_they_were() {
+        let begin = "start 1764000000000\n> recover\ngroup Normal 0 0:101 0\nkeeps 101 5 0\nok 1\n";
+        let lines = format!("{begin}> submit 3 6869\nok 2 id 5\n> tick 9\nfired check\nok 3\n> finish 0 5\nok 4\n> tick 12\nok 5\n> finish 0 5\nok 6\n");
+        let at = |has_times| {
+            let trace = written(&trace_of(vec![NodeRecord::of_text(0, &lines)], has_times).unwrap());
+            trace["histories"][0].as_array().unwrap().iter().map(|entry| entry["at"].as_u64()).collect::<Vec<_>>()
+        };
+        assert_eq!(at(true), [9, 9, 12, 12].map(|ms| Some(1764000000000 + ms)));
+        assert_eq!(at(false), [None; 4]);
     }
 
     #[test]

@@ -1,5 +1,6 @@
 //! Record files, put together.
 
+use super::history::Place;
 use std::collections::BTreeSet;
 use std::fs::File;
 use std::io::{self, Read};
@@ -38,23 +39,30 @@ pub struct NodeRecord {
     pub node: usize,
     /// Whether there is a file of it.
     pub is_there: bool,
+    /// Its files.
+    pub paths: Vec<PathBuf>,
     /// What stands in its files behind their first lines. They are kept as they are, without a copy of each line: records may be larger than half of the memory.
     parts: Vec<Text>,
 }
 
 impl NodeRecord {
     fn new(node: usize) -> NodeRecord {
-        NodeRecord { node, is_there: false, parts: Vec::new() }
+        NodeRecord { node, is_there: false, paths: Vec::new(), parts: Vec::new() }
     }
 
     pub fn lines(&self) -> impl Iterator<Item = &str> + Clone {
         self.parts.iter().flat_map(Text::lines)
     }
 
+    /// The lines, each with where it stands.
+    pub fn placed_lines(&self) -> impl Iterator<Item = (Place, &str)> {
+        (0..).zip(&self.parts).flat_map(|(part, text)| (2..).zip(text.lines()).map(move |(line, words)| ((part, line), words)))
+    }
+
     #[cfg(test)]
     pub fn of_text(node: usize, text: &str) -> NodeRecord {
         let whole = Text { text: text.to_string(), begin: 0, end: text.len() };
-        NodeRecord { node, is_there: true, parts: vec![whole] }
+        NodeRecord { node, is_there: true, paths: Vec::new(), parts: vec![whole] }
     }
 }
 
@@ -80,11 +88,31 @@ fn sender_of(line: &str) -> Option<usize> {
     usize::from_str_radix(digits, 16).ok()
 }
 
+/// What the first line of a file says.
+#[derive(Clone, Debug, PartialEq, Eq)]
+pub struct Head {
+    pub node: usize,
+    pub nodes: usize,
+    pub part: u64,
+    pub cluster: String,
+}
+
+impl Head {
+    pub fn read(line: &str) -> Option<Head> {
+        let words: Vec<&str> = line.split(' ').collect();
+        match words.as_slice() {
+            ["#", "dumgerok", "record", "1", "node", node, "of", nodes, "part", part, "cluster", cluster @ ..] => {
+                let head = Head { node: node.parse().ok()?, nodes: nodes.parse().ok()?, part: part.parse().ok()?, cluster: cluster.join(" ") };
+                Some(head).filter(|head| (1..=MAX_NODES).contains(&head.nodes) && head.node < head.nodes)
+            }
+            _ => None,
+        }
+    }
+}
+
 struct Part {
-    node: usize,
-    nodes: usize,
-    part: u64,
-    cluster: String,
+    head: Head,
+    path: PathBuf,
     text: Text,
 }
 
@@ -95,20 +123,32 @@ impl Part {
         let end = text.rfind('\n').unwrap_or(0);
         let end_of_head = text[..end].find('\n').unwrap_or(end);
         let begin = (end_of_head + 1).min(end);
-        let words: Vec<&str> = text[..end_of_head].split(' ').collect();
-        let first = ["#", "dumgerok", "record", "1", "node"];
-        if let (true, [_, _, _, _, _, node, "of", nodes, "part", part, "cluster", cluster @ ..]) =
-            (words.starts_with(&first), words.as_slice())
-        {
-            if let (Ok(node), Ok(nodes), Ok(part)) = (node.parse(), nodes.parse(), part.parse()) {
-                if (1..=MAX_NODES).contains(&nodes) && node < nodes {
-                    let cluster = cluster.join(" ");
-                    return Ok(Part { node, nodes, part, cluster, text: Text { text, begin, end } });
-                }
+        let head = Head::read(&text[..end_of_head]).ok_or_else(|| RecordError::NoRecord(path.to_path_buf()))?;
+        Ok(Part { head, path: path.to_path_buf(), text: Text { text, begin, end } })
+    }
+}
+
+/// Puts the heads of files in order: those of a node by their parts, of which none lacks and none is there twice. Of all nodes there is a list.
+pub fn in_order<T>(mut files: Vec<T>, head_of: fn(&T) -> &Head) -> Result<Vec<Vec<T>>, RecordError> {
+    if let Some(two) = files.windows(2).find(|two| head_of(&two[0]).cluster != head_of(&two[1]).cluster) {
+        return Err(RecordError::Clusters(head_of(&two[0]).cluster.clone(), head_of(&two[1]).cluster.clone()));
+    }
+    files.sort_by_key(|file| (head_of(file).node, head_of(file).part));
+    let nodes = files.iter().map(|file| head_of(file).nodes).max().unwrap_or(0);
+    let mut all: Vec<Vec<T>> = (0..nodes).map(|_| Vec::new()).collect();
+    for file in files {
+        let (node, part) = (head_of(&file).node, head_of(&file).part);
+        if let Some(last) = all[node].last().map(|last| head_of(last).part) {
+            if last == part {
+                return Err(RecordError::Twice { node, part });
+            }
+            if last.saturating_add(1) != part {
+                return Err(RecordError::Gap { node, part: last.saturating_add(1) });
             }
         }
-        Err(RecordError::NoRecord(path.to_path_buf()))
+        all[node].push(file);
     }
+    Ok(all)
 }
 
 /// A file up to where it ends now.
@@ -130,30 +170,17 @@ pub fn read(paths: &[PathBuf]) -> Result<Vec<NodeRecord>, RecordError> {
         file.read_to_end(&mut bytes).map_err(unreadable(path))?;
         Part::of(path, bytes)
     };
-    let mut parts = paths.iter().zip(files).map(part).collect::<Result<Vec<_>, _>>()?;
-    if let Some(two) = parts.windows(2).find(|two| two[0].cluster != two[1].cluster) {
-        return Err(RecordError::Clusters(two[0].cluster.clone(), two[1].cluster.clone()));
-    }
-    parts.sort_by_key(|part| (part.node, part.part));
-    let nodes = parts.iter().map(|part| part.nodes).max().unwrap_or(0);
-    let mut records: Vec<NodeRecord> = (0..nodes).map(NodeRecord::new).collect();
-    let mut last: Vec<u64> = vec![0; nodes];
-    for part in parts {
-        let record = match records.get_mut(part.node) {
-            Some(record) => record,
-            None => return Err(RecordError::Missing { nodes, missing: part.node }),
-        };
-        if last[part.node] == part.part {
-            return Err(RecordError::Twice { node: part.node, part: part.part });
+    let parts = paths.iter().zip(files).map(part).collect::<Result<Vec<_>, _>>()?;
+    let mut records: Vec<NodeRecord> = Vec::new();
+    for (node, parts) in in_order(parts, |part| &part.head)?.into_iter().enumerate() {
+        let mut record = NodeRecord { is_there: !parts.is_empty(), ..NodeRecord::new(node) };
+        for Part { path, text, .. } in parts {
+            record.paths.push(path);
+            record.parts.push(text);
         }
-        let next = last[part.node].saturating_add(1);
-        if last[part.node] != 0 && next != part.part {
-            return Err(RecordError::Gap { node: part.node, part: next });
-        }
-        last[part.node] = part.part;
-        record.is_there = true;
-        record.parts.push(part.text);
+        records.push(record);
     }
+    let nodes = records.len();
     // a place that nobody heard had no machine, or one that did nothing that the others saw
     let heard: BTreeSet<usize> = records.iter().flat_map(NodeRecord::lines).filter_map(sender_of).collect();
     match records.iter().find(|record| !record.is_there && heard.contains(&record.node)) {

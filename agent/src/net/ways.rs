@@ -23,6 +23,9 @@ const PAUSE: Duration = Duration::from_millis(500);
 const TURN: Duration = Duration::from_millis(100);
 const MOST_IN_A_TURN: u32 = 256;
 
+/// That a peer isn't reached by itself is told no more often.
+const TOLD: Duration = Duration::from_secs(60);
+
 /// How a peer is reached.
 #[derive(Clone, Default)]
 struct Way {
@@ -39,6 +42,8 @@ struct Way {
     is_deaf: Option<Instant>,
     /// Who is tried now, since when and with how many datagrams.
     tries: Option<(u8, Instant, u32)>,
+    /// When an operator was last told that it isn't reached by itself, and whether that wasn't taken back since.
+    told: Option<(Instant, bool)>,
     /// Since when it has had a turn of what is carried on for it, and how many datagrams that were.
     carried: Option<(Instant, u32)>,
 }
@@ -111,6 +116,23 @@ impl Ways {
         let way = self.ways.get(usize::from(node))?;
         let is_needed = self.is_silent(node, now) || is_within(way.is_deaf, self.silence, now);
         way.through.filter(|(_, at)| is_needed && is_within(Some(*at), LASTING, now)).map(|(through, _)| through)
+    }
+
+    /// What an operator is to be told of the way to a peer: through whom it is reached, or that it is so by itself again.
+    pub fn news(&mut self, node: u8, now: Instant) -> Option<Option<u8>> {
+        let (through, silence) = (self.through(node, now), self.silence);
+        let way = self.ways.get_mut(usize::from(node))?;
+        match (through, way.told) {
+            (None, Some((at, true))) if way.heard > Some(at) && !is_within(way.is_deaf, silence, now) => {
+                way.told = Some((at, false));
+                Some(None)
+            }
+            (Some(_), told) if !told.map_or(false, |(at, is_so)| is_so || is_within(Some(at), TOLD, now)) => {
+                way.told = Some((now, true));
+                Some(through)
+            }
+            _ => None,
+        }
     }
 
     /// Something is to be sent to a peer; these others are there.
@@ -259,6 +281,24 @@ mod tests {
         assert_eq!((sending.through, sending.is_deaf, ways.through(1, now + ms(100))), (Some(2), false, Some(2)));
         ways.heard_through(1, 2, false, now + ms(200));
         assert_eq!((ways.sends(1, 1..4, now + ms(300)).through, ways.through(1, now + ms(300))), (None, None), "it does");
+    }
+
+    #[test]
+    fn an_operator_is_told_once_in_a_while() {
+        let now = Instant::now();
+        let mut ways = ways(now);
+        ways.sends(1, 1..4, now + ms(2500));
+        let mut news = |at: u64, through: Option<u8>| {
+            match through {
+                Some(through) => ways.heard_through(1, through, false, now + ms(at)),
+                None => ways.heard(1, now + ms(at)),
+            }
+            ways.sends(1, 1..4, now + ms(at));
+            ways.news(1, now + ms(at))
+        };
+        assert_eq!([news(2600, None), news(5200, Some(2)), news(5800, Some(2)), news(6000, Some(3))], [None, None, Some(Some(2)), None]);
+        assert_eq!([news(7000, None), news(7100, None)], [Some(None), None]);
+        assert_eq!([news(9700, Some(2)), news(10_400, Some(2)), news(66_000, Some(2))], [None, None, Some(Some(2))]);
     }
 
     #[test]
