@@ -33,6 +33,8 @@ pub struct Kept {
     /// The keeper's input, which nobody else holds.
     words: Option<ChildStdin>,
     until: BootTime,
+    /// The time of before, by which one still goes that hadn't its turn since.
+    before: BootTime,
 }
 
 impl Kept {
@@ -51,7 +53,7 @@ impl Kept {
             // one that was stopped reads nothing, and nobody waits for it
             fcntl_setfl(words, fcntl_getfl(words)? | OFlags::NONBLOCK)?;
         }
-        Ok(Kept { keeper, words, until })
+        Ok(Kept { keeper, words, until, before: until })
     }
 
     /// The keeper's status once the command is gone, and all that it started.
@@ -59,15 +61,15 @@ impl Kept {
         self.keeper.try_wait()
     }
 
-    /// Whether its time is over but for so long: then it was ended for that.
+    /// Whether its time is over but for so long, or that of before the last word: then it was ended for that.
     pub fn is_due(&self, grace: Duration, now: BootTime) -> bool {
-        now.after(grace + MARGIN) >= self.until
+        now.after(grace + MARGIN) >= self.before
     }
 
     /// From now on it may run until this time.
     pub fn put_off(&mut self, until: BootTime) {
         if until != self.until {
-            self.until = until;
+            (self.before, self.until) = (self.until, until);
             self.say(format!("until {}\n", until.ms()));
         }
     }
@@ -88,5 +90,23 @@ impl Kept {
 impl Drop for Kept {
     fn drop(&mut self) {
         self.words = None;
+    }
+}
+
+#[cfg(test)]
+mod tests {
+    use super::*;
+
+    #[test]
+    fn one_that_was_ended_by_the_time_of_before_the_last_word_is_due() {
+        let (at, grace) = (BootTime::of_ms, Duration::from_millis(300));
+        let mut kept = Kept { keeper: Command::new("true").spawn().unwrap(), words: None, until: at(1000), before: at(1000) };
+        assert!(!kept.is_due(grace, at(599)) && kept.is_due(grace, at(600)));
+        kept.put_off(at(1600));
+        kept.put_off(at(1600));
+        assert!(!kept.is_due(grace, at(599)) && kept.is_due(grace, at(600)), "it may not have read that yet");
+        kept.put_off(at(2200));
+        assert!(!kept.is_due(grace, at(1199)) && kept.is_due(grace, at(1200)));
+        kept.keeper.wait().unwrap();
     }
 }
