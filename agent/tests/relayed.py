@@ -132,8 +132,12 @@ def mended(bed, agents, name):
     """Once they reach each other again nothing goes through another one."""
     agents.relay.cuts.clear()
     agents.until(lambda: all(through(agents, i, j) is None for i in range(3) for j in range(3)))
-    before = [metric(agents, i, 'relayed_total{event="sent"}') for i in range(3)]
-    agents.until(lambda: agents.ask(0, do="submit", queue=1, text="last")["ok"])
-    time.sleep(2)
-    after = [metric(agents, i, 'relayed_total{event="sent"}') for i in range(3)]
-    bed.tally.steady(agents)("%s: once they reach each other nothing is carried on" % name, before == after, (before, after))
+    sent = lambda: [metric(agents, i, 'relayed_total{event="sent"}') for i in range(3)]
+    # one that was told that another one doesn't hear it answers the same way for three seconds more
+    for _ in range(4):
+        before = sent()
+        agents.until(lambda: agents.ask(0, do="submit", queue=1, text="last")["ok"])
+        time.sleep(2)
+        if before == sent():
+            break
+    bed.tally.steady(agents)("%s: once they reach each other nothing is carried on" % name, before == sent(), (before, sent()))
