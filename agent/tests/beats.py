@@ -34,9 +34,11 @@ def beats(path):
     return sorted((row for row in rows if row.times), key=lambda row: row.times[0])
 
 
-def lasts(path):
-    """Of each command of a path its shard, and when it beat last: without all that it wrote before."""
+def lasts(path, within=float("inf")):
+    """Of each command of a path that wrote something within so many seconds its shard, and when it beat last: without all that it wrote before."""
     for name in glob.glob(path + ".[0-9]*"):
+        if time.time() - os.stat(name).st_mtime > within:
+            continue
         with open(name, "rb") as file:
             words = file.readline().split()
             file.seek(max(file.tell(), os.path.getsize(name) - 64))
@@ -55,7 +57,7 @@ def runs(path):
 
 def running(path, within=3 * GAP):
     """The shards whose commands beat just now."""
-    return {shard for shard, time_ in lasts(path) if clock() - time_ < within}
+    return {shard for shard, time_ in lasts(path, 1 + within) if clock() - time_ < within}
 
 
 def spans(row):

@@ -204,7 +204,8 @@ def owner(shard, members):
 
 
 def each_runs(paths, of, shards):
-    """Whether each shard is run by the one of these to which it falls."""
+    """Whether each shard is run by the one of these to which it falls. A look takes the time of the relay, which is of this process."""
+    time.sleep(0.1)
     found = {i: running(paths[i]) for i in of}
     return all(shard in found[owner(shard, of)] for shard in range(min(shards, 64)))
 
