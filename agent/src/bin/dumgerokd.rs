@@ -3,6 +3,7 @@
 #![forbid(unsafe_code)]
 
 use anyhow::Context;
+use clap::Parser;
 use dumgerok_agent::config::{Config, LogLevel};
 use dumgerok_agent::daemon::{Beginning, Daemon};
 use dumgerok_agent::forward::KeyError;
@@ -16,10 +17,8 @@ use dumgerok_agent::verify::{verified, Verdict};
 use log::{error, info, LevelFilter};
 use rustix::fs::fstat;
 use rustix::process::geteuid;
-use std::ffi::OsString;
 use std::fs::{File, OpenOptions};
 use std::io::{ErrorKind, Write};
-use std::os::unix::ffi::OsStrExt;
 use std::os::unix::fs::MetadataExt;
 use std::path::{Path, PathBuf};
 use std::process::ExitCode;
@@ -30,51 +29,18 @@ const KEY: u8 = 6;
 const UNUSABLE: u8 = 7;
 const BROKEN: u8 = 10;
 
-/// What `--help` and `--version` say stands here, and not in a library of command lines: the agent of each machine has it in memory for as long as it runs.
-const HELP: &str = "Runs the node of a Dumgerok cluster on this machine.
-
-Usage: dumgerokd CONFIG
-
-  CONFIG         the configuration, as /etc/dumgerok/node.toml
-  -h, --help     this text
-  -V, --version  the version
-
-Exit statuses, which are the node's:
-   0  ended by SIGTERM or SIGINT
-   1  an address is in use or missing, another agent runs, the program can't be run, the node was killed or ended by itself, reading or writing failed, or
-      there was no memory
-   2  the configuration can't be read, or has more places than the file
-   3  the device failed
-   4  another process has the file open
-   5  the file is another node's or another cluster's, no node's, or damaged
-   6  the key can't be read, or others than its owner may read it
-   7  the file isn't there, may not be opened, is no regular file, or was removed, cut off, written over or replaced while the node ran
-   8  there was no room for a write
-   9  the file was put back from a copy, or made with numbers that are too low
-  10  the file holds what no crash leaves there";
-
-/// What the words behind the program's name ask for.
-#[derive(Clone, Debug, PartialEq, Eq)]
-enum Asked {
-    Run(PathBuf),
-    Help,
-    Version,
-    /// Nothing that there is; why.
-    Nothing(String),
-}
-
-impl Asked {
-    fn of(words: &[OsString]) -> Asked {
-        match words {
-            [word] if word == "-h" || word == "--help" => Asked::Help,
-            [word] if word == "-V" || word == "--version" => Asked::Version,
-            [word] if word.as_bytes().starts_with(b"-") => Asked::Nothing(format!("there is no {}", word.to_string_lossy())),
-            [path] => Asked::Run(path.into()),
-            [mark, path] if mark == "--" => Asked::Run(path.into()),
-            [] => Asked::Nothing("a configuration is missing".to_string()),
-            _ => Asked::Nothing("one configuration is wanted, and no other word".to_string()),
-        }
-    }
+/// Runs the node of a Dumgerok cluster on this machine.
+///
+/// Exit statuses, which are the node's: 0 by SIGTERM or SIGINT, 1 an address is in use or missing, another agent runs, the program can't be run, the node was
+/// killed or ended by itself, reading or writing failed, or there was no memory; 2 the configuration can't be read, or has more places than the file; 3 the device failed; 4 another process has
+/// the file open; 5 the file is another node's or another cluster's, no node's, or damaged; 6 the key can't be read, or others than its owner may read it; 7 the file isn't there,
+/// may not be opened, is no regular file, or was removed, cut off, written over or replaced while the node ran; 8 there was no room for a write; 9 the file was put back from a copy, or
+/// made with numbers that are too low; 10 the file holds what no crash leaves there.
+#[derive(Parser)]
+#[command(name = "dumgerokd", version, after_help = "Example: dumgerokd /etc/dumgerok/node.toml")]
+struct Arguments {
+    /// The configuration, as /etc/dumgerok/node.toml
+    config: PathBuf,
 }
 
 /// A line for each message; with the priority in front where the journal reads it.
@@ -179,14 +145,6 @@ fn run(config: Config, path: PathBuf, beginning: &Beginning) -> anyhow::Result<u
     Ok(status)
 }
 
-/// Says what was asked for; somebody who doesn't take it isn't told so.
-fn told(text: &str) -> ExitCode {
-    match writeln!(std::io::stdout(), "{text}") {
-        Ok(()) => ExitCode::SUCCESS,
-        Err(_) => ExitCode::FAILURE,
-    }
-}
-
 fn main() -> ExitCode {
     if let Some(status) = become_command() {
         return ExitCode::from(status);
@@ -199,16 +157,7 @@ fn main() -> ExitCode {
             return ExitCode::FAILURE;
         }
     };
-    let words: Vec<OsString> = std::env::args_os().skip(1).collect();
-    let path = match Asked::of(&words) {
-        Asked::Run(path) => path,
-        Asked::Help => return told(HELP),
-        Asked::Version => return told(concat!("dumgerokd ", env!("CARGO_PKG_VERSION"))),
-        Asked::Nothing(why) => {
-            say(format!("dumgerokd: {why}\nUsage: dumgerokd CONFIG (`dumgerokd --help` says more)"));
-            return ExitCode::from(CONFIG);
-        }
-    };
+    let Arguments { config: path } = Arguments::parse();
     let config = match Config::read(&path) {
         Ok(config) => config,
         Err(why) => {
@@ -235,20 +184,4 @@ fn main() -> ExitCode {
     });
     lines.finish();
     ExitCode::from(status)
-}
-
-#[cfg(test)]
-mod tests {
-    use super::*;
-
-    #[test]
-    fn words_that_ask_for_something() {
-        let asked = |words: &[&str]| Asked::of(&words.iter().map(OsString::from).collect::<Vec<_>>());
-        let (config, nothing) = (|path: &str| Asked::Run(path.into()), |why: &str| Asked::Nothing(why.to_string()));
-        assert_eq!([asked(&["node.toml"]), asked(&["--", "-x"])], [config("node.toml"), config("-x")]);
-        assert_eq!([asked(&["-h"]), asked(&["--help"]), asked(&["-V"]), asked(&["--version"])], [Asked::Help, Asked::Help, Asked::Version, Asked::Version]);
-        assert_eq!([asked(&[]), asked(&["--x"])], [nothing("a configuration is missing"), nothing("there is no --x")]);
-        let two = nothing("one configuration is wanted, and no other word");
-        assert_eq!([asked(&["a", "b"]), asked(&["a", "--help"]), asked(&["--", "a", "b"])], [two.clone(), two.clone(), two]);
-    }
 }
