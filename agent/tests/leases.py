@@ -224,8 +224,10 @@ def hung(program, programs, folder, shards, lease_ms=LEASE_MS):
         cluster.start()
         cluster.agents.until(lambda: each_runs(paths, range(3), shards))
         mend = befall(cluster, "process of leases stopped", 1)
-        took = cluster.agents.until(lambda: each_runs(paths, rest, shards))
-        mend()
+        try:
+            took = cluster.agents.until(lambda: each_runs(paths, rest, shards))
+        finally:
+            mend()
         cluster.agents.until(lambda: each_runs(paths, range(3), shards))
         return took, two_at_a_time(shard_spans(paths, shards)), cluster.leads.observer.longest()
     finally:
