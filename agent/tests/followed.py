@@ -12,8 +12,8 @@ class Mirror:
     def __init__(self, agents, folder):
         self.agents, self.folder = agents, folder
         self.read, self.lines, self.wanted, self.spoiled, self.runs = {}, {}, None, None, True
-        # of each record the requests that have no answer yet: a record waits for none
-        self.asked = {}
+        # of each record the requests that have no answer yet: a record waits for none; the last one that was closed; the record in which later ones are one more
+        self.asked, self.closed, self.later = {}, {}, None
         os.makedirs(folder)
         self.copy()
         self.thread = threading.Thread(target=self.run, daemon=True)
@@ -49,13 +49,21 @@ class Mirror:
             self.spoiled = (name, self.lines[name] + 1, time.monotonic())
             own = int(re.search(r"(\d+)\.", name)[1]) if re.search(r"(\d+)\.", name) else 0
             self.lines[name] += 2
-            line = "> deliver 010a%02x%02x0008ffffffffffffff00\nok 0\n%s" % ((own + 1) % 3, own, line)
+            line = "> deliver 010a%02x%02x0008ffffffffffffff00\nok %d\n%s" % ((own + 1) % 3, own, self.closed.get(name, 0) + 1, line)
+            self.later = name
         if line.startswith("start"):
             asked.clear()
+            self.closed[name] = 0
+            self.later = None if self.later == name else self.later
         elif line.startswith("> "):
             asked.append(line.splitlines()[-1])
         elif asked and CLOSES.match(line):
             asked.pop(0)
+            words = line.split(" ")
+            self.closed[name] = int(words[1])
+            if self.later == name:
+                # behind the request that was put in each has a number more
+                line = " ".join([words[0], "%d%s" % (int(words[1]) + 1, "\n" if len(words) == 2 else ""), *words[2:]])
         return line
 
     def stop(self):

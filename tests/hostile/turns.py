@@ -9,11 +9,11 @@ FORMS = {ELECTION: "election", NORMAL: "normal", REORGANIZATION: "reorganization
 
 class Watched(Search):
     """A search that keeps what is drawn: of each turn its node, index, name and look; where what it was brought was sent, and whether no other entry,
-    taken or left, sent the same; how its node stands then; of each node its stays."""
+    taken or left, sent the same; how its node stands then, and how many jobs it has in hand; of each node its stays."""
 
     def __init__(self, nodes, histories):
         super().__init__(nodes, histories)
-        self.turns, self.sendings, self.sources, self.stands = [], [], [], []
+        self.turns, self.sendings, self.sources, self.stands, self.hands = [], [], [], [], []
         self.stays = [[(0, stand_of(node))] for node in self.nodes]
         self.said = Counter(message for history in histories for entry in history for message in entry["sent"])
 
@@ -28,6 +28,7 @@ class Watched(Search):
         if stand_of(self.nodes[own]) != self.stays[own][-1][1]:
             self.stays[own].append((len(self.turns), stand_of(self.nodes[own])))
         self.stands.append(stand_of(self.nodes[own]))
+        self.hands.append(len(self.nodes[own].hand))
         self.turns.append((own, self.places[own], entry["do"], look(entry)))
         return True
 
@@ -67,9 +68,9 @@ def first_other(what, found, wanted):
 def lines_of(search):
     """The lines of the turns of a search, which came to its end, and the beginnings of those of what is left."""
     yield "possible"
-    for (own, index, *_), stand in zip(search.turns, search.stands):
+    for (own, index, *_), stand, hand in zip(search.turns, search.stands, search.hands):
         phase, group, members = stand or ("down", "", "")
-        yield " ".join(["turn", str(own), str(index), phase.capitalize(), *([group, *members.split(" of ")] if stand else [])])
+        yield " ".join(["turn", str(own), str(index), phase.capitalize(), *([group, *members.split(" of "), str(hand)] if stand else [])])
     for own, place in enumerate(search.places):
         if place < len(search.histories[own]):
             yield f"node {own}: entry {place} "

@@ -2,9 +2,9 @@
 //! takes, and the next begins as much later. What it says of a beginning holds of the whole: an entry that can't be never could.
 
 use super::commands::print;
-use super::program::culprit;
+use super::program::{culprit, told_otherwise, unread};
 use super::Failure;
-use crate::judge::Following;
+use crate::judge::{Following, Reached, RecordError, Turn};
 use std::collections::HashMap;
 use std::io::{self, Write};
 use std::path::{Path, PathBuf};
@@ -53,20 +53,25 @@ impl Known {
 impl Follower<'_> {
     /// Follows the records until something in them can't have been: that is said, and the status is 1.
     pub fn follow(&self, files: &[PathBuf]) -> Result<(), Failure> {
-        let unreadable = |why: crate::judge::RecordError| Failure::Usage(why.to_string());
-        let mut following = Following::of(files).map_err(unreadable)?;
+        let mut following = Following::of(files).map_err(unread)?;
         let mut known = Known::default();
         loop {
-            let is_new = following.read().map_err(unreadable)?;
+            let is_new = match following.read() {
+                Err(why @ RecordError::Untrue { .. }) => return self.untold(&following, &mut known, &why),
+                read => read.map_err(unread)?,
+            };
             let is_begun = following.absent().is_empty();
             if is_begun && (is_new || !known.waits.is_empty()) {
                 let begun = Instant::now();
-                let culprit = self.judged(&following, &mut known)?;
+                let (culprit, untrue) = match self.judged(&following, &mut known)? {
+                    None => self.untrue(&following)?.map_or((None, None), |(node, entry, why)| (Some((node, entry)), Some(why))),
+                    culprit => (culprit, None),
+                };
                 (known.took, known.judged) = (begun.elapsed(), Some(SystemTime::now()));
                 known.is_alarmed = culprit.is_some();
                 self.tell(&following, &known)?;
                 if let Some((node, entry)) = culprit {
-                    return self.alarmed(&following, node, entry);
+                    return self.alarmed(&following, node, entry, untrue);
                 }
             } else if known.judged.is_none() {
                 self.tell(&following, &known)?;
@@ -94,6 +99,13 @@ impl Follower<'_> {
         Ok(known.waited(waiting.map(|(node, (_, taken))| (node, taken)), !following.is_waiting(), self.patience))
     }
 
+    /// The first entry at which its node told otherwise than it stands.
+    fn untrue(&self, following: &Following) -> Result<Option<(usize, usize, String)>, Failure> {
+        let named = |why: io::Error| Failure::Usage(format!("{}: {why}", self.program.display()));
+        let differs = |reached: &mut [Reached], turn: &Turn| following.differs(reached, turn);
+        told_otherwise(self.program, following.entries().len(), |input| following.write(input), differs).map_err(named)
+    }
+
     /// What the program prints of the entries so far, and how it ends.
     fn asked(&self, following: &Following, words: &[&str], errors: Stdio) -> Result<(String, ExitStatus), Failure> {
         let named = |why: io::Error| Failure::Usage(format!("{}: {why}", self.program.display()));
@@ -106,9 +118,20 @@ impl Follower<'_> {
         Ok((String::from_utf8_lossy(&done.stdout).into_owned(), done.status))
     }
 
-    fn alarmed(&self, following: &Following, node: usize, entry: usize) -> Result<(), Failure> {
+    /// A line says what its node can't have said.
+    fn untold(&self, following: &Following, known: &mut Known, why: &RecordError) -> Result<(), Failure> {
+        known.is_alarmed = true;
+        self.tell(following, known)?;
+        print(&format!("alarm: {why}\n"))?;
+        Err(Failure::Program { status: 1, why: None })
+    }
+
+    fn alarmed(&self, following: &Following, node: usize, entry: usize, untrue: Option<String>) -> Result<(), Failure> {
         let place = following.place(node, entry).map_or_else(String::new, |(path, line)| format!(", which ends in {}, line {line}", path.display()));
         print(&format!("alarm: look first at node {node}, entry {entry}{place}\n"))?;
+        if let Some(why) = untrue {
+            return Err(Failure::NotDone(why));
+        }
         // and why, on standard error
         self.asked(following, &["trace"], Stdio::inherit())?;
         Err(Failure::Program { status: 1, why: None })

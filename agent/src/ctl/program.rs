@@ -5,12 +5,12 @@ use super::commands::print;
 use super::Failure;
 use crate::config::Config;
 use crate::draw::{draw, DrawError, Form};
-use crate::judge;
+use crate::judge::{self, Reached, RecordError, Turn};
 use crate::say::say;
 use std::fs;
-use std::io::{self, Read};
+use std::io::{self, BufRead, BufReader, Read};
 use std::path::{Path, PathBuf};
-use std::process::{Command, ExitStatus, Output, Stdio};
+use std::process::{ChildStdin, Command, ExitStatus, Output, Stdio};
 
 pub fn read(path: &Path) -> Result<Config, Failure> {
     Config::read(path).map_err(|why| Failure::Usage(format!("{}: {why}", path.display())))
@@ -30,7 +30,15 @@ pub fn look(look: &Look, word: &str, option: Option<&str>) -> Result<(String, Ex
 /// One trace of the records of all nodes, whose entries say when they were, where that is asked for.
 pub fn trace_of(files: &[PathBuf], has_times: bool) -> Result<judge::Trace, Failure> {
     let read = judge::read(files).and_then(|records| judge::trace_of(records, has_times));
-    read.map_err(|why| Failure::Usage(why.to_string()))
+    read.map_err(unread)
+}
+
+/// A record that can't be read, or in which a node said what it can't have.
+pub fn unread(why: RecordError) -> Failure {
+    match why {
+        RecordError::Untrue { .. } => Failure::NotDone(why.to_string()),
+        why => Failure::Usage(why.to_string()),
+    }
 }
 
 /// Lets `invite trace` judge the records of all nodes. Where they are no run it says where the entry stands that can't have been; and where all that is left of
@@ -40,6 +48,15 @@ pub fn judge(files: &[PathBuf], program: &Path) -> Result<(), Failure> {
     let named = |why| Failure::Usage(format!("{}: {why}", program.display()));
     let done = judged(program, &[], &trace, Stdio::inherit()).map_err(named)?;
     let verdict = String::from_utf8_lossy(&done.stdout);
+    if done.status.success() {
+        let differs = |reached: &mut [Reached], turn: &Turn| trace.differs(reached, turn);
+        let untrue = told_otherwise(program, trace.nodes(), |input| trace.write(input), differs).map_err(named)?;
+        if let Some((node, entry, why)) = untrue {
+            print(&format!("NotARun {node} {entry}\n"))?;
+            let place = trace.place(node, entry).map_or_else(String::new, |(path, line)| format!("{}, line {line}", path.display()));
+            return Err(Failure::NotDone(format!("in the answer that ends in {place}, node {node}: {why}")));
+        }
+    }
     print(&verdict)?;
     if let Some((path, line)) = culprit(&verdict).and_then(|(node, entry)| trace.place(node, entry)) {
         say(format_args!("dumgerokctl: that entry ends in {}, line {line}", path.display()));
@@ -48,6 +65,31 @@ pub fn judge(files: &[PathBuf], program: &Path) -> Result<(), Failure> {
         say("dumgerokctl: each entry that is left waits for a message that no record has: did one lose its end, as by a loss of power?");
     }
     Failure::of_status(done.status)
+}
+
+/// The first entry of a trace, if any, at which its node told otherwise than it stands: the node, the entry, and what was told.
+pub fn told_otherwise(
+    program: &Path,
+    nodes: usize,
+    write: impl FnOnce(&mut io::BufWriter<ChildStdin>) -> io::Result<()> + Send,
+    differs: impl Fn(&mut [Reached], &Turn) -> Option<String>,
+) -> io::Result<Option<(usize, usize, String)>> {
+    let mut child = Command::new(program).args(["trace", "--turns"]).stdin(Stdio::piped()).stdout(Stdio::piped()).stderr(Stdio::null()).spawn()?;
+    let (input, output) = (child.stdin.take(), child.stdout.take());
+    let found = std::thread::scope(|scope| {
+        // where it doesn't read to the end its status says why
+        scope.spawn(move || input.map(|input| write(&mut io::BufWriter::new(input))));
+        let mut reached = vec![Reached::default(); nodes];
+        let lines = output.into_iter().flat_map(|output| BufReader::new(output).lines());
+        let turns = lines.filter_map(|line| line.map(|line| Turn::read(&line)).transpose());
+        let mut untrue = turns.filter_map(|turn| turn.map(|turn| differs(&mut reached, &turn).map(|why| (turn.node, turn.entry as usize, why))).transpose());
+        let first = untrue.next().transpose();
+        // it is read to its end
+        untrue.for_each(drop);
+        first
+    });
+    child.wait()?;
+    found
 }
 
 /// Whether a trace may be that of a run that goes on.

@@ -43,11 +43,11 @@ impl Lines {
         Ok(Some(read))
     }
 
-    /// `turn NODE INDEX PHASE GROUP COORDINATOR MEMBERS`, `turn NODE INDEX Down`, or `node NODE: entry INDEX` and why it is left.
+    /// `turn NODE INDEX PHASE GROUP COORDINATOR MEMBERS HAND`, `turn NODE INDEX Down`, or `node NODE: entry INDEX` and why it is left.
     fn add(&mut self, line: &str) -> Option<()> {
         match line.split(' ').collect::<Vec<_>>().as_slice() {
             ["turn", node, index, "Down"] => self.turns.push((node.parse().ok()?, index.parse().ok()?, None)),
-            ["turn", node, index, phase, group, coordinator, members] => {
+            ["turn", node, index, phase, group, coordinator, members, _] => {
                 let [phase, group, members] = [phase, group, members].map(|word| word.to_string());
                 let stand = Stand { phase, group, coordinator: coordinator.parse().ok()?, members };
                 self.turns.push((node.parse().ok()?, index.parse().ok()?, Some(stand)));
@@ -65,7 +65,7 @@ mod tests {
 
     #[test]
     fn lines_of_turns() {
-        let read = Lines::of("possible\nturn 0 1 Election 0:2 0 -\nturn 1 0 Down\nnode 1: entry 1 waits for 010100010000\n").unwrap().unwrap();
+        let read = Lines::of("possible\nturn 0 1 Election 0:2 0 - 0\nturn 1 0 Down\nnode 1: entry 1 waits for 010100010000\n").unwrap().unwrap();
         let members = read.turns[0].2.as_ref().map(|stand| stand.members.as_str());
         assert_eq!((read.recorded, read.turns[0].0, read.turns[0].1, members), (false, 0, 1, Some("-")));
         assert_eq!((&read.turns[1], read.left[0].node, read.left[0].why.as_str()), (&(1, 0, None), 1, "node 1: entry 1 waits for 010100010000"));

@@ -5,15 +5,16 @@
 use std::collections::{BTreeMap, BTreeSet};
 use std::ops::Range;
 
-/// The places of a message's kind and body, in its digits.
+/// The places of a message's kind, sender and body, in its digits.
 const KIND: Range<usize> = 2..4;
+const SENDER: Range<usize> = 4..6;
 const BODY: usize = 12;
 /// A group is spelled by so many digits, an id by so many.
 const GROUP: usize = 18;
 const ID: usize = 16;
 
 /// The words of a job behind its id, as `submit` and `take` have them: queue, payload and, but for 0, the priority.
-type Words = String;
+pub type Words = String;
 
 /// The jobs of a node's own that a record names from some place on, up to the end of the first answer in which it dispatches: it names each pending one there.
 #[derive(Default)]
@@ -53,22 +54,8 @@ impl Seen {
 
     /// A Work that this node sends is of a job that it keeps.
     fn name_sent(&mut self, digits: &str) {
-        let is_urgent = match digits.get(KIND) {
-            Some("09") => false,
-            Some("0b") => true,
-            _ => return,
-        };
-        let words = || {
-            let (id, rest) = split(digits.get(BODY + GROUP..)?, ID)?;
-            let (queue, rest) = split(rest, 2)?;
-            let (priority, rest) = if is_urgent { split(rest, 2)? } else { ("00", rest) };
-            let (length, rest) = split(rest, 4)?;
-            let payload = rest.get(..2 * usize::from_str_radix(length, 16).ok()?)?;
-            let number = |digits: &str| u64::from_str_radix(digits, 16).ok();
-            Some((number(id)?, plain(&format!("{} {payload} {}", number(queue)?, number(priority)?))))
-        };
-        if let Some((id, words)) = words() {
-            self.name(Some(id), Some(words));
+        if let Some(work) = work_of(digits) {
+            self.name(Some(work.id), Some(work.words));
         }
     }
 
@@ -77,13 +64,37 @@ impl Seen {
     }
 }
 
+/// A job that a Work brings: its sender keeps it.
+pub struct SentWork {
+    pub sender: u8,
+    pub id: u64,
+    pub words: Words,
+}
+
+/// The job of a message; none where it is no Work.
+pub fn work_of(digits: &str) -> Option<SentWork> {
+    let is_urgent = match digits.get(KIND)? {
+        "09" => false,
+        "0b" => true,
+        _ => return None,
+    };
+    let number = |digits: &str| u64::from_str_radix(digits, 16).ok();
+    let (id, rest) = split(digits.get(BODY + GROUP..)?, ID)?;
+    let (queue, rest) = split(rest, 2)?;
+    let (priority, rest) = if is_urgent { split(rest, 2)? } else { ("00", rest) };
+    let (length, rest) = split(rest, 4)?;
+    let payload = rest.get(..2 * usize::try_from(number(length)?).ok()?)?;
+    let words = plain(&format!("{} {payload} {}", number(queue)?, number(priority)?));
+    Some(SentWork { sender: u8::try_from(number(digits.get(SENDER)?)?).ok()?, id: number(id)?, words })
+}
+
 /// The first `count` digits, and those behind them.
 fn split(digits: &str, count: usize) -> Option<(&str, &str)> {
     Some((digits.get(..count)?, digits.get(count..)?))
 }
 
 /// A job's words in one spelling: no payload is a dash in lines and nothing in messages, and a priority of 0 is left out in lines.
-fn plain(words: &str) -> Words {
+pub fn plain(words: &str) -> Words {
     let mut words: Vec<&str> = words.split(' ').collect();
     if words.get(2) == Some(&"0") {
         words.pop();
@@ -137,7 +148,7 @@ fn ends_of<'r>(own: u8, requests: &[&'r str], pending: &BTreeSet<u64>) -> Vec<(u
 }
 
 /// The own job that a request may end.
-fn ended_by(own: u8, request: &str) -> Option<u64> {
+pub fn ended_by(own: u8, request: &str) -> Option<u64> {
     match request.split_once(' ')? {
         ("finish", job) => job.strip_prefix(&format!("{own} "))?.parse().ok(),
         ("deliver", digits) if digits.get(KIND) == Some("0a") => u64::from_str_radix(digits.get(BODY..BODY + ID)?, 16).ok(),

@@ -3,11 +3,12 @@
 use super::history::{Detail, History, Place};
 use super::message::Begin;
 use super::records::{in_order, Head};
+use super::told::{Reached, Turn};
 use super::{kept_at, write_histories, RecordError};
 use std::fs::File;
 use std::io::{self, BufRead, BufReader, Seek, SeekFrom, Write};
 use std::path::{Path, PathBuf};
-use std::rc::Rc;
+use std::sync::Arc;
 
 /// The record of a node, as far as it was read.
 struct Growing {
@@ -140,7 +141,8 @@ impl Following {
         for (record, history) in self.records.iter_mut().zip(&mut self.histories) {
             if let Some(record) = record {
                 let node = record.node;
-                is_new |= record.read(&mut |place, line| heard(node, history, place, line))?;
+                let read = record.read(&mut |place, line| heard(node, history, place, line));
+                is_new |= read.map_err(|why| why.in_one_of(&record.paths))?;
             }
         }
         Ok(is_new)
@@ -149,14 +151,19 @@ impl Following {
     /// Once all nodes have begun, their messages can be read: by what each began with.
     fn begin_all(&mut self) {
         if self.absent().is_empty() {
-            let begins: Rc<[Begin]> = self.records.iter().map(|record| record.as_ref().and_then(|record| record.begin).unwrap_or_default()).collect();
-            self.histories = (0..).zip(&self.records).map(|(own, _)| History::new(own, Rc::clone(&begins), Detail::Entries)).collect();
+            let begins: Arc<[Begin]> = self.records.iter().map(|record| record.as_ref().and_then(|record| record.begin).unwrap_or_default()).collect();
+            self.histories = (0..).zip(&self.records).map(|(own, _)| History::new(own, Arc::clone(&begins), Detail::Entries)).collect();
         }
     }
 
     /// The nodes whose records have no start of them yet.
     pub fn absent(&self) -> Vec<usize> {
         self.records.iter().flatten().filter(|record| record.begin.is_none()).map(|record| record.node).collect()
+    }
+
+    /// What a node told otherwise than this turn says that it stands.
+    pub fn differs(&self, reached: &mut [Reached], turn: &Turn) -> Option<String> {
+        self.histories.get(turn.node)?.said().differs(reached.get_mut(turn.node)?, turn)
     }
 
     /// How many entries each node has.

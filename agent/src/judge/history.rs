@@ -1,13 +1,15 @@
 //! What one node did, as the entries of a trace. A record is read line by line, whether it is whole or grows.
 
-use super::doubt::{ends, is_open, puts, Seen};
+use super::doubt::{ended_by, ends, is_open, puts, Seen};
 use super::message::{message_of, Begin};
 use super::order::{Message, Sent, Turn};
+use super::told::{Said, Told};
 use super::{NodeRecord, RecordError};
-use crate::node::{Closing, Group, Phase};
+use crate::node::{Closing, Group, GroupNumber, Phase};
 use serde_json::{json, Map, Value};
 use std::collections::{BTreeSet, HashMap, VecDeque};
-use std::rc::Rc;
+use std::path::PathBuf;
+use std::sync::Arc;
 
 /// The requests that are no events. `tick` and `lost` name theirs.
 const NO_EVENTS: [&str; 3] = ["compact", "state", "jobs"];
@@ -71,6 +73,13 @@ struct Recovery {
     last: String,
 }
 
+/// Why an answer isn't taken.
+enum Wrong {
+    Unreadable,
+    /// The node can't have said so.
+    Untrue(String),
+}
+
 /// A recovery of which it isn't known yet which requests in doubt counted.
 struct Waiting {
     recovery: Recovery,
@@ -82,7 +91,7 @@ struct Waiting {
 
 pub struct History {
     own: u8,
-    begins: Rc<[Begin]>,
+    begins: Arc<[Begin]>,
     /// The entries as JSON, with commas between them.
     entries: String,
     /// What an order needs to know of each entry; nothing where none is asked for.
@@ -114,11 +123,12 @@ pub struct History {
     /// The requests that kills left without an answer since the file was mounted.
     doubts: Vec<String>,
     waiting: Option<Waiting>,
+    told: Told,
 }
 
 impl History {
     /// The history of a node that hasn't begun.
-    pub fn new(own: u8, begins: Rc<[Begin]>, detail: Detail) -> History {
+    pub fn new(own: u8, begins: Arc<[Begin]>, detail: Detail) -> History {
         History {
             own,
             begins,
@@ -141,12 +151,13 @@ impl History {
             answer: Vec::new(),
             doubts: Vec::new(),
             waiting: None,
+            told: Told::new(own),
         }
     }
 
     /// Reads a whole record.
-    pub fn of(own: u8, record: &NodeRecord, begins: &Rc<[Begin]>, detail: Detail) -> Result<History, RecordError> {
-        let mut history = History::new(own, Rc::clone(begins), detail);
+    pub fn of(own: u8, record: &NodeRecord, begins: &Arc<[Begin]>, detail: Detail) -> Result<History, RecordError> {
+        let mut history = History::new(own, Arc::clone(begins), detail);
         record.placed_lines().try_for_each(|(place, line)| history.reads(place, line))?;
         history.end()?;
         Ok(history)
@@ -229,21 +240,30 @@ impl History {
         self.doubts.extend(asked);
         self.is_up = false;
         self.answer.clear();
+        self.told.ended();
     }
 
     /// An answer came to its last line.
     fn closed(&mut self, line: &str, closing: &Closing) -> Result<(), RecordError> {
         let answer = std::mem::take(&mut self.answer);
         let request = self.asked.pop_front().ok_or_else(|| self.fault(line))?;
+        self.told.closes(line).map_err(|why| self.untrue(why))?;
         self.told(&request);
         match self.kept_by(&request, &answer) {
             Some(keeps) => self.recovered(Recovery { keeps, answer, last: line.to_string() }),
-            None => self.answered(&request, &answer, closing).ok_or_else(|| self.fault(line)),
+            None => self.answered(&request, &answer, closing).map_err(|wrong| match wrong {
+                Wrong::Unreadable => self.fault(line),
+                Wrong::Untrue(why) => self.untrue(why),
+            }),
         }
     }
 
     fn fault(&self, line: &str) -> RecordError {
         RecordError::Line { node: usize::from(self.own), line: line.to_string() }
+    }
+
+    fn untrue(&self, why: String) -> RecordError {
+        RecordError::Untrue { node: usize::from(self.own), place: self.place, path: PathBuf::new(), why }
     }
 
     /// The entries as JSON, with commas between them.
@@ -256,9 +276,14 @@ impl History {
         &self.places
     }
 
-    /// The entries, and what an order needs to know of each.
-    pub fn into_parts(self) -> (String, Vec<Turn>) {
-        (self.entries, self.turns)
+    /// What the node told beside its messages.
+    pub fn said(&self) -> &Told {
+        &self.told
+    }
+
+    /// The entries, what an order needs to know of each, and what was told beside them.
+    pub fn into_parts(self) -> (String, Vec<Turn>, Told) {
+        (self.entries, self.turns, self.told)
     }
 
     /// Reads the time, where the node is told it.
@@ -329,20 +354,21 @@ impl History {
     }
 
     /// The lines of an answer belong to the event of the request, or each to the event that was fired before it.
-    fn answered(&mut self, request: &str, answer: &[String], closing: &Closing) -> Option<()> {
-        let word = request.split(' ').next()?;
+    fn answered(&mut self, request: &str, answer: &[String], closing: &Closing) -> Result<(), Wrong> {
+        let word = request.split(' ').next().ok_or(Wrong::Unreadable)?;
         let mut events = vec![Event { name: word, lines: Vec::new() }];
         for line in answer {
             if let Some(name) = line.strip_prefix("fired ") {
                 events.push(Event { name, lines: Vec::new() });
             }
-            events.last_mut()?.lines.push(line);
+            events.last_mut().ok_or(Wrong::Unreadable)?.lines.push(line);
         }
         if ["tick", "lost"].contains(&word) {
             self.sent_again(&events.remove(0)); // what stands before was sent before
         } else if NO_EVENTS.contains(&word) {
-            return Some(());
+            return Ok(());
         }
+        self.numbered(word, request, closing)?;
         let count = events.len();
         for (place, event) in events.into_iter().enumerate() {
             if matches!(closing, Closing::Ok(_)) || place + 1 < count {
@@ -363,14 +389,42 @@ impl History {
             }
             _ => {}
         }
-        Some(())
+        Ok(())
     }
 
-    fn event(&mut self, event: &Event, request: &str) -> Option<()> {
+    /// A submission that was done has the file's next id, and nothing else has one.
+    fn numbered(&mut self, word: &str, request: &str, closing: &Closing) -> Result<(), Wrong> {
+        let id = match closing {
+            Closing::Ok(id) => *id,
+            _ => return Ok(()),
+        };
+        let next = Some(self.next).filter(|_| word == "submit");
+        if id != next {
+            let named = |id: Option<u64>| id.map_or_else(|| "no id".to_string(), |id| format!("id {id}"));
+            return Err(Wrong::Untrue(format!("{} of {request:?}, where its file gives {}", named(id), named(next))));
+        }
+        if let Some(id) = id {
+            self.told.keeps(id, request);
+        }
+        Ok(())
+    }
+
+    fn event(&mut self, event: &Event, request: &str) -> Result<(), Wrong> {
         let sent: Vec<&str> = event.sent().collect();
-        let fields = self.fields_of(event.name, request)?;
+        let fields = self.fields_of(event.name, request).ok_or(Wrong::Unreadable)?;
+        let ends = ended_by(self.own, request).filter(|id| self.pending.contains(id));
         self.put(event.name, request, &sent, fields);
-        self.follow(event.lines.iter().copied())
+        self.follow(event.lines.iter().copied()).ok_or(Wrong::Unreadable)?;
+        self.hears(&Said { name: event.name, request, lines: &event.lines, ends }).map_err(Wrong::Untrue)?;
+        self.told.after(self.places.len() - 1);
+        Ok(())
+    }
+
+    /// What was told beside the messages, with the numbers that begin with the trace.
+    fn hears(&mut self, said: &Said) -> Result<(), String> {
+        let begins = &self.begins;
+        let begin = |creator: u8| begins.get(usize::from(creator)).copied().unwrap_or_default();
+        self.told.hears(said, |number| GroupNumber { count: number.count.wrapping_sub(begin(number.creator).count), ..number })
     }
 
     /// Takes the node's group, and the jobs that it keeps, from the lines of an event.
@@ -439,12 +493,22 @@ impl History {
 
     /// Puts what became of the requests in doubt, by what was said of jobs since where that had to be known.
     fn settle(&mut self, recovery: &Recovery, found: &Found, seen: &Seen) -> Result<(), RecordError> {
+        let first = self.places.len();
+        let mut recovered = first;
         if found.doubts.is_some() {
             self.put_crash(found.groups);
+            recovered = self.places.len();
             self.put_doubts(found, seen).ok_or_else(|| self.no_state(recovery))?;
         }
         (self.count, self.next, self.is_up) = (found.count, found.next, true);
-        self.follow(recovery.answer.iter().map(String::as_str)).ok_or_else(|| self.fault(&recovery.last))
+        let lines: Vec<&str> = recovery.answer.iter().map(String::as_str).collect();
+        self.follow(lines.iter().copied()).ok_or_else(|| self.fault(&recovery.last))?;
+        self.hears(&Said { name: "recover", request: "recover", lines: &lines, ends: None }).map_err(|why| self.untrue(why))?;
+        self.told.unsaid(first, self.places.len() > recovered);
+        if self.places.len() > first {
+            self.told.after(self.places.len() - 1);
+        }
+        Ok(())
     }
 
     /// The process ended, when the node was told the time last. Each group that it began unseen is one of a recovery that failed behind it.
@@ -471,6 +535,7 @@ impl History {
             let fields = self.fields_of("submit", request)?;
             self.put("submit", request, &[], fields);
             self.pending.insert(id);
+            self.told.keeps(id, request);
         }
         // a job is ended by who has it in hand
         if ended.iter().any(|(_, request)| request.starts_with("finish ")) {
@@ -523,8 +588,8 @@ mod tests {
         serde_json::from_str(&format!("[{entries}]")).unwrap()
     }
 
-    fn begins() -> Rc<[Begin]> {
-        Rc::new([Begin { count: 100, id: 5 }])
+    fn begins() -> Arc<[Begin]> {
+        Arc::new([Begin { count: 100, id: 5 }])
     }
 
     /// What so many lines come to that a record has so far.
@@ -642,7 +707,12 @@ mod tests {
     fn a_record_that_grows_waits_where_it_is_open_which_requests_counted() {
         let lines = |keeps: &str| {
             let again = format!("start\n> recover\ngroup Normal 0 0:102 0\nkeeps {keeps}\nok 1\n");
-            format!("{START}> submit 3 6869\n> submit 4 -\n{again}> tick 9\nfired check\nok 2\n> tick 10\nfired dispatch\ntake 0 5 4 -\nok 3\n")
+            let taken = match keeps {
+                "102 5 0" => "send 1 010100010000",
+                "102 7 2" => "take 0 6 4 -",
+                _ => "take 0 5 4 -",
+            };
+            format!("{START}> submit 3 6869\n> submit 4 -\n{again}> tick 9\nfired check\nok 2\n> tick 10\nfired dispatch\n{taken}\nok 3\n")
         };
         // none before the recovery's last line, which is the twelfth; then so many by that one, by the next answer, and by the one in which the node dispatches
         for (keeps, counts) in [("102 5 0", [2, 3, 4]), ("102 7 2", [4, 5, 6]), ("102 6 1", [0, 0, 5])] {
@@ -669,15 +739,15 @@ mod tests {
 
     #[test]
     fn a_clock_that_fell_back_or_jumped_orders_no_turn_before_an_earlier_one() {
-        let tick = |ms: u64| format!("> tick {ms}\nfired check\nok 2\n");
+        let tick = |ms: u64, number: u8| format!("> tick {ms}\nfired check\nok {number}\n");
         let again = |ms: u64| format!("start {ms}\n> recover\nkeeps 102 5 0\nok 1\n");
         for (second, times) in [
             (1000, [5009, 5009, 5009, 5009]),
             (4000, [5009, 5009, 5009, 5900]),
             (90_000, [5009, 90_001, 90_001, 91_900]),
         ] {
-            let lines = START.replace("start", "start 5000") + &tick(9) + &again(second) + &tick(1) + &tick(1900);
-            let (entries, turns) = whole(&lines).unwrap().into_parts();
+            let lines = START.replace("start", "start 5000") + &tick(9, 2) + &again(second) + &tick(1, 2) + &tick(1900, 3);
+            let (entries, turns, _) = whole(&lines).unwrap().into_parts();
             let entries = values(&entries);
             let seen: Vec<(&str, u64)> =
                 entries.iter().zip(&turns).map(|(entry, turn)| (entry["do"].as_str().unwrap(), turn.time)).collect();

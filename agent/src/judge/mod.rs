@@ -6,15 +6,18 @@ mod history;
 mod message;
 mod order;
 mod records;
+mod told;
 
 pub use follow::Following;
 pub use records::{read, NodeRecord, RecordError};
+pub use told::{Reached, Turn};
 
 use history::{Detail, History, Place};
 use message::Begin;
 use std::io::{self, Write};
 use std::path::PathBuf;
-use std::rc::Rc;
+use std::sync::Arc;
+use told::Told;
 
 /// The trace of a cluster: the text of each node's history, and the order of all turns where one is found.
 pub struct Trace {
@@ -22,6 +25,7 @@ pub struct Trace {
     order: Option<String>,
     /// Of each node its files, and where each of its entries stands in them.
     places: Vec<(Vec<PathBuf>, Vec<Place>)>,
+    told: Vec<Told>,
 }
 
 impl Trace {
@@ -30,6 +34,15 @@ impl Trace {
         let (paths, places) = self.places.get(node)?;
         let (part, line) = places.get(entry)?;
         Some((paths.get(*part as usize)?, *line))
+    }
+
+    /// What a node told otherwise than this turn says that it stands. The turns of a node are asked in their order.
+    pub fn differs(&self, reached: &mut [Reached], turn: &Turn) -> Option<String> {
+        self.told.get(turn.node)?.differs(reached.get_mut(turn.node)?, turn)
+    }
+
+    pub fn nodes(&self) -> usize {
+        self.histories.len()
     }
 
     /// Writes it as JSON, without a copy of it.
@@ -56,16 +69,18 @@ fn write_histories<'a>(out: &mut impl Write, histories: impl ExactSizeIterator<I
 /// The trace of the records of all nodes, in their order. Each record is let go of once its history is made: it is about as large.
 /// With times each entry says when it was, which no judgement needs.
 pub fn trace_of(records: Vec<NodeRecord>, has_times: bool) -> Result<Trace, RecordError> {
-    let begins: Rc<[Begin]> = records.iter().map(begin_of).collect::<Result<Vec<Begin>, _>>()?.into();
-    let (mut histories, mut turns, mut places) = (Vec::new(), Vec::new(), Vec::new());
+    let begins: Arc<[Begin]> = records.iter().map(begin_of).collect::<Result<Vec<Begin>, _>>()?.into();
+    let (mut histories, mut turns, mut places, mut told) = (Vec::new(), Vec::new(), Vec::new(), Vec::new());
     for (own, record) in (0..).zip(records) {
-        let history = History::of(own, &record, &begins, if has_times { Detail::Times } else { Detail::Order })?;
+        let history = History::of(own, &record, &begins, if has_times { Detail::Times } else { Detail::Order });
+        let history = history.map_err(|why| why.in_one_of(&record.paths))?;
         places.push((record.paths, history.places().to_vec()));
-        let (entries, its_turns) = history.into_parts();
+        let (entries, its_turns, its_words) = history.into_parts();
         histories.push(entries);
         turns.push(its_turns);
+        told.push(its_words);
     }
-    Ok(Trace { histories, order: order::of(&turns), places })
+    Ok(Trace { histories, order: order::of(&turns), places, told })
 }
 
 /// What the file of a node kept when its record began: a trace begins with count 1 and id 0.
@@ -117,7 +132,7 @@ mod tests {
     #[test]
     fn entries_are_told_when_they_were() {
         let begin = "start 1764000000000\n> recover\ngroup Normal 0 0:101 0\nkeeps 101 5 0\nok 1\n";
-        let lines = format!("{begin}> submit 3 6869\nok 2 id 5\n> tick 9\nfired check\nok 3\n> finish 0 5\nok 4\n> tick 12\nok 5\n> finish 0 5\nok 6\n");
+        let lines = format!("{begin}> submit 3 6869\nok 2 id 5\n> tick 9\nfired check\nok 3\n> finish 0 5\ngone 5\nok 4\n> tick 12\nok 5\n> finish 0 5\nok 6\n");
         let at = |has_times| {
             let trace = written(&trace_of(vec![NodeRecord::of_text(0, &lines)], has_times).unwrap());
             trace["histories"][0].as_array().unwrap().iter().map(|entry| entry["at"].as_u64()).collect::<Vec<_>>()

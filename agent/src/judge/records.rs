@@ -32,6 +32,21 @@ pub enum RecordError {
     NoState { node: usize, keeps: String },
     #[error("the record of node {node}: {line:?} can't be read")]
     Line { node: usize, line: String },
+    #[error("no run: in {}, line {}, node {node} told {why}", path.display(), place.1)]
+    Untrue { node: usize, place: Place, path: PathBuf, why: String },
+}
+
+impl RecordError {
+    /// With the name of the file, of those that the record has.
+    pub fn in_one_of(self, paths: &[PathBuf]) -> RecordError {
+        match self {
+            RecordError::Untrue { node, place, why, .. } => {
+                let path = paths.get(place.0 as usize).cloned().unwrap_or_default();
+                RecordError::Untrue { node, place, path, why }
+            }
+            other => other,
+        }
+    }
 }
 
 /// All that was recorded of one node; of a place that nobody heard of there is nothing.

@@ -1,5 +1,5 @@
 -- How the nodes of a run stand.
-use Rattle.std.specs.Prelude.{ℕ, List, [], Option, Some, None}
+use Rattle.std.specs.Prelude.{ℕ, List, [], length, Option, Some, None}
 use Rattle.group_task.specs.Assignment.{Assignment}
 use Rattle.node_core.specs.State.{State}
 use Rattle.node_core.specs.declared.phase.Phase.{Phase}
@@ -16,9 +16,9 @@ members_of (Some task) = task.members
 
 abbrev pub stand_by : Phase → State → Option Stand
 stand_by Down s = None
-stand_by Election s = Some (record { phase = Election; group = s.group; coordinator = s.coordinator; members = members_of s.task })
-stand_by Reorganization s = Some (record { phase = Reorganization; group = s.group; coordinator = s.coordinator; members = members_of s.task })
-stand_by Normal s = Some (record { phase = Normal; group = s.group; coordinator = s.coordinator; members = members_of s.task })
+stand_by Election s = Some (record { phase = Election; group = s.group; coordinator = s.coordinator; members = members_of s.task; in_hand = length s.hand })
+stand_by Reorganization s = Some (record { phase = Reorganization; group = s.group; coordinator = s.coordinator; members = members_of s.task; in_hand = length s.hand })
+stand_by Normal s = Some (record { phase = Normal; group = s.group; coordinator = s.coordinator; members = members_of s.task; in_hand = length s.hand })
 
 -- how a node in this state stands; None where it is down
 abbrev pub stand_of : State → Option Stand

@@ -27,12 +27,12 @@ order_text true = codes "recorded"
 order_text false = codes "possible"
 
 unfoldable pub members_text : Stand → List ℕ
-members_text s = words (s.coordinator ∷ []) ++ codes " " ++ ids_text s.members
+members_text s = words (s.coordinator ∷ []) ++ codes " " ++ ids_text s.members ++ words (s.in_hand ∷ [])
 
 unfoldable pub stand_text : Stand → List ℕ
 stand_text s = codes " " ++ phase_text s.phase ++ codes " " ++ group_text s.group ++ members_text s
 
--- how the node stands after a turn
+-- how the node stands after a turn, and how many jobs it has in hand
 abbrev pub after_text : Option Stand → List ℕ
 after_text None = codes " Down"
 after_text (Some s) = stand_text s

@@ -9,6 +9,8 @@ pub struct Stand {
     pub coordinator: NodeId,
     /// The members of its task; none until that is made or told.
     pub members: Members,
+    /// How many jobs it works on.
+    pub in_hand: usize,
 }
 
 /// A turn of a run: a node takes the next entry of its history.

@@ -27,8 +27,8 @@ pub fn turns<R: Read, W: Write>(alloc: Global, input: &mut Source<R>, output: &m
     // entries can be taken in it, and it says which order it is.
     // Refuses: order_of_the_checker_told, other_order_said_to_be_recorded, every_order_is_recorded, recorded_run_ends_badly.
     // Promise: Each turn is printed with its node, the index of its entry, and how the node stands then: its phase, its group, its
-    // coordinator and its members, or that it is down.
-    // Refuses: stands_as_before_its_turn, creator_for_the_coordinator, down_where_it_elects.
+    // coordinator, its members and how many jobs it works on, or that it is down.
+    // Refuses: stands_as_before_its_turn, creator_for_the_coordinator, down_where_it_elects, hand_is_empty.
     // Promise: Of a trace that is no run the turns that can be taken are printed, and each entry that is left, and it ends as `trace` does.
     // Refuses: no_run_ends_as_a_run, nothing_is_left.
     ensures prints { Prints AreToldOf (R.remaining input.old.reader) (W.contents output.old) (W.contents output.new) result.ending }
@@ -185,12 +185,13 @@ fn push_stand(text: &mut Vec<u8>, stand: &Stand) -> Result<(), AllocError>
     push_members(text, stand)
 }
 
-/// Adds the coordinator and the members of a node's group.
+/// Adds the coordinator and the members of a node's group, and the number of its jobs in hand.
 #[tactic(auto, unfolding(crate::specs::Turning::members_text))]
 fn push_members(text: &mut Vec<u8>, stand: &Stand) -> Result<(), AllocError>
     ensures { OnOk result (text.new.items ≡ text.old.items ++ members_text stand.now) }
 {
     push_word(text, u64::from(stand.coordinator.number()))?;
     push_text(text, " ")?;
-    push_ids(text, stand.members)
+    push_ids(text, stand.members)?;
+    push_word(text, stand.in_hand as u64)
 }

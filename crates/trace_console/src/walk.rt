@@ -83,7 +83,8 @@ fn take_turn(
 pub(crate) fn stand_of(node_model: &NodeModel) -> Option<Stand>
     ensures { result ≡ stand_of node_model.now.node.state }
 {
-    let group_state = &node_model.vector().group_state;
+    let vector = node_model.vector();
+    let group_state = &vector.group_state;
     match group_state.phase {
         Phase::Down => None,
         phase => Some(Stand {
@@ -91,6 +92,7 @@ pub(crate) fn stand_of(node_model: &NodeModel) -> Option<Stand>
             group: group_state.group,
             coordinator: group_state.coordinator,
             members: members_of(&group_state.task),
+            in_hand: vector.hand.jobs().len(),
         }),
     }
 }

@@ -1,0 +1,109 @@
+"""Records in which one line of an answer was altered, dropped or forged: what a node told its services. None of them is a run, and the line is named."""
+import random, re, time
+
+from cluster import judged
+from records import CLOSES
+from recorded import Load, is_run, records, said_of, short
+
+
+def words(line, place, new):
+    """The line with another word at a place."""
+    all_words = line.split(" ")
+    all_words[place] = new(all_words[place])
+    return " ".join(all_words)
+
+
+def raised(number):
+    """The number behind the last colon, one more."""
+    front, colon, last = number.rpartition(":")
+    return front + colon + str(int(last) + 1)
+
+
+def another_member(members):
+    return ",".join(members.split(",")[:-1])
+
+
+# Each way: what it is called, the line that it takes, and what stands in its place; nothing for a line that is dropped.
+WAYS = [
+    ("a take dropped", r"take .*", lambda line: None),
+    ("a drop dropped", r"drop .*", lambda line: None),
+    ("an end dropped", r"gone .*", lambda line: None),
+    ("a group dropped", r"group Normal .*,.*", lambda line: None),
+    ("a take of another id", r"take .*", lambda line: words(line, 2, raised)),
+    ("a take of another queue", r"take .*", lambda line: words(line, 3, lambda queue: str((int(queue) + 1) % 16))),
+    ("a take of another payload", r"take .*", lambda line: words(line, 4, lambda payload: "ff" + payload.strip("-"))),
+    ("a take said twice", r"take .*", lambda line: line + "\n" + line),
+    ("a drop of another id", r"drop .*", lambda line: words(line, 2, raised)),
+    ("an end of another job", r"gone .*", lambda line: words(line, 1, raised)),
+    ("another group number", r"group Normal .*,.*", lambda line: words(line, 3, raised)),
+    ("a member less", r"group Normal .*,.*", lambda line: words(line, 4, another_member)),
+    ("another coordinator", r"group Normal .*,.*", lambda line: words(line, 2, lambda node: str((int(node) + 1) % 3))),
+    ("another phase", r"group Normal .*,.*", lambda line: words(line, 1, lambda phase: "Reorganization")),
+    ("another id", r"ok \d+ id \d+", lambda line: words(line, 3, raised)),
+    ("another number of a request", r"ok \d+", lambda line: words(line, 1, raised)),
+    ("an end that is forged", r"take .*", lambda line: line + "\ngone " + line.split(" ")[2]),
+]
+
+
+def altered(text, chance, pattern, new):
+    """The text with one of the lines of its first process turned, and the number of that line; none where there is none."""
+    found = list(re.finditer(r"^(?:%s)$" % pattern, first_process(text), re.M))
+    if not found:
+        return None
+    line = chance.choice(found)
+    turned = new(line[0])
+    end = line.end() + (turned is None)
+    return text[:line.start()] + (turned or "") + text[end:], text.count("\n", 0, line.start()) + 1
+
+
+def first_process(text):
+    """The text up to where the second process begins."""
+    first = text.index("\nstart")
+    return text[:text.find("\nstart", first + 1)]
+
+
+def line_named(said):
+    found = re.findall(r"line (\d+)", said)
+    return int(found[0]) if found else None
+
+
+def end_of_answer(text, line):
+    """The number of the line that closes the answer in which a line stands."""
+    return next(number for number, said in enumerate(text.splitlines(), 1) if number >= line and CLOSES.match(said))
+
+
+def under_load(agents):
+    """Three machines at work, of which one is killed and comes back."""
+    agents.start_all()
+    agents.one_group()
+    load = Load(agents)
+    time.sleep(2)
+    agents.kill(2)
+    time.sleep(2)
+    agents.start(2)
+    agents.one_group()
+    time.sleep(1)
+    load.stop()
+    return load.kept
+
+
+def tampered(bed):
+    """Each way at each node's record."""
+    chance, agents = random.Random(bed.seed), bed.agents("tampered", slots=2048)
+    bed.tally.note("tampered: %d jobs" % under_load(agents))
+    judged(bed, agents, "answers of three agents")
+    texts = {path: text + "start\n" for path, text in records(agents).items()}
+    for name, pattern, new in WAYS:
+        tried, taken, far = 0, [], []
+        for path, text in texts.items():
+            turned = altered(text, chance, pattern, new)
+            if turned is None:
+                continue
+            tried += 1
+            done = said_of(agents, {**texts, path: turned[0]})
+            if is_run(done) or done.returncode != 1:
+                taken.append(short(done))
+            elif line_named(done.stderr) != end_of_answer(turned[0], turned[1]):
+                far.append((turned[1], short(done)))
+        bed.tally.check("%s is no run, of %d nodes" % (name, tried), tried > 0 and not taken, taken[:2])
+        bed.tally.check("%s: its line is named" % name, not far, far[:2])
