@@ -80,10 +80,9 @@ def under_load(agents):
     time.sleep(2)
     agents.kill(2)
     time.sleep(2)
+    load.stop()
     agents.start(2)
     agents.one_group()
-    time.sleep(1)
-    load.stop()
     return load.kept
 
 
