@@ -1,7 +1,8 @@
-ghost use Rattle.std.specs.Prelude.{◌≡◌, ◌≢◌, ◌↔◌, ◌<◌, ◌≤◌, ◌^◌, ◌-◌, ◌+◌, ℕ, if◌then◌else◌, IfSome, IsNone, IsTrue, is_some, true, Some, None};
+ghost use Rattle.std.specs.Prelude.{◌≡◌, ◌≢◌, ◌↔◌, ◌<◌, ◌≤◌, ◌^◌, ◌-◌, ◌+◌, ◌%◌, ℕ, if◌then◌else◌, IfSome, IsNone, IsTrue, is_some, true, Some, None};
 ghost use Rattle.node_core.specs.declared.event.Event.TheVariants as on;
 ghost use Rattle.node_core.specs.declared.timer.Timer.TheVariants as timer;
 ghost use Rattle.node_core.specs.declared.event.Event.{Event};
+ghost use Rattle.rand_pcg.specs.Pcg.{pcg32};
 ghost use Rattle.pace.specs.declared.deadline.Deadline.{Deadline};
 ghost use Rattle.pace.specs.declared.wait.Wait.{Wait};
 ghost use Rattle.pace.specs.Timers.{comes_soon, jitter_of, least_at, least_of, paced, patience, prompted_left, raise_of, soon_left, wait_of};
@@ -514,8 +515,7 @@ impl TimerPolicy {
         if let Some(second) = soon {
             return setting.soon_length(second) + patience;
         }
-        let range = u64::from(wait.jitter(&setting, self.settled)) + 1;
-        let jitter = u64::from(self.random.next_word()) % range;
+        let jitter = drawn(&mut self.random, wait.jitter(&setting, self.settled));
         u64::from(wait.least(&setting, self.settled)) + jitter + patience
     }
 
@@ -574,4 +574,16 @@ impl TimerPolicy {
         self.rested = 0;
         self.pause = self.setting.first_pause(snapshot.pending);
     }
+}
+
+/// How much longer a wait lasts, up to so many milliseconds.
+fn drawn(random: &mut Pcg32, most: u32) -> u64
+    // Promise: Jitter is drawn from the generator: its next word, modulo one more than the most that it may be, so each value up to that comes.
+    // Refuses: no_jitter, jitter_above_its_bound, same_word_drawn_again.
+    ensures value { result ≡ (pcg32 random.old).0 % (most + 1) }
+    ensures fits { result ≤ most }
+    ensures goes_on { random.new ≡ (pcg32 random.old).1 }
+{
+    let range = u64::from(most) + 1;
+    u64::from(random.next_word()) % range
 }
