@@ -578,7 +578,8 @@ impl TimerPolicy {
 
 /// How much longer a wait lasts, up to so many milliseconds.
 fn drawn(random: &mut Pcg32, most: u32) -> u64
-    // Promise: Jitter is drawn from the generator: its next word, modulo one more than the most that it may be, so each value up to that comes.
+    // Promise: What is drawn as jitter is the generator's next word, modulo one more than the most that it may be, and the generator goes on by it.
+    // Also: goes_on, fits.
     // Refuses: no_jitter, jitter_above_its_bound, same_word_drawn_again.
     ensures value { result ≡ (pcg32 random.old).0 % (most + 1) }
     ensures fits { result ≤ most }
