@@ -3,7 +3,7 @@ ghost use Rattle.std.specs.Prelude.{◌≡◌, ◌≤◌, ℕ, IsOk};
 ghost use Rattle.lease_file.specs.Blocks.{bound_of};
 ghost use Rattle.lease_file.specs.Kept.{kept_of};
 
-use lease_file::{LeaseFault, LeaseFile};
+use lease_file::LeaseFile;
 use lease_session::{EpochStore, ReserveFault};
 use sector_disk::SectorDisk;
 
@@ -35,8 +35,7 @@ impl<D: SectorDisk> EpochStore for EpochFile<D> {
     fn reserve(&mut self, epoch: u64) -> Result<(), ReserveFault> {
         match self.file.reserve(epoch) {
             Ok(()) => Ok(()),
-            Err(LeaseFault::Exhausted) => Err(ReserveFault::Exhausted),
-            Err(_) => Err(ReserveFault::Device),
+            Err(_) => Err(ReserveFault),
         }
     }
 }

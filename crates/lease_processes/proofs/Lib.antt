@@ -1,3 +1,4 @@
+mod Alone
 mod Standing
 mod Printed
 mod Words

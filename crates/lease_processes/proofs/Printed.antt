@@ -1,5 +1,5 @@
 -- What holds of `held` lines.
-use Rattle.std.proofs.Common.{◌≡◌, ℕ, ◌+◌, ◌<◌, ◌≤◌, true, List, [], ◌∷◌, ◌++◌, refl, sym, ◌∙◌, ap, subst, inl, inr, append_assoc, arith}
+use Rattle.std.proofs.Common.{◌≡◌, ℕ, ◌+◌, ◌<◌, ◌≤◌, true, List, [], ◌∷◌, ◌++◌, Option, Some, None, refl, sym, ◌∙◌, ap, subst, inl, inr, append_assoc, arith}
 use Rattle.std.specs.Prelude.{ltb}
 use Rattle.lease_runs.specs.Voter.{Client, Ask}
 use Rattle.lease_runs.specs.Candidate.{is_in_time}
@@ -11,8 +11,9 @@ use Rattle.lease_session.specs.Steps.{AreHeld, IsHolder, LinesAreSteps, steps_wi
 use Rattle.lease_session.specs.Marks.{Mark, did, wrote}
 use Rattle.lease_session.specs.Turns.{Who, who}
 use Rattle.lease_session.specs.declared.process.Start.{Start}
-use Rattle.lease_processes.specs.Processes.{Turned, begins, told, Moment, AreProcesses, MayTurn, last_moment, marks_of, process_of, steps_of}
-use Rattle.lease_processes.specs.Printed.{AreOneNetwork, EpochsFollow, EpochsRise, FedIsTold, HeldLinesAreLeases, IsHeldLine, IsLease, IsOneProcess, OneAtATime, OneEpochEach, Relies}
+use Rattle.lease_session.specs.Feeding.{At}
+use Rattle.lease_processes.specs.Processes.{Turned, begins, told, Moment, AreProcesses, MayTurn, bound_of, here, last_moment, marks_of, process_of, reserved_of, steps_of}
+use Rattle.lease_processes.specs.Printed.{AreOneNetwork, EpochsFollow, EpochsRise, FedIsTold, FilesGiveFloors, HeldLinesAreLeases, IsHeldLine, IsLease, IsOneProcess, OneAtATime, OneEpochEach, Relies}
 use Rattle.lease_processes.proofs.Standing.{added, stand, steps_over}
 
 pub network : AreOneNetwork
@@ -159,3 +160,10 @@ pub fed_is_told : LinesAreSteps → FedIsTold
 fed_is_told law [] old new same sound = same
 fed_is_told law (line ∷ lines) old new answered sound =
     let it = law line old answered.0 answered.1 sound in (it.0, (answered.0, it.1, fed_is_told law lines answered.0 new answered.2 it.1.sound))
+
+pub files_give_floors : FilesGiveFloors
+files_give_floors terms past are n floor less = by_process (here past n) refl less
+  where
+    by_process : (o : Option At) → here past n ≡ o → reserved_of o ≤ floor → bound_of o ≤ floor
+    by_process None is less = less
+    by_process (Some a) is less = (let within = ((stand terms past are).fits n a is).sound.reserved in omega (arith, within, less))

@@ -22,8 +22,10 @@ use Rattle.lease_session.specs.Reading.{meaning_of}
 use Rattle.lease_session.specs.Rows.{said, send}
 use Rattle.lease_session.specs.Steps.{Adds, IsSound, MayCome, RunsOrIsNew, TellsTime, WasSentIn, steps_with}
 use Rattle.lease_session.specs.Marks.{Mark, did, wrote}
+use Rattle.lease_session.specs.Own.{bound_by}
 use Rattle.lease_session.specs.Turns.{who, IsAt, Stood}
-use Rattle.lease_processes.specs.Processes.{Turned, begins, told, Moment, AreProcesses, HasBegun, IsTold, MayBegin, MayTurn, WasHandedOut, bound_by, bound_of, here, last_moment, left_by, marks_of, steps_of}
+use Rattle.lease_processes.specs.Processes.{Turned, begins, told, Moment, AreProcesses, HasBegun, IsTold, MayBegin, MayTurn, WasHandedOut, bound_of, here, last_moment, left_by, marks_of, steps_of}
+use Rattle.lease_processes.proofs.Alone.{new_sound}
 
 -- ---- steps
 
@@ -169,7 +171,7 @@ begin_stands terms past at n new s le b = record {
       runs = inr (λ x i machine boot. b.own_number
           (subst (λ (p : ℕ). HasBegun past n p) boot (subst (λ (j : ℕ). HasBegun past j x.by.boot) (machine ∙ b.machine) (s.own x i))));
       stands = new_before terms past n new s b;
-      sound = λ off. b.is_new.6;
+      sound = new_sound new b.is_new;
     })
 
     old_fits : (k : ℕ) (a : At) → Fits terms past k a → Fits terms (m ∷ past) k a
@@ -192,7 +194,13 @@ same_but a p = record a { process = record a.process { text = p.text } }
 -- the process fits, with the text that it keeps
 kept_fits : (terms : Terms) (past : List Moment) (n : ℕ) (before old : At) → old ≡ same_but before old.process → Fits terms past n before → Fits terms past n old
 kept_fits terms past n before old same f = subst (λ (a : At). Fits terms past n a) (sym same)
-    (record { machine = f.machine; begun = f.begun; runs = f.runs; stands = f.stands; sound = f.sound })
+    (record {
+      machine = f.machine;
+      begun = f.begun;
+      runs = f.runs;
+      stands = f.stands;
+      sound = record { goes_on = f.sound.goes_on; reserved = f.sound.reserved; holders = f.sound.holders };
+    })
 
 may_come : (terms : Terms) (past : List Moment) (at n : ℕ) (line : List ℕ) (old : At) (marks : List Mark) (new : At) → Stand terms past → last_moment past ≤ at
     → (t : IsTold terms past at n line old marks new) → Fits terms past n old → MayCome terms at (steps_of past) line old

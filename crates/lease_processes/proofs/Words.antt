@@ -51,7 +51,7 @@ behind_none name (t ∷ ts) last none = by_test (pointwise nat_eq t.name name) n
 
 -- the line says it
 told_now : (name : Name) (user epoch until : ℕ) (ts : List Told) → told_of name (told_row ts (held name user epoch until)) ≡ Some epoch
-told_now name user epoch until ts = behind_none name (without name ts) (record { name = name; epoch = epoch }) (none_without name ts)
+told_now name user epoch until ts = behind_none name (without name ts) (record { name = name; user = user; epoch = epoch; until = until }) (none_without name ts)
     ∙ ap (λ (b : Bool). if b then Some epoch else None) (is_self name)
 
 other_without : (name other : Name) (ts : List Told) → (other ≡ name → ⊥) → told_of name (without other ts) ≡ told_of name ts
@@ -80,7 +80,7 @@ behind_other name (t ∷ ts) last apart = ap (λ (o : Option ℕ). if pointwise 
 told_still : (name : Name) (ts : List Told) (row : Row) → (IsAbout name row → ⊥) → told_of name (told_row ts row) ≡ told_of name ts
 told_still name ts (send to message bytes) apart = refl
 told_still name ts (held other user epoch until) apart =
-    behind_other name (without other ts) (record { name = other; epoch = epoch }) apart ∙ other_without name other ts apart
+    behind_other name (without other ts) (record { name = other; user = user; epoch = epoch; until = until }) apart ∙ other_without name other ts apart
 told_still name ts (lost other epoch) apart = other_without name other ts apart
 told_still name ts (refused why) apart = refl
 told_still name ts (unserved why other user) apart = refl

@@ -1,2 +1,3 @@
 pub mod Processes
 pub mod Printed
+pub mod Alone

@@ -8,7 +8,7 @@ use Rattle.lease_session.specs.Feeding.{At, AreAnswered}
 use Rattle.lease_session.specs.Rows.{Row, send, held, lost, refused, unserved, next, fault}
 use Rattle.lease_session.specs.Steps.{IsSound}
 use Rattle.lease_session.specs.Marks.{Mark, wrote}
-use Rattle.lease_processes.specs.Processes.{AreProcesses, AreTold, Moment, marks_of, process_of, steps_of}
+use Rattle.lease_processes.specs.Processes.{AreProcesses, AreTold, Moment, bound_of, here, marks_of, process_of, reserved_of, steps_of}
 
 -- All that the processes answer is what machines of one network do.
 abbrev pub AreOneNetwork : Type 0
@@ -98,6 +98,11 @@ LastWordHolds = (terms : Terms) (all : List Moment) → AreProcesses terms all �
     → IsLastWord all m name h.back time → m.at ≤ time → terms.clock m.machine (process_of m) time < until → Relies terms all m name epoch until time
 
 -- ---- sessions
+
+-- Where a file gives the next process of a machine a floor at or above all that it reserved for the one before, the premise on floors is met: no process grants an epoch
+-- above what its store says that it reserved.
+abbrev pub FilesGiveFloors : Type 0
+FilesGiveFloors = (terms : Terms) (past : List Moment) → AreProcesses terms past → (n floor : ℕ) → reserved_of (here past n) ≤ floor → bound_of (here past n) ≤ floor
 
 -- the lines that a session is fed with are such lines
 abbrev pub FedIsTold : Type 0

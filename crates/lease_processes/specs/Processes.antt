@@ -1,12 +1,11 @@
 -- The processes of leases of all machines: when each began, what each was told and when, and what it answered.
-use Rattle.std.specs.Prelude.{ℕ, ◌≡◌, ◌≤◌, ◌==◌, if◌then◌else◌, List, [], ◌∷◌, Option, Some, None}
+use Rattle.std.specs.Prelude.{ℕ, ◌≡◌, ◌≤◌, ◌==◌, max, if◌then◌else◌, List, [], ◌∷◌, Option, Some, None}
 use Rattle.lease_runs.specs.Lists.{IsAmong}
 use Rattle.lease_network.specs.Network.{Step, Terms}
 use Rattle.lease_message.specs.declared.message.LeaseMessage.{LeaseMessage}
-use Rattle.lease_machine.specs.declared.state.LeaseMachine.{LeaseMachine}
 use Rattle.lease_steps.specs.StandsFor.{AreOf}
-use Rattle.lease_session.specs.declared.process.Start.{Start}
 use Rattle.lease_session.specs.Feeding.{At, IsNew}
+use Rattle.lease_session.specs.Own.{bound_by}
 use Rattle.lease_session.specs.Reading.{meaning_of}
 use Rattle.lease_session.specs.Rows.{send}
 use Rattle.lease_session.specs.Steps.{IsAnswered, MayBring, TellsTime, steps_with}
@@ -61,14 +60,15 @@ pub record HasBegun (past : List Moment) (n process : ℕ) : Type 0 where
   pub machine : moment.machine ≡ n
   pub numbered : process_of moment ≡ process
 
--- the process grants no epoch above this one before it reserves more
-abbrev pub bound_by : Start → Option LeaseMachine → ℕ
-bound_by start None = start.floor
-bound_by start (Some machine) = machine.bound
-
+-- where a machine's process is, it grants no epoch above this one before it reserves more
 abbrev pub bound_of : Option At → ℕ
 bound_of None = 0
 bound_of (Some a) = bound_by a.process.start a.process.machine
+
+-- its file reserved epochs up to this one for it: what its store says, and its floor
+abbrev pub reserved_of : Option At → ℕ
+reserved_of None = 0
+reserved_of (Some a) = max a.reserved a.process.start.floor
 
 -- A process that begins was told nothing yet. Its file gave it a number that no process of the machine had, and a floor at or above each epoch that the one before it may
 -- have granted; all processes have the same terms.

@@ -1,6 +1,7 @@
 //! Laws of the processes of leases. Each is the contract of a function that does nothing; a caller takes the law by calling it.
 
-ghost use Rattle.lease_processes.specs.Printed.{AreOneNetwork, EpochsFollow, EpochsRise, FedIsTold, HeldLinesAreLeases, LastWordHolds, OneAtATime, OneEpochEach};
+ghost use Rattle.lease_processes.specs.Alone.{PremisesAreMet};
+ghost use Rattle.lease_processes.specs.Printed.{AreOneNetwork, EpochsFollow, EpochsRise, FedIsTold, FilesGiveFloors, HeldLinesAreLeases, LastWordHolds, OneAtATime, OneEpochEach};
 
 /// The headline of leases. Take any number of processes of each machine, one after another over its file, each ended at any moment.
 /// The premises are those of `AreProcesses`: a file gives each process a number of its own and a floor at or above what the one
@@ -41,7 +42,16 @@ pub fn leases_are_one_network()
 /// What the premises say of lines is what the contract of sessions says of them.
 pub fn lines_are_told()
     // Promise: Each line that a session is fed with is answered with such steps and lines.
-    ensures { FedIsTold }
+    ensures told { FedIsTold }
+    // Promise: Where a file gives the next process of a machine a floor at or above all that the store of the one before says that it
+    // reserved, and above that one's own floor, the premise on floors is met.
+    // Also: lease_session::LeaseSession::feed.
+    // Refuses: lease_session::bound_raised_without_the_store.
+    ensures floors { FilesGiveFloors }
+    // Promise: The premises of processes and clocks can be met: by any process that is alone and any first line that brings it no message, where
+    // clocks show the true time.
+    // Refuses: nobody_may_begin.
+    ensures met { PremisesAreMet }
 {
     lease_session::lines_are_steps();
 }

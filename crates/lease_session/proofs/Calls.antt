@@ -1,5 +1,5 @@
 -- Calls of a process's machine, as turns.
-use Rattle.std.proofs.Common.{◌≡◌, ℕ, ◌+◌, ◌<◌, ◌≤◌, Bool, true, false, List, [], ◌∷◌, ◌++◌, Option, Some, None, refl, sym, ◌∙◌, ap, subst, inl, inr, arith}
+use Rattle.std.proofs.Common.{◌≡◌, ℕ, ◌+◌, ◌<◌, ◌≤◌, Bool, true, false, List, [], ◌∷◌, ◌++◌, Option, Some, None, ◌⊎◌, refl, sym, ◌∙◌, ap, subst, inl, inr, arith}
 use Rattle.std.proofs.lemmas.List.{append-nil}
 use Rattle.std.specs.Prelude.{is_some}
 use Rattle.lease_runs.specs.Lists.{IsAmong}
@@ -10,7 +10,7 @@ use Rattle.lease_runs.specs.Candidate.{Candidate, beginning}
 use Rattle.lease_runs.specs.CandidateCode.{IsSent, Shows, by_clock, shown}
 use Rattle.lease_runs.specs.Code.{client_of, view}
 use Rattle.lease_runs.specs.Run.{stops}
-use Rattle.lease_network.specs.Network.{Name, Message, request, release, begins, reserves, sends, takes, Terms, Machine, MayDo, at_name, candidate_then, done}
+use Rattle.lease_network.specs.Network.{Name, Message, request, grant, release, Event, begins, reserves, sends, takes, Terms, Machine, MayDo, at_name, candidate_then, done}
 use Rattle.lease_message.specs.declared.message.LeaseBody.TheVariants as body
 use Rattle.lease_message.specs.declared.message.LeaseBody.{LeaseBody}
 use Rattle.lease_message.specs.declared.message.LeaseClient.{LeaseClient}
@@ -21,20 +21,24 @@ use Rattle.lease_machine.specs.declared.name_entry.Claim.{Claim}
 use Rattle.lease_machine.specs.declared.state.LeaseMachine.{LeaseMachine}
 use Rattle.lease_machine.specs.declared.terms.LeaseTerms.{LeaseTerms}
 use Rattle.lease_machine.specs.Kept.{IsOwn}
-use Rattle.lease_machine.specs.Machine.{AllStay, GoesOn, claim_at, voter_at}
+use Rattle.lease_machine.specs.Machine.{AllStay, GoesOn, OthersSame, claim_at, voter_at}
 use Rattle.lease_machine.specs.Claims.{Hears, Relies}
 use Rattle.lease_machine.specs.Standing.{Stands}
 use Rattle.lease_steps.specs.StandsFor.{AreOf, Did, DidNothing, StandsFor, clock_of}
 use Rattle.lease_session.specs.declared.process.LeaseProcess.{LeaseProcess}
-use Rattle.lease_session.specs.Rows.{asker, lost, row_text, said, said_by}
-use Rattle.lease_session.specs.Telling.{NoneUpTo, told_row}
+use Rattle.lease_session.specs.declared.process.Start.{Start}
+use Rattle.lease_session.specs.Rows.{asker, held, lost, row_text, said, said_by}
+use Rattle.lease_session.specs.Telling.{NoneUpTo, told_of, told_row, without}
 use Rattle.lease_session.specs.declared.told.Told.{Told}
 use Rattle.lease_session.specs.declared.refusing.Halt.TheVariants.{NoMemory}
 use Rattle.std.specs.Global.{Vec}
+use Rattle.lease_session.specs.Holding.{AreHoldersTold, IsHolderTold, IsToldNow, last_told, news_of}
 use Rattle.lease_session.specs.Marks.{did, wrote}
-use Rattle.lease_session.specs.Turns.{claim_of, Follow, GaveUp, GoesTo, IsClientOf, Requested, IsAt, IsBefore, IsHeld, IsTheClients, Stood, TellsUser, Turn, Voted, key_of, sent_in, who}
+use Rattle.lease_session.specs.Turns.{claim_of, Follow, GaveUp, GoesTo, IsClientOf, Requested, IsAt, IsBefore, IsHeld, IsTheClients, Stood, TellsHolder, TellsUser, SaysHeld, IsOut, IsQuiet, Turn, Voted, Who, key_of, sent_in, who}
 use Rattle.lease_session.proofs.Machines.{by_client, by_name, own_at, shows_still}
-use Rattle.lease_session.proofs.Turns.{Rest, deed, is_at_quiet, is_there, itself, its_machine, no_deed, nothing_had, sends_still, sent_still, shows, stands, text_same, then_had}
+use Rattle.lease_session.proofs.Leases.{Keeps, LeasesKept, keeps_news, kept_told, leases_same, same_name}
+use Rattle.lease_session.proofs.News.{epoch_told, other_without, told_now, told_other}
+use Rattle.lease_session.proofs.Turns.{Rest, deed, deed_told, is_at_quiet, is_there, itself, its_machine, no_deed, nothing_had, quiet_self, failed, sends_still, sent_still, shows, stands, stay, text_same, then_had, to_same, who_is}
 
 pub by_bool : {P : Type 0} (b : Bool) → (b ≡ true → P) → (b ≡ false → P) → P
 by_bool true positive negative = positive refl
@@ -61,11 +65,11 @@ all_still {x = x} {y = y} {now = now} still goes terms m s = record {
 
 pub voted : {client : Client} {epoch now : ℕ} {a b : LeaseProcess} {x y : LeaseMachine} (result : Vote) (name : Name) (number : ℕ) → Rest a b → a.machine ≡ Some x → b.machine ≡ Some y
     → (result ≡ vote.Granted → Did x y now (itself a) (takes (request name client number epoch))) → (result ≡ vote.Refused → DidNothing x y now)
-    → (result ≡ vote.Full → DidNothing x y now) → Voted result name client number epoch now a b
-voted {client = client} {epoch = epoch} {a = a} vote.Granted name number r was is granted refused full =
-    record { turn = deed (itself a) (takes (request name client number epoch)) r was is (granted refl) refl refl (λ p h. h) (inl (inl refl)) tt; grants = λ e. inl refl }
-voted vote.Refused name number r was is granted refused full = record { turn = no_deed r was is (refused refl); grants = λ e. absurd cc }
-voted vote.Full name number r was is granted refused full = record { turn = no_deed r was is (full refl); grants = λ e. absurd cc }
+    → (result ≡ vote.Full → DidNothing x y now) → LeasesKept x y → Voted result name client number epoch now a b
+voted {client = client} {epoch = epoch} {a = a} vote.Granted name number r was is granted refused full kept =
+    record { turn = deed (itself a) (takes (request name client number epoch)) r was is (granted refl) refl refl (λ p h. h) (inl (inl refl)) tt kept; grants = λ e. inl refl }
+voted vote.Refused name number r was is granted refused full kept = record { turn = no_deed r was is (refused refl) kept; grants = λ e. absurd cc }
+voted vote.Full name number r was is granted refused full kept = record { turn = no_deed r was is (full refl) kept; grants = λ e. absurd cc }
 
 pub release_said : (m : LeaseMessage) → m.body ≡ body.Release → (client : Client) → client ≡ asker m.client → IsAmong (release m.name client m.epoch) (said m)
 release_said m is client same = subst (λ (b : LeaseBody). IsAmong (release m.name client m.epoch) (said_by m b)) (sym is)
@@ -129,6 +133,9 @@ held_so {now = now} {name = name} {r = r} terms x m s h = record {
 
 -- ---- the start
 
+pub no_claim : {o : Option Claim} (k : Claim) → o ≡ None → o ≡ Some k → ⊥
+no_claim {o = o} k none is = absurd (let bad : None ≡ Some k = sym none ∙ is in cc)
+
 pub begun : {now : ℕ} {a b : LeaseProcess} {y : LeaseMachine} {bound : ℕ} → Rest a b → a.machine ≡ None → b.machine ≡ Some y → y.terms ≡ a.terms → y.process ≡ a.start.process
     → ((by : Client) → by.machine ≡ y.terms.machine → by.boot ≡ y.process → y.claims ≡ 0 → a.start.floor ≤ bound
     → ((name : Name) (old : Voter) (clock : ℕ → ℕ → ℕ) (boot at : ℕ) → clock boot at ≡ now
@@ -147,6 +154,8 @@ begun {now = now} {a = a} {b = b} {y = y} {bound = bound} r was is of_terms of_p
   start = r.start;
   key = ap key_of r.seal;
   halts = λ out. r.halt ∙ out;
+  goes_on = λ none. sym r.halt ∙ none;
+  holders = λ none h. subst (λ (o : Option LeaseMachine). AreHoldersTold o b.told.items) (sym is) (λ name c request claimed. absurd (no_claim c (nobody name) claimed));
   text = λ goes. text_same r ∙ sym (append-nil a.text.items);
   told = λ goes. ap (λ t. t.items) r.told;
   careful = λ goes. (tt, (tt, tt));
@@ -219,46 +228,49 @@ claim_there {r = r} name has is = subst (λ (o : Option LeaseMachine). claim_of 
 
 pub gave_up : {now : ℕ} {a b : LeaseProcess} {x y : LeaseMachine} (client : Client) (name : Name) (epoch : ℕ) → Rest a b → a.machine ≡ Some x → b.machine ≡ Some y
     → Did x y now client (sends (release name client epoch)) → client.machine ≡ a.terms.machine → client.boot ≡ a.start.process → NoneUpTo name epoch a.told.items
-    → GaveUp name client epoch now a b
-gave_up client name epoch r was is did_it machine process none =
-    record { turn = deed client (sends (release name client epoch)) r was is did_it machine process (λ p h. h) tt (inl none); sends = inl refl }
+    → LeasesKept x y → GaveUp name client epoch now a b
+gave_up client name epoch r was is did_it machine process none kept =
+    record { turn = deed client (sends (release name client epoch)) r was is did_it machine process (λ p h. h) tt (inl none) kept; sends = inl refl }
 
 -- and its user is told
 pub gave_up_lost : {now told : ℕ} {a b c : LeaseProcess} {x y : LeaseMachine} (client : Client) (name : Name) (epoch : ℕ) → Rest a b → a.machine ≡ Some x → b.machine ≡ Some y
     → Did x y now client (sends (release name client epoch)) → client.machine ≡ a.terms.machine → client.boot ≡ a.start.process → told ≤ epoch → a.halt ≡ None
-    → TellsUser (lost name told) b c → GaveUp name client epoch now a c
-gave_up_lost {now = now} {told = told} {a = a} {b = b} {c = c} {x = x} {y = y} client name epoch r was is did_it machine process covers going tells = record {
-  turn = record {
-    marks = did client (sends (release name client epoch)) ∷ wrote (lost name told) ∷ [];
-    terms = tells.quiet.terms ∙ r.terms;
-    start = tells.quiet.start ∙ r.start;
-    key = tells.quiet.key ∙ ap key_of r.seal;
-    halts = λ out. absurd (let bad : None ≡ Some NoMemory = sym going ∙ out in cc);
-    text = λ goes. elim tells.said [
-      | inl out ↦ absurd (goes out)
-      | inr said ↦ said.1 ∙ ap (λ (t : List ℕ). t ++ row_text (lost name told)) (text_same r) ∙ ap (λ (t : List ℕ). a.text.items ++ t) (sym (append-nil (row_text (lost name told))))
-    ];
-    told = λ goes. elim tells.said [ inl out ↦ absurd (goes out) | inr said ↦ said.2 ∙ ap (λ (t : Vec Told). told_row t.items (lost name told)) r.told ];
-    careful = λ goes. (inr refl, tt);
-    goes = λ terms at m clock at_old.
-        let s = stands a x terms now m was at_old in
-        let h = did_it terms at m (shows a x terms now at was clock) s in (
-          (
-            record {
-              machine = machine;
-              process = process;
-              runs = s.process ∙ ap (λ (p : ℕ). Some p) (a.own x was).own_process;
-              may = h.0;
-              had = tt;
-            },
-            (record { client = client; up_to = epoch; covers = covers; released = inl refl }, tt),
-          ),
-          is_at_quiet b c terms now (done terms client m at (sends (release name client epoch))) tells.quiet
-              (is_there b y terms now (done terms client m at (sends (release name client epoch))) is h.1),
-        );
-  };
+    → TellsUser (lost name told) b c → (AreHoldersTold (Some x) a.told.items → AreHoldersTold (Some y) (told_row a.told.items (lost name told))) → GaveUp name client epoch now a c
+gave_up_lost {now = now} {told = told} {a = a} {b = b} {c = c} {x = x} {y = y} client name epoch r was is did_it machine process covers going tells holders = record {
+  turn = deed_told client (sends (release name client epoch)) (wrote (lost name told) ∷ []) r was is did_it machine process (λ p h. h) tt tells.quiet
+      (λ out. absurd (let bad : None ≡ Some NoMemory = sym going ∙ out in cc)) (λ none. going)
+      (λ goes. elim tells.said [
+        | inl out ↦ absurd (goes out)
+        | inr said ↦ said.1 ∙ ap (λ (t : List ℕ). t ++ row_text (lost name told)) (text_same r) ∙ ap (λ (t : List ℕ). a.text.items ++ t) (sym (append-nil (row_text (lost name told))))
+      ])
+      (λ goes. its_told (λ out. goes out)) (λ goes. (inr refl, tt))
+      (λ none h. subst (λ (o : Option LeaseMachine). AreHoldersTold o c.told.items) (sym (tells.quiet.machine ∙ is))
+      (subst (λ (ts : List Told). AreHoldersTold (Some y) ts) (sym (its_told (λ out. absurd (let bad : None ≡ Some NoMemory = sym none ∙ out in cc))))
+      (holders (subst (λ (o : Option LeaseMachine). AreHoldersTold o a.told.items) was h))))
+      (λ terms at m clock there. ((record { client = client; up_to = epoch; covers = covers; released = inl refl }, tt), refl));
   sends = inl refl;
 }
+  where
+    its_told : (IsOut c → ⊥) → c.told.items ≡ told_row a.told.items (lost name told)
+    its_told goes = elim tells.said [ inl out ↦ absurd (goes out) | inr said ↦ said.2 ∙ ap (λ (t : Vec Told). told_row t.items (lost name told)) r.told ]
+
+-- whom the line tells of no longer keeps a lease of the name
+pub lost_holders : {told epoch : ℕ} (x y : LeaseMachine) (ts : List Told) (name : Name) → told_of name ts ≡ Some told → told ≤ epoch
+    → ((d : Claim) (r : Request) → claim_at y name ≡ Some d → d.candidate.lease ≡ Some r → Keeps x name d.user d.candidate.relies_for r × (epoch < r.epoch))
+    → OthersSame name x y → AreHoldersTold (Some x) ts → AreHoldersTold (Some y) (without name ts)
+lost_holders {told = told} {epoch = epoch} x y ts name was covers keeps others h other = elim (same_name name other) [
+  | inl e ↦ subst (λ (n : Name). IsHolderTold n y (without name ts)) e (λ d r is lease. absurd (gone d r (keeps d r is lease)))
+  | inr differ ↦ λ d r is lease. other_without other name ts (λ e. differ (sym e)) ∙ h other d r (sym (others other differ).1 ∙ is) lease
+]
+  where
+    some_same : (p q : ℕ) → Some p ≡ Some q → p ≡ q
+    some_same p q e = cc
+
+    gone : (d : Claim) (r : Request) → Keeps x name d.user d.candidate.relies_for r × (epoch < r.epoch) → ⊥
+    gone d r k =
+        let said = epoch_told name ts (news_of name k.0.claim r) (h name k.0.claim r k.0.is k.0.lease) in
+        let same = some_same told r.epoch (sym was ∙ said) in
+        absurd (let above = k.1 in omega (arith, covers, same, above))
 
 the_client : ℕ → ℕ → ℕ → Client
 the_client machine boot number = record { machine = machine; boot = boot; number = number }
@@ -324,14 +336,14 @@ client_of_machine p name {asks = asks} h = by_machine p.machine refl h.claimed
 
 pub requested : {now : ℕ} {a b c : LeaseProcess} {x y : LeaseMachine} (name : Name) (asks : ClientId) (number epoch : ℕ) → Rest a b → a.machine ≡ Some x → b.machine ≡ Some y
     → (h : IsClientOf a.machine name asks) → Did x y now (client_of h.claim.candidate.client) (sends (request name (client_of h.claim.candidate.client) number epoch))
-    → (it : LeaseClient) → asker it ≡ client_of asks → Turn (request name (asker it) number epoch ∷ []) [] now b c → Requested name asks number epoch now a c
-requested {now = now} {a = a} {x = x} {y = y} name asks number epoch r was is h did_it it same sends_it =
+    → (it : LeaseClient) → asker it ≡ client_of asks → Turn (request name (asker it) number epoch ∷ []) [] now b c → LeasesKept x y → Requested name asks number epoch now a c
+requested {now = now} {a = a} {x = x} {y = y} name asks number epoch r was is h did_it it same sends_it kept =
     let by = client_of asks in
     let message = request name by number epoch in
     let at = claim_there name was h.claimed in
     let its : Did x y now by (sends message) = subst (λ (c : ClientId). Did x y now (client_of c) (sends (request name (client_of c) number epoch))) h.as_client did_it in
     let t = deed {sent = []} {brought = []} by (sends message) r was is its (ap (λ (c : ClientId). c.machine) (sym h.as_client) ∙ of_machine a x name h.claim was at)
-    (ap (λ (c : ClientId). c.boot) (sym h.as_client) ∙ of_process a x name h.claim was at) (λ p g. g) tt tt in
+    (ap (λ (c : ClientId). c.boot) (sym h.as_client) ∙ of_process a x name h.claim was at) (λ p g. g) tt tt kept in
     record {
       turn = then_had t sends_it (requested_of (ap (λ (c : Client). request name c number epoch) same)) (nothing_had [] (message ∷ []));
       sends = sent_still (message ∷ []) sends_it.marks message (inl refl);
@@ -357,5 +369,105 @@ some_is (Some x) is some = (x, refl)
 pub the_claim : (a b : Claim) → Some a ≡ Some b → a ≡ b
 the_claim a b e = cc
 
-pub no_claim : {o : Option Claim} (k : Claim) → o ≡ None → o ≡ Some k → ⊥
-no_claim {o = o} k none is = absurd (let bad : None ≡ Some k = sym none ∙ is in cc)
+-- ---- who holds is told
+
+abbrev the_news : Name → ℕ → ℕ → ℕ → Told
+the_news name user epoch until = record { name = name; user = user; epoch = epoch; until = until }
+
+said_news : {now : ℕ} {b c : LeaseProcess} {x : LeaseMachine} {name : Name} → SaysHeld now name b c → b.machine ≡ Some x → IsHolderTold name x c.told.items
+said_news {c = c} {name = name} t is d r claimed lease =
+    let s = t.is_so _ d r is claimed lease in
+    ap (λ (ts : List Told). last_told name ts) t.told
+    ∙ (told_now _ (record { name = name; user = t.user; epoch = t.epoch; until = t.until })
+    ∙ (ap (λ (n : ℕ). Some (the_news name n t.epoch t.until)) s.0 ∙ (ap (λ (n : ℕ). Some (the_news name d.user n t.until)) s.1 ∙ ap (λ (n : ℕ). Some (the_news name d.user r.epoch n)) s.2)))
+
+-- of the name by the line, of others as before
+said_all : {now : ℕ} {b c : LeaseProcess} (x : LeaseMachine) {y : LeaseMachine} {name : Name} → SaysHeld now name b c → b.machine ≡ Some y → OthersSame name x y
+    → ((name : Name) → IsHolderTold name x b.told.items) → AreHoldersTold (Some y) c.told.items
+said_all {b = b} {c = c} x {y = y} {name = name} t is others h other = elim (same_name name other) [
+  | inl e ↦ subst (λ (n : Name). IsHolderTold n y c.told.items) e (said_news t is)
+  | inr differ ↦ λ d r claimed lease. ap (λ (ts : List Told). last_told other ts) t.told
+      ∙ (told_other other b.told.items (record { name = name; user = t.user; epoch = t.epoch; until = t.until }) (λ e. differ (sym e))
+      ∙ h other d r (sym (others other differ).1 ∙ claimed) lease)
+]
+
+said_turn : {now : ℕ} {name : Name} (b c : LeaseProcess) → IsQuiet b c → SaysHeld now name b c → Turn [] [] now b c
+said_turn {now = now} {name = name} b c quiet s = record {
+  marks = wrote (held name s.user s.epoch s.until) ∷ [];
+  terms = quiet.terms;
+  start = quiet.start;
+  key = quiet.key;
+  halts = λ out. absurd (let bad : None ≡ Some NoMemory = sym s.going ∙ out in cc);
+  goes_on = λ none. s.going;
+  text = λ goes. s.text ∙ ap (λ (t : List ℕ). b.text.items ++ t) (sym (append-nil (row_text (held name s.user s.epoch s.until))));
+  told = λ goes. s.told;
+  careful = λ goes. tt;
+  holders = λ none h. by_machine b.machine refl h;
+  goes = λ terms at m clock is. ((s.holds terms at m clock is, tt), is_at_quiet b c terms now m quiet is);
+}
+  where
+    by_machine : (o : Option LeaseMachine) → b.machine ≡ o → AreHoldersTold o b.told.items → AreHoldersTold c.machine c.told.items
+    by_machine None is h = subst (λ (o : Option LeaseMachine). AreHoldersTold o c.told.items) (sym (quiet.machine ∙ is)) tt
+    by_machine (Some x) is h = subst (λ (o : Option LeaseMachine). AreHoldersTold o c.told.items) (sym (quiet.machine ∙ is))
+        (said_all x s is (λ other differ. (refl, refl)) h)
+
+pub told_turn : {now : ℕ} {name : Name} {b c : LeaseProcess} → TellsHolder now name b c → Turn [] [] now b c
+told_turn {b = b} {c = c} t = elim t.said [ inl out ↦ failed t.quiet out | inr (inl same) ↦ to_same same.0 (stay b) | inr (inr s) ↦ said_turn b c t.quiet s ]
+
+-- a grant that is heard, and what its user is told
+pub heard : {now voter number : ℕ} {a b c : LeaseProcess} {x y : LeaseMachine} (client : ClientId) (name : Name) → Rest a b → a.machine ≡ Some x → b.machine ≡ Some y
+    → Did x y now (client_of client) (takes (grant name (client_of client) number voter)) → client.machine ≡ a.terms.machine → client.boot ≡ a.start.process
+    → ((d : Claim) (r : Request) → claim_at y name ≡ Some d → d.candidate.lease ≡ Some r → Keeps x name d.user d.candidate.relies_for r ⊎ (now < r.sent + d.candidate.relies_for))
+    → OthersSame name x y → TellsHolder now name b c → Turn [] (grant name (client_of client) number voter ∷ []) now a c
+heard {now = now} {voter = voter} {number = number} {a = a} {b = b} {c = c} {x = x} {y = y} client name r was is did_it machine process kept others t = elim t.said [
+  | inl out ↦ deed_told by what [] r was is did_it machine process (λ p h. h) (inl (inl refl)) t.quiet (λ before. out) (λ none. not_out out none) (λ goes. absurd (goes out))
+      (λ goes. absurd (goes out)) (λ goes. absurd (goes out)) (λ none. not_out out none) (λ terms at m clock there. (tt, refl))
+  | inr (inl same) ↦ to_same same.0 (deed_told by what [] r was is did_it machine process (λ p h. h) (inl (inl refl)) (quiet_self b) (λ out. r.halt ∙ out) (λ none. sym r.halt ∙ none)
+      (λ goes. text_same r ∙ sym (append-nil a.text.items)) (λ goes. ap (λ t. t.items) r.told) (λ goes. (tt, tt))
+      (λ none h. subst (λ (o : Option LeaseMachine). AreHoldersTold o b.told.items) (sym is) (λ other. not_news (same.1 (ap (λ (p : LeaseProcess). p.halt) same.0 ∙ none)) same.0 (its h) other))
+      (λ terms at m clock there. (tt, refl)))
+  | inr (inr s) ↦ deed_told by what (wrote (held name s.user s.epoch s.until) ∷ []) r was is did_it machine process (λ p h. h) (inl (inl refl)) t.quiet
+      (λ out. absurd (let bad : None ≡ Some NoMemory = sym (sym r.halt ∙ s.going) ∙ out in cc)) (λ none. sym r.halt ∙ s.going)
+      (λ goes. s.text ∙ (ap (λ (u : List ℕ). u ++ row_text (held name s.user s.epoch s.until)) (text_same r)
+      ∙ ap (λ (u : List ℕ). a.text.items ++ u) (sym (append-nil (row_text (held name s.user s.epoch s.until))))))
+      (λ goes. s.told ∙ ap (λ (u : Vec Told). told_row u.items (held name s.user s.epoch s.until)) r.told) (λ goes. (tt, tt))
+      (λ none h. subst (λ (o : Option LeaseMachine). AreHoldersTold o c.told.items) (sym (t.quiet.machine ∙ is)) (said_all x s is others (its h)))
+      (λ terms at m clock there. (
+        (
+          subst (λ (w : Who). IsHeld terms w at m name s.epoch s.until) (who_is a b r.terms r.start (ap key_of r.seal))
+              (s.holds terms at m (clock_so terms at clock) there),
+          tt,
+        ),
+        refl,
+      ))
+]
+  where
+    by : Client
+    by = client_of client
+
+    what : Event
+    what = takes (grant name (client_of client) number voter)
+
+    not_out : {P : Type 0} → IsOut c → c.halt ≡ None → P
+    not_out out none = absurd (let bad : None ≡ Some NoMemory = sym none ∙ out in cc)
+
+    its : AreHoldersTold a.machine a.told.items → (other : Name) → IsHolderTold other x b.told.items
+    its h other = subst (λ (u : Vec Told). IsHolderTold other x u.items) (sym r.told) (subst (λ (o : Option LeaseMachine). AreHoldersTold o a.told.items) was h other)
+
+    clock_so : (terms : Terms) (at : ℕ) → terms.clock a.terms.machine a.start.process at ≡ now → terms.clock b.terms.machine b.start.process at ≡ now
+    clock_so terms at clock = ap (λ (u : LeaseTerms). terms.clock u.machine b.start.process at) r.terms
+        ∙ (ap (λ (u : Start). terms.clock a.terms.machine u.process at) r.start ∙ clock)
+
+    told_here : IsToldNow now name c.machine c.told.items → c ≡ b → IsToldNow now name (Some y) b.told.items
+    told_here told same = subst (λ (o : Option LeaseMachine). IsToldNow now name o b.told.items) is
+        (subst (λ (p : LeaseProcess). IsToldNow now name p.machine p.told.items) same told)
+
+    -- nothing is news
+    not_news : IsToldNow now name c.machine c.told.items → c ≡ b → ((other : Name) → IsHolderTold other x b.told.items) → (other : Name) → IsHolderTold other y b.told.items
+    not_news told same h other = elim (same_name name other) [
+      | inl e ↦ subst (λ (n : Name). IsHolderTold n y b.told.items) e (λ d q claimed lease. elim (kept d q claimed lease) [
+        | inl k ↦ keeps_news name b.told.items k (h name)
+        | inr less ↦ told_here told same d q claimed lease less
+      ])
+      | inr differ ↦ kept_told x y b.told.items other (leases_same x y other (others other differ).1) (h other)
+    ]

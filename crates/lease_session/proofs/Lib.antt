@@ -1,9 +1,14 @@
+pub mod Bounds
 pub mod Calls
 pub mod Cutting
 pub mod Feeding
+pub mod Granting
+pub mod Leases
 pub mod Lines
 pub mod Machines
+pub mod News
 pub mod Reading
+pub mod Saying
 pub mod Steps
 pub mod Turns
 pub mod Votes

@@ -14,7 +14,7 @@ use Rattle.lease_session.specs.declared.refusing.Halt.{Halt}
 use Rattle.lease_session.specs.declared.refusing.Halt.TheVariants.{Device, NoMemory}
 use Rattle.lease_session.specs.declared.refusing.Refusal.{Refusal as Refused}
 use Rattle.lease_session.specs.declared.refusing.Refusal.TheVariants as why
-use Rattle.lease_session.specs.Feeding.{AnswersBy, At}
+use Rattle.lease_session.specs.Feeding.{AnswersBy, At, IsReserved}
 use Rattle.lease_session.specs.Lines.{Comes, ComesBy, ComesOf, DeliversBy, DeliversIt, IsEnded, IsHalted, Refuses, brought_by, goes_on, last_row}
 use Rattle.lease_session.specs.Opening.{BringsBy}
 use Rattle.lease_session.specs.Reading.{Meaning, Bad, Tick, Deliver, Acquire, Release, meaning_of}
@@ -25,7 +25,8 @@ use Rattle.lease_session.specs.Turns.{Who, who, IsAt, IsStill, Stood, Tells, Tur
 use Rattle.lease_session.proofs.Steps.{go, turn_goes_on}
 use Rattle.lease_session.specs.Telling.{told_row}
 use Rattle.lease_session.specs.declared.told.Told.{Told}
-use Rattle.lease_session.proofs.Turns.{is_at_same, quiet_of, then, written}
+use Rattle.lease_session.specs.Holding.{AreHoldersTold}
+use Rattle.lease_session.proofs.Turns.{holders_still, is_at_same, quiet_of, then, written}
 
 -- ---- the line that ends an answer
 
@@ -56,7 +57,7 @@ not_out false halt is out = absurd (let bad : None ≡ Some NoMemory = sym is �
 
 pub ended_turn : {brought : List Message} {now : ℕ} {due : Option ℕ} {stops : Bool} (a b c : LeaseProcess) → Turn [] brought now a b → IsEnded due stops b c → Turn [] brought now a c
 ended_turn {due = due} {stops = stops} a b c t e =
-    then t (written (last_row stops due) (quiet_of (still_ended b c e)) (λ out. halt_ended b c e ∙ out) e.text (ap (λ t. t.items) (still_ended b c e).told ∙ sym (told_last stops due b.told.items)) (λ terms at m clock is. tells_last stops due terms (who b) at m []))
+    then t (written (last_row stops due) (quiet_of (still_ended b c e)) (λ out. halt_ended b c e ∙ out) (λ none. sym (halt_ended b c e) ∙ none) e.text (ap (λ t. t.items) (still_ended b c e).told ∙ sym (told_last stops due b.told.items)) (told_last stops due b.told.items) (λ terms at m clock is. tells_last stops due terms (who b) at m []))
 
 sound_by : (stops : Bool) (b c : LeaseProcess) → IsHalted stops b.halt → c.halt ≡ b.halt → stops ≡ false → c.halt ≡ None
 sound_by true b c is same off = absurd cc
@@ -87,6 +88,10 @@ told_before told now on = by_parts (leb told now) (ltb now (2 ^ 62)) refl on
 abbrev Marked : List ℕ → At → At → Type 0
 Marked line old new = (marks : List Mark) × IsAnswered marks line old new
 
+-- what is reserved behind the line, and who was told of its lease before
+abbrev IsKept : At → At → Type 0
+IsKept old new = IsReserved new × AreHoldersTold old.process.machine old.process.told.items
+
 -- what is known of a line of this meaning, wherever it may be answered
 abbrev Given : List ℕ → At → Meaning → Type 0
 Given line old meaning = (terms : Terms) (at : ℕ) (past : List Step) → MayCome terms at past line old
@@ -96,9 +101,9 @@ abbrev WasBrought : List ℕ → At → ℕ → List Message → Type 0
 WasBrought line old now brought = (terms : Terms) (at : ℕ) (past : List Step) → MayCome terms at past line old
     → (terms.clock old.process.terms.machine old.process.start.process at ≡ now) × ((message : Message) → IsAmong message brought → WasSentIn past message)
 
-turned : {due : Option ℕ} (later : StandsOn) (now : ℕ) (brought : List Message) (line : List ℕ) (old new : At) (behind : LeaseProcess) → old.told ≤ now → WasBrought line old now brought
+turned : {due : Option ℕ} (later : StandsOn) (now : ℕ) (brought : List Message) (line : List ℕ) (old new : At) (behind : LeaseProcess) → IsKept old new → old.told ≤ now → WasBrought line old now brought
     → Turn [] brought now old.process behind → new.told ≡ now → IsEnded due new.stopped behind new.process → Marked line old new
-turned later now brought line old new behind less given t then_now e =
+turned later now brought line old new behind within less given t then_now e =
     let whole = ended_turn old.process behind new.process t e in (
       whole.marks,
       record {
@@ -108,7 +113,11 @@ turned later now brought line old new behind less given t then_now e =
         key = whole.key;
         told = whole.told (λ out. not_out new.stopped behind.halt e.halted (sym (halt_ended behind new.process e) ∙ out));
         careful = whole.careful (λ out. not_out new.stopped behind.halt e.halted (sym (halt_ended behind new.process e) ∙ out));
-        sound = λ off. sound_by new.stopped behind new.process e.halted (halt_ended behind new.process e) off;
+        sound = record {
+          goes_on = λ off. sound_by new.stopped behind new.process e.halted (halt_ended behind new.process e) off;
+          reserved = within.0;
+          holders = λ none. whole.holders none within.1;
+        };
         goes = λ terms at past m.
             let g = given terms at past m in
             let added = turn_goes_on terms at now past brought old.process new.process whole g.0 m.are m.last m.runs g.1
@@ -117,9 +126,9 @@ turned later now brought line old new behind less given t then_now e =
       },
     )
 
-refuses : {due : Option ℕ} (reason : Refused) (line : List ℕ) (old new : At) (behind : LeaseProcess) → old.process.halt ≡ None
+refuses : {due : Option ℕ} (reason : Refused) (line : List ℕ) (old new : At) (behind : LeaseProcess) → IsKept old new → old.process.halt ≡ None
     → Refuses reason old.told new.told old.process behind → IsEnded due new.stopped behind new.process → Marked line old new
-refuses {due = due} reason line old new behind going r e =
+refuses {due = due} reason line old new behind within going r e =
     let rows : List Mark = wrote (refused reason) ∷ wrote (last_row new.stopped due) ∷ [] in
     let last = still_ended behind new.process e in
     let says = r.2 going (λ out. not_out new.stopped behind.halt e.halted out) in (
@@ -133,7 +142,11 @@ refuses {due = due} reason line old new behind going r e =
         key = last.key ∙ r.0.key;
         told = ap (λ t. t.items) last.told ∙ (ap (λ t. t.items) r.0.told ∙ sym (told_last new.stopped due old.process.told.items));
         careful = tt;
-        sound = λ off. sound_by new.stopped behind new.process e.halted (halt_ended behind new.process e) off;
+        sound = record {
+          goes_on = λ off. sound_by new.stopped behind new.process e.halted (halt_ended behind new.process e) off;
+          reserved = within.0;
+          holders = λ none. holders_still behind new.process last.machine (ap (λ t. t.items) last.told) (holders_still old.process behind r.0.machine (ap (λ t. t.items) r.0.told) within.1);
+        };
         goes = λ terms at past m.
             let here = machines terms past old.process.terms.machine in (
               go terms (who old.process) at past [] [] rows m.are m.last m.runs (λ x i. absurd i) (λ x i. absurd i)
@@ -144,13 +157,13 @@ refuses {due = due} reason line old new behind going r e =
       },
     )
 
-timed : {due : Option ℕ} (later : StandsOn) (now : ℕ) (line : List ℕ) (old new : At) (behind : LeaseProcess) → old.process.halt ≡ None → WasBrought line old now []
+timed : {due : Option ℕ} (later : StandsOn) (now : ℕ) (line : List ℕ) (old new : At) (behind : LeaseProcess) → IsKept old new → old.process.halt ≡ None → WasBrought line old now []
     → Comes now [] old.told new.told old.process behind → IsEnded due new.stopped behind new.process → Marked line old new
-timed later now line old new behind going given came e = by_time (goes_on old.told now) refl came
+timed later now line old new behind within going given came e = by_time (goes_on old.told now) refl came
   where
     by_time : (b : Bool) → goes_on old.told now ≡ b → ComesBy b now [] old.told new.told old.process behind → Marked line old new
-    by_time true on c = turned later now [] line old new behind (told_before old.told now on) given c.0 c.1 e
-    by_time false off c = refuses why.Time line old new behind going c e
+    by_time true on c = turned later now [] line old new behind within (told_before old.told now on) given c.0 c.1 e
+    by_time false off c = refuses why.Time line old new behind within going c e
 
 -- the message that came was sent, if one came
 was_brought : (past : List Step) (p : LeaseProcess) (now : ℕ) (word : List ℕ) (it : Came) → IsDelivered past p (Deliver now word) → BringsBy p.seal (bytes_of word) (Some it)
@@ -161,33 +174,33 @@ was_brought past p now word (came.Unsealed why) had brings x i = absurd i
 was_brought past p now word (came.Acquire name user) had brings x i = absurd i
 was_brought past p now word (came.Release name user) had brings x i = absurd i
 
-delivered : {due : Option ℕ} (later : StandsOn) (now : ℕ) (word line : List ℕ) (old new : At) (behind : LeaseProcess) → old.process.halt ≡ None → Given line old (Deliver now word)
+delivered : {due : Option ℕ} (later : StandsOn) (now : ℕ) (word line : List ℕ) (old new : At) (behind : LeaseProcess) → IsKept old new → old.process.halt ≡ None → Given line old (Deliver now word)
     → ComesOf (Deliver now word) old.told new.told old.process behind → IsEnded due new.stopped behind new.process → Marked line old new
-delivered later now word line old new behind going given came e = by_time (goes_on old.told now) refl came
+delivered later now word line old new behind within going given came e = by_time (goes_on old.told now) refl came
   where
     by_brought : (it : Option Came) → old.told ≤ now → BringsBy old.process.seal (bytes_of word) it → DeliversIt it now old.told new.told old.process behind → Marked line old new
-    by_brought None less brings c = refuses why.Bad line old new behind going c e
+    by_brought None less brings c = refuses why.Bad line old new behind within going c e
     by_brought (Some it) less brings c =
-        turned later now (brought_by it) line old new behind less (λ terms at past m. (let g = given terms at past m in (g.0, was_brought past old.process now word it g.1 brings))) c.0 c.1 e
+        turned later now (brought_by it) line old new behind within less (λ terms at past m. (let g = given terms at past m in (g.0, was_brought past old.process now word it g.1 brings))) c.0 c.1 e
 
     by_time : (b : Bool) → goes_on old.told now ≡ b → DeliversBy b now word old.told new.told old.process behind → Marked line old new
     by_time true on c = let d = c (λ out. not_out new.stopped behind.halt e.halted out) in by_brought d.0 (told_before old.told now on) d.1 d.2
-    by_time false off c = refuses why.Time line old new behind going c e
+    by_time false off c = refuses why.Time line old new behind within going c e
 
 -- a line that brings nothing
 brings_none : (line : List ℕ) (old : At) (now : ℕ) (meaning : Meaning) → ((time : ℕ) → TellsTime time meaning → time ≡ now) → Given line old meaning → WasBrought line old now []
 brings_none line old now meaning tells given =
     λ terms at past m. (tells (terms.clock old.process.terms.machine old.process.start.process at) (given terms at past m).0, λ message i. absurd i)
 
-by_meaning : {due : Option ℕ} (later : StandsOn) (line : List ℕ) (old new : At) (behind : LeaseProcess) (meaning : Meaning) → old.process.halt ≡ None → Given line old meaning
+by_meaning : {due : Option ℕ} (later : StandsOn) (line : List ℕ) (old new : At) (behind : LeaseProcess) (meaning : Meaning) → IsKept old new → old.process.halt ≡ None → Given line old meaning
     → ComesOf meaning old.told new.told old.process behind → IsEnded due new.stopped behind new.process → Marked line old new
-by_meaning later line old new behind Bad going given came e = refuses why.Bad line old new behind going came e
-by_meaning later line old new behind (Tick now) going given came e = timed later now line old new behind going (brings_none line old now (Tick now) (λ time t. t) given) came e
-by_meaning later line old new behind (Deliver now word) going given came e = delivered later now word line old new behind going given came e
-by_meaning later line old new behind (Acquire now name user) going given came e =
-    timed later now line old new behind going (brings_none line old now (Acquire now name user) (λ time t. t) given) came.0 e
-by_meaning later line old new behind (Release now name user) going given came e =
-    timed later now line old new behind going (brings_none line old now (Release now name user) (λ time t. t) given) came e
+by_meaning later line old new behind Bad within going given came e = refuses why.Bad line old new behind within going came e
+by_meaning later line old new behind (Tick now) within going given came e = timed later now line old new behind within going (brings_none line old now (Tick now) (λ time t. t) given) came e
+by_meaning later line old new behind (Deliver now word) within going given came e = delivered later now word line old new behind within going given came e
+by_meaning later line old new behind (Acquire now name user) within going given came e =
+    timed later now line old new behind within going (brings_none line old now (Acquire now name user) (λ time t. t) given) came.0 e
+by_meaning later line old new behind (Release now name user) within going given came e =
+    timed later now line old new behind within going (brings_none line old now (Release now name user) (λ time t. t) given) came e
 
 -- nothing is answered
 silent : (line : List ℕ) (old new : At) → new ≡ old → IsSound old → Marked line old new
@@ -211,4 +224,4 @@ lines later line old new answers sound = by_stopped old.stopped refl line answer
     by_stopped : (b : Bool) → old.stopped ≡ b → (line : List ℕ) → AnswersBy b line old new → Given line old (meaning_of line) → Marked line old new
     by_stopped true is line same given = silent line old new same sound
     by_stopped false is [] same given = silent [] old new same sound
-    by_stopped false is (c ∷ line) a given = by_meaning later (c ∷ line) old new a.behind (meaning_of (c ∷ line)) (sound is) given a.came a.ended
+    by_stopped false is (c ∷ line) a given = by_meaning later (c ∷ line) old new a.behind (meaning_of (c ∷ line)) (a.reserved, sound.holders (sound.goes_on is)) (sound.goes_on is) given a.came a.ended

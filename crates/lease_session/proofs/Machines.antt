@@ -22,7 +22,7 @@ the_entry : (a b : NameEntry) → Some a ≡ Some b → a ≡ b
 the_entry a b e = cc
 
 -- what is true of all is true of the one that is found
-of_found : (P : NameEntry → Type 0) (name : List ℕ) (es : List NameEntry) (d : NameEntry) → All P es → entry_of name es ≡ Some d → P d
+pub of_found : (P : NameEntry → Type 0) (name : List ℕ) (es : List NameEntry) (d : NameEntry) → All P es → entry_of name es ≡ Some d → P d
 of_found P name [] d all h = absurd cc
 of_found P name (e ∷ es) d all h = by_test (is_same e.name name) (All-head P e es all) (λ g. of_found P name es d (All-tail P e es all) g) h
   where
@@ -50,7 +50,7 @@ shows_still old new terms c v same process shows = subst (λ (k : ℕ → ℕ). 
 pub not_same : (a b : ℕ) → (a == b) ≡ false → a ≡ b → ⊥
 not_same a b differ same = absurd (let bad : true ≡ false = sym (eq-eqb a b same) ∙ differ in cc)
 
-not_name : (n name : Name) → bytes_eq n name ≡ false → name ≢ n
+pub not_name : (n name : Name) → bytes_eq n name ≡ false → name ≢ n
 not_name n name other is = absurd (let bad : true ≡ false = sym ((bytes_eq-Decides n name).1 (sym is)) ∙ other in cc)
 
 pub by_name : {A : Type 0} (P : A → Type 0) (name other : Name) (new old : Name → A) → (name ≡ other → P (new other)) → (other ≢ name → P (old other))

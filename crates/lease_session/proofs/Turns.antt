@@ -1,5 +1,5 @@
 -- Turns, of one step, of one line, and one behind another.
-use Rattle.std.proofs.Common.{◌≡◌, ◌⊎◌, ℕ, List, [], ◌∷◌, ◌++◌, Option, Some, refl, sym, ◌∙◌, ap, subst, inl, inr, append_assoc}
+use Rattle.std.proofs.Common.{◌≡◌, ◌⊎◌, ℕ, List, [], ◌∷◌, ◌++◌, Option, Some, None, refl, sym, ◌∙◌, ap, subst, inl, inr, append_assoc}
 use Rattle.std.proofs.lemmas.List.{append-nil}
 use Rattle.lease_runs.specs.Lists.{IsAmong}
 use Rattle.lease_runs.specs.Voter.{Client}
@@ -17,8 +17,10 @@ use Rattle.lease_session.specs.declared.seals.LeaseSeal.{LeaseSeal}
 use Rattle.lease_session.specs.Own.{IsOwn}
 use Rattle.std.specs.Global.{Vec, Global}
 use Rattle.std.specs.Option.{ForSome}
+use Rattle.lease_session.specs.Holding.{AreHoldersTold}
 use Rattle.lease_session.specs.Marks.{Mark, did, wrote}
 use Rattle.lease_session.specs.Turns.{text_of, sent_by, sent_in, after_marks, Who, who, key_of, AreAmong, Tells, Runs, IsHad, Follow, Stood, IsAt, IsOut, IsQuiet, IsStill, Turn}
+use Rattle.lease_session.proofs.Leases.{LeasesKept, kept_told}
 
 -- ---- lists
 
@@ -158,6 +160,8 @@ then_had {sent = sent} {brought = brought} {more = more} {took = took} {now = no
   start = u.start ∙ t.start;
   key = u.key ∙ t.key;
   halts = λ out. u.halts (t.halts out);
+  goes_on = λ none. t.goes_on (u.goes_on none);
+  holders = λ none told. u.holders none (t.holders (u.goes_on none) told);
   text = λ goes. u.text goes ∙ (ap (λ (x : List ℕ). x ++ text_of u.marks) (t.text (λ out. goes (u.halts out)))
       ∙ (append_assoc a.text.items (text_of t.marks) (text_of u.marks) ∙ ap (λ (x : List ℕ). a.text.items ++ x) (sym (text_both t.marks u.marks))));
   told = λ goes. u.told goes ∙ (ap (λ (x : List Told). told_after x u.marks) (t.told (λ out. goes (u.halts out))) ∙ sym (told_both a.told.items t.marks u.marks));
@@ -211,13 +215,20 @@ is_at_quiet a b terms now m s is =
 pub is_at_same : (a b : LeaseProcess) (terms : Terms) (now : ℕ) (m : Machine) → IsStill a b → IsAt terms now a m → IsAt terms now b m
 is_at_same a b terms now m s is = is_at_quiet a b terms now m (quiet_of s) is
 
-pub stayed : {sent brought : List Message} {now : ℕ} {a b : LeaseProcess} → IsStill a b → (IsOut a → IsOut b) → b.text.items ≡ a.text.items → Turn sent brought now a b
-stayed {now = now} {a = a} {b = b} s halts text = record {
+pub holders_still : (a b : LeaseProcess) → b.machine ≡ a.machine → b.told.items ≡ a.told.items → AreHoldersTold a.machine a.told.items → AreHoldersTold b.machine b.told.items
+holders_still a b machine told h = subst (λ (o : Option LeaseMachine). AreHoldersTold o b.told.items) (sym machine)
+    (subst (λ (ts : List Told). AreHoldersTold a.machine ts) (sym told) h)
+
+pub stayed : {sent brought : List Message} {now : ℕ} {a b : LeaseProcess} → IsStill a b → (IsOut a → IsOut b) → (b.halt ≡ None → a.halt ≡ None) → b.text.items ≡ a.text.items
+    → Turn sent brought now a b
+stayed {now = now} {a = a} {b = b} s halts goes_on text = record {
   marks = [];
   terms = s.terms;
   start = s.start;
   key = s.key;
   halts = halts;
+  goes_on = goes_on;
+  holders = λ none h. holders_still a b s.machine (ap (λ t. t.items) s.told) h;
   text = λ goes. text ∙ sym (append-nil a.text.items);
   told = λ goes. ap (λ t. t.items) s.told;
   careful = λ goes. tt;
@@ -225,7 +236,7 @@ stayed {now = now} {a = a} {b = b} s halts text = record {
 }
 
 pub stay : {sent brought : List Message} {now : ℕ} (a : LeaseProcess) → Turn sent brought now a a
-stay a = stayed (record { machine = refl; terms = refl; start = refl; key = refl; told = refl }) (λ out. out) refl
+stay a = stayed (record { machine = refl; terms = refl; start = refl; key = refl; told = refl }) (λ out. out) (λ none. none) refl
 
 -- the same process
 pub from_same : {sent brought : List Message} {now : ℕ} {a b c : LeaseProcess} → b ≡ a → Turn sent brought now b c → Turn sent brought now a c
@@ -242,6 +253,8 @@ failed {now = now} {a = a} {b = b} s out = record {
   start = s.start;
   key = s.key;
   halts = λ was. out;
+  goes_on = λ none. absurd (let bad : None ≡ Some NoMemory = sym none ∙ out in cc);
+  holders = λ none h. absurd (let bad : None ≡ Some NoMemory = sym none ∙ out in cc);
   text = λ goes. absurd (goes out);
   told = λ goes. absurd (goes out);
   careful = λ goes. tt;
@@ -262,16 +275,19 @@ fell machine terms start key same = failed (record {
   key = ap (λ (p : LeaseProcess). key_of p.seal) same ∙ key;
 }) (ap (λ (p : LeaseProcess). p.halt) same)
 
-pub written : {sent brought : List Message} {now : ℕ} {a b : LeaseProcess} (row : Row) → IsQuiet a b → (IsOut a → IsOut b) → b.text.items ≡ a.text.items ++ row_text row
-    → b.told.items ≡ told_row a.told.items row
+pub written : {sent brought : List Message} {now : ℕ} {a b : LeaseProcess} (row : Row) → IsQuiet a b → (IsOut a → IsOut b) → (b.halt ≡ None → a.halt ≡ None)
+    → b.text.items ≡ a.text.items ++ row_text row
+    → b.told.items ≡ told_row a.told.items row → told_row a.told.items row ≡ a.told.items
     → ((terms : Terms) (at : ℕ) (m : Machine) → terms.clock a.terms.machine a.start.process at ≡ now → IsAt terms now a m → Tells terms (who a) at m sent row)
     → Turn sent brought now a b
-written {now = now} {a = a} {b = b} row s halts text told tells = record {
+written {now = now} {a = a} {b = b} row s halts goes_on text told mute tells = record {
   marks = wrote row ∷ [];
   terms = s.terms;
   start = s.start;
   key = s.key;
   halts = halts;
+  goes_on = goes_on;
+  holders = λ none h. holders_still a b s.machine (told ∙ mute) h;
   text = λ goes. text ∙ ap (λ (t : List ℕ). a.text.items ++ t) (sym (append-nil (row_text row)));
   told = λ goes. told;
   careful = λ goes. tt;
@@ -302,21 +318,36 @@ shows a x terms now at has clock = ap (λ (t : LeaseTerms). terms.clock t.machin
 pub text_same : {a b : LeaseProcess} → Rest a b → b.text.items ≡ a.text.items
 text_same r = ap (λ t. t.items) r.text
 
-abbrev pub deed : {sent brought : List Message} {now : ℕ} {a b : LeaseProcess} {x y : LeaseMachine} (by : Client) (what : Event) → Rest a b → a.machine ≡ Some x → b.machine ≡ Some y
-    → Did x y now by what → by.machine ≡ a.terms.machine → by.boot ≡ a.start.process → ((process : Option ℕ) → process ≡ Some a.start.process → Runs a.start.process process what)
-    → IsHad brought sent what → IsTold a.told.items what [] → Turn sent brought now a b
-deed {now = now} {a = a} {b = b} {x = x} {y = y} by what r was is did_it of_machine of_process runs had told = record {
-  marks = did by what ∷ [];
-  terms = r.terms;
-  start = r.start;
-  key = ap key_of r.seal;
-  halts = λ out. r.halt ∙ out;
-  text = λ goes. text_same r ∙ sym (append-nil a.text.items);
-  told = λ goes. ap (λ t. t.items) r.told;
-  careful = λ goes. (told, tt);
+pub holders_rest : {a b : LeaseProcess} {x y : LeaseMachine} → Rest a b → a.machine ≡ Some x → b.machine ≡ Some y → LeasesKept x y → AreHoldersTold a.machine a.told.items
+    → AreHoldersTold b.machine b.told.items
+holders_rest {a = a} {b = b} {x = x} {y = y} r was is kept h = subst (λ (o : Option LeaseMachine). AreHoldersTold o b.told.items) (sym is)
+    (subst (λ (t : Vec Told). AreHoldersTold (Some y) t.items) (sym r.told)
+    (λ name. kept_told x y a.told.items name (kept name) (subst (λ (o : Option LeaseMachine). AreHoldersTold o a.told.items) was h name)))
+
+-- and maybe writes a line of it
+abbrev pub deed_told : {sent brought : List Message} {now : ℕ} {a b c : LeaseProcess} {x y : LeaseMachine} (by : Client) (what : Event) (rest : List Mark) → Rest a b
+    → a.machine ≡ Some x → b.machine ≡ Some y → Did x y now by what → by.machine ≡ a.terms.machine → by.boot ≡ a.start.process
+    → ((process : Option ℕ) → process ≡ Some a.start.process → Runs a.start.process process what) → IsHad brought sent what → IsQuiet b c → (IsOut a → IsOut c)
+    → (c.halt ≡ None → a.halt ≡ None) → ((IsOut c → ⊥) → c.text.items ≡ a.text.items ++ text_of rest) → ((IsOut c → ⊥) → c.told.items ≡ told_after a.told.items rest)
+    → ((IsOut c → ⊥) → AreTold a.told.items (did by what ∷ rest)) → (c.halt ≡ None → AreHoldersTold a.machine a.told.items → AreHoldersTold c.machine c.told.items)
+    → ((terms : Terms) (at : ℕ) (m : Machine) → terms.clock a.terms.machine a.start.process at ≡ now → IsAt terms now b m
+    → Follow terms (who a) at brought (sent_by by what ++ sent) m rest × (after_marks terms at m rest ≡ m)) → Turn sent brought now a c
+deed_told {now = now} {a = a} {b = b} {c = c} {x = x} {y = y} by what rest r was is did_it of_machine of_process runs had quiet halts goes_on text told careful holders follow = record {
+  marks = did by what ∷ rest;
+  terms = quiet.terms ∙ r.terms;
+  start = quiet.start ∙ r.start;
+  key = quiet.key ∙ ap key_of r.seal;
+  halts = halts;
+  goes_on = goes_on;
+  text = text;
+  told = told;
+  careful = careful;
+  holders = holders;
   goes = λ terms at m clock at_old.
       let s = stands a x terms now m was at_old in
-      let h = did_it terms at m (shows a x terms now at was clock) s in (
+      let h = did_it terms at m (shows a x terms now at was clock) s in
+      let there = is_there b y terms now (done terms by m at what) is h.1 in
+      let f = follow terms at (done terms by m at what) clock there in (
         (
           record {
             machine = of_machine;
@@ -325,20 +356,36 @@ deed {now = now} {a = a} {b = b} {x = x} {y = y} by what r was is did_it of_mach
             may = h.0;
             had = had;
           },
-          tt,
+          f.0,
         ),
-        is_there b y terms now (done terms by m at what) is h.1,
+        subst (λ (k : Machine). IsAt terms now c k) (sym f.1) (is_at_quiet b c terms now (done terms by m at what) quiet there),
       );
 }
 
+pub quiet_self : (a : LeaseProcess) → IsQuiet a a
+quiet_self a = record { machine = refl; terms = refl; start = refl; key = refl }
+
+pub quiet_then : {a b c : LeaseProcess} → IsQuiet a b → IsQuiet b c → IsQuiet a c
+quiet_then s t = record { machine = t.machine ∙ s.machine; terms = t.terms ∙ s.terms; start = t.start ∙ s.start; key = t.key ∙ s.key }
+
+abbrev pub deed : {sent brought : List Message} {now : ℕ} {a b : LeaseProcess} {x y : LeaseMachine} (by : Client) (what : Event) → Rest a b → a.machine ≡ Some x → b.machine ≡ Some y
+    → Did x y now by what → by.machine ≡ a.terms.machine → by.boot ≡ a.start.process → ((process : Option ℕ) → process ≡ Some a.start.process → Runs a.start.process process what)
+    → IsHad brought sent what → IsTold a.told.items what [] → LeasesKept x y → Turn sent brought now a b
+deed {a = a} {b = b} by what r was is did_it of_machine of_process runs had told kept =
+    deed_told by what [] r was is did_it of_machine of_process runs had (quiet_self b) (λ out. r.halt ∙ out) (λ none. sym r.halt ∙ none)
+    (λ goes. text_same r ∙ sym (append-nil a.text.items)) (λ goes. ap (λ t. t.items) r.told) (λ goes. (told, tt)) (λ none h. holders_rest r was is kept h)
+    (λ terms at m clock there. (tt, refl))
+
 pub no_deed : {sent brought : List Message} {now : ℕ} {a b : LeaseProcess} {x y : LeaseMachine} → Rest a b → a.machine ≡ Some x → b.machine ≡ Some y → DidNothing x y now
-    → Turn sent brought now a b
-no_deed {now = now} {a = a} {b = b} {x = x} {y = y} r was is did_none = record {
+    → LeasesKept x y → Turn sent brought now a b
+no_deed {now = now} {a = a} {b = b} {x = x} {y = y} r was is did_none kept = record {
   marks = [];
   terms = r.terms;
   start = r.start;
   key = ap key_of r.seal;
   halts = λ out. r.halt ∙ out;
+  goes_on = λ none. sym r.halt ∙ none;
+  holders = λ none h. holders_rest r was is kept h;
   text = λ goes. text_same r ∙ sym (append-nil a.text.items);
   told = λ goes. ap (λ t. t.items) r.told;
   careful = λ goes. tt;

@@ -31,6 +31,8 @@ as_sent {messages = messages} {a = a} t = record {
   start = t.start;
   key = t.key;
   halts = t.halts;
+  goes_on = t.goes_on;
+  holders = t.holders;
   text = t.text;
   told = t.told;
   careful = t.careful;
@@ -45,6 +47,8 @@ as_brought {messages = messages} {a = a} t = record {
   start = t.start;
   key = t.key;
   halts = t.halts;
+  goes_on = t.goes_on;
+  holders = t.holders;
   text = t.text;
   told = t.told;
   careful = t.careful;

@@ -1,4 +1,5 @@
 pub mod Feeding
+pub mod Holding
 pub mod Key
 pub mod Lines
 pub mod Marks
@@ -7,6 +8,8 @@ pub mod Own
 pub mod Reading
 pub mod Replies
 pub mod Rows
+pub mod Saying
 pub mod Steps
 pub mod Telling
 pub mod Turns
+pub mod Votes

@@ -45,7 +45,7 @@ Comes now brought told then old new = ComesBy (goes_on told now) now brought tol
 
 abbrev pub DeliversIt : Option Came → ℕ → ℕ → ℕ → LeaseProcess → LeaseProcess → Type 0
 DeliversIt None now told then old new = Refuses why.Bad told then old new
-DeliversIt (Some it) now told then old new = Turn [] (brought_by it) now old new × (then ≡ now) × RepliesTo old.terms it new
+DeliversIt (Some it) now told then old new = Turn [] (brought_by it) now old new × (then ≡ now) × RepliesTo old.terms now it new
 
 abbrev pub DeliversBy : Bool → ℕ → List ℕ → ℕ → ℕ → LeaseProcess → LeaseProcess → Type 0
 DeliversBy true now word told then old new = (IsOut new → ⊥) → (it : Option Came) × BringsBy old.seal (bytes_of word) it × DeliversIt it now told then old new

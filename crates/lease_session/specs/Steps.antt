@@ -8,10 +8,11 @@ use Rattle.lease_network.specs.Laws.{Held, Holds}
 use Rattle.lease_message.specs.declared.message.LeaseMessage.{LeaseMessage}
 use Rattle.lease_session.specs.declared.asked.Came.TheVariants as came
 use Rattle.lease_session.specs.declared.process.LeaseProcess.{LeaseProcess}
-use Rattle.lease_session.specs.Feeding.{Answers, At}
+use Rattle.lease_session.specs.Feeding.{Answers, At, IsReserved}
 use Rattle.lease_session.specs.Opening.{BringsBy}
 use Rattle.lease_session.specs.Reading.{Meaning, Bad, Tick, Deliver, Acquire, Release, meaning_of}
 use Rattle.lease_session.specs.Rows.{Row, held, said, send}
+use Rattle.lease_session.specs.Holding.{AreHoldersTold}
 use Rattle.lease_session.specs.Marks.{Mark, did, wrote}
 use Rattle.lease_session.specs.Telling.{AreTold, told_after}
 use Rattle.lease_session.specs.Turns.{Who, who, Follow, IsAt, IsHeld, Turn, after_marks, key_of, sent_in, text_of}
@@ -106,9 +107,11 @@ MayBring p (Release now name user) message = ⊥
 abbrev pub IsDelivered : List Step → LeaseProcess → Meaning → Type 0
 IsDelivered past p meaning = (message : LeaseMessage) → MayBring p meaning message → (x : Message) → IsAmong x (said message) → WasSentIn past x
 
--- a line is answered only while the process goes on
-abbrev pub IsSound : At → Type 0
-IsSound a = a.stopped ≡ false → a.process.halt ≡ None
+-- a line is answered only while the process goes on, no epoch is granted above what is reserved, and who holds a lease was told so
+pub record IsSound (a : At) : Type 0 where
+  pub goes_on : a.stopped ≡ false → a.process.halt ≡ None
+  pub reserved : IsReserved a
+  pub holders : a.process.halt ≡ None → AreHoldersTold a.process.machine a.process.told.items
 
 -- A line may be answered at a true time, behind these steps of all machines: what it tells is the clock's time then, what it brings was sent before, and its process stands
 -- for what its machine keeps over all steps.

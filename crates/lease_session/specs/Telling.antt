@@ -19,7 +19,7 @@ told_of name (t ∷ ts) = if pointwise nat_eq t.name name then Some t.epoch else
 -- behind a line
 abbrev pub told_row : List Told → Row → List Told
 told_row ts (send to message bytes) = ts
-told_row ts (held name user epoch until) = without name ts ++ record { name = name; epoch = epoch } ∷ []
+told_row ts (held name user epoch until) = without name ts ++ record { name = name; user = user; epoch = epoch; until = until } ∷ []
 told_row ts (lost name epoch) = without name ts
 told_row ts (refused why) = ts
 told_row ts (unserved why name user) = ts

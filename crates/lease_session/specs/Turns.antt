@@ -1,5 +1,5 @@
 -- What a process does and writes: steps of its machine over a network, and lines that tell of them.
-use Rattle.std.specs.Prelude.{ℕ, ◌≡◌, ◌⊎◌, ◌+◌, ◌<◌, ◌≤◌, List, [], ◌∷◌, ◌++◌, Option, Some, None, option_map}
+use Rattle.std.specs.Prelude.{ℕ, ◌≡◌, ◌⊎◌, ◌+◌, ◌<◌, ◌≤◌, max, List, [], ◌∷◌, ◌++◌, Option, Some, None, option_map}
 use Rattle.sealed_msg.specs.declared.stamp.Stamp.{Stamp}
 use Rattle.sealed_msg.specs.Sealing.{sealed}
 use Rattle.lease_runs.specs.Lists.{IsAmong}
@@ -24,9 +24,13 @@ use Rattle.lease_session.specs.declared.process.Start.{Start}
 use Rattle.lease_session.specs.declared.seals.LeaseSeal.{LeaseSeal}
 use Rattle.lease_session.specs.declared.voting.Answer.{Answer}
 use Rattle.lease_session.specs.declared.voting.Answer.TheVariants as answer
+use Rattle.lease_runs.specs.declared.candidate.Request.{Request as ClientRequest}
+use Rattle.lease_session.specs.Holding.{AreHoldersTold, IsToldNow}
 use Rattle.lease_session.specs.Marks.{Mark, did, wrote}
+use Rattle.lease_session.specs.Own.{bound_by}
 use Rattle.lease_session.specs.Rows.{Row, send, held, lost, row_text, said}
 use Rattle.lease_session.specs.Telling.{AreTold, told_after, told_row}
+use Rattle.lease_session.specs.Votes.{IsGrantedBy, IsRefusedBy}
 
 -- ---- marks
 
@@ -160,6 +164,16 @@ Stood t start (Some machine) terms now m = StandsFor terms now machine m
 abbrev pub IsAt : Terms → ℕ → LeaseProcess → Machine → Type 0
 IsAt terms now p m = Stood p.terms p.start p.machine terms now m
 
+-- its machine grants up to the epoch that it did before
+pub record AllowsNoMore (old new : LeaseProcess) : Type 0 where
+  pub its_start : new.start ≡ old.start
+  pub its_bound : bound_by new.start new.machine ≡ bound_by old.start old.machine
+
+-- and now at most up to this one, if it does up to a greater one than before
+pub record AllowsUpTo (bound : ℕ) (old new : LeaseProcess) : Type 0 where
+  pub its_start : new.start ≡ old.start
+  pub its_bound : bound_by new.start new.machine ≤ max (bound_by old.start old.machine) bound
+
 -- no memory was left
 abbrev pub IsOut : LeaseProcess → Type 0
 IsOut p = p.halt ≡ Some NoMemory
@@ -179,24 +193,49 @@ pub record IsStill (old new : LeaseProcess) : Type 0 where
   pub key : key_of new.seal ≡ key_of old.seal
   pub told : new.told ≡ old.told
 
+-- it says that the user holds the lease that its client keeps
+pub record SaysHeld (now : ℕ) (name : Name) (old new : LeaseProcess) : Type 0 where
+  pub user : ℕ
+  pub epoch : ℕ
+  pub until : ℕ
+  pub going : old.halt ≡ None
+  pub goes_on : new.halt ≡ None
+  pub text : new.text.items ≡ old.text.items ++ row_text (held name user epoch until)
+  pub told : new.told.items ≡ told_row old.told.items (held name user epoch until)
+  pub holds : (terms : Terms) (at : ℕ) (m : Machine) → terms.clock old.terms.machine old.start.process at ≡ now → IsAt terms now old m → IsHeld terms (who old) at m name epoch until
+  pub is_so : (x : LeaseMachine) (c : Claim) (r : ClientRequest) → old.machine ≡ Some x → claim_at x name ≡ Some c → c.candidate.lease ≡ Some r
+      → (user ≡ c.user) × (epoch ≡ r.epoch) × (until ≡ r.sent + c.candidate.relies_for)
+
 -- a process that goes on says this to the user of a name, or no memory is left
 pub record TellsUser (row : Row) (old new : LeaseProcess) : Type 0 where
   pub quiet : IsQuiet old new
   pub said : IsOut new ⊎ ((new.halt ≡ None) × (new.text.items ≡ old.text.items ++ row_text row) × (new.told.items ≡ told_row old.told.items row))
 
+-- The user of a name is told of the lease that its client keeps, where that is news; or the process goes on no more.
+pub record TellsHolder (now : ℕ) (name : Name) (old new : LeaseProcess) : Type 0 where
+  pub quiet : IsQuiet old new
+  pub said : IsOut new ⊎ ((new ≡ old) × (new.halt ≡ None → IsToldNow now name new.machine new.told.items)) ⊎ SaysHeld now name old new
+
 -- A process went on: at one time of its clock it made these steps and wrote these lines, where these messages were sent by steps before, and a line brought those. It keeps
--- what it told users of their leases, and gives up none unsaid. Once no memory is left, its text isn't to be written.
+-- what it told users of their leases, gives up none unsaid, and says of each that its client keeps so. Once no memory is left, its text isn't to be written.
 pub record Turn (sent brought : List Message) (now : ℕ) (old new : LeaseProcess) : Type 0 where
   pub marks : List Mark
   pub terms : new.terms ≡ old.terms
   pub start : new.start ≡ old.start
   pub key : key_of new.seal ≡ key_of old.seal
   pub halts : IsOut old → IsOut new
+  pub goes_on : new.halt ≡ None → old.halt ≡ None
   pub text : (IsOut new → ⊥) → new.text.items ≡ old.text.items ++ text_of marks
   pub told : (IsOut new → ⊥) → new.told.items ≡ told_after old.told.items marks
   pub careful : (IsOut new → ⊥) → AreTold old.told.items marks
+  pub holders : new.halt ≡ None → AreHoldersTold old.machine old.told.items → AreHoldersTold new.machine new.told.items
   pub goes : (terms : Terms) (at : ℕ) (m : Machine) → terms.clock old.terms.machine old.start.process at ≡ now → IsAt terms now old m →
       Follow terms (who old) at brought sent m marks × IsAt terms now new (after_marks terms at m marks)
+
+-- a vote is right by what the machine keeps then
+abbrev pub IsRightVote : Answer → Option LeaseMachine → ℕ → Name → Client → ℕ → Type 0
+IsRightVote answer.Granted machine now name client epoch = IsGrantedBy machine now name client epoch
+IsRightVote (answer.Refused reason lasts) machine now name client epoch = IsRefusedBy machine now name client epoch
 
 -- what a client sends
 abbrev pub IsTheClients : LeaseBody → Type 0

@@ -3,8 +3,9 @@ ghost use Rattle.std.specs.Prelude.{◌≡◌, ◌<◌, ◌^◌, ◌≤◌, ℕ,
 ghost use Rattle.lease_runs.specs.Code.{client_of as by_code};
 ghost use Rattle.lease_network.specs.Network.{request as request_of, grant as grant_of};
 ghost use Rattle.lease_session.specs.Rows.{asker, said};
+ghost use Rattle.lease_session.specs.Votes.{IsAllowed, IsGrantedBy, IsRefusedBy};
 ghost use Rattle.lease_session.specs.Telling.{NoneUpTo};
-ghost use Rattle.lease_session.specs.Turns.{AsksAs, GaveUp, IsClientOf, Requested, Turn, Voted, claim_of};
+ghost use Rattle.lease_session.specs.Turns.{AllowsNoMore, AllowsUpTo, AsksAs, GaveUp, IsClientOf, Requested, Turn, Voted, claim_of};
 
 use crate::process::LeaseProcess;
 use crate::told::told_up_to;
@@ -17,7 +18,8 @@ use lease_runs::ClientId;
 impl LeaseProcess {
     /// The user who asks here for a name asks no more.
     pub(crate) fn withdraw(&mut self, name: &LeaseName)
-        ensures { (now : ℕ) → Turn [] [] now self.old self.new }
+        ensures turn { (now : ℕ) → Turn [] [] now self.old self.new }
+        ensures bound { AllowsNoMore self.old self.new }
     {
         lease_steps::asking_is_steps();
         if let Some(machine) = &mut self.machine {
@@ -27,7 +29,9 @@ impl LeaseProcess {
 
     /// Allows epochs up to this bound, which the disk allows.
     pub(crate) fn raise(&mut self, bound: u64)
-        ensures { (now : ℕ) → Turn [] [] now self.old self.new }
+        ensures turn { (now : ℕ) → Turn [] [] now self.old self.new }
+        ensures bound { AllowsUpTo bound self.old self.new }
+        ensures allows { (epoch : ℕ) → epoch ≤ bound → IsAllowed epoch self.new.machine }
     {
         lease_steps::votes_are_steps();
         match &mut self.machine {
@@ -39,7 +43,10 @@ impl LeaseProcess {
     /// Votes on a request.
     pub(crate) fn vote(&mut self, now: u64, name: &LeaseName, client: ClientId, epoch: u64) -> Vote
         requires { now < 2 ^ 63 }
-        ensures { (number : ℕ) → Voted result name.now (by_code client) number epoch now self.old self.new }
+        ensures vote { (number : ℕ) → Voted result name.now (by_code client) number epoch now self.old self.new }
+        ensures granted { result ≡ Vote.Granted → IsGrantedBy self.new.machine now name.now (by_code client) epoch }
+        ensures refused { (result ≡ Vote.Granted → ⊥) → IsAllowed epoch self.old.machine → IsRefusedBy self.new.machine now name.now (by_code client) epoch }
+        ensures bound { AllowsNoMore self.old self.new }
     {
         lease_steps::votes_are_steps();
         match &mut self.machine {
@@ -51,7 +58,8 @@ impl LeaseProcess {
     /// Takes a release of another machine's client.
     pub(crate) fn take_release(&mut self, message: &LeaseMessage)
         requires { message.now.body ≡ LeaseBody.Release }
-        ensures { (now : ℕ) → Turn [] (said message.now) now self.old self.new }
+        ensures turn { (now : ℕ) → Turn [] (said message.now) now self.old self.new }
+        ensures bound { AllowsNoMore self.old self.new }
     {
         lease_steps::votes_are_steps();
         if let Some(machine) = &mut self.machine {
@@ -69,6 +77,7 @@ impl LeaseProcess {
     ) -> Option<(ClientId, u64)>
         ensures some { IfSome result (λ it. Requested name.now it.0 it.1 epoch now self.old self.new) }
         ensures none { IsNone result → Turn [] [] now self.old self.new }
+        ensures bound { AllowsNoMore self.old self.new }
     {
         lease_steps::asking_is_steps();
         let asks = self.client_at(name)?;
@@ -93,7 +102,7 @@ impl LeaseProcess {
         Some((asks, request.number))
     }
 
-    /// A voter granted a request of a client here.
+    /// A voter granted a request of a client here. Where the client keeps a lease then of which its user wasn't told, the user is told of it.
     pub(crate) fn hear(
         &mut self,
         now: u64,
@@ -102,18 +111,22 @@ impl LeaseProcess {
         voter: NodeId,
         number: u64,
     )
-        ensures { Turn [] (grant_of name.now (by_code client) number voter ∷ []) now self.old self.new }
+        ensures turn { Turn [] (grant_of name.now (by_code client) number voter ∷ []) now self.old self.new }
+        ensures bound { AllowsNoMore self.old self.new }
     {
         lease_steps::asking_is_steps();
-        if let Some(machine) = &mut self.machine {
-            machine.hear(now, name, client, voter, number);
-        }
+        let Some(machine) = &mut self.machine else {
+            return;
+        };
+        machine.hear(now, name, client, voter, number);
+        self.tell_held(now, name);
     }
 
     /// The client that asks here for a name relies on its epoch no more. It says so to its user, where that was told that it holds the lease, and then
     /// to the voters, of which one is here. A process that halts says nothing more, and gives nothing up.
     pub(crate) fn give_up(&mut self, name: &LeaseName, epoch: u64)
-        ensures { (now : ℕ) → Turn [] [] now self.old self.new }
+        ensures turn { (now : ℕ) → Turn [] [] now self.old self.new }
+        ensures bound { AllowsNoMore self.old self.new }
     {
         if self.halt.is_some() {
             return;
@@ -141,6 +154,7 @@ impl LeaseProcess {
         requires { self.old.halt ≡ None }
         ensures gave { (client : ClientId) → IsClientOf self.old.machine name.now client → (now : ℕ) → GaveUp name.now (by_code client) epoch now self.old self.new }
         ensures terms { self.new.terms ≡ self.old.terms }
+        ensures bound { AllowsNoMore self.old self.new }
     {
         lease_steps::asking_is_steps();
         let told = told_up_to(&self.told, name, epoch);
@@ -177,6 +191,7 @@ impl LeaseProcess {
         ensures done { result ≡ true → (now : ℕ) → GaveUp name.now (asker client) epoch now self.old self.new }
         ensures none { result ≡ false → (now : ℕ) → Turn [] [] now self.old self.new }
         ensures terms { self.new.terms ≡ self.old.terms }
+        ensures bound { AllowsNoMore self.old self.new }
     {
         lease_steps::asking_is_steps();
         if self.is_told_up_to(name, epoch) {
@@ -211,7 +226,8 @@ impl LeaseProcess {
 
     /// Sends the release of a granted epoch again that is given up, to who granted it.
     pub(crate) fn release_again(&mut self, grant: &LeaseMessage)
-        ensures { (now : ℕ) → Turn [] [] now self.old self.new }
+        ensures turn { (now : ℕ) → Turn [] [] now self.old self.new }
+        ensures bound { AllowsNoMore self.old self.new }
     {
         if grant.voter == self.terms.machine()
             || grant.voter.number() >= self.terms.machines()

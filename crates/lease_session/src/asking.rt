@@ -304,22 +304,8 @@ impl<S: EpochStore + Drop> Participant<S> {
             return;
         };
         if let Some(request) = machine.held(now, name) {
-            self.tell_held(now, want, &request);
+            hold(want, &request, self.process.terms.relies_for());
         }
-    }
-
-    /// Tells a user that it holds its lease, where that is news.
-    fn tell_held(&mut self, now: u64, want: &mut Want, request: &Request)
-        ensures turn { Turn [] [] now self.old.process self.new.process }
-        ensures told { self.new.told ≡ self.old.told }
-    {
-        let relies_for = self.process.terms.relies_for();
-        let until = request.sent.saturating_add(relies_for);
-        if want.stage == (Stage::Holding { until }) {
-            return;
-        }
-        want.hold(until, request.sent.saturating_add(renewal(relies_for)));
-        self.process.tell_held(now, &want.name, want.user);
     }
 
     /// What binds a voter that refuses for this reason and lasts at most so long, where something does.
@@ -486,4 +472,13 @@ impl<S: EpochStore + Drop> Participant<S> {
             None => false,
         }
     }
+}
+
+/// One who holds the lease by a request, and relies on it for so long, renews it later.
+fn hold(want: &mut Want, request: &Request, relies_for: u64) {
+    let until = request.sent.saturating_add(relies_for);
+    if want.stage == (Stage::Holding { until }) {
+        return;
+    }
+    want.hold(until, request.sent.saturating_add(renewal(relies_for)));
 }

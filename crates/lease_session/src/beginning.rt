@@ -2,7 +2,7 @@
 ghost use Rattle.std.specs.Prelude.{◌≡◌, ◌≤◌, ℕ, [], IfOk, None, Some};
 ghost use Rattle.line_words.specs.Lines.{bytes_of};
 ghost use Rattle.lease_session.specs.Opening.{Brings, BringsBy};
-ghost use Rattle.lease_session.specs.Turns.{Turn, key_of};
+ghost use Rattle.lease_session.specs.Turns.{AllowsNoMore, AllowsUpTo, IsQuiet, Turn, key_of};
 
 use crate::asked::Came;
 use crate::process::{LeaseProcess, Start};
@@ -49,7 +49,9 @@ impl LeaseProcess {
 
     /// The device failed: nothing more is written but that.
     pub(crate) fn stop(&mut self)
-        ensures { (now : ℕ) → Turn [] [] now self.old self.new }
+        ensures turn { (now : ℕ) → Turn [] [] now self.old self.new }
+        ensures halts { self.new.halt ≡ None → ⊥ }
+        ensures quiet { IsQuiet self.old self.new }
     {
         if self.halt.is_none() {
             self.halt = Some(Halt::Device);
@@ -74,7 +76,8 @@ impl LeaseProcess {
     /// Its machine begins, with epochs up to this bound reserved.
     pub(crate) fn begin(&mut self, now: u64, bound: u64)
         requires { self.old.start.floor ≤ bound }
-        ensures { Turn [] [] now self.old self.new }
+        ensures turn { Turn [] [] now self.old self.new }
+        ensures bound { AllowsUpTo bound self.old self.new }
     {
         lease_steps::votes_are_steps();
         if self.machine.is_some() {
@@ -106,7 +109,8 @@ impl LeaseProcess {
 
     /// A user begins to ask for the lease of a name.
     pub(crate) fn claim(&mut self, now: u64, name: &LeaseName, user: u64) -> Result<(), Refusal>
-        ensures { Turn [] [] now self.old self.new }
+        ensures turn { Turn [] [] now self.old self.new }
+        ensures bound { AllowsNoMore self.old self.new }
     {
         lease_steps::asking_is_steps();
         let Some(machine) = &mut self.machine else {

@@ -25,6 +25,10 @@ pub fn lines_are_steps()
     // the time that the line tells is what the machine's clock shows then, and the message that its bytes carry was sent before. Who is told to
     // hold a lease holds it over these steps.
     // Also: turns_are_steps.
+    // Promise: Whoever holds a lease behind a line, since more than half of the voters granted its request in time, was told so last: its user,
+    // under that epoch, until so long after its request was sent as it relies on it. So a majority is told, and each renewal.
+    // Also: LeaseProcess::hear, LeaseProcess::tell_held, is_told.
+    // Refuses: held_never_told, renewal_never_told, held_told_to_another_user.
     ensures { LinesAreSteps }
 {
     lease_steps::votes_are_steps();

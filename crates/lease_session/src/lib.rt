@@ -8,7 +8,7 @@
 //! output.write_all(session.text())?;                              // send 1 .., send 2 .., next 5080
 //! session.clear();
 //! ```
-#![tactic(auto, using(crate::proofs::Turns::stay, crate::proofs::Turns::stayed, crate::proofs::Turns::fell))]
+#![tactic(auto, using(crate::proofs::Turns::stay, crate::proofs::Turns::stayed, crate::proofs::Turns::fell, crate::proofs::Bounds::bound_kept, crate::proofs::Bounds::bound_quiet, crate::proofs::Bounds::within_still, crate::proofs::Bounds::within_quiet))]
 
 mod acting;
 mod asked;

@@ -5,6 +5,7 @@ ghost use Rattle.lease_session.specs.Reading.{meaning_of};
 ghost use Rattle.lease_session.specs.Replies.{AsksTo, RepliesTo};
 ghost use Rattle.lease_session.specs.Feeding.{IsNew, at};
 ghost use Rattle.lease_session.specs.Lines.{Comes, ComesOf, Delivers, brought_by, goes_on};
+ghost use Rattle.lease_session.specs.Own.{IsWithin};
 
 use crate::asked::{Asked, Came, read_line};
 use crate::pause::AnswerTime;
@@ -34,6 +35,7 @@ pub(crate) struct Participant<S: EpochStore> {
     pub(crate) wants: Vec<Want>,
     pub(crate) answers: AnswerTime,
     pub(crate) random: Pcg32,
+    ghost within: { IsWithin (S.bound store) process.start process.machine },
 }
 
 impl<S: EpochStore + Drop> Participant<S> {
@@ -44,7 +46,7 @@ impl<S: EpochStore + Drop> Participant<S> {
         start: Start,
         store: S,
     ) -> Result<Participant<S>, AllocError>
-        ensures { IfOk result (λ it. IsNew terms start [] (at it.process it.told false)) }
+        ensures { IfOk result (λ it. IsNew terms start [] (at it.process it.told false (S.bound it.store))) }
     {
         let machine = u64::from(terms.machine().number());
         Ok(Participant {
@@ -112,10 +114,13 @@ impl<S: EpochStore + Drop> Participant<S> {
         // release_of_a_client_to_come.
         ensures comes { Comes now (brought_by came) self.old.told self.new.told self.old.process self.new.process }
         // Promise: A request to this voter of another machine's client is answered by a grant or a refusal of its number, as long as memory
-        // is left and the device doesn't fail.
-        // Also: Participant::take_request, LeaseProcess::answer, LeaseProcess::send.
-        // Refuses: grant_never_answered.
-        ensures replies { goes_on self.old.told now ≡ true → RepliesTo self.old.process.terms came self.new.process }
+        // is left and the device doesn't fail. It is granted exactly where it speaks of this length of a lease and this list of machines,
+        // the machine has begun, its voter of the name may grant the epoch by its rule, which forbids it while it waits behind its start
+        // or another client has the grant, and a name that is kept may be had for it.
+        // Also: Participant::take_request, Participant::vote, Participant::reserve, LeaseProcess::vote, LeaseProcess::answer,
+        // LeaseProcess::send.
+        // Refuses: grant_never_answered, refused_at_will, terms_not_compared, refused_unreserved.
+        ensures replies { goes_on self.old.told now ≡ true → RepliesTo self.old.process.terms now came self.new.process }
         // Promise: For a user that begins to ask for a lease a request is sent at once, or the user is told why not.
         // Also: Participant::acquire, Participant::ask_or_tell, Participant::request.
         // Refuses: acquire_never_asked.
@@ -133,7 +138,7 @@ impl<S: EpochStore + Drop> Participant<S> {
     fn take_came(&mut self, now: u64, came: Came)
         requires { now < 2 ^ 62 }
         ensures turn { Turn [] (brought_by came) now self.old.process self.new.process }
-        ensures replies { RepliesTo self.old.process.terms came self.new.process }
+        ensures replies { RepliesTo self.old.process.terms now came self.new.process }
         ensures asks { AsksTo came now self.old.process self.new.process }
         ensures told { self.new.told ≡ self.old.told }
     {

@@ -3,15 +3,16 @@ ghost use Rattle.std.specs.Prelude.{◌≡◌, ◌++◌, ℕ, List, [], IfOk, On
 ghost use Rattle.lease_network.specs.Network.{Name};
 ghost use Rattle.lease_message.specs.declared.message.LeaseMessage.{LeaseMessage as Message};
 ghost use Rattle.lease_session.specs.Lines.{IsEnded, Says};
-ghost use Rattle.lease_session.specs.Replies.{IsReplied, IsReply, IsToldWhy};
+ghost use Rattle.lease_session.specs.Replies.{IsAnsweredBy, IsToldWhy};
 ghost use Rattle.lease_session.specs.Rows.{held, lost, refused, row_text, said, send};
+ghost use Rattle.lease_session.specs.Saying.{TellsNews};
 ghost use Rattle.lease_session.specs.Telling.{told_row};
 ghost use Rattle.lease_session.specs.Turns.{Carries, GoesTo, IsQuiet, IsStill, IsTheClients, TellsUser, Turn, key_of};
 
 use crate::process::LeaseProcess;
 use crate::refusing::{Halt, Refusal};
 use crate::seals::LeaseSeal;
-use crate::told::{forget_told, keep_told};
+use crate::told::{Told, forget_told, is_told, keep_told};
 use crate::writing::{
     push_fault, push_held, push_lost, push_next, push_refused, push_send, push_unserved,
 };
@@ -44,7 +45,7 @@ impl LeaseProcess {
     pub(crate) fn send(&mut self, to: NodeId, message: &LeaseMessage)
         requires { GoesTo self.old.terms.machine to message.now message.now.body }
         ensures turn { (now : ℕ) → Turn (said message.now) [] now self.old self.new }
-        ensures machine { self.new.machine ≡ self.old.machine }
+        ensures quiet { IsQuiet self.old self.new }
         ensures writes { self.new.halt ≡ None → (bytes : List ℕ) × Carries (key_of self.new.seal) bytes message.now
             × (self.new.text.items ≡ self.old.text.items ++ row_text (send to message.now bytes)) }
     {
@@ -65,6 +66,7 @@ impl LeaseProcess {
         requires client { message.now.client.machine ≡ self.old.terms.machine }
         requires body { IsTheClients message.now.body }
         ensures turn { (now : ℕ) → Turn (said message.now) [] now self.old self.new }
+        ensures quiet { IsQuiet self.old self.new }
     {
         for number in 0..self.terms.machines() {
             self.send_to(number, message);
@@ -76,7 +78,7 @@ impl LeaseProcess {
         requires client { message.now.client.machine ≡ self.old.terms.machine }
         requires body { IsTheClients message.now.body }
         ensures turn { (now : ℕ) → Turn (said message.now) [] now self.old self.new }
-        ensures terms { self.new.terms ≡ self.old.terms }
+        ensures quiet { IsQuiet self.old self.new }
     {
         match NodeId::new(number) {
             Some(voter) if voter != self.terms.machine() => {
@@ -97,7 +99,8 @@ impl LeaseProcess {
     pub(crate) fn answer(&mut self, request: &LeaseMessage, epoch: u64, body: LeaseBody)
         requires { GoesTo self.old.terms.machine request.now.client.machine (record request.now { body = body }) body }
         ensures turn { (now : ℕ) → Turn (said (record request.now { epoch = epoch; body = body })) [] now self.old self.new }
-        ensures replies { (number : ℕ) → IsReply number body → self.new.halt ≡ None → IsReplied request.now number self.new }
+        ensures replies { self.new.halt ≡ None → IsAnsweredBy request.now body self.new }
+        ensures quiet { IsQuiet self.old self.new }
     {
         let message = LeaseMessage {
             client: request.client,
@@ -109,42 +112,55 @@ impl LeaseProcess {
         self.send(request.client.machine, &message);
     }
 
-    /// A user holds the lease that it asks for.
-    pub(crate) fn tell_held(&mut self, now: u64, name: &LeaseName, user: u64)
-        ensures turn { Turn [] [] now self.old self.new }
+    /// The user who asks here for a name is told that it holds its lease, where its client does and that is news.
+    pub(crate) fn tell_held(&mut self, now: u64, name: &LeaseName)
+        ensures { TellsNews now name.now self.old self.new }
     {
+        if self.halt.is_some() {
+            return;
+        }
         let Some(machine) = &self.machine else {
+            return;
+        };
+        let Some(claim) = machine.claimed(name) else {
             return;
         };
         let Some(request) = machine.held(now, name) else {
             return;
         };
         let Some(until) = request.sent.checked_add(self.terms.relies_for()) else {
+            self.run_out();
             return;
         };
-        if self.halt.is_some() {
+        let news = Told {
+            name: *name,
+            user: claim.user,
+            epoch: request.epoch,
+            until,
+        };
+        if is_told(&self.told, &news) {
             return;
         }
-        match self.say_held(name, user, request.epoch, until) {
+        match self.say_held(&news) {
             Ok(()) => {}
             Err(_) => self.run_out(),
         }
     }
 
-    fn say_held(
-        &mut self,
-        name: &LeaseName,
-        user: u64,
-        epoch: u64,
-        until: u64,
-    ) -> Result<(), AllocError>
-        ensures said { OnOk result (self.new.text.items ≡ self.old.text.items ++ row_text (held name.now user epoch until)) }
-        ensures told { OnOk result (self.new.told.items ≡ told_row self.old.told.items (held name.now user epoch until)) }
+    fn say_held(&mut self, news: &Told) -> Result<(), AllocError>
+        ensures said { OnOk result (self.new.text.items ≡ self.old.text.items ++ row_text (held news.now.name news.now.user news.now.epoch news.now.until)) }
+        ensures told { OnOk result (self.new.told.items ≡ told_row self.old.told.items (held news.now.name news.now.user news.now.epoch news.now.until)) }
         ensures quiet { IsQuiet self.old self.new }
         ensures halt { self.new.halt ≡ self.old.halt }
     {
-        keep_told(&mut self.told, name, epoch)?;
-        push_held(&mut self.text, name, user, epoch, until)
+        keep_told(&mut self.told, news)?;
+        push_held(
+            &mut self.text,
+            &news.name,
+            news.user,
+            news.epoch,
+            news.until,
+        )
     }
 
     /// And holds it no more.
@@ -177,6 +193,7 @@ impl LeaseProcess {
     pub(crate) fn refuse_user(&mut self, why: Refusal, name: &LeaseName, user: u64)
         ensures turn { (now : ℕ) → Turn [] [] now self.old self.new }
         ensures says { self.new.halt ≡ None → IsToldWhy name.now user self.new }
+        ensures quiet { IsQuiet self.old self.new }
     {
         if self.halt.is_some() {
             return;
@@ -189,7 +206,8 @@ impl LeaseProcess {
 
     /// The line ends: when something is due next, or that the device failed, which is the last that is told. Whether it is.
     pub(crate) fn end_line(&mut self, due: Option<u64>) -> Result<bool, AllocError>
-        ensures { IfOk result (λ stops. IsEnded due stops self.old self.new) }
+        ensures ended { IfOk result (λ stops. IsEnded due stops self.old self.new) }
+        ensures quiet { IsQuiet self.old self.new }
     {
         match self.halt {
             None => {

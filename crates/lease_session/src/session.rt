@@ -29,7 +29,7 @@ impl<S: EpochStore + Drop> LeaseSession<S> {
         start: Start,
         store: S,
     ) -> Result<LeaseSession<S>, AllocError>
-        ensures { IfOk result (λ it. IsNew terms start it.unread.items (at it.participant.process it.participant.told it.stopped)) }
+        ensures { IfOk result (λ it. IsNew terms start it.unread.items (at it.participant.process it.participant.told it.stopped (S.bound it.participant.store))) }
     {
         Ok(LeaseSession {
             participant: Participant::begin(alloc, terms, round_trip, start, store)?,
@@ -82,9 +82,13 @@ impl<S: EpochStore + Drop> LeaseSession<S> {
         // no step. What comes of any other are steps that the process may take, at the time that the line tells.
         // Also: Participant::answer, Participant::deliver, Participant::come, LeaseProcess::open, read_line.
         // Refuses: bad_line_ignored, unsealed_message_taken, stale_message_taken, user_is_the_time.
+        // Promise: Behind each line the machine grants no epoch above what the store says that it reserved, or the floor that the process
+        // began with: only a store that says so raises it.
+        // Also: LeaseSession::answer_line, Participant::reserve, Participant::begin_where_due, LeaseProcess::raise, LeaseProcess::begin.
+        // Refuses: bound_raised_without_the_store, begun_above_the_store.
         ensures { OnOk result (Fed self.old.unread.items piece.now self.new.unread.items
-            (at self.old.participant.process self.old.participant.told self.old.stopped)
-            (at self.new.participant.process self.new.participant.told self.new.stopped)) }
+            (at self.old.participant.process self.old.participant.told self.old.stopped (S.bound self.old.participant.store))
+            (at self.new.participant.process self.new.participant.told self.new.stopped (S.bound self.new.participant.store))) }
     {
         let mut whole = mem::replace(&mut self.unread, Vec::new(self.participant.process.alloc));
         whole.extend_from_slice(piece)?;
@@ -97,8 +101,8 @@ impl<S: EpochStore + Drop> LeaseSession<S> {
     fn answer_lines<'a>(&mut self, whole: &'a [u8]) -> Result<&'a [u8], AllocError>
         ensures unread { self.new.unread ≡ self.old.unread }
         ensures lines { IfOk result (λ left. (lines : List (List ℕ)) × (lines_of whole.now ≡ lines ++ left.now ∷ []) × AreAnswered lines
-            (at self.old.participant.process self.old.participant.told self.old.stopped)
-            (at self.new.participant.process self.new.participant.told self.new.stopped)) }
+            (at self.old.participant.process self.old.participant.told self.old.stopped (S.bound self.old.participant.store))
+            (at self.new.participant.process self.new.participant.told self.new.stopped (S.bound self.new.participant.store))) }
     {
         let mut left = whole;
         while let Some((line, behind)) = cut_line(left) {
@@ -111,8 +115,8 @@ impl<S: EpochStore + Drop> LeaseSession<S> {
     fn answer_line(&mut self, line: &[u8]) -> Result<(), AllocError>
         ensures unread { self.new.unread ≡ self.old.unread }
         ensures line { OnOk result (Answers line.now
-            (at self.old.participant.process self.old.participant.told self.old.stopped)
-            (at self.new.participant.process self.new.participant.told self.new.stopped)) }
+            (at self.old.participant.process self.old.participant.told self.old.stopped (S.bound self.old.participant.store))
+            (at self.new.participant.process self.new.participant.told self.new.stopped (S.bound self.new.participant.store))) }
     {
         if self.stopped || line.is_empty() {
             return Ok(());

@@ -1,14 +1,9 @@
 // What keeps the epochs that a process reserves.
 ghost use Rattle.std.specs.Prelude.{◌≡◌, ◌≤◌, ℕ, IsOk};
 
-/// Why no epoch was reserved.
+/// The device failed, so no epoch was reserved. Nothing more is granted by this process.
 #[derive(Clone, Copy, Debug, PartialEq, Eq)]
-pub enum ReserveFault {
-    /// The device failed. Nothing more is granted by this process.
-    Device,
-    /// No epoch so great is left.
-    Exhausted,
-}
+pub struct ReserveFault;
 
 /// What keeps the epochs that a process reserves, so that after any restart the floor is at or above each epoch that was granted.
 pub trait EpochStore {

@@ -1,13 +1,14 @@
 // How a process votes.
 ghost use Rattle.std.specs.Prelude.{◌≡◌, ◌<◌, ◌^◌, ℕ, [], true, None};
 ghost use Rattle.lease_runs.specs.Code.{client_of as by_code};
-ghost use Rattle.lease_session.specs.Replies.{IsReplied, Replies, is_for};
+ghost use Rattle.lease_session.specs.Replies.{IsAnsweredBy, IsReplied, Replies, is_for};
 ghost use Rattle.lease_session.specs.Rows.{said};
-ghost use Rattle.lease_session.specs.Turns.{Turn, Voted, vote_of};
+ghost use Rattle.lease_session.specs.Turns.{IsQuiet, IsRightVote, Turn, Voted, vote_of};
+ghost use Rattle.lease_session.specs.Votes.{IsAllowed};
 
 use crate::participant::Participant;
 use crate::refusing::Refusal;
-use crate::store::{EpochStore, ReserveFault};
+use crate::store::EpochStore;
 use crate::writing::client_of;
 use lease_machine::Vote;
 use lease_message::{LeaseBody, LeaseMessage, LeaseName, Reason};
@@ -26,7 +27,7 @@ impl<S: EpochStore + Drop> Participant<S> {
         requires { now < 2 ^ 62 }
         ensures turn { Turn [] (said message.now) now self.old.process self.new.process }
         ensures told { self.new.told ≡ self.old.told }
-        ensures replies { Replies self.old.process.terms message.now self.new.process }
+        ensures replies { Replies self.old.process.terms now message.now self.new.process }
     {
         match message.body {
             LeaseBody::Request {
@@ -60,7 +61,7 @@ impl<S: EpochStore + Drop> Participant<S> {
         ensures turn { Turn [] (said message.now) now self.old.process self.new.process }
         ensures told { self.new.told ≡ self.old.told }
         ensures replies { is_for self.old.process.terms.machine self.old.process.terms.machines message.now ≡ true → self.new.process.halt ≡ None
-            → IsReplied message.now number self.new.process }
+            → IsReplied self.old.process.terms now message.now number keeps list self.new.process }
     {
         if !self.is_for_voter(message) {
             return;
@@ -88,7 +89,8 @@ impl<S: EpochStore + Drop> Participant<S> {
         requires { request.now.voter ≡ self.old.process.terms.machine }
         ensures turn { (now : ℕ) → Turn [] [] now self.old.process self.new.process }
         ensures told { self.new.told ≡ self.old.told }
-        ensures replies { self.new.process.halt ≡ None → IsReplied request.now number self.new.process }
+        ensures replies { self.new.process.halt ≡ None → IsAnsweredBy request.now (LeaseBody.Refusal number reason lasts) self.new.process }
+        ensures quiet { IsQuiet self.old.process self.new.process }
     {
         let epoch = self.greatest_of(&request.name);
         let body = LeaseBody::Refusal {
@@ -117,49 +119,53 @@ impl<S: EpochStore + Drop> Participant<S> {
     ) -> Answer
         requires { now < 2 ^ 62 }
         ensures vote { (number : ℕ) → Voted (vote_of result) name.now (by_code client) number epoch now self.old.process self.new.process }
+        ensures right { self.new.process.halt ≡ None → IsRightVote result self.new.process.machine now name.now (by_code client) epoch }
         ensures told { self.new.told ≡ self.old.told }
     {
-        if let Some(waits) = self.waits(now) {
-            return Answer::Refused(Reason::Waiting, waits);
-        }
+        let waits = self.waits(now);
         let Some(machine) = &self.process.machine else {
-            return Answer::Refused(Reason::Waiting, self.process.terms.keeps());
+            return Answer::Refused(Reason::Waiting, waits);
         };
         let standing = machine.standing(name);
         if standing.holder.is_some() && standing.holder != Some(client) && now < standing.ends {
             return Answer::Refused(Reason::Held, standing.ends - now);
         }
-        self.reserve(name, epoch);
+        self.reserve(epoch);
+        let reason = if waits > 0 {
+            Reason::Waiting
+        } else {
+            Reason::Epoch
+        };
         match self.process.vote(now, name, client, epoch) {
             Vote::Granted => Answer::Granted,
-            Vote::Refused => Answer::Refused(Reason::Epoch, 0),
+            Vote::Refused => Answer::Refused(reason, waits),
             Vote::Full => Answer::Refused(Reason::Full, 0),
         }
     }
 
-    /// Reserves epochs up to this one at least, where it might be granted and any so great is left.
-    fn reserve(&mut self, name: &LeaseName, epoch: u64)
+    /// Reserves epochs up to this one at least, where it might be granted.
+    fn reserve(&mut self, epoch: u64)
         ensures turn { (now : ℕ) → Turn [] [] now self.old.process self.new.process }
+        ensures allows { self.new.process.halt ≡ None → IsAllowed epoch self.new.process.machine }
         ensures told { self.new.told ≡ self.old.told }
     {
         match &self.process.machine {
-            Some(machine) if machine.bound() < epoch && machine.standing(name).last < epoch => {}
+            Some(machine) if machine.bound() < epoch => {}
             _ => return,
         }
         match self.store.reserve(epoch) {
             Ok(()) => self.process.raise(self.store.bound()),
-            Err(ReserveFault::Exhausted) => {}
-            Err(ReserveFault::Device) => self.process.stop(),
+            Err(_) => self.process.stop(),
         }
     }
 
-    /// How long the voter still waits behind its start. None where it does no more.
-    pub(crate) fn waits(&self, now: u64) -> Option<u64> {
+    /// How long the voter still waits behind its start.
+    fn waits(&self, now: u64) -> u64 {
         let votes = self
             .began
             .unwrap_or(now)
             .saturating_add(self.process.terms.keeps());
-        if now < votes { Some(votes - now) } else { None }
+        votes.saturating_sub(now)
     }
 
     /// A client stopped relying on an epoch. Who waits here for its name asks soon.

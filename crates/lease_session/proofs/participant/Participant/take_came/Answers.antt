@@ -29,8 +29,8 @@ returns-in-Release-clause-turn g c =
 pub returns-in-Message-clause-replies : goal.returns-in-Message-clause-replies
 returns-in-Message-clause-replies g c =
     let p = c.take.new.self.process in
-    subst (λ (it : Came). RepliesTo c.args.self.now.process.terms it p) (sym c.in-Message.is)
-    (subst (λ (t : LeaseTerms). Replies t c.in-Message.message p) (c.serve_due.ensures.turn.terms ∙ c.begin_where_due.ensures.turn.terms) c.take.ensures.replies)
+    subst (λ (it : Came). RepliesTo c.args.self.now.process.terms c.args.now it p) (sym c.in-Message.is)
+    (subst (λ (t : LeaseTerms). Replies t c.args.now c.in-Message.message p) (c.serve_due.ensures.turn.terms ∙ c.begin_where_due.ensures.turn.terms) c.take.ensures.replies)
 
 pub returns-in-Acquire-clause-asks : goal.returns-in-Acquire-clause-asks
 returns-in-Acquire-clause-asks g c =

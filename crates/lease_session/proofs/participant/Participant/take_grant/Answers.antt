@@ -14,10 +14,10 @@ pub returns-then-relies_on-clause-told : goal.returns-then-relies_on-clause-told
 returns-then-relies_on-clause-told g c = c.keep.ensures.1 ∙ (c.hear.ensures.told ∙ c.time_answer.ensures.1)
 
 pub returns-then-message-want-clause-turn : goal.returns-then-message-want-clause-turn
-returns-then-message-want-clause-turn g c = from_same c.time_answer.ensures.0 (as_brought (c.release_again.ensures c.args.now))
+returns-then-message-want-clause-turn g c = from_same c.time_answer.ensures.0 (as_brought (c.release_again.ensures.turn c.args.now))
 
 pub returns-else-message-want-clause-turn : goal.returns-else-message-want-clause-turn
 returns-else-message-want-clause-turn g c = to_same c.time_answer.ensures.0 (stay c.args.self.now.process)
 
 pub returns-in_default-clause-turn : goal.returns-in_default-clause-turn
-returns-in_default-clause-turn g c = as_brought (c.release_again-in_default.ensures c.args.now)
+returns-in_default-clause-turn g c = as_brought (c.release_again-in_default.ensures.turn c.args.now)

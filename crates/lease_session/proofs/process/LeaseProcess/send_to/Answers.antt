@@ -10,6 +10,3 @@ send-requires c = goes_to (record c.args.message.now { voter = c.in-Some.voter }
 pub returns-in-Some-clause-turn : goal.returns-in-Some-clause-turn
 returns-in-Some-clause-turn c = λ now.
     subst (λ (s : List Message). Turn s [] now c.args.self.now c.send.new.self) (said_anew c.args.message.now c.in-Some.voter c.requires.body) (c.send.ensures.turn now)
-
-pub returns-in-Some-clause-terms : goal.returns-in-Some-clause-terms
-returns-in-Some-clause-terms c = (c.send.ensures.turn 0).terms

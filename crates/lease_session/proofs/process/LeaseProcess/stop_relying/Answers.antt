@@ -6,6 +6,8 @@ use Rattle.lease_machine.specs.declared.state.LeaseMachine.{LeaseMachine}
 use Rattle.lease_session.specs.Rows.{asker}
 use Rattle.lease_session.specs.Turns.{claim_of}
 use Rattle.lease_session.proofs.Calls.{claim_there, client_same, gave_up, some_is, stop_unasked}
+use Rattle.lease_session.proofs.Leases.{kept_stopping, leases_other, leases_same}
+use Rattle.lease_session.proofs.Bounds.{bound_kept}
 use Rattle.lease_session.proofs.process.LeaseProcess.stop_relying.Goals as goal
 
 pub returns-in-Some-clause-done : goal.returns-in-Some-clause-done
@@ -21,6 +23,7 @@ returns-in-Some-clause-done c = λ yes now.
     (c.asking_is_steps.ensures.stops c.in-Some.machine c.give_up.new.self now c.args.epoch name h.claim at (c.give_up.ensures.stops yes now) c.give_up.ensures.voter
     c.give_up.ensures.others c.give_up.ensures.goes_on))
     c.requires.machine c.requires.process (c.is_told_up_to.ensures c.if-is_told_up_to.false)
+    (leases_other c.in-Some.machine c.give_up.new.self name (λ d r is lease. (kept_stopping c.in-Some.machine c.give_up.new.self name (c.give_up.ensures.stops yes now) d r is lease).0) c.give_up.ensures.others)
 
 pub returns-then-not-asks_as-clause-done : goal.returns-then-not-asks_as-clause-done
 returns-then-not-asks_as-clause-done c = λ yes now.
@@ -32,4 +35,7 @@ returns-then-not-asks_as-clause-done c = λ yes now.
     gave_up by name c.args.epoch (record { terms = refl; start = refl; seal = refl; text = refl; halt = refl; told = refl }) s.1 s.1
     (stop_unasked s.0 by name c.args.epoch counted
     (λ k is same. c.asks_as.ensures.other c.if-not-asks_as.true (record { claim = k; claimed = subst (λ (o : Option LeaseMachine). claim_of o c.args.name.now ≡ Some k) (sym s.1) is; numbered = same })))
-    c.requires.machine c.requires.process (c.is_told_up_to.ensures c.if-is_told_up_to.false)
+    c.requires.machine c.requires.process (c.is_told_up_to.ensures c.if-is_told_up_to.false) (λ other. leases_same s.0 s.0 other refl)
+
+pub returns-in-Some-clause-bound : goal.returns-in-Some-clause-bound
+returns-in-Some-clause-bound c = bound_kept refl c.in-Some.is refl c.give_up.ensures.goes_on.bound
