@@ -14,10 +14,24 @@ const MAX_PAST: usize = 400;
 /// A node that didn't answer for so long isn't alive.
 const SILENCE: Duration = Duration::from_secs(5);
 
-/// A member asks its coordinator 20 to 23 round trips, of 25 ms at most, behind its last question, leaves 5 and 250 ms at least later, and is in the next group some
-/// more later. So whoever heard nobody for as long says no more that it works in a majority: another one may.
+/// What a member of a settled group waits for, as the crate `pace` sets it (`measured` of specs/Timers): agent/tests/units holds these to that.
+mod waits_of_node {
+    /// Its next question to its coordinator: so many round trips, and up to so many more, each of which counts as so many milliseconds at most.
+    pub const COORDINATOR: u64 = 20;
+    pub const COORDINATOR_JITTER: u64 = 3;
+    pub const REST_MOST: u64 = 25;
+    /// The answer: so many round trips, and so many milliseconds at least.
+    pub const ANSWER: u64 = 5;
+    pub const ANSWER_LEAST: u64 = 250;
+}
+
+/// A member that hears its coordinator no more asks, leaves where no answer comes, and is in the next group some more later. So whoever heard nobody for as long
+/// says no more that it works in a majority: another one may.
 fn lease_of(round_trip_ms: u64) -> Duration {
-    Duration::from_millis(23 * round_trip_ms.min(25) + (5 * round_trip_ms).max(250))
+    use waits_of_node::{ANSWER, ANSWER_LEAST, COORDINATOR, COORDINATOR_JITTER, REST_MOST};
+    let question = (COORDINATOR + COORDINATOR_JITTER) * round_trip_ms.min(REST_MOST);
+    let answer = (ANSWER * round_trip_ms).max(ANSWER_LEAST);
+    Duration::from_millis(question + answer)
 }
 
 /// For how long the node may say that it works in a group of more than half of all nodes.
