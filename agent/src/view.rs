@@ -14,11 +14,30 @@ const MAX_PAST: usize = 400;
 /// A node that didn't answer for so long isn't alive.
 const SILENCE: Duration = Duration::from_secs(5);
 
-/// A member asks its coordinator 20 to 23 round trips, of 25 ms at most, behind its last question, leaves 5 and 250 ms at least later, and is in the next group some
-/// more later. So whoever heard nobody for as long says no more that it works in a majority: another one may.
-fn lease_of(round_trip_ms: u64) -> Duration {
-    Duration::from_millis(23 * round_trip_ms.min(25) + (5 * round_trip_ms).max(250))
+/// What a member of a settled group waits for, as the crate `pace` sets it (`measured` of specs/Timers): agent/tests/units holds these to that.
+mod waits_of_node {
+    /// Its next question to its coordinator: so many round trips, and up to so many more, each of which counts as so many milliseconds at most.
+    pub const COORDINATOR: u64 = 20;
+    pub const COORDINATOR_JITTER: u64 = 3;
+    pub const REST_MOST: u64 = 25;
+    /// The answer: so many round trips, and so many milliseconds at least.
+    pub const ANSWER: u64 = 5;
+    pub const ANSWER_LEAST: u64 = 250;
 }
+
+/// A member that hears its coordinator no more asks, leaves where no answer comes, and is in the next group some more later. So whoever heard nobody for as long
+/// says no more that it works in a majority: another one may.
+fn lease_of(round_trip_ms: u64) -> Duration {
+    use waits_of_node::{ANSWER, ANSWER_LEAST, COORDINATOR, COORDINATOR_JITTER, REST_MOST};
+    let question = (COORDINATOR + COORDINATOR_JITTER) * round_trip_ms.min(REST_MOST);
+    let answer = (ANSWER * round_trip_ms).max(ANSWER_LEAST);
+    Duration::from_millis(question + answer)
+}
+
+/// A member that is lost leaves its coordinator alone at first. The others join it within so many round trips, where disks and processors let them.
+const REGROUPS: u32 = 50;
+const REGROUPS_LEAST: Duration = Duration::from_millis(250);
+const REGROUPS_MOST: Duration = Duration::from_secs(1);
 
 /// For how long the node may say that it works in a group of more than half of all nodes.
 #[derive(Clone, Copy, Debug, PartialEq, Eq)]
@@ -58,6 +77,10 @@ pub struct View {
     /// The last group that the node worked in.
     worked_in: Group,
     lease: Duration,
+    /// How long it takes at most until a group that was left with few members is a greater one; whether the last one that the node works in has fewer than the one
+    /// before.
+    regroups_in: Duration,
+    has_shrunk: bool,
     /// Whether watchers were told last that it works in a majority.
     told_majority: bool,
 }
@@ -120,6 +143,8 @@ impl View {
             is_ready: false,
             past: VecDeque::new(),
             worked_in: Group::default(),
+            regroups_in: (REGROUPS * Duration::from_millis(config.round_trip_ms)).clamp(REGROUPS_LEAST, REGROUPS_MOST),
+            has_shrunk: false,
             lease: lease_of(config.round_trip_ms),
             told_majority: false,
         }
@@ -141,6 +166,7 @@ impl View {
             members: group.members.clone(),
         });
         if group.is_normal() {
+            self.has_shrunk = group.members.len() < self.worked_in.members.len();
             self.worked_in = group.clone();
         }
         (self.group, self.changed) = (group, now);
@@ -153,6 +179,18 @@ impl View {
         let is_heard = |node: u8| node != self.own && (last.coordinator == self.own || node == last.coordinator);
         let members = if group.is_normal() { last.members.as_slice() } else { &[] };
         members.iter().copied().filter(|node| is_heard(*node) && !group.members.contains(node)).collect()
+    }
+
+    /// From when on jobs that come in hand now are given: a group that lost members is young as long as it may be the first step to a greater one, whose jobs
+    /// other machines have.
+    pub fn gives_from(&self, now: Instant) -> Instant {
+        let is_young = self.has_shrunk && self.group.is_normal();
+        if is_young { now.max(self.changed + self.regroups_in) } else { now }
+    }
+
+    /// For how long jobs that left hand may come back: the group is made, and has its work.
+    pub fn regroups_in(&self) -> Duration {
+        self.regroups_in * 3 / 2
     }
 
     pub fn is_coordinator(&self) -> bool {
@@ -278,6 +316,20 @@ mod tests {
         assert_eq!(enter(&["Normal", "2", "2:9000", "0,1,2"]), 0, "another node's");
         assert_eq!(enter(&["Down"]), 0);
         assert_eq!(enter(&["Election", "1", "1:1704", "-"]), 3);
+    }
+
+    #[test]
+    fn a_young_group_that_lost_members_gives_nothing_out() {
+        let (now, second) = (Instant::now(), Duration::from_secs(1));
+        let mut view = view(3, now);
+        let mut waits = |words: &[&str]| {
+            view.enter(Group::read(words).unwrap(), now);
+            [now, now + second * 2].map(|at| view.gives_from(at) - at)
+        };
+        let (nothing, young) = ([Duration::ZERO; 2], [second, Duration::ZERO]);
+        assert_eq!([waits(&["Normal", "1", "1:1", "1"]), waits(&["Normal", "2", "2:1", "0,1,2"])], [nothing, nothing]);
+        assert_eq!([waits(&["Election", "1", "1:2", "-"]), waits(&["Normal", "1", "1:2", "1"])], [nothing, young]);
+        assert_eq!(waits(&["Normal", "1", "1:3", "0,1"]), nothing, "greater than the last one");
     }
 
     #[test]

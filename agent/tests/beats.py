@@ -70,6 +70,40 @@ def spans(row):
         before = time_
 
 
+class ShardSpans:
+    """Of each shard the times in which it was run, and by which machine. What was read isn't read again: the reader would take the machine's time from those
+    whom it watches, and the more of it the longer they run."""
+
+    def __init__(self, paths, shards):
+        self.paths, self.shards, self.files = paths, shards, {}
+
+    def look(self):
+        """All so far; of each shard in the order of time."""
+        found = {shard: [] for shard in range(self.shards)}
+        for i, path in enumerate(self.paths):
+            for name in glob.glob(path + ".[0-9]*"):
+                shard, _, rows = self.files[name] = self.read(name, *self.files.get(name, (None, 0, [])))
+                if shard is not None:
+                    found[shard] += [(begin, end, i) for begin, end in rows]
+        return {shard: sorted(rows) for shard, rows in found.items()}
+
+    def read(self, name, shard, at, rows):
+        if os.path.getsize(name) > at:
+            with open(name, "rb") as file:
+                file.seek(at)
+                text = file.read()
+            text = text[:text.rfind(b"\n") + 1]
+            at, lines = at + len(text), text.split(b"\n")[:-1]
+            if shard is None and lines:
+                shard, lines = int(lines[0].split()[4]), lines[1:]
+            for time_ in map(float, lines):
+                if rows and time_ - rows[-1][1] <= GAP:
+                    rows[-1][1] = time_
+                else:
+                    rows.append([time_, time_])
+        return shard, at, rows
+
+
 def overlap(paths, shard=None):
     """For how long commands of two of these paths ran at a time."""
     rows = [(begin, end, path) for path in paths for row in beats(path) if row.shard == shard for begin, end in spans(row)]

@@ -108,6 +108,16 @@ class Relay:
         self.out.sendto(datagram, self.real[j])
 
 
+class Direct:
+    """Machines that reach each other by themselves: where nothing is to be lost, and what a test carries would cost more than what is measured."""
+
+    def __init__(self, count):
+        self.count, self.runs, self.real = count, True, [("127.0.0.1", free_port()) for _ in range(count)]
+
+    def peers(self, _i):
+        return ["%s:%d" % at for at in self.real]
+
+
 class Agents:
     """Agents in a folder, each with a node of its own. The nodes' files are there, too, or in a folder within another one."""
 

@@ -10,8 +10,8 @@ import argparse, concurrent.futures, glob, os, signal, subprocess, sys, tempfile
 
 HERE = os.path.dirname(os.path.abspath(__file__))
 sys.path[:0] = [HERE]
-from bed import MEMORY, Agents, Relay, is_there
-from beats import GAP, Leads, beats, clock, overlap, running, runs, spans
+from bed import MEMORY, Agents, Direct, Relay, is_there
+from beats import GAP, Leads, ShardSpans, beats, clock, overlap, running, runs, spans
 
 LEASE_MS = 2000
 # Nobody leads for so long at most, at round trips of 20 ms, and a busy machine adds this.
@@ -50,8 +50,8 @@ def process(agents, i, word):
 class Cluster:
     """Three agents with leases and a `lead` at each; the clock of each machine has a rate."""
 
-    def __init__(self, program, programs, folder, rates=(RIGHT,) * 3, words=("lead",), of=None, count=3, delay=(0.0, 0.0), key=None, lines=None, lease_ms=LEASE_MS):
-        self.relay = Relay(count)
+    def __init__(self, program, programs, folder, rates=(RIGHT,) * 3, words=("lead",), of=None, count=3, delay=(0.0, 0.0), key=None, lines=None, lease_ms=LEASE_MS, relay=None):
+        self.relay = relay or Relay(count)
         self.relay.delay = delay
         settings = dict(record=None, lease_ms=lease_ms, round_trip_ms=lease_ms // 100, key=key)
         self.nobody = NOBODY * lease_ms / LEASE_MS
@@ -183,15 +183,6 @@ def many(program, programs, folder, kind, count, rates=(RIGHT,) * 3, words=("lea
         cluster.stop()
 
 
-def shard_spans(paths, shards):
-    """Of each shard the times in which it was run, and by which machine."""
-    found = {shard: [] for shard in range(shards)}
-    for i, path in enumerate(paths):
-        for row in beats(path):
-            found[row.shard] += [(begin, end, i) for begin, end in spans(row)]
-    return {shard: sorted(rows) for shard, rows in found.items()}
-
-
 def owner(shard, members):
     """The member to which a shard falls, by rendezvous hashing with splitmix64."""
     def mixed(of):
@@ -204,7 +195,7 @@ def owner(shard, members):
 
 
 def each_runs(paths, of, shards):
-    """Whether each shard is run by the one of these to which it falls. A look takes the time of the relay, which is of this process."""
+    """Whether each shard is run by the one of these to which it falls. Looks take time from those that run."""
     time.sleep(0.1)
     found = {i: running(paths[i]) for i in of}
     return all(shard in found[owner(shard, of)] for shard in range(min(shards, 64)))
@@ -218,7 +209,7 @@ def two_at_a_time(found):
 def hung(program, programs, folder, shards, lease_ms=LEASE_MS):
     """The process of leases of a machine hangs, whose agent goes on: how long until others run its shards, for how long two ran one, and for how
     long the machine stopped an observer at most."""
-    cluster = Cluster(program, programs, folder, words=("own", str(shards)), lease_ms=lease_ms)
+    cluster = Cluster(program, programs, folder, words=("own", str(shards)), lease_ms=lease_ms, relay=Direct(3))
     paths, rest = cluster.leads.paths, [0, 2]
     try:
         cluster.start()
@@ -229,7 +220,7 @@ def hung(program, programs, folder, shards, lease_ms=LEASE_MS):
         finally:
             mend()
         cluster.agents.until(lambda: each_runs(paths, range(3), shards))
-        return took, two_at_a_time(shard_spans(paths, shards)), cluster.leads.observer.longest()
+        return took, two_at_a_time(ShardSpans(paths, shards).look()), cluster.leads.observer.longest()
     finally:
         cluster.stop()
 
@@ -237,8 +228,9 @@ def hung(program, programs, folder, shards, lease_ms=LEASE_MS):
 def changes(program, programs, folder, count, shards=SHARDS, lease_ms=LEASE_MS):
     """A machine goes and comes, another one each time, so many changes: for how long two ran a shard, for each change how many paused and the longest pause, and
     for how long the machine stopped an observer at most."""
-    cluster = Cluster(program, programs, folder, words=("own", str(shards)), lease_ms=lease_ms)
+    cluster = Cluster(program, programs, folder, words=("own", str(shards)), lease_ms=lease_ms, relay=Direct(3))
     paths, rows = cluster.leads.paths, []
+    seen = ShardSpans(paths, shards)
     cluster.environment = [dict(BEAT_MS="20")] * 3
 
     try:
@@ -257,11 +249,11 @@ def changes(program, programs, folder, count, shards=SHARDS, lease_ms=LEASE_MS):
                 cluster.agents.one_group()
             cluster.agents.until(lambda: each_runs(paths, rest if goes else range(3), shards))
             pauses = []
-            for row in shard_spans(paths, shards).values():
+            for row in seen.look().values():
                 behind = [span for span in row if span[1] > at]
                 pauses += [b[0] - a[1] for a, b in zip(behind, behind[1:])] or ([behind[0][0] - at] if behind[0][0] > at else [])
             rows.append((goes, sum(pause > GAP for pause in pauses), max(pauses, default=0.0)))
-        return two_at_a_time(shard_spans(paths, shards)), rows, cluster.leads.observer.longest()
+        return two_at_a_time(seen.look()), rows, cluster.leads.observer.longest()
     finally:
         cluster.stop()
 

@@ -42,8 +42,8 @@ fn watch(agent: &Agent, submission: &Submission) -> Result<(), Error> {
 fn main() -> ExitCode {
     let words: Vec<String> = std::env::args().skip(1).collect();
     let (queue, text, key) = match &words[..] {
-        [queue, text, key] => (queue.parse(), text, key),
-        _ => (Ok(u8::MAX), &String::new(), &String::new()),
+        [queue, text, key] => (queue.parse(), text.as_str(), key.as_str()),
+        _ => (Ok(u8::MAX), "", ""),
     };
     let queue = match queue {
         Ok(queue) if queue < 16 => queue,
@@ -52,7 +52,7 @@ fn main() -> ExitCode {
             return ExitCode::from(2);
         }
     };
-    match watch(&Agent::of_environment(), &Submission::new(queue, text).with_key(key.as_str())) {
+    match watch(&Agent::of_environment(), &Submission::new(queue, text).with_key(key)) {
         Ok(()) => ExitCode::SUCCESS,
         Err(why) => {
             eprintln!("{why}");

@@ -257,7 +257,8 @@ mod tests {
         shared.take(&json!({"event": "held", "name": "a", "epoch": 7, "until_ms": 5000})).unwrap();
         shared.take(&status(true)).unwrap();
         shared.take(&json!({"event": "held", "name": "a", "epoch": 7, "until_ms": 6000})).unwrap();
-        assert!(shared.lock().is_drained && shared.lock().until == Duration::from_millis(6000), "it counts on until it is given back");
+        let known = shared.lock();
+        assert!(known.is_drained && known.until == Duration::from_millis(6000), "it counts on until it is given back");
     }
 
     #[test]

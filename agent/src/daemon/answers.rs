@@ -62,7 +62,7 @@ impl Daemon {
             Line::Send { to, hex } => self.carry(*to, hex, now),
             Line::Group(group) => self.enter(group.clone(), now),
             Line::Take(job) => self.take_job(job.clone(), now),
-            Line::Drop(key) => self.drop_job(*key),
+            Line::Drop(key) => self.drop_job(*key, now),
             Line::Gone { id } => {
                 self.metrics.jobs.with_label_values(&["gone"]).inc();
                 self.metrics.durable.with_label_values(&["done"]).inc();
@@ -121,17 +121,30 @@ impl Daemon {
         self.metrics.jobs.with_label_values(&["taken"]).inc();
         let event = Reply::event("take").and(GivenJob::of(&job));
         let (key, queue) = (job.key, job.queue);
-        self.hand.take(job, now);
+        let done = self.hand.take(job, self.view.gives_from(now), now);
         self.tell(event);
-        self.offer(key, queue);
+        match done {
+            Some((client, tag)) => self.ask(Asker::Finish { client, tag, key }, format!("finish {} {}", key.origin, key.id)),
+            None => self.offer(key, queue),
+        }
     }
 
-    fn drop_job(&mut self, key: JobKey) {
+    fn drop_job(&mut self, key: JobKey, now: Instant) {
         self.metrics.jobs.with_label_values(&["dropped"]).inc();
-        if let Some(holder) = self.hand.drop(key) {
-            self.clients.tell(holder, &Reply::event("stop").and(key));
-        }
+        self.hand.part(key, now + self.view.regroups_in());
         self.tell(Reply::event("drop").and(key));
+    }
+
+    /// Tells those to stop whose jobs left and don't come back.
+    pub(super) fn stop_parted(&mut self, now: Instant) {
+        let group = &self.view.group;
+        let may_come = |queue| !group.is_normal() || group.owner(queue) == Some(self.config.id);
+        for (key, parted) in self.hand.take_parted(may_come, now) {
+            self.clients.tell(parted.client, &Reply::event("stop").and(key));
+            if let Some(tag) = parted.finish {
+                self.clients.answer(parted.client, &Reply::refused("UnknownJob").with("why", NOT_IN_HAND).tagged(&tag));
+            }
+        }
     }
 
     /// Tells watchers of a change.

@@ -330,6 +330,7 @@ impl Daemon {
         self.accept(now);
         self.obey(now);
         self.give_up_gone(now);
+        self.stop_parted(now);
         self.give_again(now);
         self.try_again(now);
         self.look_up(now);

@@ -245,10 +245,14 @@ impl Daemon {
                 return Some(refusal);
             }
         }
+        let waits = self.hand.end_parted(key, client, back.is_none().then_some(&tag));
         if let Some(back) = back {
             return Some(self.give_back(client, key, back, now));
         }
         self.clients.owe(client);
+        if waits {
+            return None;
+        }
         self.ask(Asker::Finish { client, tag, key }, format!("finish {} {}", key.origin, key.id));
         None
     }

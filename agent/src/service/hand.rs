@@ -1,9 +1,10 @@
 //! The jobs in the node's hand: which client works on each, how often each was given, and which wait.
 
 use super::attempts::{Attempts, Memory};
+use super::parted::{Parted, PartedJobs};
 use super::ClientId;
 use crate::node::{Job, JobKey};
-use crate::protocol::Wanted;
+use crate::protocol::{Tag, Wanted};
 use serde::Serialize;
 use std::collections::{BTreeMap, BTreeSet};
 use std::time::{Duration, Instant};
@@ -80,15 +81,24 @@ pub struct Hand {
     /// Those that wait for their time, by it.
     delayed: BTreeSet<(Instant, JobKey)>,
     attempts: Attempts,
+    parted: PartedJobs,
 }
 
 impl Hand {
-    pub fn take(&mut self, job: Job, now: Instant) {
-        let state = match self.attempts.of(job.key).is_aside {
-            true => State::Aside,
-            false => State::Free { since: now, rests_until: now },
+    /// A job came in hand: of whoever works on it still, else of anybody from then on. Who said meanwhile that it is done, and by which request.
+    pub fn take(&mut self, job: Job, from: Instant, now: Instant) -> Option<(ClientId, Tag)> {
+        let parted = self.parted.take_back(job.key);
+        let state = match &parted {
+            _ if self.attempts.of(job.key).is_aside => State::Aside,
+            Some(parted) => State::Held(parted.client),
+            None if from > now => State::Delayed { until: from },
+            None => State::Free { since: now, rests_until: now },
         };
+        if let State::Delayed { until } = state {
+            self.delayed.insert((until, job.key));
+        }
         self.jobs.insert(job.key, InHand { job, state });
+        parted.and_then(|parted| Some((parted.client, parted.finish?)))
     }
 
     /// For how long a job has had nobody who works on it, at most. Those that wait for their time or are put aside don't count.
@@ -100,8 +110,31 @@ impl Hand {
         self.jobs.values().filter_map(free).min().map_or(Duration::ZERO, |since| now.saturating_duration_since(since))
     }
 
-    /// A job went to another node; the client that works on it, if any. It may come back.
-    pub fn drop(&mut self, key: JobKey) -> Option<ClientId> {
+    /// A job went to another node, or comes back before then: so long its client, if any, may work on.
+    pub fn part(&mut self, key: JobKey, until: Instant) {
+        let queue = self.jobs.get(&key).map(|in_hand| in_hand.job.queue);
+        if let (Some(queue), Some(client)) = (queue, self.remove(key)) {
+            self.parted.put(key, queue, client, until);
+        }
+    }
+
+    /// The jobs that left and don't come back, with the clients that work on them: this node has their queue no more, or the time is over.
+    pub fn take_parted(&mut self, may_come: impl Fn(u8) -> bool, now: Instant) -> Vec<(JobKey, Parted)> {
+        self.parted.take_over(may_come, now)
+    }
+
+    /// A client ends its work on a job that left: whether that waits until the job is back. Where it isn't done the job is anybody's who is given it.
+    pub fn end_parted(&mut self, key: JobKey, client: ClientId, done: Option<&Tag>) -> bool {
+        match done {
+            Some(tag) => self.parted.finish(key, client, tag),
+            None => {
+                self.parted.leave(key, client);
+                false
+            }
+        }
+    }
+
+    fn remove(&mut self, key: JobKey) -> Option<ClientId> {
         let in_hand = self.jobs.remove(&key)?;
         if let State::Delayed { until } = in_hand.state {
             self.delayed.remove(&(until, key));
@@ -112,7 +145,7 @@ impl Hand {
     /// A job is done; the client that works on it, if any.
     pub fn finish(&mut self, key: JobKey) -> Option<ClientId> {
         self.attempts.forget(key);
-        self.drop(key)
+        self.remove(key)
     }
 
     /// The client that works on a job, where it is another one than this.
@@ -130,7 +163,7 @@ impl Hand {
 
     /// The clients that work on a job.
     pub fn holders(&self) -> BTreeSet<ClientId> {
-        self.jobs.values().filter_map(InHand::holder).collect()
+        self.jobs.values().filter_map(InHand::holder).chain(self.parted.clients()).collect()
     }
 
     pub fn count_held(&self) -> usize {
@@ -175,6 +208,7 @@ impl Hand {
 
     /// A client ended: what it worked on may be given to another. Whether there was any.
     pub fn give_up(&mut self, client: ClientId, now: Instant) -> bool {
+        self.parted.give_up(client);
         let mut has_freed = false;
         for in_hand in self.jobs.values_mut().filter(|in_hand| in_hand.holder() == Some(client)) {
             let doublings = self.attempts.of(in_hand.job.key).attempts.saturating_sub(1).min(6);
@@ -230,9 +264,10 @@ impl Hand {
         is_any
     }
 
-    /// When the time of the next one comes.
+    /// When the time of the next one comes, or that of one that left is over.
     pub fn next_due(&self) -> Option<Instant> {
-        self.delayed.iter().next().map(|(until, _)| *until)
+        let delayed = self.delayed.iter().next().map(|(until, _)| *until);
+        delayed.into_iter().chain(self.parted.next_over()).min()
     }
 }
 
@@ -250,7 +285,7 @@ mod tests {
     fn hand(now: Instant, jobs: &[(u64, u8, u8)]) -> Hand {
         let mut hand = Hand::default();
         for (id, queue, priority) in jobs {
-            hand.take(Job { key: key(*id), queue: *queue, payload: Payload::default(), priority: *priority }, now);
+            hand.take(Job { key: key(*id), queue: *queue, payload: Payload::default(), priority: *priority }, now, now);
         }
         hand
     }
@@ -277,7 +312,7 @@ mod tests {
             Some((2, 2)),
             "handed to another where its holder ended"
         );
-        assert_eq!((hand.drop(key(0)), hand.drop(key(0))), (Some(8), None));
+        assert_eq!((hand.finish(key(0)), hand.finish(key(0))), (Some(8), None));
         assert_eq!((hand.count(), hand.count_held(), hand.holders()), (2, 1, BTreeSet::from([9])));
         assert_eq!((id(hand.give_this(key(1), 4)), id(hand.give_this(key(1), 5))), (Some((1, 2)), None));
     }
@@ -327,7 +362,25 @@ mod tests {
         hand.give_back(key(0), Back::After(ms(900)), now);
         hand.give_back(key(0), Back::After(ms(100)), now);
         assert_eq!((hand.next_due(), hand.delayed.len()), (Some(now + ms(100)), 1), "the last word counts");
-        assert_eq!((hand.drop(key(0)), hand.next_due(), hand.take_due(now + ms(9000))), (None, None, false));
+        hand.part(key(0), now);
+        assert_eq!((hand.next_due(), hand.take_due(now + ms(9000))), (None, false));
+    }
+
+    #[test]
+    fn a_job_that_comes_back_in_time_is_its_client_s_as_before() {
+        let (now, ms) = (Instant::now(), Duration::from_millis);
+        let mut hand = hand(now, &[(0, 1, 0), (1, 2, 0), (2, 3, 0)]);
+        (0..2).for_each(|_| drop(hand.give(7, ALL, now)));
+        (0..3).for_each(|id| hand.part(key(id), now + ms(900)));
+        assert_eq!((hand.count(), hand.holders(), hand.next_due()), (0, BTreeSet::from([7]), Some(now + ms(900))));
+        let job = |id, queue| Job { key: key(id), queue, payload: Payload::default(), priority: 0 };
+        hand.take(job(0, 1), now + ms(500), now);
+        assert_eq!((hand.other_holder(key(0), 8), hand.attempts(key(0)).attempts), (Some(7), 1));
+        assert_eq!(hand.take_parted(|queue| queue == 1, now).len(), 1, "it is another node's");
+        hand.take(job(1, 2), now + ms(500), now);
+        assert_eq!((id(hand.give(8, ALL, now)), hand.next_due()), (None, Some(now + ms(500))), "a half made group's");
+        assert!(hand.take_due(now + ms(500)));
+        assert_eq!(id(hand.give(8, ALL, now + ms(500))), Some((1, 2)));
     }
 
     #[test]
@@ -343,8 +396,8 @@ mod tests {
             (None, 2, Duration::ZERO)
         );
         let job = Job { key: key(0), queue: 1, payload: Payload::default(), priority: 0 };
-        hand.drop(key(0));
-        hand.take(job, now);
+        hand.part(key(0), now);
+        hand.take(job, now, now);
         assert_eq!((hand.count_aside(), hand.attempts(key(0)).attempts), (2, 1), "also where it went and came back");
         assert_eq!((hand.kick(Wanted::of(&[3]), None, now), hand.kick(ALL, Some(key(1)), now)), (0, 1));
         assert_eq!((id(hand.give(7, ALL, now)), hand.kick(ALL, None, now)), (Some((1, 1)), 1));

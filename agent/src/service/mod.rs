@@ -4,6 +4,7 @@ mod attempts;
 mod client;
 mod clients;
 mod hand;
+mod parted;
 mod peer;
 mod watch;
 
