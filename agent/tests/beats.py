@@ -1,7 +1,8 @@
 """What commands did that were led: when each ran, by a clock that is none of the agents', and for which epoch and shard."""
 import collections, glob, os, subprocess, sys, time
 
-BEAT = os.path.join(os.path.dirname(os.path.abspath(__file__)), "beat.py")
+# Without what is installed beside Python it begins in a quarter of the time: where many begin at once that counts as a pause of whoever they are led by.
+BEAT = [sys.executable, "-S", "-E", os.path.join(os.path.dirname(os.path.abspath(__file__)), "beat.py")]
 # A command that writes nothing for so long did nothing in that time: it was stopped.
 GAP = 0.1
 
@@ -14,12 +15,12 @@ def clock():
 
 def command(path):
     """A command that beats."""
-    return [sys.executable, BEAT, path]
+    return [*BEAT, path]
 
 
 def family(path):
     """A command that beats, with a child that began a session of its own and one that lost its parent, both of which pass SIGTERM over."""
-    beat = "'%s' '%s' '%s'" % (sys.executable, BEAT, path)
+    beat = " ".join("'%s'" % word for word in [*BEAT, path])
     return ["sh", "-c", "setsid %s stubborn & (setsid sh -c \"%s stubborn & sleep 1000\" &) ; %s & wait" % (beat, beat, beat)]
 
 
