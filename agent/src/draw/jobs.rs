@@ -114,7 +114,7 @@ mod tests {
     /// The jobs of a trace of one node, whose turns come in the order of its entries.
     fn spans(entries: &str) -> Vec<JobSpan> {
         let trace = Trace::read(format!("{{\"histories\":[[{entries}]]}}").as_bytes()).unwrap();
-        let stand = |entry: &super::super::trace::Entry| if entry.look == Look::Fail { "Down".to_string() } else { "Normal 0:1 0 0".to_string() };
+        let stand = |entry: &super::super::trace::Entry| if entry.look == Look::Fail { "Down".to_string() } else { "Normal 0:1 0 0 0".to_string() };
         let lines: String = trace.histories[0].iter().enumerate().map(|(index, entry)| format!("turn 0 {index} {}\n", stand(entry))).collect();
         let lines = Lines::of(&format!("possible\n{lines}")).unwrap().unwrap();
         Run::put_together(&trace, Vec::new(), lines).unwrap().jobs

@@ -243,7 +243,7 @@ mod tests {
         for (row, other) in [(0, "turn 0 0 Normal 0:1 0 0 1"), (1, "turn 0 1 Normal 0:2 0 0 2"), (2, "turn 0 2 Normal 0:1 0 0,1 1"), (5, "turn 0 5 Election 0:1 0 0 9"), (2, "turn 0 2 Down")] {
             let mut lines = rows;
             lines[row] = other;
-            assert_eq!(compared(&lines)[row], true, "{other}");
+            assert!(compared(&lines)[row], "{other}");
         }
         assert_eq!((Turn::read("recorded"), Turn::read("node 1: entry 1 waits for 010100010000")), (None, None));
     }
