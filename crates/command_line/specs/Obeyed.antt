@@ -54,7 +54,7 @@ EndsByRecords Prints names old new code =
 abbrev pub IsNodeObeyed : NodePlace → ℕ → Option Sealing → List ℕ → Option (List ℕ) → Option (List ℕ) → Option (List ℕ) → ℕ → Type 0
 IsNodeObeyed place round_trip sealing life input old new code =
     (status : Status) × (keys : Option Keys) × (rest : Option (List ℕ)) × AreKeysOf sealing life keys
-        × ServesSo ((rest ≡ input) × (new ≡ old)) (ServesTo keys place.id place.nodes (measured round_trip) input rest old new) status × (code ≡ code_of status)
+    × ServesSo ((rest ≡ input) × (new ≡ old)) (ServesTo keys place.id place.nodes (measured round_trip) input rest old new) status × (code ≡ code_of status)
 
 -- What comes of a command over an input and an output, and its status. Of a process of leases what it reads and writes isn't said here.
 abbrev pub IsObeyed : Invocation → Option (List ℕ) → Option (List ℕ) → Option (List ℕ) → ℕ → Type 0

@@ -393,11 +393,7 @@ fn look<W: Write + Drop>(
 }
 
 /// Reads a file and prints the jobs that can still be read, and answers the exit status. Standard error says what can't be.
-fn salvage<W: Write + Drop>(
-    rt: &HostRuntime,
-    path: &str,
-    output: &mut Sink<W>,
-) -> io::Result<u8>
+fn salvage<W: Write + Drop>(rt: &HostRuntime, path: &str, output: &mut Sink<W>) -> io::Result<u8>
     ensures { IfOk result (λ code. EndsByFile IsSalvagePrintout (W.contents output.old.writer) (W.contents output.new.writer) code) }
 {
     let mut input = match file_to_read(rt, path) {
