@@ -72,6 +72,19 @@ def end_of_answer(text, line):
     return next(number for number, said in enumerate(text.splitlines(), 1) if number >= line and CLOSES.match(said))
 
 
+def is_named(text, line, named, was):
+    """The answer in which a line was altered, or where a `take` was, the `drop` of its job."""
+    drop = "drop %s %s" % tuple(was.split(" ")[1:3]) if was.startswith("take ") else None
+    return named == end_of_answer(text, line) or (named is not None and drop is not None and any(drop in said for said in answer_to(text, named)))
+
+
+def answer_to(text, end):
+    """The lines of the answer that ends with a line."""
+    lines = text.splitlines()[:end]
+    begin = next((at for at in range(len(lines) - 2, -1, -1) if CLOSES.match(lines[at])), 0)
+    return lines[begin:]
+
+
 def under_load(agents):
     """Three machines at work, of which one is killed and comes back."""
     agents.start_all()
@@ -102,7 +115,7 @@ def tampered(bed):
             done = said_of(agents, {**texts, path: turned[0]})
             if is_run(done) or done.returncode != 1:
                 taken.append(short(done))
-            elif line_named(done.stderr) != end_of_answer(turned[0], turned[1]):
+            elif not is_named(turned[0], turned[1], line_named(done.stderr), text.splitlines()[turned[1] - 1]):
                 far.append((turned[1], short(done)))
         bed.tally.check("%s is no run, of %d nodes" % (name, tried), tried > 0 and not taken, taken[:2])
         bed.tally.check("%s: its line is named" % name, not far, far[:2])
