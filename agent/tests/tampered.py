@@ -45,6 +45,10 @@ WAYS = [
 ]
 
 
+# What is said where a node's file keeps what its record doesn't account for.
+KEPT = "its file said"
+
+
 def altered(text, chance, pattern, new):
     """The text with one of the lines of its first process turned, and the number of that line; none where there is none."""
     found = list(re.finditer(r"^(?:%s)$" % pattern, first_process(text), re.M))
@@ -73,9 +77,10 @@ def end_of_answer(text, line):
 
 
 def is_named(text, line, named, was):
-    """The answer in which a line was altered, or where a `take` was, the `drop` of its job."""
-    drop = "drop %s %s" % tuple(was.split(" ")[1:3]) if was.startswith("take ") else None
-    return named == end_of_answer(text, line) or (named is not None and drop is not None and any(drop in said for said in answer_to(text, named)))
+    """The answer in which a line was altered, or of a `take` or a `drop` a later one that says the other of the same job."""
+    word, *key = was.split(" ")[:3]
+    other = {"take": "drop", "drop": "take"}.get(word)
+    return named == end_of_answer(text, line) or (named is not None and other is not None and any(said.startswith(" ".join([other, *key])) for said in answer_to(text, named)))
 
 
 def answer_to(text, end):
@@ -113,9 +118,10 @@ def tampered(bed):
                 continue
             tried += 1
             done = said_of(agents, {**texts, path: turned[0]})
-            if is_run(done) or done.returncode != 1:
+            if is_run(done) or done.returncode not in (1, 2):
                 taken.append(short(done))
-            elif not is_named(turned[0], turned[1], line_named(done.stderr), text.splitlines()[turned[1] - 1]):
+            # a node's own number decides what its file keeps: that is named then
+            elif KEPT not in done.stderr and not is_named(turned[0], turned[1], line_named(done.stderr), text.splitlines()[turned[1] - 1]):
                 far.append((turned[1], short(done)))
         bed.tally.check("%s is no run, of %d nodes" % (name, tried), tried > 0 and not taken, taken[:2])
         bed.tally.check("%s: its line is named" % name, not far, far[:2])

@@ -15,6 +15,10 @@ use std::time::{Duration, Instant, SystemTime};
 /// Records are looked at again after so long at least.
 const PAUSE: Duration = Duration::from_millis(200);
 
+/// What was told is compared again after so many times as long as that took, and after so long at least.
+const RESTS: u32 = 4;
+const LEAST_REST: Duration = Duration::from_secs(3);
+
 const MEGABYTE: usize = 1_000_000;
 
 pub struct Follower<'a> {
@@ -35,6 +39,8 @@ struct Known {
     /// How long the last judgement took, and when it was.
     took: Duration,
     judged: Option<SystemTime>,
+    /// From when on what was told is compared again: that takes as long as a judgement, and an alarm isn't to wait for it.
+    compares_from: Option<Instant>,
     is_alarmed: bool,
 }
 
@@ -64,7 +70,7 @@ impl Follower<'_> {
             if is_begun && (is_new || !known.waits.is_empty()) {
                 let begun = Instant::now();
                 let (culprit, untrue) = match self.judged(&following, &mut known)? {
-                    None => self.untrue(&following)?.map_or((None, None), |(node, entry, why)| (Some((node, entry)), Some(why))),
+                    None => self.untrue(&following, &mut known)?.map_or((None, None), |(node, entry, why)| (Some((node, entry)), Some(why))),
                     culprit => (culprit, None),
                 };
                 (known.took, known.judged) = (begun.elapsed(), Some(SystemTime::now()));
@@ -99,11 +105,17 @@ impl Follower<'_> {
         Ok(known.waited(waiting.map(|(node, (_, taken))| (node, taken)), !following.is_waiting(), self.patience))
     }
 
-    /// The first entry at which its node told otherwise than it stands.
-    fn untrue(&self, following: &Following) -> Result<Option<(usize, usize, String)>, Failure> {
+    /// The first entry at which its node told otherwise than it stands, where it is time to look.
+    fn untrue(&self, following: &Following, known: &mut Known) -> Result<Option<(usize, usize, String)>, Failure> {
+        let begun = Instant::now();
+        if known.compares_from.map_or(false, |from| begun < from) {
+            return Ok(None);
+        }
         let named = |why: io::Error| Failure::Usage(format!("{}: {why}", self.program.display()));
         let differs = |reached: &mut [Reached], turn: &Turn| following.differs(reached, turn);
-        told_otherwise(self.program, following.entries().len(), |input| following.write(input), differs).map_err(named)
+        let found = told_otherwise(self.program, following.entries().len(), |input| following.write(input), differs).map_err(named);
+        known.compares_from = Some(Instant::now() + LEAST_REST.max(RESTS * begun.elapsed()));
+        found
     }
 
     /// What the program prints of the entries so far, and how it ends.
