@@ -190,13 +190,13 @@ WAITS = b"invite: no order takes all entries: each that is left waits for a mess
 
 # Traces, and what is printed of their turns: in which order they are, each turn and how its node stands then, and what is left.
 TURNS = [
-    ("a question and its answer", ASKED, 0, "possible\nturn 0 0 Normal 0:1 0 0\nturn 1 0 Normal 1:1 1 1\nturn 0 1 Normal 0:1 0 0\n", b""),
+    ("a question and its answer", ASKED, 0, "possible\nturn 0 0 Normal 0:1 0 0 0\nturn 1 0 Normal 1:1 1 1 0\nturn 0 1 Normal 0:1 0 0 0\n", b""),
     # a node crashes, and comes back in its second group; it recovers while it is up, in its third; then it is refused something
     (
         "a crash and recoveries",
         r'{"nodes":1,"histories":[[{"do":"crash","sent":[]},{"do":"recover","kept":false,"sent":[]},{"do":"recover","kept":false,"sent":[]},{"do":"none","sent":[]}]],"order":"0 - 0 - 0 - 0 -"}',
         0,
-        "recorded\nturn 0 0 Down\nturn 0 1 Normal 0:2 0 0\nturn 0 2 Normal 0:3 0 0\nturn 0 3 Normal 0:3 0 0\n",
+        "recorded\nturn 0 0 Down\nturn 0 1 Normal 0:2 0 0 0\nturn 0 2 Normal 0:3 0 0 0\nturn 0 3 Normal 0:3 0 0 0\n",
         b"",
     ),
     # node 1 finds node 0, and makes a group with it: its members are told with the task
@@ -205,8 +205,8 @@ TURNS = [
         r'{"nodes":2,"order":"1 - 0 0 1 1 1 - 0 2 1 3 1 - 0 4 1 5","histories":[[{"do":"deliver","msg":"010101000000","sent":["01020001000101"]},{"do":"deliver","msg":"010501000009010000000000000002","sent":["010600010009010000000000000002"]},{"do":"deliver","msg":"01070100000c010000000000000002020001","sent":["010800010009010000000000000002"]}],'
         r'[{"do":"check","sent":["010101000000"]},{"do":"deliver","msg":"01020001000101","sent":[]},{"do":"merge","sent":["010501000009010000000000000002"]},{"do":"deliver","msg":"010600010009010000000000000002","sent":[]},{"do":"accept","sent":["01070100000c010000000000000002020001"]},{"do":"deliver","msg":"010800010009010000000000000002","sent":[]}]]}',
         0,
-        "recorded\nturn 1 0 Normal 1:1 1 1\nturn 0 0 Normal 0:1 0 0\nturn 1 1 Normal 1:1 1 1\nturn 1 2 Election 1:2 1 -\nturn 0 1 Reorganization 1:2 1 -\n"
-        "turn 1 3 Election 1:2 1 -\nturn 1 4 Reorganization 1:2 1 0,1\nturn 0 2 Normal 1:2 1 0,1\nturn 1 5 Normal 1:2 1 0,1\n",
+        "recorded\nturn 1 0 Normal 1:1 1 1 0\nturn 0 0 Normal 0:1 0 0 0\nturn 1 1 Normal 1:1 1 1 0\nturn 1 2 Election 1:2 1 - 0\nturn 0 1 Reorganization 1:2 1 - 0\n"
+        "turn 1 3 Election 1:2 1 - 0\nturn 1 4 Reorganization 1:2 1 0,1 0\nturn 0 2 Normal 1:2 1 0,1 0\nturn 1 5 Normal 1:2 1 0,1 0\n",
         b"",
     ),
     # a raise that is found counts
@@ -215,7 +215,7 @@ TURNS = [
         r'{"nodes":1,"histories":[[{"do":"submit","queue":0,"payload":"","fault":"device","sent":[]},{"do":"recover","kept":false,"fault":"mount","sent":[]},'
         r'{"do":"recover","kept":false,"fault":"raise","sent":[]},{"do":"crash","sent":[]},{"do":"recover","kept":true,"sent":[]}]]}',
         0,
-        "possible\nturn 0 0 Down\nturn 0 1 Down\nturn 0 2 Down\nturn 0 3 Down\nturn 0 4 Normal 0:3 0 0\n",
+        "possible\nturn 0 0 Down\nturn 0 1 Down\nturn 0 2 Down\nturn 0 3 Down\nturn 0 4 Normal 0:3 0 0 0\n",
         b"",
     ),
     # one turn of each node is left, behind one that is taken
@@ -224,13 +224,21 @@ TURNS = [
         r'{"nodes":2,"histories":[[{"do":"deliver","msg":"010501000009010000000000000002","sent":["010600010009010000000000000002"]}],'
         r'[{"do":"check","sent":["010101000000"]},{"do":"deliver","msg":"01020001000101","sent":[]}]]}',
         1,
-        "possible\nturn 1 0 Normal 1:1 1 1\nnode 0: entry 0 waits for 010501000009010000000000000002\nnode 1: entry 1 waits for 01020001000101\n",
+        "possible\nturn 1 0 Normal 1:1 1 1 0\nnode 0: entry 0 waits for 010501000009010000000000000002\nnode 1: entry 1 waits for 01020001000101\n",
         b"invite: no order takes all entries: each that is left waits for a message that none sent\nnode 0: entry 0 waits for 010501000009010000000000000002\nnode 1: entry 1 waits for 01020001000101\n",
     ),
+    # a job is in hand from its submission at who works on its queue until it is finished
+    (
+        "a job in hand",
+        r'{"nodes":1,"histories":[[{"do":"submit","queue":3,"payload":"6869","sent":[]},{"do":"finish","origin":0,"id":0,"sent":[]}]]}',
+        0,
+        "possible\nturn 0 0 Normal 0:1 0 0 1\nturn 0 1 Normal 0:1 0 0 0\n",
+        b"",
+    ),
     # of an order in which an entry can't be taken, has one too many or one too few, another one is told
-    ("an order that can't be", ASKED[:-1] + ',"order":"1 0 0 - 0 1"}', 0, "possible\nturn 0 0 Normal 0:1 0 0\nturn 1 0 Normal 1:1 1 1\nturn 0 1 Normal 0:1 0 0\n", b""),
-    ("an order of too few", ASKED[:-1] + ',"order":"0 - 1 0"}', 0, "possible\nturn 0 0 Normal 0:1 0 0\nturn 1 0 Normal 1:1 1 1\nturn 0 1 Normal 0:1 0 0\n", b""),
-    ("the order", ASKED[:-1] + ',"order":"0 - 1 0 0 1"}', 0, "recorded\nturn 0 0 Normal 0:1 0 0\nturn 1 0 Normal 1:1 1 1\nturn 0 1 Normal 0:1 0 0\n", b""),
+    ("an order that can't be", ASKED[:-1] + ',"order":"1 0 0 - 0 1"}', 0, "possible\nturn 0 0 Normal 0:1 0 0 0\nturn 1 0 Normal 1:1 1 1 0\nturn 0 1 Normal 0:1 0 0 0\n", b""),
+    ("an order of too few", ASKED[:-1] + ',"order":"0 - 1 0"}', 0, "possible\nturn 0 0 Normal 0:1 0 0 0\nturn 1 0 Normal 1:1 1 1 0\nturn 0 1 Normal 0:1 0 0 0\n", b""),
+    ("the order", ASKED[:-1] + ',"order":"0 - 1 0 0 1"}', 0, "recorded\nturn 0 0 Normal 0:1 0 0 0\nturn 1 0 Normal 1:1 1 1 0\nturn 0 1 Normal 0:1 0 0 0\n", b""),
     ("nobody asked", NOBODY_ASKED, 1, "possible\nnode 1: entry 0 waits for 010100010000\n", WAITS),
     ("no entries", r'{"nodes":1,"histories":[[]],"order":""}', 0, "recorded\n", b""),
 ]
