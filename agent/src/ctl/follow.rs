@@ -41,6 +41,8 @@ struct Known {
     judged: Option<SystemTime>,
     /// From when on what was told is compared again: that takes as long as a judgement, and an alarm isn't to wait for it.
     compares_from: Option<Instant>,
+    /// Whether there is something told that wasn't compared yet.
+    is_behind: bool,
     is_alarmed: bool,
 }
 
@@ -67,7 +69,7 @@ impl Follower<'_> {
                 read => read.map_err(unread)?,
             };
             let is_begun = following.absent().is_empty();
-            if is_begun && (is_new || !known.waits.is_empty()) {
+            if is_begun && (is_new || known.is_behind || !known.waits.is_empty()) {
                 let begun = Instant::now();
                 let (culprit, untrue) = match self.judged(&following, &mut known)? {
                     None => self.untrue(&following, &mut known)?.map_or((None, None), |(node, entry, why)| (Some((node, entry)), Some(why))),
@@ -108,7 +110,8 @@ impl Follower<'_> {
     /// The first entry at which its node told otherwise than it stands, where it is time to look.
     fn untrue(&self, following: &Following, known: &mut Known) -> Result<Option<(usize, usize, String)>, Failure> {
         let begun = Instant::now();
-        if known.compares_from.map_or(false, |from| begun < from) {
+        known.is_behind = known.compares_from.map_or(false, |from| begun < from);
+        if known.is_behind {
             return Ok(None);
         }
         let named = |why: io::Error| Failure::Usage(format!("{}: {why}", self.program.display()));

@@ -15,7 +15,7 @@ pub struct Said<'a> {
 }
 
 /// From an entry on this was said; none where nothing is asked.
-type From<T> = (u32, Option<T>);
+type Since<T> = (u32, Option<T>);
 
 pub struct Told {
     own: u8,
@@ -27,8 +27,8 @@ pub struct Told {
     /// Whether the trace has the node work on the jobs that it took. Behind a kill it may have some in hand that the node takes later.
     is_hand_known: bool,
     group: Group,
-    groups: Vec<From<Group>>,
-    hands: Vec<From<u32>>,
+    groups: Vec<Since<Group>>,
+    hands: Vec<Since<u32>>,
 }
 
 impl Told {
@@ -129,14 +129,14 @@ impl Told {
     }
 }
 
-fn push<T: PartialEq>(all: &mut Vec<From<T>>, entry: usize, said: Option<T>) {
+fn push<T: PartialEq>(all: &mut Vec<Since<T>>, entry: usize, said: Option<T>) {
     if all.last().map_or(true, |(_, last)| *last != said) {
         all.push((u32::try_from(entry).unwrap_or(u32::MAX), said));
     }
 }
 
 /// What was said last by this entry; a node's entries come in their order.
-fn at<'a, T>(all: &'a [From<T>], reached: &mut usize, entry: u32) -> Option<&'a T> {
+fn at<'a, T>(all: &'a [Since<T>], reached: &mut usize, entry: u32) -> Option<&'a T> {
     while all.get(*reached).map_or(false, |(from, _)| *from <= entry) {
         *reached += 1;
     }
