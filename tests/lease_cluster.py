@@ -81,13 +81,13 @@ class Process:
 
 class Judge:
     """Who held which lease when, by the lines alone. A client holds it from the line `held` on until its machine's clock shows UNTIL or the line `lost` comes; one
-    of a process that was killed holds on. Wrong is what breaks one of these: one holder at a time; who holds later has the greater epoch; each lease that is
-    told as held is told as lost once, by the time at which it ends."""
+    of a process that was killed holds on. It may be told to hold it under a greater epoch, which counts from then on. Wrong is what breaks one of these: one
+    holder at a time; who holds later has the greater epoch; each lease that is told as held is told as lost once, by the time at which it ends."""
 
     def __init__(self):
         self.leases, self.flaws = {}, []  # of each name its leases: [who, epoch, begin, end]
         self.told = {}  # of each machine, of each name that its process told last as held: [user, epoch, until, lease]
-        self.acquired = 0
+        self.acquired = self.raised = 0
 
     def flaw(self, text, *words):
         self.flaws.append(text % words)
@@ -97,7 +97,7 @@ class Judge:
         if until <= now:
             self.flaw("%s is told as held when it is over", name)
         for other in leases:
-            if other[3] > time and other[:2] != [who, epoch]:
+            if other[3] > time and other[0] != who:
                 self.flaw("two hold %s at %d: %s under %d, and %s under %d", name, time, *other[:2], who, epoch)
         told = self.told.setdefault(machine.own, {}).get(name)
         if told and told[:2] == [user, epoch]:
@@ -105,14 +105,16 @@ class Judge:
                 self.flaw("a renewal of %s moves nothing", name)
             told[2], told[3][3] = until, end
             return False
-        if told:
+        if told and (told[0] != user or until < told[2]):
             self.flaw("%s is told as held anew without a lost", name)
+        if told:
+            told[3][3], self.raised = time, self.raised + 1
         if leases and epoch <= leases[-1][1]:
             self.flaw("%s has epoch %d behind %d", name, epoch, leases[-1][1])
         leases.append([who, epoch, time, end])
         self.told[machine.own][name] = [user, epoch, until, leases[-1]]
-        self.acquired += 1
-        return True
+        self.acquired += not told
+        return not told
 
     def lost(self, machine, time, name, epoch):
         told = self.told.get(machine.own, {}).pop(name, None)

@@ -199,14 +199,16 @@ class Part:
         return State(state.time, locals_, state.sent.union(sent) if sent else state.sent, relying, greatest, state.left, False)
 
     def judge(self, time, relying, greatest, who, epoch, until):
-        others = [it for it in relying if it[:2] != (who, epoch) and self.clocks[it[0][0]].at(time) < it[2]]
-        if others:
+        others = [it for it in relying if it[0] != who]
+        if any(self.clocks[it[0][0]].at(time) < it[2] for it in others):
             raise Flaw("TWO RELY: %s under epoch %d, and %s under %d" % (who, epoch, others[0][0], others[0][1]))
-        if any(it[:2] == (who, epoch) for it in relying):
-            relying = tuple(it for it in relying if it[:2] != (who, epoch))
-        elif epoch <= greatest:
+        # a renewal, also under a greater epoch
+        own = [it for it in relying if it[0] == who]
+        if not any(it[1] == epoch for it in own) and epoch <= greatest:
             raise Flaw("EPOCHS DON'T RISE: %s is held by %s behind %d" % (epoch, who, greatest))
-        return relying + ((who, epoch, until),), max(greatest, epoch)
+        if any(until < it[2] for it in own):
+            raise Flaw("A LEASE IS CUT SHORT: %s under epoch %d" % (who, epoch))
+        return (*others, (who, epoch, until)), max(greatest, epoch)
 
     # What a beginning is made of, beside moves.
 
@@ -344,6 +346,7 @@ BOUND = (2, 1, 1, 1, 3)
 ASKED = [("settle",), ("acquire", 0), ("deliver", 0, 2)]
 LATE = [*ASKED, ("deliver", 0, 1), ("before_due", 0)]
 HELD = [("settle",), ("acquire", 0), ("deliver", 0, 1), ("deliver", 1, 0)]
+RENEWED = [("until_due", 0), ("deliver", 0, 2), ("deliver", 2, 0)]
 PARTS = [
     ("all begin", (SLOW, FAST, FAST), [], BOUND),
     ("all vote", (SLOW, FAST, FAST), [("settle",)], BOUND),
@@ -352,6 +355,7 @@ PARTS = [
     ("one held by a late answer, and the grants ended", (SLOW, FAST, FAST), [*LATE, ("deliver", 2, 0), ("until_ended", 1, 2)], BOUND),
     ("one holds", (SLOW, FAST, FAST), HELD, BOUND),
     ("one holds, and who voted for it begins anew", (SLOW, FAST, FAST), [*HELD, ("kill", 1)], BOUND),
+    ("one holds, and a voter that began anew refuses its epoch", (SLOW, FAST, FAST), [*HELD, ("kill", 1), *RENEWED * 4, ("until_due", 0), ("deliver", 0, 1), ("deliver", 1, 0)], BOUND),
     ("one asks for its renewal", (SLOW, FAST, FAST), [*HELD, ("until_due", 0)], BOUND),
     ("one released", (FAST, SLOW, FAST), [*ASKED, ("deliver", 2, 0), ("release", 0)], BOUND),
     ("one gave up, and asked anew", (SLOW, FAST, FAST), [*ASKED, ("until_due", 0), ("until_due", 0)], BOUND),

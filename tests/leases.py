@@ -1,7 +1,7 @@
 #!/usr/bin/env python3
 """Processes `invite lease` over a network and clocks of lease_cluster.py: who holds a lease, for how long, and under which epoch.
 
-    leases.py PROGRAM [RUNS [SEED]]     random runs, and holders whose machines are stopped
+    leases.py PROGRAM [RUNS [SEED]]     random runs, holders whose machines are stopped, and holders whose voters begin anew
     leases.py PROGRAM times [RUNS]      how long an acquisition takes, in round trips, and whether that is too long
     leases.py PROGRAM broken [SETS]     clocks out of their bound: two holders have to be found
 
@@ -190,6 +190,24 @@ def stopped(program, seed):
     return longest
 
 
+def outlasts(program, seed):
+    """A voter of the holder begins anew, and once it votes the other one dies: what is wrong if the holder doesn't keep its lease."""
+    of = Waiting(program, 3, seed)
+    cluster, (holder, voter, other) = of.cluster, of.machines
+    of.acquire(holder, "a")
+    of.until(lambda: "a" in of.holder)
+    voter.stop()
+    voter.start()
+    cluster.at(cluster.time, voter, b"tick %d")
+    cluster.run(cluster.time + 2 * LEASE)
+    other.stop()
+    cluster.run(cluster.time + 2 * LEASE)
+    judge, last = cluster.judge, cluster.judge.leases["a"][-1]
+    flaws = [*judge.flaws, *["it is lost"] * (judge.acquired != 1 or last[3] <= cluster.time), *["its epoch stays"] * (not judge.raised)]
+    cluster.close()
+    return flaws
+
+
 # What is measured, and the most round trips that its median, or all, may take.
 TIMES = [("alone", alone, 1.5, None), ("three ask at a time", contended, 10, None), ("handed over by a release", handed_over, 10, None),
          ("a dead holder replaced", replaced, None, REPLACED), ("one whose machine is stopped", stopped, None, STOPPED)]
@@ -222,6 +240,10 @@ def random_runs(program, runs, first):
         if took > STOPPED:
             print("a holder whose machine is stopped is replaced behind %.1f round trips" % took)
         passed, failed = passed + (took <= STOPPED), failed + (took > STOPPED)
+        flaws = outlasts(program, seed)
+        for flaw in flaws:
+            print("a lease whose voter began anew: %s" % flaw)
+        passed, failed = passed + (not flaws), failed + bool(flaws)
     if leases < passed:
         print("only %d leases were held" % leases)
         failed += 1

@@ -14,6 +14,7 @@ PROGRAM = os.path.join(TOP, "crates", "invite", "out", "invite")
 
 # What each of the kit's crates does here.
 KIT = {
+    "atomic_table": "the word from which turns in threads draw their numbers",
     "clap": "reads the words of the command line",
     "crossbeam_utils": "barriers of the tests with threads",
     "fast_float": "numbers of JSON, below `serde_json`",

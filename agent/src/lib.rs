@@ -5,6 +5,7 @@
 
 pub mod boot_time;
 pub mod clock;
+pub mod command_line;
 pub mod config;
 pub mod ctl;
 pub mod daemon;

@@ -1,10 +1,11 @@
 #!/usr/bin/env python3
 """Leases: the command of the one leader, and locks, under faults.
 
-    leases.py PROGRAM [--faults N] [--only KIND..] [--jobs N]
+    leases.py PROGRAM [--faults N] [--only KIND..] [--jobs N] [--trace SECONDS]
 
 Three agents with leases, at each `dumgerokctl lead`, or `own` of 64 shards. Each kind of fault befalls the leader N times; commands of two machines never run at a time, by a clock
 that none of them reads, epochs rise, and nobody leads for 3 s at most. With a clock that is out of its bounds two are seen to lead: so the test can fail.
+--trace tells of each shard that paused for so long what became of its lease meanwhile.
 """
 import argparse, concurrent.futures, glob, os, signal, subprocess, sys, tempfile, time, traceback
 
@@ -12,6 +13,7 @@ HERE = os.path.dirname(os.path.abspath(__file__))
 sys.path[:0] = [HERE]
 from bed import MEMORY, Agents, Direct, Relay, is_there
 from beats import GAP, Leads, ShardSpans, beats, clock, overlap, running, runs, spans
+from lease_events import LeaseEvents
 
 LEASE_MS = 2000
 # Nobody leads for so long at most, at round trips of 20 ms, and a busy machine adds this.
@@ -225,13 +227,14 @@ def hung(program, programs, folder, shards, lease_ms=LEASE_MS):
         cluster.stop()
 
 
-def changes(program, programs, folder, count, shards=SHARDS, lease_ms=LEASE_MS):
+def changes(program, programs, folder, count, shards=SHARDS, lease_ms=LEASE_MS, trace=None):
     """A machine goes and comes, another one each time, so many changes: for how long two ran a shard, for each change how many paused and the longest pause, and
-    for how long the machine stopped an observer at most."""
+    for how long the machine stopped an observer at most. Pauses from `trace` seconds on are told."""
     cluster = Cluster(program, programs, folder, words=("own", str(shards)), lease_ms=lease_ms, relay=Direct(3))
     paths, rows = cluster.leads.paths, []
     seen = ShardSpans(paths, shards)
     cluster.environment = [dict(BEAT_MS="20")] * 3
+    events = LeaseEvents(cluster.agents) if trace else None
 
     try:
         cluster.start()
@@ -249,12 +252,19 @@ def changes(program, programs, folder, count, shards=SHARDS, lease_ms=LEASE_MS):
                 cluster.agents.one_group()
             cluster.agents.until(lambda: each_runs(paths, rest if goes else range(3), shards))
             pauses = []
-            for row in seen.look().values():
+            for shard, row in seen.look().items():
                 behind = [span for span in row if span[1] > at]
-                pauses += [b[0] - a[1] for a, b in zip(behind, behind[1:])] or ([behind[0][0] - at] if behind[0][0] > at else [])
+                own = [b[0] - a[1] for a, b in zip(behind, behind[1:])] or ([behind[0][0] - at] if behind[0][0] > at else [])
+                pauses += own
+                if trace and max(own, default=0.0) >= trace:
+                    runs_ = "; ".join("%d from %+.2f to %+.2f" % (i, begin - at, end - at) for begin, end, i in behind)
+                    told = "; ".join(events.told("own.%d" % (shard % 64), at))
+                    print("change %d, machine %d %s, shard %d paused for %.2f s: run by %s. Told: %s" % (change, which, "goes" if goes else "comes", shard, max(own), runs_, told), flush=True)
             rows.append((goes, sum(pause > GAP for pause in pauses), max(pauses, default=0.0)))
         return two_at_a_time(seen.look()), rows, cluster.leads.observer.longest()
     finally:
+        if events:
+            events.ends = True
         cluster.stop()
 
 
@@ -292,6 +302,7 @@ def main():
     words.add_argument("--shards", type=int, default=SHARDS)
     words.add_argument("--lease-ms", type=int, default=LEASE_MS, help="with round trips of a hundredth; all bounds scale with it")
     words.add_argument("--jobs", type=int, default=2, help="so many kinds at a time")
+    words.add_argument("--trace", type=float, metavar="SECONDS", help="tells of shards that pause for so long")
     given = words.parse_args()
     program, programs = os.path.abspath(given.program), os.path.abspath(programs_of(os.path.join(HERE, "../target/release")))
     folder, passed, failed = tempfile.mkdtemp(prefix="dumgerok-leases-"), 0, 0
@@ -303,7 +314,7 @@ def main():
             if kind == "a clock out of them":
                 return wrong_clock(program, programs, place, max(3, given.faults // 10), lease_ms=given.lease_ms)
             if kind == "shards":
-                return changes(program, programs, place, 2 * given.faults, given.shards, given.lease_ms)
+                return changes(program, programs, place, 2 * given.faults, given.shards, given.lease_ms, given.trace)
             if kind == "clocks at their bounds":
                 return many(program, programs, place, "cut off", given.faults, (SLOW, FAST, RIGHT), lease_ms=given.lease_ms)
             return many(program, programs, place, kind, given.faults, lease_ms=given.lease_ms)

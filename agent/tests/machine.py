@@ -497,7 +497,7 @@ def slow_sync(bed):
     if not shutil.which("cc"):
         return
     agents = bed.agents("slow")
-    library = compiled(bed, "slow_sync", os.path.join(os.path.dirname(os.path.abspath(__file__)), "slow_sync.c"))
+    library = compiled(bed, "slow_sync", os.path.join(os.path.dirname(os.path.abspath(__file__)), "../../tests/shim/slow_sync.c"))
     for i in range(3):
         agents.write(i, program=wrapped(agents, "slow%d" % i, LD_PRELOAD=library, SYNC_MS=15))
         agents.start(i)

@@ -184,8 +184,9 @@ def shards(bed, changes=4, count=12):
     never_two(bed, two, stopped)
     for goes, paused, longest in rows:
         word = "goes" if goes else "comes"
-        most = (leases.GO if goes else leases.COME) * count
-        bed.tally.timed("where a machine %s some shards pause, others go on" % word, 0 < paused <= most, (paused, count))
+        # where one goes, so many pause as had their lease by it or were moved: up to all
+        most = count if goes else leases.COME * count
+        bed.tally.timed("where a machine %s shards pause, where one comes others go on" % word, (not goes or 0 < paused) and paused <= most, (paused, count))
         bed.tally.timed("where a machine %s none pauses for longer than 150 round trips" % word, longest <= leases.NOBODY * bed.round_trip / 20, longest)
     took, two, stopped = leases.hung(bed.program, bed.programs, os.path.join(bed.folder, "hung"), count, 100 * bed.round_trip)
     bed.tally.timed("where the process of leases hangs others have the shards", took <= leases.NOBODY * bed.round_trip / 20 + leases.MORE, took)

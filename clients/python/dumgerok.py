@@ -151,8 +151,9 @@ class Lease:
             line = await link.line(pause)
             said, self.is_drained = line or {}, (line or {}).get("draining", self.is_drained)
             event, pause = said.get("event"), said.get("lease_ms", 2000 * HEARD * pause) / 2000 / HEARD
-            if event == "held" and self.epoch in (None, line["epoch"]):
-                self.until, self.epoch = line["until_ms"] / 1000, line["epoch"]
+            if event == "held" and line["epoch"] >= (self.epoch or 0):
+                # a renewal may have a greater epoch: what goes on under the lease keeps the first one
+                self.until, self.epoch = line["until_ms"] / 1000, self.epoch or line["epoch"]
             elif event == "refused" and line["why"] != "Silent":
                 raise Refused(dict(error=line["why"]))
             elif event in ("held", "lost", "refused") or self.is_drained and not self.epoch:

@@ -105,9 +105,10 @@ impl Shared {
             return Err(Error::lost("this machine is drained", false));
         }
         match line["event"].as_str() {
-            Some("held") if known.epoch.is_none() || known.epoch == epoch => {
+            // a renewal may have a greater epoch: what goes on under the lease keeps the first one
+            Some("held") if known.epoch <= epoch => {
                 known.until = Duration::from_millis(line["until_ms"].as_u64().unwrap_or(0));
-                known.epoch = epoch;
+                known.epoch = known.epoch.or(epoch);
                 self.news.notify_all();
                 Ok(())
             }
@@ -270,12 +271,12 @@ mod tests {
         };
         shared.take(&json!({"ok": true, "phase": "Normal", "lease_ms": 2000})).unwrap();
         assert_eq!(told().0, None);
-        for (until, epoch) in [(1500, 7), (2100, 7)] {
+        for (until, epoch) in [(1500, 7), (1800, 9), (2100, 7)] {
             shared.take(&json!({"event": "held", "name": "a", "epoch": epoch, "until_ms": until})).unwrap();
             assert_eq!(told(), (Some(7), Duration::from_millis(until)));
         }
         for line in [
-            json!({"event": "held", "name": "a", "epoch": 9, "until_ms": 5000}),
+            json!({"event": "held", "name": "a", "epoch": 6, "until_ms": 5000}),
             json!({"event": "lost", "name": "a", "epoch": 7}),
             json!({"event": "refused", "name": "a", "why": "Silent"}),
         ] {

@@ -3,7 +3,7 @@
 #![forbid(unsafe_code)]
 
 use anyhow::Context;
-use clap::Parser;
+use dumgerok_agent::command_line::{self, Words};
 use dumgerok_agent::config::{Config, LogLevel};
 use dumgerok_agent::daemon::{Beginning, Daemon};
 use dumgerok_agent::forward::KeyError;
@@ -28,20 +28,6 @@ const DEVICE: u8 = 3;
 const KEY: u8 = 6;
 const UNUSABLE: u8 = 7;
 const BROKEN: u8 = 10;
-
-/// Runs the node of a Dumgerok cluster on this machine.
-///
-/// Exit statuses, which are the node's: 0 by SIGTERM or SIGINT, 1 an address is in use or missing, another agent runs, the program can't be run, the node was
-/// killed or ended by itself, reading or writing failed, or there was no memory; 2 the configuration can't be read, or has more places than the file; 3 the device failed; 4 another process has
-/// the file open; 5 the file is another node's or another cluster's, no node's, or damaged; 6 the key can't be read, or others than its owner may read it; 7 the file isn't there,
-/// may not be opened, is no regular file, or was removed, cut off, written over or replaced while the node ran; 8 there was no room for a write; 9 the file was put back from a copy, or
-/// made with numbers that are too low; 10 the file holds what no crash leaves there.
-#[derive(Parser)]
-#[command(name = "dumgerokd", version, after_help = "Example: dumgerokd /etc/dumgerok/node.toml")]
-struct Arguments {
-    /// The configuration, as /etc/dumgerok/node.toml
-    config: PathBuf,
-}
 
 /// A line for each message; with the priority in front where the journal reads it.
 fn log_as(level: LogLevel, lines: LogLines) {
@@ -145,6 +131,14 @@ fn run(config: Config, path: PathBuf, beginning: &Beginning) -> anyhow::Result<u
     Ok(status)
 }
 
+/// Writes a text to standard output.
+fn told(text: &str) -> ExitCode {
+    match std::io::stdout().write_all(text.as_bytes()) {
+        Ok(()) => ExitCode::SUCCESS,
+        Err(_) => ExitCode::FAILURE,
+    }
+}
+
 fn main() -> ExitCode {
     if let Some(status) = become_command() {
         return ExitCode::from(status);
@@ -157,7 +151,15 @@ fn main() -> ExitCode {
             return ExitCode::FAILURE;
         }
     };
-    let Arguments { config: path } = Arguments::parse();
+    let path = match command_line::read(std::env::args_os().skip(1)) {
+        Words::Config(path) => path,
+        Words::Help => return told(command_line::HELP),
+        Words::Version => return told(concat!("dumgerokd ", env!("CARGO_PKG_VERSION"), "\n")),
+        Words::Wrong(why) => {
+            say(format!("dumgerokd: {why}\n{}; dumgerokd --help tells more", command_line::USAGE));
+            return ExitCode::from(CONFIG);
+        }
+    };
     let config = match Config::read(&path) {
         Ok(config) => config,
         Err(why) => {

@@ -5,47 +5,72 @@ use mio::Waker;
 use std::fs;
 use std::io::{self, ErrorKind};
 use std::os::unix::fs::MetadataExt;
-use std::path::Path;
+use std::path::{Path, PathBuf};
 use std::sync::atomic::{AtomicBool, Ordering};
 use std::sync::Arc;
 use std::thread;
 use std::time::Duration;
 
-/// The path is looked at so often.
+/// The paths are looked at so often.
 const PAUSE: Duration = Duration::from_secs(1);
 
-/// A thread of its own looks, so that a file system that hangs stops nobody.
+/// What no file is known by.
+const NOBODY: (u64, u64) = (0, 0);
+
+/// A path that is looked at.
+struct Guarded {
+    path: PathBuf,
+    own: (u64, u64),
+    is_gone: Arc<AtomicBool>,
+    was_gone: bool,
+}
+
+impl Guarded {
+    /// The file that is there now.
+    fn new(path: &Path) -> Guarded {
+        Guarded { path: path.to_path_buf(), own: identity(path).unwrap_or(NOBODY), is_gone: Arc::default(), was_gone: false }
+    }
+
+    /// Looks once; whether the file is newly found to be gone. One that is made anew is the one to guard.
+    fn look(&mut self) -> bool {
+        if self.is_gone.load(Ordering::SeqCst) {
+            return false;
+        }
+        if self.was_gone {
+            self.own = identity(&self.path).unwrap_or(NOBODY);
+        }
+        self.was_gone = !is_there(&self.path, self.own);
+        self.is_gone.store(self.was_gone, Ordering::SeqCst);
+        self.was_gone
+    }
+}
+
+/// Whether a file is gone.
 pub struct Guard(Arc<AtomicBool>);
 
 impl Guard {
-    /// Guards the file that is at this path now.
-    pub fn start(path: &Path, waker: Arc<Waker>) -> io::Result<Guard> {
-        let is_gone = Arc::new(AtomicBool::new(false));
-        let (path, own, gone) = (path.to_path_buf(), identity(path), Arc::clone(&is_gone));
-        thread::Builder::new().spawn(move || {
-            match own {
-                Ok(own) => {
-                    while is_there(&path, own) {
-                        thread::sleep(PAUSE);
-                    }
-                }
-                // it isn't there now: whoever makes it is told to try again
-                Err(_) => thread::sleep(PAUSE),
-            }
-            gone.store(true, Ordering::SeqCst);
+    /// Guards the files that are at these paths now. One thread looks at all, so that a file system that hangs stops nobody.
+    pub fn start<const COUNT: usize>(paths: [&Path; COUNT], waker: Arc<Waker>) -> io::Result<[Guard; COUNT]> {
+        let mut all = paths.map(Guarded::new);
+        let guards = std::array::from_fn(|at| Guard(Arc::clone(&all[at].is_gone)));
+        thread::Builder::new().spawn(move || loop {
+            thread::sleep(PAUSE);
+            let gone = all.iter_mut().map(Guarded::look).filter(|is_gone| *is_gone).count();
             // it is noticed with the next tick, too
-            waker.wake()
+            if gone > 0 && waker.wake().is_err() {
+                return;
+            }
         })?;
-        Ok(Guard(is_gone))
+        Ok(guards)
     }
 
     pub fn is_gone(&self) -> bool {
         self.0.load(Ordering::SeqCst)
     }
 
-    /// The same, told once.
-    pub fn take_gone(&self) -> bool {
-        self.0.swap(false, Ordering::SeqCst)
+    /// It was made anew, or couldn't be: in a while it is looked at again.
+    pub fn again(&self) {
+        self.0.store(false, Ordering::SeqCst);
     }
 }
 
@@ -65,6 +90,26 @@ fn is_there(path: &Path, own: (u64, u64)) -> bool {
 #[cfg(test)]
 mod tests {
     use super::*;
+
+    #[test]
+    fn a_file_that_is_made_anew_is_the_one_to_guard() {
+        let path = std::env::temp_dir().join(format!("dumgerok-guarded-{}", std::process::id()));
+        fs::write(&path, "").unwrap();
+        let mut guarded = Guarded::new(&path);
+        let guard = Guard(Arc::clone(&guarded.is_gone));
+        assert!(!guarded.look() && !guard.is_gone());
+        fs::remove_file(&path).unwrap();
+        assert_eq!([guarded.look(), guard.is_gone(), guarded.look(), guard.is_gone()], [true, true, false, true], "told once");
+        guard.again();
+        assert!(guarded.look() && guard.is_gone(), "nobody could make it");
+        fs::write(&path, "").unwrap();
+        assert!(!guarded.look(), "nobody took that");
+        guard.again();
+        assert_eq!([guarded.look(), guarded.look(), guard.is_gone()], [false; 3]);
+        fs::remove_file(&path).unwrap();
+        assert!(guarded.look());
+        assert!(Guarded::new(&path).look(), "it wasn't there at first");
+    }
 
     #[test]
     fn a_file_is_known_again() {

@@ -104,7 +104,6 @@ pub struct Daemon {
     socket_guard: Guard,
     /// Whether the socket couldn't be made again.
     is_socket_gone: bool,
-    waker: Arc<Waker>,
     /// The status to end with, where the node's file is none to go on with.
     unusable: Option<u8>,
     looks: Looks,
@@ -171,9 +170,10 @@ impl Daemon {
             .map_err(|why| anyhow::anyhow!("datagrams can't be received at {}: {why}{}", config.listens_at(), hint(&config, &why)))?;
         let clients = Clients::listen(&config.socket, registry, LISTENER, FIRST_CLIENT).with_context(socket)?;
         let http = http_of(&config, &waker)?;
+        let [guard, socket_guard] = Guard::start([&config.file, &config.socket], Arc::clone(&waker))?;
         Ok(Daemon {
-            guard: Guard::start(&config.file, Arc::clone(&waker))?,
-            socket_guard: Guard::start(&config.socket, Arc::clone(&waker))?,
+            guard,
+            socket_guard,
             node: node_of(&config, life, registry, begin)?,
             lives: vec![None; nodes],
             leases: Leases::of(&config, now),
@@ -183,8 +183,7 @@ impl Daemon {
             cipher: cipher_of(&config)?,
             backlog: Backlog::new(nodes),
             pace: Pace::new(nodes, config.key.is_some(), round_trip, now),
-            resolver: Resolver::new(Arc::clone(&waker)),
-            waker,
+            resolver: Resolver::new(waker),
             clients,
             admin: config.admin()?,
             hand: Hand::default(),
@@ -387,7 +386,7 @@ impl Daemon {
 
     /// Makes the socket again where it was removed: else no client would find the agent until its next start.
     fn keep_socket(&mut self) {
-        if !self.socket_guard.take_gone() {
+        if !self.socket_guard.is_gone() {
             return;
         }
         let path = self.config.socket.display();
@@ -399,10 +398,7 @@ impl Daemon {
             Err(_) => {}
         }
         self.is_socket_gone = is_gone;
-        match Guard::start(&self.config.socket, Arc::clone(&self.waker)) {
-            Ok(guard) => self.socket_guard = guard,
-            Err(why) => error!("socket {path}: it isn't guarded any more: {why}"),
-        }
+        self.socket_guard.again();
     }
 
     fn look_up(&mut self, now: Instant) {

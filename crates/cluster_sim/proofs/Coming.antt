@@ -25,7 +25,7 @@ use Rattle.runs.specs.Acts.{what_outcome, IsCompaction}
 use Rattle.schedule.specs.declared.act.Act.{Act}
 use Rattle.schedule.specs.declared.act.Act.TheVariants as act
 use Rattle.cluster_sim.specs.Outcomes.{came_outcome, compaction_outcome}
-use Rattle.cluster_sim.specs.World.{MayHaveForgotten, IsOfSize, IsSame, IsCounted, Comes, is_mounting, fate_in, bare}
+use Rattle.cluster_sim.specs.World.{MayHaveForgotten, IsOfSize, IsSame, IsCounted, Comes, as_before, is_mounting, fate_in, bare}
 use Rattle.cluster_sim.specs.declared.act_report.ActReport.{ActReport}
 use Rattle.durable_node.specs.Compacting.{CompactionAnswers, IsMovedNode, IsFallenNode, StaysKept}
 use Rattle.durable_node.specs.Refusing.{AnswersTo, compaction_refusal, is_last}
@@ -97,12 +97,12 @@ comes_by event old new net net' came deed has steps event_outcome tried acked mo
 
 -- an act faulted exactly where the node answers that its device failed
 counted_by : {A : Type 0} (old new : Option Memory) (result : Result A NodeFault) (o : Outcome) → (o ≡ outcome.Faulted → result ≡ Err node.Device) → (result ≡ Err node.Device → o ≡ outcome.Faulted)
-    → CountsOf state_of old new result → IsCounted old new o
+    → CountsOf state_of old new result → IsCounted as_before old new o
 counted_by old new result o so back counts was now before after =
     let c = counts.counts was now before after in
-    record { sectors = c.sectors; honest = c.honest; later = c.later; unchanged = λ not. c.unchanged (λ bad. not (back bad)); cause = λ is. c.cause (so is) }
+    record { sectors = c.sectors; honest = c.honest; arms = c.arms; later = c.later; unchanged = λ not. c.unchanged (λ bad. not (back bad)); cause = λ is. c.cause (so is) }
 
-pub came_counted : (old new : Option Memory) (came : StepReport) (first : ℕ) (event_outcome : EventOutcome) → CountsOf state_of old new (answered_as came (fault_of event_outcome)) → IsCounted old new (came_outcome event_outcome first came)
+pub came_counted : (old new : Option Memory) (came : StepReport) (first : ℕ) (event_outcome : EventOutcome) → CountsOf state_of old new (answered_as came (fault_of event_outcome)) → IsCounted as_before old new (came_outcome event_outcome first came)
 came_counted old new came first Faulted counts = counted_by old new _ _ (λ _. refl) (λ _. refl) counts
 came_counted old new came first MountFailed counts = counted_by old new _ _ (λ _. refl) (λ _. refl) counts
 came_counted old new came first (RaiseFailed kept) counts = counted_by old new _ _ (λ _. refl) (λ _. refl) counts
@@ -134,7 +134,7 @@ pub nothing_mounted : (old new : Node Memory) (o : Outcome) → IsLeftBy o old n
 nothing_mounted old new (outcome.Done answer first many) left = λ i. (left.is i).mounted
 nothing_mounted old new _ left = λ i. (left i).mounted
 
-pub compact_counted : {A : Type 0} (old new : Option Memory) (first : ℕ) (result : Result A NodeFault) → CountsOf state_of old new result → IsCounted old new (compaction_outcome first result)
+pub compact_counted : {A : Type 0} (old new : Option Memory) (first : ℕ) (result : Result A NodeFault) → CountsOf state_of old new result → IsCounted as_before old new (compaction_outcome first result)
 compact_counted old new first (Err node.Device) counts = counted_by old new _ _ (λ _. refl) (λ _. refl) counts
 compact_counted old new first _ counts = counted_by old new _ _ (λ bad. absurd cc) (λ bad. absurd cc) counts
 

@@ -25,7 +25,7 @@ use Rattle.sector_disk.specs.Memory.{Memory}
 use Rattle.durable_node.specs.Arming.{armed_disk}
 use Rattle.durable_node.specs.Node.{Node}
 use Rattle.durable_node.proofs.PublicLaws.{is_some}
-use Rattle.cluster_sim.specs.World.{FaultsAt, IsUntouched, WorldView, StandsFor, Performed, Makes, bare, disk_of, linked, link_act}
+use Rattle.cluster_sim.specs.World.{FaultsAt, IsUntouched, WorldView, StandsFor, Performed, Makes, armed_by, as_before, bare, disk_of, linked, link_act}
 use Rattle.cluster_sim.specs.Operated.{Operates, IsCompacted, OperatedAs, OperatesNode, operated_at}
 use Rattle.cluster_sim.specs.Names.{node_named, node_or_first}
 use Rattle.cluster_sim.specs.declared.act_report.ActReport.{ActReport}
@@ -41,13 +41,14 @@ brought_came w n number event brings goes what is = rw is (brings, goes)
 pub record IsTakenAs (a : Act) (e : ℕ × Event) : Type 0 where
   pub quiet : brought (Some e.1) ≡ []
   pub named : (nodes : ℕ) (sent : List Envelope) → node_named nodes sent a ≡ node_or_first nodes e.0
+  pub arms : armed_by a ≡ as_before
   pub is_step : (nodes : ℕ) (w : World) (step : Step) → At (nat_lt e.0 nodes) e.0 0 (IsOf e.1) step → IsStepOf nodes w a step
 
 taken : (a : Act) → IfSome (event_at a) (IsTakenAs a)
-taken (act.Recover n) = record { quiet = refl; named = λ nodes sent. refl; is_step = λ nodes w step at. at }
-taken (act.Timer n timer) = record { quiet = refl; named = λ nodes sent. refl; is_step = λ nodes w step at. at }
-taken (act.Submit n work) = record { quiet = refl; named = λ nodes sent. refl; is_step = λ nodes w step at. at }
-taken (act.Finish n origin id) = record { quiet = refl; named = λ nodes sent. refl; is_step = λ nodes w step at. at }
+taken (act.Recover n) = record { quiet = refl; named = λ nodes sent. refl; is_step = λ nodes w step at. at; arms = refl }
+taken (act.Timer n timer) = record { quiet = refl; named = λ nodes sent. refl; is_step = λ nodes w step at. at; arms = refl }
+taken (act.Submit n work) = record { quiet = refl; named = λ nodes sent. refl; is_step = λ nodes w step at. at; arms = refl }
+taken (act.Finish n origin id) = record { quiet = refl; named = λ nodes sent. refl; is_step = λ nodes w step at. at; arms = refl }
 taken _ = tt
 
 -- ---- a step of an act
@@ -78,9 +79,9 @@ event_acted w a n event result new at makes =
     (makes 0 (rw is.quiet tt) (rw is.quiet tt))
 
 pub faults_named : {E : Type 0} (a : Act) (n : ℕ) (event : Event) (was now new : WorldView) (result : Result ActReport E) → was ≡ now → event_at a ≡ Some (n, event)
-    → IfOk result (λ (d : ActReport). FaultsAt (node_or_first (length was.nodes) n) was new d.outcome) → IfOk result (λ (d : ActReport). FaultsAt (node_named (length now.nodes) now.net.sent a) now new d.outcome)
+    → IfOk result (λ (d : ActReport). FaultsAt as_before (node_or_first (length was.nodes) n) was new d.outcome) → IfOk result (λ (d : ActReport). FaultsAt (armed_by a) (node_named (length now.nodes) now.net.sent a) now new d.outcome)
 faults_named a n event was now new result viewed is faults =
-    rw (← viewed, (taken_as a n event is).named (length was.nodes) was.net.sent) faults
+    rw (← viewed, (taken_as a n event is).named (length was.nodes) was.net.sent, (taken_as a n event is).arms) faults
 
 pub untouched_named : {E : Type 0} (a : Act) (n : ℕ) (event : Event) (was now new : WorldView) (result : Result ActReport E) → was ≡ now → event_at a ≡ Some (n, event)
     → OnErr result (IsUntouched (node_or_first (length was.nodes) n) was new) → OnErr result (IsUntouched (node_named (length now.nodes) now.net.sent a) now new)

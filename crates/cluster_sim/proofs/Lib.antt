@@ -1,4 +1,5 @@
 mod Names
+mod Arming
 mod Coming
 mod Members
 mod Answering

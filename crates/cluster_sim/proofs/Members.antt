@@ -1,5 +1,5 @@
 -- A cluster of which one node took a step, or the network alone, or nothing.
-use Rattle.std.proofs.Common.{◌≡◌, ◌≢◌, ℕ, ◌<◌, ◌≤◌, Bool, true, false, List, length, slice_get, nat_lt, refl, sym, ◌∙◌, ap, subst, subst₂, arith, inl, inr, Some, Result, Ok, Err, ◌==◌, slice_set, IfOk, OnErr}
+use Rattle.std.proofs.Common.{◌≡◌, ◌≢◌, ℕ, ◌<◌, ◌≤◌, Bool, true, false, List, length, slice_get, nat_lt, refl, sym, ◌∙◌, ap, subst, subst₂, arith, inl, inr, Some, Result, Ok, Err, ◌==◌, slice_set, IfOk, OnErr, Option}
 use Rattle.std.proofs.lemmas.List.{length-set}
 use Rattle.std.proofs.lemmas.Option.{slice_get_within}
 use Rattle.sector_disk.specs.Memory.{Memory, state_of}
@@ -13,6 +13,7 @@ use Rattle.durable_node.proofs.PublicLaws.{is_some}
 use Rattle.runs.specs.declared.outcome.Outcome.TheVariants as outcome
 use Rattle.runs.specs.declared.outcome.ActRefusal.TheVariants as refusal
 use Rattle.runs.specs.World.{World, node_in}
+use Rattle.runs.specs.declared.outcome.Outcome.{Outcome}
 use Rattle.runs.specs.Step.{Takes, Denies}
 use Rattle.runs.specs.Run.{IsBrought}
 use Rattle.runs.specs.Acts.{At, what_outcome}
@@ -144,10 +145,10 @@ denied_at w id number a P view stands beyond =
 
 -- ---- the failures of its disk
 
-pub faults_if : {E : Type 0} (slots n : ℕ) (nodes : List (Node Memory)) (old new : Node Memory) (net net' : Network) (result : Result ActReport E) (now : WorldView) → record { slots = slots; nodes = nodes; net = net } ≡ now
-    → slice_get nodes n ≡ Some old → IfOk result (λ (d : ActReport). IsCounted old.disk new.disk d.outcome)
-    → IfOk result (λ (d : ActReport). FaultsAt (node_or_first (length now.nodes) n) now (record { slots = slots; nodes = slice_set nodes n new; net = net' }) d.outcome)
-faults_if slots n nodes old new net net' (Ok d) now viewed at counted =
+pub faults_if : {E : Type 0} (arms : Outcome → Option ℕ → Option ℕ) (slots n : ℕ) (nodes : List (Node Memory)) (old new : Node Memory) (net net' : Network) (result : Result ActReport E) (now : WorldView) → record { slots = slots; nodes = nodes; net = net } ≡ now
+    → slice_get nodes n ≡ Some old → IfOk result (λ (d : ActReport). IsCounted arms old.disk new.disk d.outcome)
+    → IfOk result (λ (d : ActReport). FaultsAt arms (node_or_first (length now.nodes) n) now (record { slots = slots; nodes = slice_set nodes n new; net = net' }) d.outcome)
+faults_if arms slots n nodes old new net net' (Ok d) now viewed at counted =
     let known : node_or_first (length nodes) n ≡ n = rw (true_within n (length nodes) (slice_get_within nodes n old at)) refl in
     rw (← viewed, known) (record { here = rw (at, get_set_same nodes n old new at) counted; elsewhere = λ k other. get_set_other nodes k n new other })
-faults_if slots n nodes old new net net' (Err e) now viewed at counted = tt
+faults_if arms slots n nodes old new net net' (Err e) now viewed at counted = tt

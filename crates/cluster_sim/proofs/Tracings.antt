@@ -32,7 +32,7 @@ use Rattle.runs.specs.declared.outcome.Outcome.{Outcome}
 use Rattle.cluster_sim.specs.Acting.{IsActed}
 use Rattle.cluster_sim.specs.Names.{node_named}
 use Rattle.cluster_sim.specs.Operated.{Operates}
-use Rattle.cluster_sim.specs.World.{AreUnarmed, FaultsAt, ReportsDeed, WorldView, StandsFor, fate_in}
+use Rattle.cluster_sim.specs.World.{AreUnarmed, FaultsAt, ReportsDeed, WorldView, StandsFor, armed_by, fate_in}
 use Rattle.cluster_sim.specs.declared.act_report.ActReport.{ActReport as Told}
 use Rattle.histories.specs.declared.event_outcome.EventOutcome.{EventOutcome}
 use Rattle.node_core.specs.declared.event.Event.{Event as CoreEvent}
@@ -302,7 +302,7 @@ traced nodes slots before a n b d old new place sent trace trace' order order' s
     goes_on nodes slots before a old new trace trace' order order' so step turned same next of_histories (record {
       stands = stands;
       operates = subst (λ (o : Outcome). Operates a old new o) outcome_is did.3;
-      faults = subst (λ (o : Outcome). FaultsAt (node_named (length old.nodes) old.net.sent a) old new o) outcome_is did.4;
+      faults = subst (λ (o : Outcome). FaultsAt (armed_by a) (node_named (length old.nodes) old.net.sent a) old new o) outcome_is did.4;
     })
 
 -- and no turn
@@ -324,7 +324,7 @@ none_noted nodes slots before a old new trace order so same acts none =
     goes_on nodes slots before a old new trace trace order order so acted.step (quiet_turn order size w acted.step (none_comes size w a acted.step none_w acted.next.of_act)) same acted.next (so.run.of_histories ∙ ap trace_in (sym (histories_stay 0 nodes nodes so.run.steps acted.step (λ m more. quiet m)))) (record {
       stands = acted.stands;
       operates = subst (λ (o : Outcome). Operates a old new o) acted.outcome_is did.2;
-      faults = subst (λ (o : Outcome). FaultsAt (node_named (length old.nodes) old.net.sent a) old new o) acted.outcome_is did.3;
+      faults = subst (λ (o : Outcome). FaultsAt (armed_by a) (node_named (length old.nodes) old.net.sent a) old new o) acted.outcome_is did.3;
     })
 
 pub recorded_so : (nodes slots : ℕ) (view : WorldView) (acts : List Act) (trace : List (List Claim)) (order : Order) → IsSoFar nodes slots view acts trace order → IsRecordOf nodes slots acts trace order

@@ -133,10 +133,28 @@ pub record Comes (slots id nodes : ℕ) (a : Act) (P : HistoryEvent → Type 0) 
   pub mounted : new.mounted ≡ mounted_at s what
   pub stands : Stands state_of new (after id nodes s what)
 
--- an act that didn't fault left a disk's count of failures as it was; in one that faulted it rose, or stands at its greatest value
-abbrev pub IsCounted : Option Memory → Option Memory → Outcome → Type 0
-IsCounted old new o = (was now : Memory) → old ≡ Some was → new ≡ Some now →
-    Counts (state_of was) (state_of now) (o ≡ outcome.Faulted) (o ≢ outcome.Faulted)
+-- how many calls of its disk still pass, of those before: an act that ends so arms none, arms it with so many, or crashes it
+abbrev pub as_before : Outcome → Option ℕ → Option ℕ
+as_before o armed = armed
+
+abbrev pub armed_with : ℕ → Outcome → Option ℕ → Option ℕ
+armed_with calls (outcome.Done answer first many) armed = Some calls
+armed_with calls o armed = armed
+
+abbrev pub disarmed : Outcome → Option ℕ → Option ℕ
+disarmed (outcome.Done answer first many) armed = None
+disarmed o armed = armed
+
+abbrev pub armed_by : Act → Outcome → Option ℕ → Option ℕ
+armed_by (act.Arm n calls) = armed_with calls
+armed_by (act.Crash n fill) = disarmed
+armed_by a = as_before
+
+-- An act that didn't fault left a disk's count of failures as it was; in one that faulted it rose, or stands at its greatest value. No more
+-- calls of the disk pass than before, but where the act itself arms or crashes it; where none was to fail, none is.
+abbrev pub IsCounted : (Outcome → Option ℕ → Option ℕ) → Option Memory → Option Memory → Outcome → Type 0
+IsCounted arms old new o = (was now : Memory) → old ≡ Some was → new ≡ Some now →
+    Counts (state_of (record was { left = arms o was.left })) (state_of now) (o ≡ outcome.Faulted) (o ≢ outcome.Faulted)
 
 -- the node stays the one of its id, over a disk of its size
 pub record IsSame (old new : Node Memory) : Type 0 where
@@ -217,7 +235,7 @@ pub record Performed (w : World) (act : Act) (deed : ActReport) (new : WorldView
 abbrev pub disk_of : Option (Node Memory) → Option Memory
 disk_of node = option_and_then (λ (n : Node Memory). n.disk) node
 
--- an act faulted exactly where the disk of its node failed in it, and no other node changed
-pub record FaultsAt (at : ℕ) (old new : WorldView) (o : Outcome) : Type 0 where
-  pub here : IsCounted (disk_of (slice_get old.nodes at)) (disk_of (slice_get new.nodes at)) o
+-- an act faulted exactly where the disk of its node failed in it, armed by nothing but the act, and no other node changed
+pub record FaultsAt (arms : Outcome → Option ℕ → Option ℕ) (at : ℕ) (old new : WorldView) (o : Outcome) : Type 0 where
+  pub here : IsCounted arms (disk_of (slice_get old.nodes at)) (disk_of (slice_get new.nodes at)) o
   pub elsewhere : (k : ℕ) → k ≢ at → slice_get new.nodes k ≡ slice_get old.nodes k

@@ -1,7 +1,7 @@
 // A cluster that keeps a report of all its acts.
 ghost use Rattle.std.specs.Prelude.{◌≡◌, ◌≢◌, ◌≤◌, ◌<◌, ◌+◌, [], ◌++◌, map, length, slice_get, Some, IfOk, OnErr, OnOk, ℕ};
 ghost use Rattle.group_task.specs.declared.node.TheConstants.{NODES};
-ghost use Rattle.cluster_sim.specs.World.{FaultsAt, IsUntouched};
+ghost use Rattle.cluster_sim.specs.World.{FaultsAt, IsUntouched, armed_by};
 ghost use Rattle.cluster_sim.specs.Answering.{IsAnsweredBy};
 ghost use Rattle.cluster_sim.specs.Operated.{Operates};
 ghost use Rattle.cluster_sim.specs.Cluster.{report_in, cluster_with, Reports, GoesOn, HasRun, IsCluster};
@@ -89,10 +89,11 @@ impl Cluster {
         // faulted_command_acknowledged, failed_mounting_answered_as_raise, reported_of_the_sender.
         ensures goes_on { (w : RunWorld) → Reports self.old w → IfOk result (λ outcome. GoesOn w act outcome self.old self.new) }
         // Promise: An act faults exactly where the disk of its node failed in it, by the count of failures before and after (or the
-        // count stands at its greatest value), and no other node changed.
+        // count stands at its greatest value), and no other node changed. No act but `arm` lets a disk fail that nobody armed, or
+        // lets more of its calls pass.
         // Also: World::step.
-        // Refuses: failure_answered_as_refusal.
-        ensures faults { IfOk result (FaultsAt (node_named (length self.old.world.nodes) self.old.world.net.sent act) self.old.world self.new.world) }
+        // Refuses: failure_answered_as_refusal, armed_by_an_event.
+        ensures faults { IfOk result (FaultsAt (armed_by act) (node_named (length self.old.world.nodes) self.old.world.net.sent act) self.old.world self.new.world) }
         // Promise: An act `arm` arms its node's disk with just so many calls, `crash` leaves of it what a crash leaves with just
         // these bytes, and `compact` is refused and does as `DurableNode::compact` says.
         // Also: World::step.
@@ -191,7 +192,7 @@ fn advance(
     ensures slots { world.new.slots ≡ world.old.slots }
     ensures goes_on { (w : RunWorld) → Reports (cluster_with world.old report.old) w
         → IfOk result (λ outcome. GoesOn w act outcome (cluster_with world.old report.old) (cluster_with world.new report.new)) }
-    ensures faults { IfOk result (FaultsAt (node_named (length world.old.nodes) world.old.net.sent act) world.old world.new) }
+    ensures faults { IfOk result (FaultsAt (armed_by act) (node_named (length world.old.nodes) world.old.net.sent act) world.old world.new) }
     ensures disk { IfOk result (Operates act world.old world.new) }
     ensures answers { IfOk result (IsAnsweredBy act world.old) }
     ensures unworn { IfOk result (λ outcome. outcome ≢ outcomes.Refused (OfNode AreaExhausted)) }

@@ -11,7 +11,7 @@ ghost use Rattle.histories.specs.EventOutcomes.{what_of};
 ghost use Rattle.histories.specs.declared.history_event.HistoryEvent.TheVariants.{NoOp, Crashed};
 ghost use Rattle.histories.specs.declared.history_event.NoOpKind.TheVariants.{Nothing};
 ghost use Rattle.cluster_sim.specs.Answering.{IsAnswered};
-ghost use Rattle.cluster_sim.specs.World.{AreaRises, IsOfSize, IsSame, IsCounted, IsUntouchedNode, Comes, MayHaveForgotten, bare, is_mounting};
+ghost use Rattle.cluster_sim.specs.World.{AreaRises, IsOfSize, IsSame, IsCounted, IsUntouchedNode, Comes, MayHaveForgotten, armed_by, armed_with, as_before, bare, disarmed, is_mounting};
 ghost use Rattle.cluster_sim.specs.Operated.{IsCompacted, IsLeftWith, OperatedAs, OperatesNode, operated_at};
 ghost use Rattle.schedule.specs.declared.act.Act.{Act as AnyAct};
 ghost use Rattle.schedule.specs.declared.act.Act.TheVariants as acts;
@@ -45,7 +45,7 @@ pub(crate) fn handle(
         → IfOk result (λ deed. Comes slots node.old.id node.old.nodes a (IsOf event.now) s deed node.new net.old.network net.new.network) }
     ensures memory { OnErr result ((s : NodeState) → Stands state_of node.old s → IsUntouchedNode node.old node.new) }
     ensures unsent { OnErr result (net.new.network ≡ net.old.network) }
-    ensures counted { IfOk result (λ deed. IsCounted node.old.disk node.new.disk deed.outcome) }
+    ensures counted { IfOk result (λ deed. IsCounted as_before node.old.disk node.new.disk deed.outcome) }
     ensures answers { (s : NodeState) → Stands state_of node.old s → IfOk result (λ deed. IsAnswered node.old event.now deed.outcome) }
     ensures areas { (s : NodeState) → Stands state_of node.old s → IfOk result (λ deed. AreaRises node.old.disk node.new.disk deed.outcome) }
 {
@@ -146,7 +146,7 @@ pub(crate) fn operate(node: &mut DurableNode<MemDisk>, net: &Net, act: &Act) -> 
     ensures same { IsSame node.old node.new }
     ensures came { (slots : ℕ) (s : NodeState) → Stands state_of node.old s
         → Comes slots node.old.id node.old.nodes act.now (OperatedAs act.now s) s (bare result) node.new net.now.network net.now.network }
-    ensures counted { IsCounted node.old.disk node.new.disk result }
+    ensures counted { IsCounted (armed_by act.now) node.old.disk node.new.disk result }
     ensures areas { AreaRises node.old.disk node.new.disk result }
     ensures disk { OperatesNode act.now node.old node.new result }
 {
@@ -163,7 +163,7 @@ fn arm(node: &mut DurableNode<MemDisk>, net: &Net, calls: u64) -> Outcome
     ensures same { IsSame node.old node.new }
     ensures came { (slots n : ℕ) (s : NodeState) → Stands state_of node.old s
         → Comes slots node.old.id node.old.nodes (acts.Arm n calls) (λ what. what ≡ NoOp Nothing) s (bare result) node.new net.now.network net.now.network }
-    ensures counted { IsCounted node.old.disk node.new.disk result }
+    ensures counted { IsCounted (armed_with calls) node.old.disk node.new.disk result }
     ensures areas { AreaRises node.old.disk node.new.disk result }
     ensures armed { node.new.disk ≡ armed_disk calls node.old.disk }
 {
@@ -176,7 +176,7 @@ fn crash(node: &mut DurableNode<MemDisk>, net: &Net, fill: &Fill) -> Outcome
     ensures same { IsSame node.old node.new }
     ensures came { (slots n : ℕ) (s : NodeState) → Stands state_of node.old s
         → Comes slots node.old.id node.old.nodes (acts.Crash n fill.now) (λ what. what ≡ Crashed) s (bare result) node.new net.now.network net.now.network }
-    ensures counted { IsCounted node.old.disk node.new.disk result }
+    ensures counted { IsCounted disarmed node.old.disk node.new.disk result }
     ensures areas { AreaRises node.old.disk node.new.disk result }
     ensures left { IsLeftWith fill.now node.old.disk node.new.disk }
 {
@@ -189,7 +189,7 @@ fn compact(node: &mut DurableNode<MemDisk>, net: &Net) -> Outcome
     ensures same { IsSame node.old node.new }
     ensures came { (slots n : ℕ) (s : NodeState) → Stands state_of node.old s
         → Comes slots node.old.id node.old.nodes (acts.Compact n) (IsCompaction s) s (bare result) node.new net.now.network net.now.network }
-    ensures counted { IsCounted node.old.disk node.new.disk result }
+    ensures counted { IsCounted as_before node.old.disk node.new.disk result }
     ensures areas { AreaRises node.old.disk node.new.disk result }
     ensures compacted { IsCompacted node.old node.new result }
 {

@@ -9,7 +9,7 @@ ghost use Rattle.runs.specs.declared.outcome.Outcome.TheVariants as outcome;
 ghost use Rattle.runs.specs.declared.outcome.ActRefusal.TheVariants.{Node as OfNode};
 ghost use Rattle.runs.specs.Acts.{At};
 ghost use Rattle.runs.specs.Events.{event_at};
-ghost use Rattle.cluster_sim.specs.World.{AreasRise, AreOpened, IsUntouched, StandsFor, Makes, Performed, FaultsAt, bare, linked, link_act};
+ghost use Rattle.cluster_sim.specs.World.{AreasRise, AreOpened, IsUntouched, StandsFor, Makes, Performed, FaultsAt, armed_by, as_before, bare, linked, link_act};
 ghost use Rattle.cluster_sim.specs.Answering.{IsAnsweredAt};
 ghost use Rattle.cluster_sim.specs.Operated.{Operates, operated_at};
 ghost use Rattle.cluster_sim.specs.Names.{node_named, node_or_first};
@@ -98,7 +98,7 @@ impl Nodes {
             → IfOk result (λ deed. Makes a (λ step. At (nat_lt id (length w.states)) id number (IsOf event.now) step) w deed self.new) }
         ensures memory { (w : World) → StandsFor self.old w → OnErr result (StandsFor self.new w) }
         ensures untouched { (w : World) → StandsFor self.old w → OnErr result (IsUntouched (node_or_first (length self.old.nodes) id) self.old self.new) }
-        ensures faults { IfOk result (λ deed. FaultsAt (node_or_first (length self.old.nodes) id) self.old self.new deed.outcome) }
+        ensures faults { IfOk result (λ deed. FaultsAt as_before (node_or_first (length self.old.nodes) id) self.old self.new deed.outcome) }
         ensures answers { (w : World) → StandsFor self.old w → IfOk result (λ deed. IsAnsweredAt self.old.nodes id event.now deed.outcome) }
         ensures areas { (w : World) → StandsFor self.old w → IfOk result (λ deed. AreasRise self.old self.new deed.outcome) }
     {
@@ -119,7 +119,7 @@ impl Nodes {
     fn lose(&mut self, number: u64) -> Outcome
         ensures slots { self.new.slots ≡ self.old.slots }
         ensures acted { (w : World) → StandsFor self.old w → Performed w (acts.Lose number) (bare result) self.new }
-        ensures faults { FaultsAt 0 self.old self.new result }
+        ensures faults { FaultsAt as_before 0 self.old self.new result }
         ensures nodes { self.new.nodes ≡ self.old.nodes }
         ensures own { result ≢ outcome.Refused (OfNode AreaExhausted) }
     {
@@ -133,7 +133,7 @@ impl Nodes {
     fn link(&mut self, a: NodeId, b: NodeId, joined: bool) -> Outcome
         ensures slots { self.new.slots ≡ self.old.slots }
         ensures acted { (w : World) → StandsFor self.old w → Performed w (link_act joined a b) (bare result) self.new }
-        ensures faults { FaultsAt 0 self.old self.new result }
+        ensures faults { FaultsAt as_before 0 self.old self.new result }
         ensures nodes { self.new.nodes ≡ self.old.nodes }
         ensures own { result ≢ outcome.Refused (OfNode AreaExhausted) }
     {
@@ -157,7 +157,7 @@ impl Nodes {
         requires { operated_at act.now ≡ Some id }
         ensures slots { self.new.slots ≡ self.old.slots }
         ensures acted { (w : World) → StandsFor self.old w → Performed w act.now (bare result) self.new }
-        ensures faults { FaultsAt (node_named (length self.old.nodes) self.old.net.sent act.now) self.old self.new result }
+        ensures faults { FaultsAt (armed_by act.now) (node_named (length self.old.nodes) self.old.net.sent act.now) self.old self.new result }
         ensures areas { AreasRise self.old self.new result }
         ensures disk { Operates act.now self.old self.new result }
     {
@@ -174,7 +174,7 @@ impl Nodes {
         requires deliver { (k : ℕ) → act.now ≢ acts.Deliver k }
         ensures slots { self.new.slots ≡ self.old.slots }
         ensures acted { (w : World) → StandsFor self.old w → Performed w act.now (bare result) self.new }
-        ensures faults { FaultsAt (node_named (length self.old.nodes) self.old.net.sent act.now) self.old self.new result }
+        ensures faults { FaultsAt (armed_by act.now) (node_named (length self.old.nodes) self.old.net.sent act.now) self.old self.new result }
         ensures areas { AreasRise self.old self.new result }
         ensures disk { Operates act.now self.old self.new result }
     {

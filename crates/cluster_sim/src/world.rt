@@ -2,7 +2,7 @@
 ghost use Rattle.std.specs.Prelude.{◌≡◌, ◌≤◌, ◌<◌, length, slice_get, Some, IfOk, OnErr};
 ghost use Rattle.group_task.specs.declared.node.TheConstants.{NODES};
 ghost use Rattle.schedule.specs.declared.act.Act.TheVariants as acts;
-ghost use Rattle.cluster_sim.specs.World.{AreasRise, AreasWithin, AreUnarmed, IsUntouched, StandsFor, Performed, FaultsAt};
+ghost use Rattle.cluster_sim.specs.World.{AreasRise, AreasWithin, AreUnarmed, IsUntouched, StandsFor, Performed, FaultsAt, armed_by, as_before};
 ghost use Rattle.cluster_sim.specs.Answering.{IsAnsweredBy};
 ghost use Rattle.cluster_sim.specs.Operated.{Operates};
 ghost use Rattle.cluster_sim.specs.Names.{node_named};
@@ -92,7 +92,7 @@ impl World {
         // Promise: Want of memory leaves the cluster as it was.
         ensures memory { (w : RunWorld) → StandsFor self.old w → OnErr result (StandsFor self.new w) }
         ensures untouched { (w : RunWorld) → StandsFor self.old w → OnErr result (IsUntouched (node_named (length self.old.nodes) self.old.net.sent act.now) self.old self.new) }
-        ensures faults { IfOk result (λ deed. FaultsAt (node_named (length self.old.nodes) self.old.net.sent act.now) self.old self.new deed.outcome) }
+        ensures faults { IfOk result (λ deed. FaultsAt (armed_by act.now) (node_named (length self.old.nodes) self.old.net.sent act.now) self.old self.new deed.outcome) }
         ensures disk { IfOk result (λ deed. Operates act.now self.old self.new deed.outcome) }
         ensures answers { (w : RunWorld) → StandsFor self.old w → IfOk result (λ deed. IsAnsweredBy act.now self.old deed.outcome) }
         // No act is refused because areas are used up, where each of their numbers can be raised once more.
@@ -160,7 +160,7 @@ impl World {
         ensures acted { (w : RunWorld) → StandsFor self.old w → IfOk result (λ deed. Performed w (acts.Deliver number) deed self.new) }
         ensures memory { (w : RunWorld) → StandsFor self.old w → OnErr result (StandsFor self.new w) }
         ensures untouched { (w : RunWorld) → StandsFor self.old w → OnErr result (IsUntouched (receiver_or_first (length self.old.nodes) (slice_get self.old.net.sent number)) self.old self.new) }
-        ensures faults { IfOk result (λ deed. FaultsAt (receiver_or_first (length self.old.nodes) (slice_get self.old.net.sent number)) self.old self.new deed.outcome) }
+        ensures faults { IfOk result (λ deed. FaultsAt as_before (receiver_or_first (length self.old.nodes) (slice_get self.old.net.sent number)) self.old self.new deed.outcome) }
         ensures answers { (w : RunWorld) → StandsFor self.old w → IfOk result (λ deed. IsAnsweredBy (acts.Deliver number) self.old deed.outcome) }
         ensures areas { (w : RunWorld) → StandsFor self.old w → IfOk result (λ deed. AreasRise self.old self.new deed.outcome) }
     {

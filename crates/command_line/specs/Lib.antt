@@ -2,6 +2,7 @@ pub mod Asked
 pub mod Ends
 pub mod Keys
 pub mod Label
+pub mod Obeyed
 pub mod Performed
 pub mod Served
 pub mod LeaseLabel

@@ -94,7 +94,7 @@ pub(crate) fn is_own(
 ) -> bool
     // Promise: A file is a node's where its label says so: one of version 2 says, too, how many slots the file has, and its cluster.
     // Also: is_own_marked, judged, mark_of.
-    // Refuses: another_nodes_file_taken, another_clusters_file_taken, shortened_file_taken.
+    // Refuses: file_of_another_node_served, another_clusters_file_taken, shortened_file_taken.
     ensures { result ≡ is_own label id nodes stride sectors mark }
 {
     let Some(label) = label else {

@@ -35,21 +35,21 @@ pub fn reason_of(
     }
 }
 
-/// Says on standard error why.
-pub fn explain(rt: &HostRuntime, reason: Reason) -> io::Result<()> {
+/// Says to standard error why.
+pub fn explain<E: Write>(errors: &mut E, reason: Reason) -> io::Result<()> {
     match reason {
         Reason::Input(line) => {
-            let mut errors = rt.stderr();
             errors.write_all(b"invite: ")?;
             errors.write_all(&line)?;
             errors.write_all(b"\n")
         }
-        Reason::NoMemory => rt.eprintln("invite: no memory"),
-        Reason::Unread(Some(error)) => eprintln!(rt; "invite: can't read: {error}"),
-        Reason::Unread(None) => {
-            eprintln!(rt; "invite: can't read: the input has no end within {MAX_READS} reads")
-        }
-        Reason::Unwritten(Some(error)) => eprintln!(rt; "invite: can't write: {error}"),
-        Reason::Unwritten(None) => rt.eprintln("invite: can't write"),
+        Reason::NoMemory => writeln!(errors, "invite: no memory"),
+        Reason::Unread(Some(error)) => writeln!(errors, "invite: can't read: {error}"),
+        Reason::Unread(None) => writeln!(
+            errors,
+            "invite: can't read: the input has no end within {MAX_READS} reads"
+        ),
+        Reason::Unwritten(Some(error)) => writeln!(errors, "invite: can't write: {error}"),
+        Reason::Unwritten(None) => writeln!(errors, "invite: can't write"),
     }
 }

@@ -9,6 +9,9 @@ use std::fmt::{Display, Formatter};
 use std::io::ErrorKind;
 use std::{fmt, io};
 
+/// The exit status of a command line that can't be read, or asks for help.
+pub(crate) const UNREADABLE: u8 = 2;
+
 /// How a command ended.
 #[derive(Clone, Copy, Debug)]
 pub enum Status {

@@ -75,7 +75,7 @@ node_forgot id nodes core disk doubt mounted = refl
 
 left_armed : (calls : Option ℕ) (disk : Option Memory) (s : NodeState) → ((d : Memory) → disk ≡ Some d → IsLeft (state_of d) s) → (d : Memory) → with_left calls disk ≡ Some d → IsLeft (state_of d) s
 left_armed calls None s left d e = absurd cc
-left_armed calls (Some was) s left d e = at_some (λ (m : Memory). IsLeft (state_of m) s) (record was { left = calls }) d e (left was refl)
+left_armed calls (Some was) s left d e = at_some (λ (m : Memory). IsLeft (state_of m) s) (record was { left = calls }) d e (assumption (left was refl))
 
 -- an armed node stands for what it stood for
 pub arms : (calls : Option ℕ) (old new : Node Memory) (s : NodeState) → new ≡ record old { disk = with_left calls old.disk; mounted = None } → Stands state_of old s → Stands state_of new s

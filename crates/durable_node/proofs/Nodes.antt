@@ -1,6 +1,7 @@
 -- What is true of every node stays true.
 use Rattle.std.proofs.Common.{◌≡◌, ◌⊎◌, arith, inl, inr, ⊎_elim, ℕ, true, false, Bool, Option, Some, None, Result, Ok, Err, ◌∙◌, ap, refl, IsFalse, IfOk, IfErr, IsErrOf, IsSome}
 use Rattle.sector_disk.specs.Disk.{DiskState, Counts}
+use Rattle.sector_disk.proofs.PublicLaws.{no_more_still}
 use Rattle.job_journal.specs.Journal.{IsSound, RisesByOne}
 use Rattle.node_core.specs.declared.wanted.Wanted.{Wanted}
 use Rattle.node_core.specs.declared.event.Event.{Event}
@@ -113,6 +114,6 @@ counts_of {Disk} {A} disks was now result counts rises = record {
 -- a disk that isn't called
 pub counts_still : {Disk A : Type 0} (disks : Disk → DiskState) (disk : Option Disk) (result : Result A NodeFault) → IsSome disk → (IsErrOf result node.Device → ⊥) → CountsOf disks disk disk result
 counts_still disks (Some disk) result there not_device =
-    counts_of disks disk disk result (record { sectors = refl; honest = refl; later = omega arith; unchanged = λ _. refl; cause = λ device. absurd (not_device device) })
+    counts_of disks disk disk result (record { sectors = refl; honest = refl; arms = no_more_still (disks disk).armed; later = omega arith; unchanged = λ _. refl; cause = λ device. absurd (not_device device) })
     (λ honest bound within image number is at. omega (arith, within image number is at))
 counts_still disks None result there not_device = absurd cc

@@ -1,5 +1,5 @@
 -- A disk over a file as its contracts see it.
-use Rattle.std.specs.Prelude.{ℕ, Bool, [], false, IsTrue}
+use Rattle.std.specs.Prelude.{ℕ, Bool, [], None, false, IsTrue}
 use Rattle.std.proofs.lemmas.Bool.{false≢true}
 use Rattle.sector_disk.specs.Disk.{DiskState, Laws, nothing}
 use Rattle.file_disk.specs.declared.stride.Stride.{Stride}
@@ -24,6 +24,7 @@ abbrev pub state_of : FileState → DiskState
 state_of disk = record {
   sectors = disk.sectors;
   failures = disk.failures;
+  armed = None;
   honest = false;
   contents = [];
   synced = nothing;

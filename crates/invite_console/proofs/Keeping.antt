@@ -11,7 +11,7 @@ use Rattle.schedule.specs.declared.act.Act.{Act}
 use Rattle.runs.specs.declared.outcome.Outcome.{Outcome}
 use Rattle.cluster_sim.specs.Names.{node_named}
 use Rattle.cluster_sim.specs.Operated.{Operates}
-use Rattle.cluster_sim.specs.World.{AreasRise, AreasWithin, AreUnarmed, FaultsAt, WorldView, Acted, StandsFor}
+use Rattle.cluster_sim.specs.World.{AreasRise, AreasWithin, AreUnarmed, FaultsAt, WorldView, Acted, StandsFor, armed_by}
 use Rattle.runs.proofs.PublicLaws.{step_adds}
 use Rattle.runs.specs.World.{World, start}
 use Rattle.runs.specs.Step.{step_sent}
@@ -251,7 +251,7 @@ kept_longer kept m m' t t' are more_m more_t = λ i k at_i.
 
 -- an act was done that sent messages, and what came of it was kept
 pub act_kept : RunsGrow → (details : Details) (nodes slots : ℕ) (old new : WorldView) (before : List Act) (a : Act) (outcome : Outcome) (kept kept' : List ActEnd) (k : ActEnd) (text shown text' : List ℕ)
-    → ((w : World) → StandsFor old w → Acted w a outcome new) → Operates a old new outcome → FaultsAt (node_named (length old.nodes) old.net.sent a) old new outcome → ((w : World) → StandsFor old w → AreasRise old new outcome) → length before + 3 < 2 ^ 64 → new.slots ≡ old.slots → ((w : World) → StandsFor old w → AddsNodes details.nodes w.states text shown)
+    → ((w : World) → StandsFor old w → Acted w a outcome new) → Operates a old new outcome → FaultsAt (armed_by a) (node_named (length old.nodes) old.net.sent a) old new outcome → ((w : World) → StandsFor old w → AreasRise old new outcome) → length before + 3 < 2 ^ 64 → new.slots ≡ old.slots → ((w : World) → StandsFor old w → AddsNodes details.nodes w.states text shown)
     → text' ≡ shown ++ act_head (length before) a outcome → k.sent ≡ length new.net.sent → k.written ≡ length text' → kept' ≡ kept ++ k ∷ []
     → IsKeptSoFar details nodes slots old before kept text → IsKeptSoFar details nodes slots new (before ++ a ∷ []) kept' text'
 act_kept grow details nodes slots old new before a outcome kept kept' k text shown text' acted operates faults rises short same rows head is_sent is_written is_more so =
@@ -289,7 +289,7 @@ act_kept grow details nodes slots old new before a outcome kept kept' k text sho
 
 -- an act was done that sent nothing: its line is whole
 pub act_quiet : RunsGrow → (details : Details) (nodes slots : ℕ) (old new : WorldView) (before : List Act) (a : Act) (outcome : Outcome) (kept : List ActEnd) (text shown headed text' : List ℕ)
-    → ((w : World) → StandsFor old w → Acted w a outcome new) → Operates a old new outcome → FaultsAt (node_named (length old.nodes) old.net.sent a) old new outcome → ((w : World) → StandsFor old w → AreasRise old new outcome) → length before + 3 < 2 ^ 64 → new.slots ≡ old.slots → ((w : World) → StandsFor old w → AddsNodes details.nodes w.states text shown)
+    → ((w : World) → StandsFor old w → Acted w a outcome new) → Operates a old new outcome → FaultsAt (armed_by a) (node_named (length old.nodes) old.net.sent a) old new outcome → ((w : World) → StandsFor old w → AreasRise old new outcome) → length before + 3 < 2 ^ 64 → new.slots ≡ old.slots → ((w : World) → StandsFor old w → AddsNodes details.nodes w.states text shown)
     → headed ≡ shown ++ act_head (length before) a outcome → text' ≡ headed ++ codes "\n" → length new.net.sent ≡ length old.net.sent
     → IsKeptSoFar details nodes slots old before kept text → IsKeptSoFar details nodes slots new (before ++ a ∷ []) kept text'
 act_quiet grow details nodes slots old new before a outcome kept text shown headed text' acted operates faults rises short same rows head ended unsent so =

@@ -23,7 +23,7 @@ use Rattle.runs.specs.Reporting.{Moment, grown, moment_of, report_of}
 use Rattle.runs.specs.Growth.{IsNext, RunsGrow, RunsOpen}
 use Rattle.cluster_sim.specs.Names.{node_named}
 use Rattle.cluster_sim.specs.Operated.{Operates}
-use Rattle.cluster_sim.specs.World.{AreasRise, AreasWithin, AreUnarmed, FaultsAt, WorldView, Acted, StandsFor}
+use Rattle.cluster_sim.specs.World.{AreasRise, AreasWithin, AreUnarmed, FaultsAt, WorldView, Acted, StandsFor, armed_by}
 use Rattle.invite_console.specs.declared.details.Details.{Details}
 use Rattle.invite_console.specs.Acts.{act_line, answer_text, moment_line, sent_text}
 use Rattle.invite_console.specs.Kept.{act_head}
@@ -71,7 +71,7 @@ line_further names nodes w ms old new acts a outcome step headed behind allowed 
 
 -- the acts so far, one act further
 pub further : RunsGrow → (details : Details) (nodes slots : ℕ) (old new : WorldView) (acts : List Act) (a : Act) (outcome : Outcome) (text headed behind : List ℕ)
-    → IsSoFar details nodes slots old acts text → ((w : World) → StandsFor old w → Acted w a outcome new) → Operates a old new outcome → FaultsAt (node_named (length old.nodes) old.net.sent a) old new outcome → ((w : World) → StandsFor old w → AreasRise old new outcome) → length acts + 3 < 2 ^ 64 → new.slots ≡ old.slots
+    → IsSoFar details nodes slots old acts text → ((w : World) → StandsFor old w → Acted w a outcome new) → Operates a old new outcome → FaultsAt (armed_by a) (node_named (length old.nodes) old.net.sent a) old new outcome → ((w : World) → StandsFor old w → AreasRise old new outcome) → length acts + 3 < 2 ^ 64 → new.slots ≡ old.slots
     → ((w : World) → StandsFor old w → AddsNodes details.nodes w.states text headed)
     → behind ≡ headed ++ act_line details.names (length acts) a outcome (drop (length old.net.sent) new.net.sent)
     → IsSoFar details nodes slots new (acts ++ a ∷ []) behind
@@ -100,7 +100,7 @@ further grow details nodes slots old new acts a outcome text headed behind so ac
           (record {
             stands = stands;
             operates = subst (λ (o : Outcome). Operates a old new o) outcome_is operates;
-            faults = subst (λ (o : Outcome). FaultsAt (node_named (length old.nodes) old.net.sent a) old new o) outcome_is faults;
+            faults = subst (λ (o : Outcome). FaultsAt (armed_by a) (node_named (length old.nodes) old.net.sent a) old new o) outcome_is faults;
           })
           (rows w so.stands)
           (line_further details.names nodes w so.report.moments old new acts a outcome act.step headed behind next.allowed so.acts_are so.stands.net outcome_is stands added);

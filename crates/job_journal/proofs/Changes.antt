@@ -11,6 +11,7 @@ use Rattle.std.proofs.lemmas.Option.{slice_get-map}
 use Rattle.std.specs.Prelude.{option_map}
 use borrow.Author.Count.{below_more}
 use Rattle.slot_gate.specs.Stored.{Knows, IsStored, Follows}
+use Rattle.sector_disk.proofs.PublicLaws.{no_more_then}
 use Rattle.safe_cell.proofs.PublicLaws.{raised_way}
 use Rattle.job_journal.specs.declared.place.Place.TheVariants.{Running, Keeping}
 use Rattle.job_journal.proofs.Commands.{leaves_room, command_taken, kept, room_for, keep_taken}
@@ -150,10 +151,11 @@ writing_run {first = first} {slots = slots} into so_far = run_on (InSlots first 
 pub writing_more : (first slots : ℕ) {Said : ℕ → Image → Type 0} {here : ℕ → Type 0} {old mid new : DiskState} {done : ℕ} {failed ok : Type 0} → ok → ((k : ℕ) → here k → InSlots first slots k)
     → Writing first slots Said old mid done → Counts mid new failed ok → (IsTrue mid.honest → Run here mid new)
     → (IsTrue mid.honest → Said done mid.contents → Said (done + 1) new.contents) → Writing first slots Said old new (done + 1)
-writing_more first slots {old = old} {mid = mid} was_ok into so_far counts run said = record {
+writing_more first slots {old = old} {mid = mid} {new = new} was_ok into so_far counts run said = record {
   calls = record {
     sectors = counts.sectors ∙ so_far.calls.sectors;
     honest = counts.honest ∙ so_far.calls.honest;
+    arms = no_more_then old.armed mid.armed new.armed so_far.calls.arms counts.arms;
     failures = counts.unchanged was_ok ∙ so_far.calls.failures;
     run = writing_run into so_far run;
     unsealed = λ honest k less. absurd (omega (arith, less));

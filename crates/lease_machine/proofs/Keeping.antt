@@ -128,6 +128,10 @@ dead_found now place seen es r same is some = place_found place es (is_dead now)
 pub name_found : (name : List ℕ) (place : ℕ) (seen es : List NameEntry) (r : Option ℕ) → seen ≡ es → r ≡ place_from 0 name seen → r ≡ Some place → IsPlace place es (λ e. is_same e.name name)
 name_found name place seen es r same is some = place_found place es (λ e. is_same e.name name) (placed 0 name es place (ap (place_from 0 name) (sym same) ∙ sym is ∙ some))
 
+-- a name that is kept needs no room
+pub kept_needs_none : {e : NameEntry} (o : Option NameEntry) → o ≡ Some e → o ≡ None → ⊥
+kept_needs_none {e = e} o some none = absurd (let bad : None ≡ Some e = sym none ∙ some in cc)
+
 -- an entry that was read there, and what is found once another one of its name is written in its place
 pub record IsRead (name : List ℕ) (es : List NameEntry) (place : ℕ) (e x : NameEntry) : Type 0 where
   pub at : IsAt place e es

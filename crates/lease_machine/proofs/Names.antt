@@ -122,6 +122,16 @@ pub none_dead : (from now : ℕ) (es : List NameEntry) → dead_from from now es
 none_dead from now [] h = tt
 none_dead from now (e ∷ es) h = let g = none_step (is_dead now e) from (dead_from (from + 1) now es) h in (g.0, none_dead (from + 1) now es g.1)
 
+-- what is true of all is true at each place
+pub all_at : (P : NameEntry → Type 0) (k : ℕ) (d : NameEntry) (es : List NameEntry) → IsAt k d es → AllByRecursion P es → P d
+all_at P k d [] at all = absurd at
+all_at P zero d (e ∷ es) at all = subst P at all.0
+all_at P (suc k) d (e ∷ es) at all = all_at P k d es at all.1
+
+-- so no dead name has a place where all are in use
+pub not_in_use : (now k : ℕ) (d : NameEntry) (es : List NameEntry) → IsAt k d es → is_dead now d ≡ true → AllByRecursion (λ e. is_dead now e ≡ false) es → ⊥
+not_in_use now k d es at dead all = absurd (let bad : true ≡ false = sym dead ∙ all_at (λ e. is_dead now e ≡ false) k d es at all in cc)
+
 -- ---- what is found
 
 apart_none : (k : ℕ) (d : NameEntry) (n : List ℕ) (es : List NameEntry) → IsAt k d es → entry_of n es ≡ None → is_same d.name n ≡ false

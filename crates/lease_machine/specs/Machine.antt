@@ -67,3 +67,7 @@ AllStay old new = (name : List ℕ) → (voter_at new name ≡ voter_at old name
 -- every name is in use
 abbrev pub IsFull : ℕ → LeaseMachine → Type 0
 IsFull now m = (length m.names.items ≡ NAMES) × AllByRecursion (λ e. is_dead now e ≡ false) m.names.items
+
+-- nothing is kept of this name, and there is no room for it
+abbrev pub HasNoRoom : ℕ → List ℕ → LeaseMachine → Type 0
+HasNoRoom now name m = (entry_of name m.names.items ≡ None) × IsFull now m

@@ -2,7 +2,7 @@ ghost use Rattle.std.specs.Prelude.{◌≡◌, ◌⊎◌, ◌<◌, ◌≤◌, �
 ghost use Rattle.lease_runs.specs.Code.{ask_of};
 ghost use Rattle.lease_runs.specs.Run.{asks, stops};
 ghost use Rattle.lease_machine.specs.Kept.{IsOwn};
-ghost use Rattle.lease_machine.specs.Machine.{AllStay, GoesOn, IsFull, OthersSame, OthersStay, claim_at, voter_at};
+ghost use Rattle.lease_machine.specs.Machine.{AllStay, GoesOn, HasNoRoom, OthersSame, OthersStay, claim_at, voter_at};
 ghost use Rattle.lease_machine.specs.Claims.{Acts, Hears, IsBegun, IsNew, IsNotOf, MayNotAsk, Relies, ReliesNot};
 
 use crate::entries::place_of;
@@ -19,7 +19,7 @@ pub enum ClaimRefusal {
     Claimed,
     /// No number is left for a client.
     Exhausted,
-    /// Each name that is kept is in use.
+    /// Nothing is kept of the name, and each name that is kept is in use.
     Full,
 }
 
@@ -27,15 +27,16 @@ impl LeaseMachine {
     /// Begins to ask for a name, for the user of this number.
     pub fn claim(&mut self, now: u64, name: &LeaseName, user: u64) -> Result<(), ClaimRefusal>
         // Promise: Who begins to ask for a name is a client that nobody in this process was before, and begins. Refused is only who asks
-        // for a name that somebody here asks for, or where no number is left, or each name is in use; then nothing changes. How the
-        // machine votes doesn't change.
-        // Refuses: client_numbered_as_the_last, name_claimed_twice, claimed_without_room.
+        // for a name that somebody here asks for, or where no number is left, or where nothing is kept of the name and each name that is
+        // kept is in use; then nothing changes. How the machine votes doesn't change.
+        // Refuses: client_numbered_as_the_last, name_claimed_twice, claimed_without_room, kept_name_claimed_as_full.
         ensures claimed { IsOk result → IsBegun self.old.terms self.old.process (self.old.claims + 1) user (claim_at self.new name.now) }
         ensures counts { IsOk result → self.new.claims ≡ self.old.claims + 1 }
         ensures taken { result ≡ Err ClaimRefusal.Claimed → is_some (claim_at self.old name.now) ≡ true }
         ensures free { (result ≡ Err ClaimRefusal.Claimed → ⊥) → is_some (claim_at self.old name.now) ≡ false }
         ensures exhausted { result ≡ Err ClaimRefusal.Exhausted → self.old.claims ≡ 2 ^ 64 - 1 }
-        ensures full { result ≡ Err ClaimRefusal.Full → IsFull now self.old }
+        ensures full { result ≡ Err ClaimRefusal.Full → HasNoRoom now name.now self.old }
+        ensures room { IsOk result → HasNoRoom now name.now self.old → ⊥ }
         ensures refused { OnErr result (AllStay self.old self.new) }
         ensures voter { voter_at self.new name.now ≡ voter_at self.old name.now }
         ensures others { OthersStay now name.now self.old self.new }
@@ -92,7 +93,8 @@ impl LeaseMachine {
     fn place_claim(&mut self, now: u64, name: &LeaseName, claim: Claim) -> bool
         requires { IsOwn self.old.terms self.old.process self.old.claims claim.candidate }
         ensures placed { result ≡ true → claim_at self.new name.now ≡ Some claim }
-        ensures full { result ≡ false → AllStay self.old self.new × IsFull now self.old }
+        ensures full { result ≡ false → AllStay self.old self.new × HasNoRoom now name.now self.old }
+        ensures room { result ≡ true → HasNoRoom now name.now self.old → ⊥ }
         ensures terms { (self.new.terms ≡ self.old.terms) × (self.new.process ≡ self.old.process) × (self.new.bound ≡ self.old.bound) × (self.new.claims ≡ self.old.claims) }
         ensures voter { voter_at self.new name.now ≡ voter_at self.old name.now }
         ensures others { OthersStay now name.now self.old self.new }

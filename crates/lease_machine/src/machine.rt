@@ -81,6 +81,7 @@ impl LeaseMachine {
         ensures others { result ≡ true → OthersStay now entry.name self.old self.new }
         ensures terms { (self.new.terms ≡ self.old.terms) × (self.new.process ≡ self.old.process) × (self.new.bound ≡ self.old.bound) × (self.new.claims ≡ self.old.claims) }
         ensures full { result ≡ false → (self.new ≡ self.old) × IsFull now self.old }
+        ensures room { result ≡ true → IsFull now self.old → ⊥ }
     {
         if self.names.len() < NAMES {
             self.names.push_reserved(entry);

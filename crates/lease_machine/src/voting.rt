@@ -2,7 +2,7 @@ ghost use Rattle.std.specs.Prelude.{◌≡◌, ◌<◌, ◌≤◌, ◌^◌, ℕ,
 ghost use Rattle.lease_runs.specs.Code.{CanGrant, IsStep, ask_of, client_of};
 ghost use Rattle.lease_runs.specs.Voter.{grants, raises, releases};
 ghost use Rattle.lease_machine.specs.Names.{entry_of};
-ghost use Rattle.lease_machine.specs.Machine.{AllStay, GoesOn, IsFull, OthersSame, OthersStay, claim_at, voter_at};
+ghost use Rattle.lease_machine.specs.Machine.{AllStay, GoesOn, HasNoRoom, OthersSame, OthersStay, claim_at, voter_at};
 
 use crate::entries::place_of;
 use crate::name_entry::NameEntry;
@@ -16,7 +16,7 @@ pub enum Vote {
     Granted,
     /// The voter of the name may not grant it.
     Refused,
-    /// It might, but each name that is kept is in use.
+    /// It might, but nothing is kept of the name, and each name that is kept is in use.
     Full,
 }
 
@@ -24,13 +24,15 @@ impl LeaseMachine {
     /// Votes on a request for a name.
     pub fn vote(&mut self, now: u64, name: &LeaseName, client: ClientId, epoch: u64) -> Vote
         requires { now < 2 ^ 63 }
-        // Promise: What a machine grants is a possible step of the voter of that name; what it refuses may not be granted, but for
-        // want of room, where all of the names that it can keep are in use. A refusal changes nothing, and a grant no other name, but
-        // that an ended grant may be forgotten.
-        // Refuses: refused_as_granted, granted_where_there_is_no_room, forgotten_while_it_lasts, floor_not_raised, another_name_asked.
+        // Promise: What a machine grants is a possible step of the voter of that name; what it refuses may not be granted. What may be
+        // granted is refused for want of room exactly where nothing is kept of the name, and all of the names that the machine can keep
+        // are in use. A refusal changes nothing, and a grant no other name, but that an ended grant may be forgotten.
+        // Refuses: refused_as_granted, granted_where_there_is_no_room, kept_name_refused_as_full, forgotten_while_it_lasts, floor_not_raised,
+        // another_name_asked.
         ensures granted { result ≡ Vote.Granted → (number sent : ℕ) → IsStep (voter_at self.old name.now) (voter_at self.new name.now) now (grants (ask_of client number epoch sent)) }
         ensures refused { result ≡ Vote.Refused → AllStay self.old self.new × (CanGrant (voter_at self.old name.now) now client epoch → ⊥) }
-        ensures full { result ≡ Vote.Full → AllStay self.old self.new × IsFull now self.old × CanGrant (voter_at self.old name.now) now client epoch }
+        ensures full { result ≡ Vote.Full → (self.new ≡ self.old) × HasNoRoom now name.now self.old × CanGrant (voter_at self.old name.now) now client epoch }
+        ensures room { result ≡ Vote.Granted → HasNoRoom now name.now self.old → ⊥ }
         ensures others { OthersStay now name.now self.old self.new }
         ensures claim { claim_at self.new name.now ≡ claim_at self.old name.now }
         ensures goes_on { GoesOn self.old self.new }
@@ -51,7 +53,8 @@ impl LeaseMachine {
         requires new { entry_of name.now self.old.names.items ≡ None }
         ensures granted { result ≡ Vote.Granted → (number sent : ℕ) → IsStep (voter_at self.old name.now) (voter_at self.new name.now) now (grants (ask_of client number epoch sent)) }
         ensures refused { result ≡ Vote.Refused → AllStay self.old self.new × (CanGrant (voter_at self.old name.now) now client epoch → ⊥) }
-        ensures full { result ≡ Vote.Full → AllStay self.old self.new × IsFull now self.old × CanGrant (voter_at self.old name.now) now client epoch }
+        ensures full { result ≡ Vote.Full → (self.new ≡ self.old) × HasNoRoom now name.now self.old × CanGrant (voter_at self.old name.now) now client epoch }
+        ensures room { result ≡ Vote.Granted → HasNoRoom now name.now self.old → ⊥ }
         ensures others { OthersStay now name.now self.old self.new }
         ensures claim { claim_at self.new name.now ≡ claim_at self.old name.now }
         ensures goes_on { GoesOn self.old self.new }

@@ -54,7 +54,8 @@ pub fn held_may_rely()
     // over by its own clock, or it sends a release, where clocks keep to their bound, whatever became of its process; and who may rely
     // on one has a greater epoch than each other client that held one by then.
     // Also: follow.
-    // Refuses: release_of_another_client, release_that_nobody_sent, lease_runs::no_margin_for_drift.
+    // Refuses: release_of_another_client, release_that_nobody_sent, relied_on_behind_its_release, relied_on_behind_its_time,
+    // lease_runs::no_margin_for_drift.
     ensures relies { OneRelies }
     ensures follow { HeldEpochsFollow }
     // Promise: Who holds a lease sent no release of its epoch, or of a greater one, by then.

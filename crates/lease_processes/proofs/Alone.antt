@@ -23,7 +23,7 @@ new_sound a new = record {
   holders = λ none. subst (λ (o : Option LeaseMachine). AreHoldersTold o a.process.told.items) (sym new.3) tt;
 }
 
-clocks : (t : LeaseTerms) → AreClocks (true_time t)
+pub clocks : (t : LeaseTerms) → AreClocks (true_time t)
 clocks t = record { rates = λ machine boot s e less. (omega (arith, less), omega (arith, less)); margin = t.margin }
 
 is_here : (n : ℕ) (a : At) → (if n == n then Some a else None) ≡ Some a

@@ -2,3 +2,4 @@ mod Alone
 mod Standing
 mod Printed
 mod Words
+mod Holding

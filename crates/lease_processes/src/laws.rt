@@ -20,14 +20,14 @@ pub fn leases_are_one_network()
     // Promise: With no word on clocks, two `held` lines of one name and epoch are of one process; and where a lease was asked for behind
     // another's `held` line its epoch is greater, or they are one process's, of one epoch.
     // Also: rise.
-    // Refuses: message_of_nobody, number_had_before, floor_below_the_bound.
+    // Refuses: message_of_nobody, number_had_before, floor_below_the_bound, asked_at_the_same_time.
     ensures one { OneEpochEach }
     ensures rise { EpochsRise }
     // Promise: Where clocks keep to their bound, the users of one process at most may rely on a lease of a name at a time: who was told by a
     // `held` line, until its clock shows UNTIL or a release was sent for it, whatever became of the process. Whoever may rely has a
     // greater epoch than each `held` line of another process before.
     // Also: follow.
-    // Refuses: lease_runs::no_margin_for_drift.
+    // Refuses: relied_on_at_until, lease_runs::no_margin_for_drift.
     ensures holder { OneAtATime }
     ensures follow { EpochsFollow }
     // Promise: Who goes by the last line of its process may rely on the lease: no process sends a release of a lease that it told a user to hold,

@@ -5,5 +5,7 @@
 #![tactic(auto)]
 
 mod laws;
+mod witness;
 
 pub use laws::{leases_are_one_network, lines_are_told};
+pub use witness::one_holds;

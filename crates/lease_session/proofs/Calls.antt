@@ -34,7 +34,7 @@ use Rattle.lease_session.specs.declared.refusing.Halt.TheVariants.{NoMemory}
 use Rattle.std.specs.Global.{Vec}
 use Rattle.lease_session.specs.Holding.{AreHoldersTold, IsHolderTold, IsToldNow, last_told, news_of}
 use Rattle.lease_session.specs.Marks.{did, wrote}
-use Rattle.lease_session.specs.Turns.{claim_of, Follow, GaveUp, GoesTo, IsClientOf, Requested, IsAt, IsBefore, IsHeld, IsTheClients, Stood, TellsHolder, TellsUser, SaysHeld, IsOut, IsQuiet, Turn, Voted, Who, key_of, sent_in, who}
+use Rattle.lease_session.specs.Turns.{claim_of, Follow, GaveUp, GoesTo, IsClientOf, Requested, IsAt, IsBefore, IsHeld, IsTheClients, Stood, TellsUser, SaysHeld, IsOut, IsQuiet, Turn, Voted, Who, key_of, sent_in, who}
 use Rattle.lease_session.proofs.Machines.{by_client, by_name, own_at, shows_still}
 use Rattle.lease_session.proofs.Leases.{Keeps, LeasesKept, keeps_news, kept_told, leases_same, same_name}
 use Rattle.lease_session.proofs.News.{epoch_told, other_without, told_now, told_other}
@@ -391,7 +391,7 @@ said_all {b = b} {c = c} x {y = y} {name = name} t is others h other = elim (sam
       ∙ h other d r (sym (others other differ).1 ∙ claimed) lease)
 ]
 
-said_turn : {now : ℕ} {name : Name} (b c : LeaseProcess) → IsQuiet b c → SaysHeld now name b c → Turn [] [] now b c
+pub said_turn : {now : ℕ} {name : Name} (b c : LeaseProcess) → IsQuiet b c → SaysHeld now name b c → Turn [] [] now b c
 said_turn {now = now} {name = name} b c quiet s = record {
   marks = wrote (held name s.user s.epoch s.until) ∷ [];
   terms = quiet.terms;
@@ -411,27 +411,20 @@ said_turn {now = now} {name = name} b c quiet s = record {
     by_machine (Some x) is h = subst (λ (o : Option LeaseMachine). AreHoldersTold o c.told.items) (sym (quiet.machine ∙ is))
         (said_all x s is (λ other differ. (refl, refl)) h)
 
-pub told_turn : {now : ℕ} {name : Name} {b c : LeaseProcess} → TellsHolder now name b c → Turn [] [] now b c
-told_turn {b = b} {c = c} t = elim t.said [ inl out ↦ failed t.quiet out | inr (inl same) ↦ to_same same.0 (stay b) | inr (inr s) ↦ said_turn b c t.quiet s ]
-
 -- a grant that is heard, and what its user is told
 pub heard : {now voter number : ℕ} {a b c : LeaseProcess} {x y : LeaseMachine} (client : ClientId) (name : Name) → Rest a b → a.machine ≡ Some x → b.machine ≡ Some y
     → Did x y now (client_of client) (takes (grant name (client_of client) number voter)) → client.machine ≡ a.terms.machine → client.boot ≡ a.start.process
     → ((d : Claim) (r : Request) → claim_at y name ≡ Some d → d.candidate.lease ≡ Some r → Keeps x name d.user d.candidate.relies_for r ⊎ (now < r.sent + d.candidate.relies_for))
-    → OthersSame name x y → TellsHolder now name b c → Turn [] (grant name (client_of client) number voter ∷ []) now a c
-heard {now = now} {voter = voter} {number = number} {a = a} {b = b} {c = c} {x = x} {y = y} client name r was is did_it machine process kept others t = elim t.said [
-  | inl out ↦ deed_told by what [] r was is did_it machine process (λ p h. h) (inl (inl refl)) t.quiet (λ before. out) (λ none. not_out out none) (λ goes. absurd (goes out))
+    → OthersSame name x y → IsQuiet b c → IsOut c ⊎ SaysHeld now name b c → Turn [] (grant name (client_of client) number voter ∷ []) now a c
+heard {now = now} {voter = voter} {number = number} {a = a} {b = b} {c = c} {x = x} {y = y} client name r was is did_it machine process kept others quiet said = elim said [
+  | inl out ↦ deed_told by what [] r was is did_it machine process (λ p h. h) (inl (inl refl)) quiet (λ before. out) (λ none. not_out out none) (λ goes. absurd (goes out))
       (λ goes. absurd (goes out)) (λ goes. absurd (goes out)) (λ none. not_out out none) (λ terms at m clock there. (tt, refl))
-  | inr (inl same) ↦ to_same same.0 (deed_told by what [] r was is did_it machine process (λ p h. h) (inl (inl refl)) (quiet_self b) (λ out. r.halt ∙ out) (λ none. sym r.halt ∙ none)
-      (λ goes. text_same r ∙ sym (append-nil a.text.items)) (λ goes. ap (λ t. t.items) r.told) (λ goes. (tt, tt))
-      (λ none h. subst (λ (o : Option LeaseMachine). AreHoldersTold o b.told.items) (sym is) (λ other. not_news (same.1 (ap (λ (p : LeaseProcess). p.halt) same.0 ∙ none)) same.0 (its h) other))
-      (λ terms at m clock there. (tt, refl)))
-  | inr (inr s) ↦ deed_told by what (wrote (held name s.user s.epoch s.until) ∷ []) r was is did_it machine process (λ p h. h) (inl (inl refl)) t.quiet
+  | inr s ↦ deed_told by what (wrote (held name s.user s.epoch s.until) ∷ []) r was is did_it machine process (λ p h. h) (inl (inl refl)) quiet
       (λ out. absurd (let bad : None ≡ Some NoMemory = sym (sym r.halt ∙ s.going) ∙ out in cc)) (λ none. sym r.halt ∙ s.going)
       (λ goes. s.text ∙ (ap (λ (u : List ℕ). u ++ row_text (held name s.user s.epoch s.until)) (text_same r)
       ∙ ap (λ (u : List ℕ). a.text.items ++ u) (sym (append-nil (row_text (held name s.user s.epoch s.until))))))
       (λ goes. s.told ∙ ap (λ (u : Vec Told). told_row u.items (held name s.user s.epoch s.until)) r.told) (λ goes. (tt, tt))
-      (λ none h. subst (λ (o : Option LeaseMachine). AreHoldersTold o c.told.items) (sym (t.quiet.machine ∙ is)) (said_all x s is others (its h)))
+      (λ none h. subst (λ (o : Option LeaseMachine). AreHoldersTold o c.told.items) (sym (quiet.machine ∙ is)) (said_all x s is others (its h)))
       (λ terms at m clock there. (
         (
           subst (λ (w : Who). IsHeld terms w at m name s.epoch s.until) (who_is a b r.terms r.start (ap key_of r.seal))
@@ -457,17 +450,3 @@ heard {now = now} {voter = voter} {number = number} {a = a} {b = b} {c = c} {x =
     clock_so : (terms : Terms) (at : ℕ) → terms.clock a.terms.machine a.start.process at ≡ now → terms.clock b.terms.machine b.start.process at ≡ now
     clock_so terms at clock = ap (λ (u : LeaseTerms). terms.clock u.machine b.start.process at) r.terms
         ∙ (ap (λ (u : Start). terms.clock a.terms.machine u.process at) r.start ∙ clock)
-
-    told_here : IsToldNow now name c.machine c.told.items → c ≡ b → IsToldNow now name (Some y) b.told.items
-    told_here told same = subst (λ (o : Option LeaseMachine). IsToldNow now name o b.told.items) is
-        (subst (λ (p : LeaseProcess). IsToldNow now name p.machine p.told.items) same told)
-
-    -- nothing is news
-    not_news : IsToldNow now name c.machine c.told.items → c ≡ b → ((other : Name) → IsHolderTold other x b.told.items) → (other : Name) → IsHolderTold other y b.told.items
-    not_news told same h other = elim (same_name name other) [
-      | inl e ↦ subst (λ (n : Name). IsHolderTold n y b.told.items) e (λ d q claimed lease. elim (kept d q claimed lease) [
-        | inl k ↦ keeps_news name b.told.items k (h name)
-        | inr less ↦ told_here told same d q claimed lease less
-      ])
-      | inr differ ↦ kept_told x y b.told.items other (leases_same x y other (others other differ).1) (h other)
-    ]

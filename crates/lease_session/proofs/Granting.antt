@@ -8,16 +8,17 @@ use Rattle.lease_network.specs.Network.{Name, ask_at}
 use Rattle.lease_machine.specs.declared.name_entry.NameEntry.{NameEntry}
 use Rattle.lease_machine.specs.declared.state.LeaseMachine.{LeaseMachine}
 use Rattle.lease_machine.specs.Kept.{IsEntry}
-use Rattle.lease_machine.specs.Machine.{AllStay, IsFull, unknown, voter_at, voter_in}
+use Rattle.lease_machine.specs.Machine.{AllStay, HasNoRoom, unknown, voter_at, voter_in}
 use Rattle.lease_machine.specs.Names.{entry_of}
 use Rattle.lease_message.specs.declared.message.LeaseMessage.{LeaseMessage}
 use Rattle.lease_message.specs.declared.message.Reason.{Reason}
+use Rattle.lease_message.specs.declared.message.Reason.TheVariants.{Full}
 use Rattle.lease_session.specs.declared.process.LeaseProcess.{LeaseProcess}
 use Rattle.lease_session.specs.declared.voting.Answer.{Answer}
 use Rattle.lease_session.specs.declared.voting.Answer.TheVariants as answer
 use Rattle.lease_session.specs.Rows.{asker}
 use Rattle.lease_session.specs.Turns.{IsRightVote}
-use Rattle.lease_session.specs.Votes.{IsGrantedBy, IsCrowded, IsGrantable, IsLastGrant, IsRefusedBy}
+use Rattle.lease_session.specs.Votes.{IsForbidden, IsGrantable, IsGrantedBy, IsLastGrant, IsRefusedFor}
 use Rattle.lease_session.proofs.Machines.{of_found}
 
 -- each name's voter grants up to the bound of the machine
@@ -40,13 +41,24 @@ granted_last now epoch client old new step =
 
 -- what it may not grant stays so, since a refusal changes nothing
 pub refused_so : (now epoch : ℕ) (client : ClientId) (x y : LeaseMachine) (name : Name) → AllStay x y → (CanGrant (voter_at x name) now client epoch → ⊥) → epoch ≤ x.bound
-    → IsGrantable (voter_at y name) now (client_of client) epoch → IsCrowded now y
+    → IsGrantable (voter_at y name) now (client_of client) epoch → ⊥
 refused_so now epoch client x y name still never fits may =
     let it = subst (λ (v : LeaseVoter). IsGrantable v now (client_of client) epoch) (still name).0 may in
-    absurd (never (it.0, subst (λ (b : ℕ). epoch ≤ b) (sym (bound_at x name)) fits, it.1))
+    never (it.0, subst (λ (b : ℕ). epoch ≤ b) (sym (bound_at x name)) fits, it.1)
 
-pub crowded : (now : ℕ) (x y : LeaseMachine) → AllStay x y → IsFull now x → IsCrowded now y
-crowded now x y still full = record { full = x; same = still; is_full = full }
+-- nor does one for want of room
+pub crowded_so : (now epoch : ℕ) (client : ClientId) (x y : LeaseMachine) (name : Name) → y ≡ x → HasNoRoom now name x → CanGrant (voter_at x name) now client epoch
+    → IsGrantable (voter_at y name) now (client_of client) epoch × HasNoRoom now name y
+crowded_so now epoch client x y name same none can =
+    subst (λ (m : LeaseMachine). IsGrantable (voter_at m name) now (client_of client) epoch × HasNoRoom now name m) (sym same) ((can.0, can.2), none)
+
+pub still_same : (x y : LeaseMachine) → y ≡ x → AllStay x y
+still_same x y same = subst (λ (m : LeaseMachine). AllStay x m) (sym same) (λ name. (refl, refl))
+
+-- another reason than `Full`
+pub forbidden : {machine : Option LeaseMachine} {now : ℕ} {name : Name} {client : Client} {epoch : ℕ} (reason : Reason) → (reason ≡ Full → ⊥) → IsForbidden machine now name client epoch
+    → IsRefusedFor reason machine now name client epoch
+forbidden reason other never = record { full = λ is. absurd (other is); not_full = λ is. never }
 
 the_id : ℕ → ℕ → ℕ → ClientId
 the_id machine boot number = record { machine = machine; boot = boot; number = number }
@@ -88,7 +100,7 @@ right_granted now a b {client = client} m is same kept right =
     (subst (λ (k : Client). IsGrantedBy a.machine now m.name k m.epoch) same (subst (λ (x : Answer). IsRightVote x a.machine now m.name client m.epoch) is right))
 
 pub right_refused : (now : ℕ) (a b : LeaseProcess) {lasts : ℕ} {it : Answer} {client : Client} {reason : Reason} (m : LeaseMessage) → it ≡ answer.Refused reason lasts
-    → client ≡ asker m.client → b.machine ≡ a.machine → IsRightVote it a.machine now m.name client m.epoch → IsRefusedBy b.machine now m.name (asker m.client) m.epoch
-right_refused now a b {client = client} m is same kept right =
-    subst (λ (o : Option LeaseMachine). IsRefusedBy o now m.name (asker m.client) m.epoch) (sym kept)
-    (subst (λ (k : Client). IsRefusedBy a.machine now m.name k m.epoch) same (subst (λ (x : Answer). IsRightVote x a.machine now m.name client m.epoch) is right))
+    → client ≡ asker m.client → b.machine ≡ a.machine → IsRightVote it a.machine now m.name client m.epoch → IsRefusedFor reason b.machine now m.name (asker m.client) m.epoch
+right_refused now a b {client = client} {reason = reason} m is same kept right =
+    subst (λ (o : Option LeaseMachine). IsRefusedFor reason o now m.name (asker m.client) m.epoch) (sym kept)
+    (subst (λ (k : Client). IsRefusedFor reason a.machine now m.name k m.epoch) same (subst (λ (x : Answer). IsRightVote x a.machine now m.name client m.epoch) is right))

@@ -7,6 +7,7 @@ pub mod Leases
 pub mod Lines
 pub mod Machines
 pub mod News
+pub mod Pieces
 pub mod Reading
 pub mod Saying
 pub mod Steps

@@ -8,9 +8,9 @@ use Rattle.lease_network.specs.Network.{grant, takes}
 use Rattle.lease_steps.specs.StandsFor.{Did}
 use Rattle.lease_session.specs.Saying.{TellsNews, TellsNone}
 use Rattle.lease_session.specs.Turns.{Turn}
-use Rattle.lease_session.proofs.Calls.{heard, told_turn}
+use Rattle.lease_session.proofs.Calls.{heard, said_turn}
 use Rattle.lease_session.proofs.Leases.{Keeps, keeps_news, kept_told, leases_same, same_name}
-use Rattle.lease_session.proofs.Turns.{Rest, deed_told, stayed, text_same}
+use Rattle.lease_session.proofs.Turns.{Rest, deed_told, failed, stayed, text_same}
 use Rattle.lease_runs.specs.declared.candidate.Request.{Request}
 use Rattle.lease_network.specs.Network.{Name}
 use Rattle.lease_machine.specs.declared.name_entry.Claim.{Claim}
@@ -67,11 +67,11 @@ told_held now name p x k q until has claimed h ends last = subst (λ (o : Option
 -- ---- as turns
 
 pub told_so : {now : ℕ} {name : Name} {b c : LeaseProcess} → TellsNews now name b c → Turn [] [] now b c
-told_so {name = name} t = elim t.said [
-  | inl out ↦ told_turn {name = name} (record { quiet = t.quiet; said = inl out })
+told_so {b = b} {c = c} t = elim t.said [
+  | inl out ↦ failed t.quiet out
   | inr (inl n) ↦ stayed (record { machine = t.quiet.machine; terms = t.quiet.terms; start = t.quiet.start; key = t.quiet.key; told = n.same_told })
       (λ out. n.same_halt ∙ out) (λ none. sym n.same_halt ∙ none) (ap (λ u. u.items) n.same_text)
-  | inr (inr s) ↦ told_turn {name = name} (record { quiet = t.quiet; said = inr (inr s) })
+  | inr (inr s) ↦ said_turn b c t.quiet s
 ]
 
 pub heard_so : {now voter number : ℕ} {a b c : LeaseProcess} {x y : LeaseMachine} (client : ClientId) (name : Name) → Rest a b → a.machine ≡ Some x → b.machine ≡ Some y
@@ -79,7 +79,7 @@ pub heard_so : {now voter number : ℕ} {a b c : LeaseProcess} {x y : LeaseMachi
     → ((d : Claim) (r : Request) → claim_at y name ≡ Some d → d.candidate.lease ≡ Some r → Keeps x name d.user d.candidate.relies_for r ⊎ (now < r.sent + d.candidate.relies_for))
     → OthersSame name x y → TellsNews now name b c → Turn [] (grant name (client_of client) number voter ∷ []) now a c
 heard_so {now = now} {voter = voter} {number = number} {a = a} {b = b} {c = c} {x = x} {y = y} client name r was is did_it machine process kept others t = elim t.said [
-  | inl out ↦ heard client name r was is did_it machine process kept others (record { quiet = t.quiet; said = inl out })
+  | inl out ↦ heard client name r was is did_it machine process kept others t.quiet (inl out)
   | inr (inl n) ↦ deed_told (client_of client) (takes (grant name (client_of client) number voter)) [] r was is did_it machine process (λ p h. h) (inl (inl refl)) t.quiet
       (λ out. n.same_halt ∙ (r.halt ∙ out)) (λ none. sym r.halt ∙ (sym n.same_halt ∙ none))
       (λ goes. ap (λ u. u.items) n.same_text ∙ (text_same r ∙ sym (append-nil a.text.items))) (λ goes. ap (λ u. u.items) n.same_told ∙ ap (λ u. u.items) r.told)
@@ -87,7 +87,7 @@ heard_so {now = now} {voter = voter} {number = number} {a = a} {b = b} {c = c} {
       (λ none h. subst (λ (o : Option LeaseMachine). AreHoldersTold o c.told.items) (sym (t.quiet.machine ∙ is))
       (λ other. subst (λ (u : Vec Told). IsHolderTold other y u.items) (sym n.same_told) (no_news n (n.is_so none) (its h) other)))
       (λ terms at m clock there. (tt, refl))
-  | inr (inr s) ↦ heard client name r was is did_it machine process kept others (record { quiet = t.quiet; said = inr (inr s) })
+  | inr (inr s) ↦ heard client name r was is did_it machine process kept others t.quiet (inr s)
 ]
   where
     its : AreHoldersTold a.machine a.told.items → (other : Name) → IsHolderTold other x b.told.items

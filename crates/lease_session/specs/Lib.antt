@@ -9,6 +9,7 @@ pub mod Reading
 pub mod Replies
 pub mod Rows
 pub mod Saying
+pub mod Served
 pub mod Steps
 pub mod Telling
 pub mod Turns

@@ -6,6 +6,8 @@ use Rattle.lease_network.specs.Network.{Name, request}
 use Rattle.lease_message.specs.declared.message.LeaseBody.{LeaseBody}
 use Rattle.lease_message.specs.declared.message.LeaseBody.TheVariants.{Request, Grant, Refusal, Release}
 use Rattle.lease_message.specs.declared.message.LeaseMessage.{LeaseMessage}
+use Rattle.lease_message.specs.declared.message.Reason.{Reason}
+use Rattle.lease_message.specs.declared.message.Reason.TheVariants.{Terms}
 use Rattle.lease_session.specs.declared.asked.Came.{Came}
 use Rattle.lease_session.specs.declared.asked.Came.TheVariants as came
 use Rattle.lease_session.specs.declared.process.LeaseProcess.{LeaseProcess}
@@ -13,7 +15,7 @@ use Rattle.lease_machine.specs.declared.terms.LeaseTerms.{LeaseTerms}
 use Rattle.lease_machine.specs.declared.state.LeaseMachine.{LeaseMachine}
 use Rattle.lease_session.specs.declared.refusing.Refusal.{Refusal as Refused}
 use Rattle.lease_session.specs.Rows.{asker, row_text, send, unserved}
-use Rattle.lease_session.specs.Votes.{IsGrantedBy, IsRefusedBy}
+use Rattle.lease_session.specs.Votes.{IsGrantedBy, IsRefusedFor}
 use Rattle.lease_session.specs.Turns.{Carries, Turn, key_of, sent_in}
 
 -- whether a message is for the voter of this machine, of another machine's client
@@ -35,11 +37,16 @@ pub record IsAnsweredBy (m : LeaseMessage) (body : LeaseBody) (p : LeaseProcess)
   pub ends : p.text.items ≡ before ++ row_text (send m.client.machine (record m { epoch = epoch; body = body }) bytes)
   pub carried : Carries (key_of p.seal) bytes (record m { epoch = epoch; body = body })
 
--- a request under other terms is refused, and any other one is granted by the rule of grants: exactly where the machine's voter of the name may grant it, and there is room
+-- a request under other terms is refused for that
+abbrev pub IsOfOtherTerms : LeaseTerms → ℕ → ℕ → Reason → Type 0
+IsOfOtherTerms t keeps list reason = (reason ≡ Terms) × ((keeps ≢ t.keeps) ⊎ (list ≢ t.list))
+
+-- any other one is granted by the rule of grants: exactly where the machine's voter of the name may grant it, and there is room
 abbrev pub IsRight : LeaseTerms → Option LeaseMachine → ℕ → LeaseMessage → ℕ → ℕ → LeaseBody → Type 0
 IsRight t machine now m keeps list (Request n k l) = ⊥
 IsRight t machine now m keeps list (Grant n) = (keeps ≡ t.keeps) × (list ≡ t.list) × IsGrantedBy machine now m.name (asker m.client) m.epoch
-IsRight t machine now m keeps list (Refusal n reason lasts) = (keeps ≢ t.keeps) ⊎ (list ≢ t.list) ⊎ IsRefusedBy machine now m.name (asker m.client) m.epoch
+IsRight t machine now m keeps list (Refusal n reason lasts) =
+    IsOfOtherTerms t keeps list reason ⊎ ((keeps ≡ t.keeps) × (list ≡ t.list) × IsRefusedFor reason machine now m.name (asker m.client) m.epoch)
 IsRight t machine now m keeps list Release = ⊥
 
 -- the text ends with the line that answers the request, as is right by what the machine keeps then

@@ -25,12 +25,12 @@ use Rattle.lease_session.specs.declared.seals.LeaseSeal.{LeaseSeal}
 use Rattle.lease_session.specs.declared.voting.Answer.{Answer}
 use Rattle.lease_session.specs.declared.voting.Answer.TheVariants as answer
 use Rattle.lease_runs.specs.declared.candidate.Request.{Request as ClientRequest}
-use Rattle.lease_session.specs.Holding.{AreHoldersTold, IsToldNow}
+use Rattle.lease_session.specs.Holding.{AreHoldersTold}
 use Rattle.lease_session.specs.Marks.{Mark, did, wrote}
 use Rattle.lease_session.specs.Own.{bound_by}
 use Rattle.lease_session.specs.Rows.{Row, send, held, lost, row_text, said}
 use Rattle.lease_session.specs.Telling.{AreTold, told_after, told_row}
-use Rattle.lease_session.specs.Votes.{IsGrantedBy, IsRefusedBy}
+use Rattle.lease_session.specs.Votes.{IsGrantedBy, IsRefusedFor}
 
 -- ---- marks
 
@@ -211,11 +211,6 @@ pub record TellsUser (row : Row) (old new : LeaseProcess) : Type 0 where
   pub quiet : IsQuiet old new
   pub said : IsOut new ⊎ ((new.halt ≡ None) × (new.text.items ≡ old.text.items ++ row_text row) × (new.told.items ≡ told_row old.told.items row))
 
--- The user of a name is told of the lease that its client keeps, where that is news; or the process goes on no more.
-pub record TellsHolder (now : ℕ) (name : Name) (old new : LeaseProcess) : Type 0 where
-  pub quiet : IsQuiet old new
-  pub said : IsOut new ⊎ ((new ≡ old) × (new.halt ≡ None → IsToldNow now name new.machine new.told.items)) ⊎ SaysHeld now name old new
-
 -- A process went on: at one time of its clock it made these steps and wrote these lines, where these messages were sent by steps before, and a line brought those. It keeps
 -- what it told users of their leases, gives up none unsaid, and says of each that its client keeps so. Once no memory is left, its text isn't to be written.
 pub record Turn (sent brought : List Message) (now : ℕ) (old new : LeaseProcess) : Type 0 where
@@ -235,7 +230,7 @@ pub record Turn (sent brought : List Message) (now : ℕ) (old new : LeaseProces
 -- a vote is right by what the machine keeps then
 abbrev pub IsRightVote : Answer → Option LeaseMachine → ℕ → Name → Client → ℕ → Type 0
 IsRightVote answer.Granted machine now name client epoch = IsGrantedBy machine now name client epoch
-IsRightVote (answer.Refused reason lasts) machine now name client epoch = IsRefusedBy machine now name client epoch
+IsRightVote (answer.Refused reason lasts) machine now name client epoch = IsRefusedFor reason machine now name client epoch
 
 -- what a client sends
 abbrev pub IsTheClients : LeaseBody → Type 0

@@ -5,7 +5,9 @@ use Rattle.lease_runs.specs.Voter.{Client, MayGrant}
 use Rattle.lease_runs.specs.Code.{view}
 use Rattle.lease_network.specs.Network.{Name, ask_at}
 use Rattle.lease_machine.specs.declared.state.LeaseMachine.{LeaseMachine}
-use Rattle.lease_machine.specs.Machine.{AllStay, IsFull, voter_at}
+use Rattle.lease_machine.specs.Machine.{HasNoRoom, voter_at}
+use Rattle.lease_message.specs.declared.message.Reason.{Reason}
+use Rattle.lease_message.specs.declared.message.Reason.TheVariants.{Full}
 
 -- the rule of grants lets the voter grant the client this epoch now: it has waited behind its start, and the epoch is above its last, of a name that is free or the
 -- client's, or renews its grant
@@ -23,16 +25,20 @@ abbrev pub IsGrantedBy : Option LeaseMachine → ℕ → Name → Client → ℕ
 IsGrantedBy None now name client epoch = ⊥
 IsGrantedBy (Some x) now name client epoch = IsLastGrant (voter_at x name) now client epoch
 
--- it keeps the same of each name as one that has no room for another
-pub record IsCrowded (now : ℕ) (y : LeaseMachine) : Type 0 where
-  pub full : LeaseMachine
-  pub same : AllStay full y
-  pub is_full : IsFull now full
+-- it may not grant it: it hasn't begun, or its voter of the name may not
+abbrev pub IsForbidden : Option LeaseMachine → ℕ → Name → Client → ℕ → Type 0
+IsForbidden None now name client epoch = Unit {0}
+IsForbidden (Some x) now name client epoch = IsGrantable (voter_at x name) now client epoch → ⊥
 
--- the machine didn't: it hasn't begun, its voter of the name may not, or each name that it keeps is in use
-abbrev pub IsRefusedBy : Option LeaseMachine → ℕ → Name → Client → ℕ → Type 0
-IsRefusedBy None now name client epoch = Unit {0}
-IsRefusedBy (Some x) now name client epoch = IsGrantable (voter_at x name) now client epoch → IsCrowded now x
+-- its voter of the name may, but nothing is kept of the name, and each of the names that are kept is in use
+abbrev pub IsCrowdedOut : Option LeaseMachine → ℕ → Name → Client → ℕ → Type 0
+IsCrowdedOut None now name client epoch = ⊥
+IsCrowdedOut (Some x) now name client epoch = IsGrantable (voter_at x name) now client epoch × HasNoRoom now name x
+
+-- the machine refused it for this reason, which is `Full` exactly where there was no room
+pub record IsRefusedFor (reason : Reason) (machine : Option LeaseMachine) (now : ℕ) (name : Name) (client : Client) (epoch : ℕ) : Type 0 where
+  pub full : reason ≡ Full → IsCrowdedOut machine now name client epoch
+  pub not_full : (reason ≡ Full → ⊥) → IsForbidden machine now name client epoch
 
 -- epochs up to this one are reserved, once it has begun
 abbrev pub IsAllowed : ℕ → Option LeaseMachine → Type 0

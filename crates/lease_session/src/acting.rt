@@ -3,7 +3,7 @@ ghost use Rattle.std.specs.Prelude.{◌≡◌, ◌<◌, ◌^◌, ◌≤◌, ℕ,
 ghost use Rattle.lease_runs.specs.Code.{client_of as by_code};
 ghost use Rattle.lease_network.specs.Network.{request as request_of, grant as grant_of};
 ghost use Rattle.lease_session.specs.Rows.{asker, said};
-ghost use Rattle.lease_session.specs.Votes.{IsAllowed, IsGrantedBy, IsRefusedBy};
+ghost use Rattle.lease_session.specs.Votes.{IsAllowed, IsCrowdedOut, IsForbidden, IsGrantedBy};
 ghost use Rattle.lease_session.specs.Telling.{NoneUpTo};
 ghost use Rattle.lease_session.specs.Turns.{AllowsNoMore, AllowsUpTo, AsksAs, GaveUp, IsClientOf, Requested, Turn, Voted, claim_of};
 
@@ -45,7 +45,8 @@ impl LeaseProcess {
         requires { now < 2 ^ 63 }
         ensures vote { (number : ℕ) → Voted result name.now (by_code client) number epoch now self.old self.new }
         ensures granted { result ≡ Vote.Granted → IsGrantedBy self.new.machine now name.now (by_code client) epoch }
-        ensures refused { (result ≡ Vote.Granted → ⊥) → IsAllowed epoch self.old.machine → IsRefusedBy self.new.machine now name.now (by_code client) epoch }
+        ensures refused { result ≡ Vote.Refused → IsAllowed epoch self.old.machine → IsForbidden self.new.machine now name.now (by_code client) epoch }
+        ensures full { result ≡ Vote.Full → IsCrowdedOut self.new.machine now name.now (by_code client) epoch }
         ensures bound { AllowsNoMore self.old self.new }
     {
         lease_steps::votes_are_steps();

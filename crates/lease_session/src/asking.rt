@@ -204,8 +204,19 @@ impl<S: EpochStore + Drop> Participant<S> {
         if want.stage == Stage::Resting {
             return;
         }
+        self.give_held_up(want);
         self.process.give_up(&want.name, want.epoch);
         want.rest(now);
+    }
+
+    /// Voters that granted its lease, and not its renewal under a greater epoch, are told that it relies on it no more.
+    fn give_held_up(&mut self, want: &Want)
+        ensures turn { (now : ℕ) → Turn [] [] now self.old.process self.new.process }
+        ensures told { self.new.told ≡ self.old.told }
+    {
+        if let Some(epoch) = want.held_below() {
+            self.process.give_up(&want.name, epoch);
+        }
     }
 
     /// Asks, or says that no epoch or number is left, and asks no more.
@@ -241,7 +252,8 @@ impl<S: EpochStore + Drop> Participant<S> {
         self.request(now, want)
     }
 
-    /// Asks for the renewal of its lease under its epoch.
+    /// Asks for the renewal of its lease, under its epoch, or, where a voter knows of a greater one, under one above all that are known of: the lease
+    /// counts until its time is over, or more than half of the voters granted the other one.
     fn renew(&mut self, now: u64, want: &mut Want, until: u64)
         requires { now < 2 ^ 62 }
         ensures turn { Turn [] [] now self.old.process self.new.process }
@@ -249,7 +261,20 @@ impl<S: EpochStore + Drop> Participant<S> {
     {
         let again = now.saturating_add(self.answers.renewed_again(self.process.terms.relies_for()));
         want.due = again.min(until);
+        if want.outrun {
+            self.raise_epoch(want);
+        }
         self.request(now, want);
+    }
+
+    /// The renewal is asked for under an epoch above all that are known of, where one is left.
+    fn raise_epoch(&mut self, want: &mut Want)
+        ensures same { (self.new.process ≡ self.old.process) × (self.new.told ≡ self.old.told) }
+    {
+        if let Some(epoch) = epoch_above(self.greatest, self.process.terms.machine()) {
+            self.know(epoch);
+            want.renew_under(epoch);
+        }
     }
 
     /// Sends a request to each voter, and asks this machine's own. False says that none may be sent.
@@ -282,6 +307,7 @@ impl<S: EpochStore + Drop> Participant<S> {
                 let epoch = self.greatest_of(&name);
                 let bound = self.bound_by(now, reason, epoch, lasts);
                 self.refused(now, want, voter, bound);
+                learn(now, want, reason, epoch);
             }
         }
     }
@@ -456,6 +482,7 @@ impl<S: EpochStore + Drop> Participant<S> {
         self.time_answer(now, &message.name, number);
         let bound = self.bound_by(now, reason, message.epoch, lasts);
         self.refused(now, &mut want, message.voter, bound);
+        learn(now, &mut want, reason, message.epoch);
         self.keep(want);
     }
 
@@ -477,8 +504,20 @@ impl<S: EpochStore + Drop> Participant<S> {
 /// One who holds the lease by a request, and relies on it for so long, renews it later.
 fn hold(want: &mut Want, request: &Request, relies_for: u64) {
     let until = request.sent.saturating_add(relies_for);
-    if want.stage == (Stage::Holding { until }) {
+    if want.stage == (Stage::Holding { until }) && want.held == request.epoch {
         return;
     }
-    want.hold(until, request.sent.saturating_add(renewal(relies_for)));
+    want.hold(
+        request.epoch,
+        until,
+        request.sent.saturating_add(renewal(relies_for)),
+    );
+}
+
+/// What one learns of a voter that refuses for this reason, and knows of this epoch: a voter that began anew grants none that one before it may have
+/// granted, so it grants the renewal of a lease under a greater one alone.
+fn learn(now: u64, want: &mut Want, reason: Reason, epoch: u64) {
+    if reason == Reason::Epoch {
+        want.outrun(now, epoch);
+    }
 }

@@ -7,6 +7,7 @@ ghost use Rattle.lease_session.specs.Turns.{AllowsNoMore, AllowsUpTo, IsQuiet, T
 use crate::asked::Came;
 use crate::process::{LeaseProcess, Start};
 use crate::refusing::{Halt, Refusal};
+use crate::seals::LeaseSeal;
 use lease_machine::{ClaimRefusal, LeaseMachine, LeaseTerms};
 use lease_message::{LeaseName, decode};
 use line_words::bytes;
@@ -38,6 +39,21 @@ impl LeaseProcess {
             told: Vec::new(alloc),
             halt: None,
         }
+    }
+
+    /// From now on messages are sealed, and taken sealed alone.
+    pub(crate) fn seal_by(&mut self, seal: LeaseSeal)
+        ensures { self.new ≡ record self.old { seal = Some seal } }
+    {
+        self.seal = Some(seal);
+    }
+
+    /// What was answered is written, and forgotten.
+    pub(crate) fn clear(&mut self)
+        ensures text { self.new.text.items ≡ [] }
+        ensures same { self.new ≡ record self.old { text = self.new.text } }
+    {
+        self.text.clear();
     }
 
     /// No memory is left.

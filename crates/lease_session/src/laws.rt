@@ -1,5 +1,6 @@
 // Laws of processes: the contracts of functions that do nothing.
 ghost use Rattle.lease_session.specs.Feeding.{AnyCutting};
+ghost use Rattle.lease_session.specs.Served.{AnyClearing, FedIsTold};
 ghost use Rattle.lease_session.specs.Steps.{HeldLinesHold, LinesAreSteps, TurnGoesOn, TurnsAreSteps};
 
 /// What a process does in a turn, and what its lines say, over the steps of all machines.
@@ -18,6 +19,17 @@ pub fn turns_are_steps()
 pub fn any_cutting()
     ensures { AnyCutting }
 {}
+
+/// What was answered may be written, and forgotten, at any time: what is written in all is what is answered to all that was fed.
+pub fn any_clearing()
+    // Promise: What was answered may be written and forgotten between any two pieces: the texts that are written, one behind another, are what
+    // is answered to all that was fed.
+    // Also: told.
+    ensures clearing { AnyClearing }
+    ensures told { FedIsTold }
+{
+    lines_are_steps();
+}
 
 /// What is answered to a line are steps over all machines.
 pub fn lines_are_steps()

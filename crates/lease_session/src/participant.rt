@@ -1,5 +1,5 @@
 // A process that votes for leases and asks for them: what it does by the lines that it is told.
-ghost use Rattle.std.specs.Prelude.{◌≡◌, ◌<◌, ◌^◌, [], true, IfOk, false};
+ghost use Rattle.std.specs.Prelude.{◌≡◌, ◌<◌, ◌^◌, [], true, IfOk, None, false};
 ghost use Rattle.lease_session.specs.Turns.{Turn};
 ghost use Rattle.lease_session.specs.Reading.{meaning_of};
 ghost use Rattle.lease_session.specs.Replies.{AsksTo, RepliesTo};
@@ -46,7 +46,8 @@ impl<S: EpochStore + Drop> Participant<S> {
         start: Start,
         store: S,
     ) -> Result<Participant<S>, AllocError>
-        ensures { IfOk result (λ it. IsNew terms start [] (at it.process it.told false (S.bound it.store))) }
+        ensures new { IfOk result (λ it. IsNew terms start [] (at it.process it.told false (S.bound it.store))) }
+        ensures plain { IfOk result (λ it. (it.process.seal ≡ None) × (it.process.text.items ≡ []) × (it.store ≡ store)) }
     {
         let machine = u64::from(terms.machine().number());
         Ok(Participant {
@@ -116,10 +117,12 @@ impl<S: EpochStore + Drop> Participant<S> {
         // Promise: A request to this voter of another machine's client is answered by a grant or a refusal of its number, as long as memory
         // is left and the device doesn't fail. It is granted exactly where it speaks of this length of a lease and this list of machines,
         // the machine has begun, its voter of the name may grant the epoch by its rule, which forbids it while it waits behind its start
-        // or another client has the grant, and a name that is kept may be had for it.
-        // Also: Participant::take_request, Participant::vote, Participant::reserve, LeaseProcess::vote, LeaseProcess::answer,
+        // or another client has the grant, and there is room for the name. It is refused as `Full` exactly where all but room is so: where
+        // nothing is kept of the name, and all names that are kept are in use; so never where the name is kept.
+        // Also: lease_machine::LeaseMachine::vote, Participant::take_request, Participant::vote, Participant::reserve, LeaseProcess::vote, LeaseProcess::answer,
         // LeaseProcess::send.
-        // Refuses: grant_never_answered, refused_at_will, terms_not_compared, refused_unreserved.
+        // Refuses: grant_never_answered, refused_at_will, told_full_at_will, terms_not_compared, refused_unreserved,
+        // lease_machine::kept_name_refused_as_full.
         ensures replies { goes_on self.old.told now ≡ true → RepliesTo self.old.process.terms now came self.new.process }
         // Promise: For a user that begins to ask for a lease a request is sent at once, or the user is told why not.
         // Also: Participant::acquire, Participant::ask_or_tell, Participant::request.

@@ -23,7 +23,9 @@ pub struct LeaseSeal {
 
 impl LeaseSeal {
     /// Seals and opens by the first key, and opens by the other too.
-    pub fn new(own: Key, other: Option<Key>) -> LeaseSeal {
+    pub fn new(own: Key, other: Option<Key>) -> LeaseSeal
+        ensures { (result.own ≡ own) × (result.other ≡ other) }
+    {
         let none = Stamp { life: 0, number: 0 };
         LeaseSeal {
             own,

@@ -1,5 +1,5 @@
 // A process of leases, fed with lines, and what it answers.
-ghost use Rattle.std.specs.Prelude.{◌≡◌, ◌∷◌, ◌++◌, [], List, ℕ, IfOk, OnOk};
+ghost use Rattle.std.specs.Prelude.{◌≡◌, ◌<◌, ◌∷◌, ◌++◌, [], List, ℕ, length, IfOk, OnOk, None, Some, true};
 ghost use Rattle.line_words.specs.Lines.{lines_of};
 ghost use Rattle.lease_session.specs.Feeding.{Answers, AreAnswered, Fed, IsNew, at};
 
@@ -29,7 +29,8 @@ impl<S: EpochStore + Drop> LeaseSession<S> {
         start: Start,
         store: S,
     ) -> Result<LeaseSession<S>, AllocError>
-        ensures { IfOk result (λ it. IsNew terms start it.unread.items (at it.participant.process it.participant.told it.stopped (S.bound it.participant.store))) }
+        ensures new { IfOk result (λ it. IsNew terms start it.unread.items (at it.participant.process it.participant.told it.stopped (S.bound it.participant.store))) }
+        ensures plain { IfOk result (λ it. (it.participant.process.seal ≡ None) × (it.participant.process.text.items ≡ []) × (it.participant.store ≡ store) × (it.unread.items ≡ [])) }
     {
         Ok(LeaseSession {
             participant: Participant::begin(alloc, terms, round_trip, start, store)?,
@@ -39,8 +40,11 @@ impl<S: EpochStore + Drop> LeaseSession<S> {
     }
 
     /// From now on messages are sealed, and taken sealed alone.
-    pub fn seal(&mut self, seal: LeaseSeal) {
-        self.participant.process.seal = Some(seal);
+    pub fn seal(&mut self, seal: LeaseSeal)
+        ensures process { self.new.participant.process ≡ record self.old.participant.process { seal = Some seal } }
+        ensures same { (self.new.participant.told ≡ self.old.participant.told) × (self.new.participant.store ≡ self.old.participant.store) × (self.new.stopped ≡ self.old.stopped) × (self.new.unread ≡ self.old.unread) }
+    {
+        self.participant.process.seal_by(seal);
     }
 
     /// What was answered since the last clearing.
@@ -52,9 +56,11 @@ impl<S: EpochStore + Drop> LeaseSession<S> {
 
     /// What was answered is written, and forgotten.
     pub fn clear(&mut self)
-        ensures { self.new.participant.process.text.items ≡ [] }
+        ensures text { self.new.participant.process.text.items ≡ [] }
+        ensures process { self.new.participant.process ≡ record self.old.participant.process { text = self.new.participant.process.text } }
+        ensures same { (self.new.participant.told ≡ self.old.participant.told) × (self.new.participant.store ≡ self.old.participant.store) × (self.new.stopped ≡ self.old.stopped) × (self.new.unread ≡ self.old.unread) }
     {
-        self.participant.process.text.clear();
+        self.participant.process.clear();
     }
 
     /// Whether the device failed. The answer that says it is the last one.
@@ -64,8 +70,17 @@ impl<S: EpochStore + Drop> LeaseSession<S> {
         self.stopped
     }
 
+    /// Whether a user was told that it holds a lease, and not since that this is lost.
+    pub fn has_told_of_leases(&self) -> bool
+        ensures { result ≡ true → 0 < length self.now.participant.process.told.items }
+    {
+        !self.participant.process.told.is_empty()
+    }
+
     /// What keeps the epochs alone, as it is.
-    pub fn into_store(self) -> S {
+    pub fn into_store(self) -> S
+        ensures { result ≡ self.participant.store }
+    {
         let LeaseSession { participant, .. } = self;
         let Participant { store, .. } = participant;
         store

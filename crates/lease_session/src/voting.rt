@@ -131,14 +131,9 @@ impl<S: EpochStore + Drop> Participant<S> {
             return Answer::Refused(Reason::Held, standing.ends - now);
         }
         self.reserve(epoch);
-        let reason = if waits > 0 {
-            Reason::Waiting
-        } else {
-            Reason::Epoch
-        };
         match self.process.vote(now, name, client, epoch) {
             Vote::Granted => Answer::Granted,
-            Vote::Refused => Answer::Refused(reason, waits),
+            Vote::Refused => Answer::Refused(reason_of(waits), waits),
             Vote::Full => Answer::Refused(Reason::Full, 0),
         }
     }
@@ -179,5 +174,16 @@ impl<S: EpochStore + Drop> Participant<S> {
         }
         self.process.take_release(message);
         self.wake(now, &message.name);
+    }
+}
+
+/// Why a voter that waits for so long refuses what no other client has the grant of.
+fn reason_of(waits: u64) -> Reason
+    ensures { result ≡ Reason.Full → ⊥ }
+{
+    if waits > 0 {
+        Reason::Waiting
+    } else {
+        Reason::Epoch
     }
 }

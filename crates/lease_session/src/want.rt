@@ -45,6 +45,10 @@ pub(crate) struct Want {
     pub(crate) stage: Stage,
     /// Under which it asked last.
     pub(crate) epoch: u64,
+    /// Under which it holds the lease, where it does.
+    pub(crate) held: u64,
+    /// Whether a voter refused to renew the lease since it knows of a greater epoch than that of the request.
+    pub(crate) outrun: bool,
     /// When something is due.
     pub(crate) due: u64,
     /// Who refused its last request.
@@ -65,6 +69,8 @@ impl Want {
             user,
             stage: Stage::Resting,
             epoch: 0,
+            held: 0,
+            outrun: false,
             due: 0,
             refused: Members::new(),
             blocked: 0,
@@ -82,6 +88,7 @@ impl Want {
     {
         self.stage = Stage::Asking;
         self.epoch = epoch;
+        self.outrun = false;
         self.due = gives_up;
         self.refused = Members::new();
         self.blocked = 0;
@@ -93,11 +100,41 @@ impl Want {
         self.due = until;
     }
 
-    /// It holds the lease.
-    pub(crate) fn hold(&mut self, until: u64, renews: u64) {
+    /// It holds the lease under an epoch.
+    pub(crate) fn hold(&mut self, epoch: u64, until: u64, renews: u64) {
         self.stage = Stage::Holding { until };
+        self.held = epoch;
         self.due = renews.min(until);
         self.tries = 0;
+    }
+
+    /// It asks for the renewal of its lease under a greater epoch.
+    pub(crate) fn renew_under(&mut self, epoch: u64)
+        ensures { self.new.name ≡ self.old.name }
+    {
+        self.epoch = epoch;
+        self.outrun = false;
+    }
+
+    /// A voter refused its request since it knows of this epoch. Where that is greater a lease is renewed at once, above it.
+    pub(crate) fn outrun(&mut self, now: u64, epoch: u64) {
+        if self.is_holding() && self.epoch < epoch {
+            self.outrun = true;
+            self.due = self.due.min(now);
+        }
+    }
+
+    fn is_holding(&self) -> bool {
+        matches!(self.stage, Stage::Holding { .. })
+    }
+
+    /// Under which epoch voters may have granted the lease that it holds, and not what it asked for since.
+    pub(crate) fn held_below(&self) -> Option<u64> {
+        if self.is_holding() && self.held < self.epoch {
+            Some(self.held)
+        } else {
+            None
+        }
     }
 
     /// A voter refused its request. One that is bound by a grant of an epoch, or waits behind its start, may grant another one at that time; those
@@ -130,7 +167,7 @@ impl Want {
         2 * u64::from(self.blocked) > u64::from(machines)
     }
 
-    /// Whether it asks under this epoch, or holds the lease under it.
+    /// Whether it asks under this epoch, for the lease or for its renewal.
     pub(crate) fn relies_on(&self, epoch: u64) -> bool {
         self.epoch == epoch && self.stage != Stage::Resting
     }

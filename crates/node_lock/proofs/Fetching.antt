@@ -100,7 +100,7 @@ pub record IsFetched (h : HeldView) (f : Option Envelope) (old new : Side) : Typ
   pub same : SameLink old new
   pub messages : new.messages ≡ polled h.plans.intake old.sender h.history ++ from_link h.plans.intake old.sender h.turns.intake (listed f)
 
-from_same : (h : HeldView) (f : Option Envelope) (old new : Side) → IsTakeLink h old → h.waiting ≡ f → SameLink old new → new.messages ≡ old.messages → IsFetched h f old new
+pub from_same : (h : HeldView) (f : Option Envelope) (old new : Side) → IsTakeLink h old → h.waiting ≡ f → SameLink old new → new.messages ≡ old.messages → IsFetched h f old new
 from_same h f old new k w same messages = record {
   same = same;
   messages = messages ∙ (k.messages ∙ ap (λ o. polled h.plans.intake old.sender h.history ++ from_link h.plans.intake old.sender h.turns.intake (listed o)) w);

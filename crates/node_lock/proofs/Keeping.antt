@@ -17,7 +17,7 @@ use Rattle.node_lock.specs.Asking.{Asked}
 use Rattle.node_lock.specs.Doing.{Gives, StandsForSome, TurnDid}
 use Rattle.node_lock.specs.Path.{Path}
 use Rattle.node_lock.specs.Planned.{no_turns}
-use Rattle.node_lock.specs.Sending.{PutsSome, addressed_to, SameLink, SameSides, SentTo, SentOn}
+use Rattle.node_lock.specs.Sending.{NotesLost, PutsSome, addressed_to, SameLink, SameSides, SentTo, SentOn}
 use Rattle.node_lock.specs.History.{Turn, IsReplay, PlanStep, entries_of, polled, from_link, listed}
 use Rattle.node_lock.specs.declared.held.TheConstants.{MOST_ENTRIES}
 use Rattle.node_lock.specs.declared.held.HeldFault.{HeldFault}
@@ -25,6 +25,11 @@ use Rattle.node_lock.specs.declared.held.HeldFault.TheVariants.{NoMemory}
 use Rattle.node_lock.specs.HeldView.{HeldView, HeldInvariant, AreEnds, IsPutLink, IsTakeLink, IsOther, Takes, Unserved}
 use Rattle.node_lock.proofs.Carried.{puts_append, addressed-append}
 use Rattle.node_lock.proofs.Comings.{Comes, turn_comes, turn_sectors}
+use Rattle.node_lock.proofs.Drawing.{more_numbers}
+use Rattle.node_lock.proofs.Losing.{lost_more}
+use Rattle.node_lock.specs.Drawing.{IsGiven}
+use Rattle.node_lock.proofs.Wearing.{disk_before, turn_fails}
+use Rattle.node_lock.specs.Wearing.{AreaRises, AreaWithin, Fails, IsWorn, NoneWorn}
 
 -- one step more
 pub path_snoc : {S E : Type 0} (step : S → E → S → Type 0) (s : S) (es : List E) (e : E) (t u : S) → Path step s es t → step t e u → Path step s (es ++ e ∷ []) u
@@ -99,12 +104,16 @@ slots_more h asked t new k did =
 pub gives_in : (h : HeldView) (asked : Asked) (t : Turn) (new : Node Memory) → HeldInvariant h → TurnDid h.node asked t.entry.what t.entry.sent new → Gives asked t.entry.what
 gives_in h asked t new k did = (comes_in h asked t new k did).gives
 
+none_worn_more : (es : List NodeEntry) (e : NodeEntry) → NoneWorn es → (IsWorn e.what → ⊥) → NoneWorn (es ++ e ∷ [])
+none_worn_more [] e all none = (none, tt)
+none_worn_more (x ∷ es) e all none = (all.0, none_worn_more es e all.1 none)
+
 -- one turn more, and all that goes with it
 pub keeps : (h n : HeldView) (asked : Asked) (e : Turn) → HeldInvariant h → n.run ≡ h.run → n.plans ≡ h.plans → n.history ≡ h.history ++ e ∷ [] → n.node.id ≡ h.node.id → n.node.nodes ≡ h.node.nodes → PlanStep h.plans h.turns e n.turns
-    → TurnDid h.node asked e.entry.what e.entry.sent n.node → SentOn e.entry.sent h.puts n.puts
+    → TurnDid h.node asked e.entry.what e.entry.sent n.node → SentOn e.entry.sent h.puts n.puts → NotesLost (length h.history) e.entry.sent h.lost n.lost h.puts n.puts → IsGiven h.drawn n.drawn h.numbers n.numbers → AreaRises h.node.disk n.node.disk e.entry.what
     → length n.takes ≡ length h.takes → ((k : ℕ) (d : Side) → k < length h.takes → IsTakeLink n (slice_index_or n.takes k d) × ((slice_index_or n.takes k d).sender ≡ (slice_index_or h.takes k d).sender)) → (IsSome n.waiting → n.turns.intake < length n.plans.intake) → length h.history < MOST_ENTRIES
     → HeldInvariant n
-keeps h n asked e k run plans history id nodes plan did sent len takes waiting few = record {
+keeps h n asked e k run plans history id nodes plan did sent lost number area len takes waiting few = record {
   id = id ∙ (k.id ∙ ap (λ r. r.node) (sym run));
   nodes = nodes ∙ (k.nodes ∙ ap (λ r. r.nodes) (sym run));
   member = rw run k.member;
@@ -129,6 +138,13 @@ keeps h n asked e k run plans history id nodes plan did sent len takes waiting f
   intake = rw (run, plans) k.intake;
   waiting = waiting;
   few = rw history (let long = length-append h.history (e ∷ []) in omega (arith, long, few));
+  lost = rw (history, lost.1) (lost_more h.history e h.lost lost.0 h.puts n.puts k.lost sent lost.2);
+  numbers = more_numbers h.drawn n.drawn h.numbers n.numbers k.numbers number;
+  area = subst (λ (m : ℕ). AreaWithin m n.node.disk) (let long = length-append h.history (e ∷ []) in let same = ap length history in let next : (2 + length h.history) + 1 ≡ 2 + length n.history = omega (arith, long, same) in next) (area (2 + length h.history) k.area).0;
+  unworn = rw (history, entries-snoc h.history e) (none_worn_more (entries_of h.history) e.entry k.unworn ((area (2 + length h.history) k.area).1 (omega (arith, few))));
+  failures = λ disk at.
+      let was = disk_before h.node n.node asked e.entry.what e.entry.sent did disk at in
+      rw (history, entries-snoc h.history e) (path_snoc Fails 0 (entries_of h.history) e.entry was.0.failures disk.failures (k.failures was.0 was.1) (turn_fails h.node n.node asked e.entry.what e.entry.sent did was.0 disk was.1 at));
 }
 
 pub from_nothing : (plan : List ℕ) (j i : ℕ) (ms : List Envelope) → ms ≡ [] → from_link plan j i ms ≡ []
@@ -152,14 +168,14 @@ take_link_past h n e t k run plans history turns waiting none =
 
 -- one entry more of a worker that doesn't poll
 pub keeps_past : (h n : HeldView) (asked : Asked) (e : Turn) → HeldInvariant h → n.run ≡ h.run → n.plans ≡ h.plans → n.history ≡ h.history ++ e ∷ [] → n.node.id ≡ h.node.id → n.node.nodes ≡ h.node.nodes → PlanStep h.plans h.turns e n.turns
-    → TurnDid h.node asked e.entry.what e.entry.sent n.node → SentOn e.entry.sent h.puts n.puts
+    → TurnDid h.node asked e.entry.what e.entry.sent n.node → SentOn e.entry.sent h.puts n.puts → NotesLost (length h.history) e.entry.sent h.lost n.lost h.puts n.puts → IsGiven h.drawn n.drawn h.numbers n.numbers → AreaRises h.node.disk n.node.disk e.entry.what
     → n.takes ≡ h.takes → n.turns.intake ≡ h.turns.intake → n.waiting ≡ h.waiting → brought (event_of e.entry.what) ≡ [] → length h.history < MOST_ENTRIES
     → HeldInvariant n
-keeps_past h n asked e k run plans history id nodes plan did sent takes turns waiting none few =
+keeps_past h n asked e k run plans history id nodes plan did sent lost number area takes turns waiting none few =
     let all : (i : ℕ) (d : Side) → i < length h.takes → IsTakeLink n (slice_index_or n.takes i d) × ((slice_index_or n.takes i d).sender ≡ (slice_index_or h.takes i d).sender) = λ i d lt.
     subst (λ (l : List Side). IsTakeLink n (slice_index_or l i d) × ((slice_index_or l i d).sender ≡ (slice_index_or h.takes i d).sender)) (sym takes) (take_link_past h n e (slice_index_or h.takes i d) (k.takes i d lt).0 run plans history turns waiting none, refl) in
     let still : IsSome n.waiting → n.turns.intake < length n.plans.intake = rw (waiting, turns, plans) k.waiting in
-    keeps h n asked e k run plans history id nodes plan did sent (ap length takes) all still few
+    keeps h n asked e k run plans history id nodes plan did sent lost number area (ap length takes) all still few
 
 -- ---- what a worker's turn answers
 

@@ -17,9 +17,13 @@ use Rattle.node_lock.specs.declared.worker.Worker.TheVariants.{Intake, Clock, Op
 use Rattle.node_lock.specs.Doing.{HasSectors, TurnDid}
 use Rattle.node_lock.specs.Planned.{Planned, plan_len, turns_of}
 use Rattle.node_lock.specs.Sending.{PutsSome, addressed_to, SameSides, IsFirst, Brings}
+use Rattle.node_lock.specs.declared.turn_log.Loss.{Loss}
+use Rattle.node_lock.specs.Drawing.{HaveNumbers}
+use Rattle.node_lock.specs.Lost.{HasLost}
+use Rattle.node_lock.specs.Wearing.{AreaWithin, HasFailed, NoneWorn}
 use Rattle.node_lock.specs.History.{Turn, IsReplay, FollowsPlans, PlanStep, entries_of, polled, from_link, listed}
 
--- the node and its disk, the ends of its links, the plans and the turns that were taken of them, and what came of these; a
+-- the node and its disk, the ends of its links, the plans and the turns that were taken of them, what came of these, which messages they lost and which numbers they have and drew; a
 -- message that was taken from a link and not yet handed to the node; and for how many more turns, messages and events there is room
 pub record HeldView : Type 0 where
   pub node : Node Memory
@@ -29,6 +33,9 @@ pub record HeldView : Type 0 where
   pub plans : Planned
   pub turns : Turns
   pub history : List Turn
+  pub lost : List Loss
+  pub numbers : List ℕ
+  pub drawn : List ℕ
   pub waiting : Option Envelope
   pub room : ℕ
   pub sends : ℕ
@@ -76,6 +83,14 @@ pub record HeldInvariant (h : HeldView) : Type 0 where
   pub intake : (i d : ℕ) → i < length h.plans.intake → IsPolled h.run (slice_index_or h.plans.intake i d)
   pub waiting : IsSome h.waiting → h.turns.intake < length h.plans.intake
   pub few : length h.history ≤ MOST_ENTRIES
+  -- the messages that are noted as lost are those that went onto no link
+  pub lost : HasLost h.history h.lost h.puts
+  -- each turn has the number that it drew, and they rise
+  pub numbers : HaveNumbers h.drawn h.numbers
+  -- the areas of the disk aren't used up, so no event was refused since they are; and the disk failed just where an event says so
+  pub area : AreaWithin (2 + length h.history) h.node.disk
+  pub unworn : NoneWorn (entries_of h.history)
+  pub failures : (disk : Memory) → h.node.disk ≡ Some disk → HasFailed (entries_of h.history) disk.failures
 
 -- so it is of the messages that were seen in the ring of the link that the intake's next turn polls
 abbrev pub OfPolled : HeldView → (List Envelope → Type 0) → Type 0
@@ -116,6 +131,9 @@ pub record Unserved (old new : HeldView) : Type 0 where
   pub node : new.node ≡ record old.node { mounted = new.node.mounted }
   pub turns : new.turns ≡ old.turns
   pub history : new.history ≡ old.history
+  pub lost : new.lost ≡ old.lost
+  pub numbers : new.numbers ≡ old.numbers
+  pub drawn : new.drawn ≡ old.drawn
   pub puts : SameSides old.puts new.puts
   pub takes : WaitsSince old.takes new.takes old.waiting new.waiting
 

@@ -13,10 +13,11 @@ use Rattle.node_lock.specs.declared.line.Quiet.TheVariants as quiet
 use Rattle.node_lock.specs.declared.line.PackedHistoryEvent.{PackedHistoryEvent}
 use Rattle.node_lock.specs.declared.line.PackedHistoryEvent.TheVariants as kept
 use Rattle.node_lock.specs.declared.line.Line.{Line}
+use Rattle.node_lock.specs.declared.turn_log.Loss.{Loss}
 use Rattle.node_lock.specs.History.{Turn}
 
 -- the turns, and the number of each among the turns of all nodes; for how many more of them there is room, for how many more messages, for how
--- many more events, and for how many more messages that are lost
+-- many more events, and for how many more messages that are lost; the messages that were lost; and, at its end, how many calls of the disk failed
 pub record Log : Type 0 where
   pub turns : List Turn
   pub numbers : List ℕ
@@ -24,6 +25,8 @@ pub record Log : Type 0 where
   pub sends : ℕ
   pub events : ℕ
   pub losses : ℕ
+  pub lost : List Loss
+  pub failures : ℕ
 
 -- what came of a turn that handed no event to its node
 abbrev pub what_quiet : Quiet → HistoryEvent

@@ -4,6 +4,9 @@ pub mod Sending
 pub mod Asking
 pub mod Doing
 pub mod History
+pub mod Lost
+pub mod Drawing
+pub mod Wearing
 pub mod Events
 pub mod Rooms
 pub mod Kept

@@ -1,6 +1,6 @@
 -- What goes onto the links.
-use Rattle.std.specs.Prelude.{◌≡◌, ℕ, ◌<◌, ◌≤◌, ◌==◌, ◌⊎◌, ◌&&◌, Bool, true, List, [], ◌∷◌, ◌++◌, length, slice_index_or, if◌then◌else◌, Option, Some, None}
-use Rattle.std.specs.List.{filter}
+use Rattle.std.specs.Prelude.{◌≡◌, ℕ, ◌+◌, ◌<◌, ◌≤◌, ◌==◌, ◌⊎◌, ◌&&◌, Bool, true, List, [], ◌∷◌, ◌++◌, length, slice_index_or, if◌then◌else◌, Option, Some, None}
+use Rattle.std.specs.List.{AllByRecursion, filter}
 use mathlib.Core.List.{IsPrefix}
 use Rattle.group_task.specs.Ids.{has}
 use Rattle.group_task.specs.Assignment.{Assignment}
@@ -12,6 +12,7 @@ use Rattle.node_core.specs.declared.timer.Timer.TheVariants.{Dispatch}
 use Rattle.node_core.specs.declared.phase.Phase.TheVariants.{Normal}
 use Rattle.node_core.specs.State.{State, in_phase}
 use Rattle.link_ring.specs.Sides.{Side}
+use Rattle.node_lock.specs.declared.turn_log.Loss.{Loss}
 
 -- the messages to one node, in order
 abbrev pub addressed_to : ℕ → List Envelope → List Envelope
@@ -66,6 +67,38 @@ HasRoomFor most sides = (k : ℕ) (d : Side) → k < length sides → most (slic
 -- there is room on each link for those of these messages that are for its receiver
 abbrev pub HasRoomToSend : List Envelope → List Side → Type 0
 HasRoomToSend sent sides = (k : ℕ) (d : Side) → k < length sides → length (addressed_to (slice_index_or sides k d).receiver sent) ≤ (slice_index_or sides k d).room
+
+-- those of the messages that went onto a link, by whether each of them did
+abbrev pub went_of : List Bool → List Envelope → List Envelope
+went_of [] ms = []
+went_of (b ∷ bs) [] = []
+went_of (b ∷ bs) (m ∷ ms) = (if b then m ∷ [] else []) ++ went_of bs ms
+
+-- and the others, as losses of the turn at this place, counted from a place among its messages on
+abbrev pub losses_of : ℕ → ℕ → List Bool → List Loss
+losses_of turn place [] = []
+losses_of turn place (b ∷ bs) = (if b then [] else record { turn = turn; message = place } ∷ []) ++ losses_of turn (place + 1) bs
+
+-- one of the links leads to the node
+abbrev pub HasLink : List Side → ℕ → Type 0
+HasLink sides j = (k : ℕ) × (k < length sides) × ((d : Side) → (slice_index_or sides k d).receiver ≡ j)
+
+-- each of the messages went onto the link to its receiver or onto none, and just the latter are the losses of the turn at this place
+pub record SentBut (turn : ℕ) (sent : List Envelope) (lost : List Loss) (old new : List Side) : Type 0 where
+  pub went : List Bool
+  pub many : length went ≡ length sent
+  pub is_lost : lost ≡ losses_of turn 0 went
+  pub put : (k : ℕ) (d : Side) → k < length old → (slice_index_or new k d).messages ≡ (slice_index_or old k d).messages ++ addressed_to (slice_index_or old k d).receiver (went_of went sent)
+  pub led : AllByRecursion (λ (m : Envelope). HasLink old m.receiver) (went_of went sent)
+
+-- and they are noted behind those before
+abbrev pub NotesLost : ℕ → List Envelope → List Loss → List Loss → List Side → List Side → Type 0
+NotesLost turn sent before after old new = (lost : List Loss) × (after ≡ before ++ lost) × SentBut turn sent lost old new
+
+-- the message went onto the link to its receiver, or onto none
+pub record SentAs (went : Bool) (m : Envelope) (old new : List Side) : Type 0 where
+  pub put : (k : ℕ) (d : Side) → k < length old → (slice_index_or new k d).messages ≡ (slice_index_or old k d).messages ++ addressed_to (slice_index_or old k d).receiver (if went then m ∷ [] else [])
+  pub led : went ≡ true → HasLink old m.receiver
 
 -- the links as before, but for their room
 pub record SameSides (old new : List Side) : Type 0 where

@@ -2,8 +2,9 @@
 ghost use Rattle.std.specs.Prelude.{◌≡◌, ◌≢◌, ◌<◌, ◌≤◌, ◌+◌, ◌↔◌, [], length, IfOk, OnOk, OnErr, IfErr, vec_len, vec_capacity, slice_index_or, ℕ, Ok, Err, true, false, Some, None, IsTrue};
 ghost use Rattle.group_task.specs.declared.node.TheConstants.{NODES};
 ghost use Rattle.node_lock.specs.HeldView.{HeldView, HeldInvariant, IsOther, IsPolled, Takes, SameRun, Unserved};
-ghost use Rattle.node_lock.specs.History.{Turn};
+ghost use Rattle.node_lock.specs.History.{Turn, entries_of};
 ghost use Rattle.node_lock.specs.Planned.{no_turns, plan_len, turns_of};
+ghost use Rattle.node_lock.specs.Wearing.{HasFailed};
 ghost use Rattle.node_lock.specs.declared.held.TheConstants.{MOST_ENTRIES};
 ghost use Rattle.node_lock.specs.declared.held.HeldFault.TheVariants.{HistoryFull, NoMemory};
 ghost use Rattle.node_lock.specs.declared.worker.Worker.TheVariants.{Intake, Clock, Operator};
@@ -18,7 +19,7 @@ use durable_node::DurableNode;
 use group_task::NodeId;
 use link_ring::{PutEnd, TakeEnd};
 use node_core::Event;
-use sector_disk::MemDisk;
+use sector_disk::{MemDisk, SectorDisk};
 use std::alloc::{AllocError, Global};
 use std::marker::Model;
 use thiserror::Error;
@@ -57,7 +58,7 @@ impl Model for Held {
 
     ghost Value = { HeldView };
 
-    ghost view = { λ h. record { node = h.site.node; run = h.run; puts = h.site.puts.items; takes = h.takes.items; plans = h.plans; turns = h.turns; history = h.site.history.turns; waiting = h.waiting; room = h.site.history.room; sends = h.site.history.sends; events = h.site.history.events } };
+    ghost view = { λ h. record { node = h.site.node; run = h.run; puts = h.site.puts.items; takes = h.takes.items; plans = h.plans; turns = h.turns; history = h.site.history.turns; lost = h.site.history.lost; numbers = h.site.history.numbers; drawn = h.site.numbers; waiting = h.waiting; room = h.site.history.room; sends = h.site.history.sends; events = h.site.history.events } };
 
     // Promise: The history is one of a node that has just opened, and the node stands for the state that it replays to; of a node
     // that is Down each disk image does, with or without the command in doubt.
@@ -74,7 +75,7 @@ impl Model for Held {
     // Promise: A history has at most 65,536 turns.
     // Also: limits.
     // Refuses: limit_off_by_one.
-    ghost invariant = { λ h. HeldInvariant (record { node = h.site.node; run = h.run; puts = h.site.puts.items; takes = h.takes.items; plans = h.plans; turns = h.turns; history = h.site.history.turns; waiting = h.waiting; room = h.site.history.room; sends = h.site.history.sends; events = h.site.history.events }) };
+    ghost invariant = { λ h. HeldInvariant (record { node = h.site.node; run = h.run; puts = h.site.puts.items; takes = h.takes.items; plans = h.plans; turns = h.turns; history = h.site.history.turns; lost = h.site.history.lost; numbers = h.site.history.numbers; drawn = h.site.numbers; waiting = h.waiting; room = h.site.history.room; sends = h.site.history.sends; events = h.site.history.events }) };
 }
 
 /// What is left of a node when its workers have ended.
@@ -106,8 +107,9 @@ impl Held {
         requires intake { (i d : ℕ) → i < length plans.intake → IsPolled run (slice_index_or plans.intake i d) }
         requires takes { vec_len takes + 1 ≡ run.nodes }
         requires take_ends { (k : ℕ) (d : _) → k < vec_len takes → ((slice_index_or takes.items k d).receiver ≡ run.node) × ((slice_index_or takes.items k d).messages ≡ []) × IsOther run.node k (slice_index_or takes.items k d).sender }
+        requires none_drawn { numbers ≡ [] }
         requires ends { (k : ℕ) (d : _) → k < vec_len puts → ((slice_index_or puts.items k d).sender ≡ run.node) × ((slice_index_or puts.items k d).capacity ≡ run.capacity) × ((slice_index_or puts.items k d).messages ≡ []) × IsOther run.node k (slice_index_or puts.items k d).receiver }
-        ensures { IfOk result (λ h. (h.run ≡ run) × (h.plans ≡ plans) × (h.turns ≡ no_turns) × (h.history ≡ []) × (h.waiting ≡ None)) }
+        ensures { IfOk result (λ h. (h.run ≡ run) × (h.plans ≡ plans) × (h.turns ≡ no_turns) × (h.history ≡ []) × (h.lost ≡ []) × (h.waiting ≡ None)) }
     {
         let node = DurableNode::open(alloc, run.node, run.nodes, run.slots)?;
         let turns = plans.turns().min(MOST_ENTRIES);
@@ -256,7 +258,10 @@ impl Held {
     /// What is left of the node.
     pub fn into_parts(self) -> HeldParts
         ensures kept { HeldInvariant self }
-        ensures parts { (result.run ≡ self.run) × (result.plans ≡ self.plans) × (result.history.turns ≡ self.history) × (result.puts.items ≡ self.puts) × (result.takes.items ≡ self.takes) × (result.waiting ≡ self.waiting) }
+        // Promise: A history says how many calls of its node's disk failed: that count rose just at the events that say that the device failed.
+        // Refuses: failures_never_shown, outcome_invented.
+        ensures failures { HasFailed (entries_of self.history) result.history.failures }
+        ensures parts { (result.run ≡ self.run) × (result.plans ≡ self.plans) × (result.history.turns ≡ self.history) × (result.history.lost ≡ self.lost) × (result.history.numbers ≡ self.numbers) × (result.puts.items ≡ self.puts) × (result.takes.items ≡ self.takes) × (result.waiting ≡ self.waiting) }
     {
         let Held {
             site,
@@ -266,7 +271,13 @@ impl Held {
             turns: _,
             waiting,
         } = self;
-        let Site { puts, history, .. } = site;
+        let Site {
+            node,
+            puts,
+            mut history,
+            ..
+        } = site;
+        history.end(node.into_disk().failures());
         HeldParts {
             run,
             plans,

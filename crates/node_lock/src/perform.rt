@@ -1,5 +1,6 @@
 // One event at a node.
-ghost use Rattle.std.specs.Prelude.{◌≡◌, ◌≤◌, ℕ, IfOk, IfErr, length, None, Some, true};
+ghost use Rattle.std.specs.Prelude.{◌≡◌, ◌<◌, ◌≤◌, ◌^◌, ℕ, IfOk, IfErr, length, None, Some, true};
+ghost use Rattle.job_model.specs.Durable.{Durable};
 ghost use Rattle.group_task.specs.Ids.{IsSet, has};
 ghost use Rattle.group_task.specs.Assignment.{Assignment};
 ghost use Rattle.durable_node.specs.Stepping.{most_by};
@@ -7,6 +8,7 @@ ghost use Rattle.histories.specs.EventOutcomes.{what_of};
 ghost use Rattle.node_lock.specs.declared.held.HeldFault.TheVariants.{NoMemory};
 ghost use Rattle.node_lock.specs.Doing.{Did, StandsForSome};
 ghost use Rattle.node_lock.specs.Sending.{addressed_to, most_to};
+ghost use Rattle.node_lock.specs.Wearing.{AreaRises};
 
 use crate::held::HeldFault;
 use durable_node::{DurableNode, StepReport};
@@ -33,10 +35,16 @@ pub(crate) fn perform(
     // Also: reserve_puts.
     // Refuses: dispatch_has_room_for_one, no_room_for_work_to_node_0.
     ensures each { IfOk result (λ r. (j : ℕ) → length (addressed_to j r.1.items) ≤ most_to event.now node.old.state node.old.kept j) }
+    // Promise: The areas of a node's disk are never used up in a run in threads: no event is refused as if they were.
+    // Refuses: threads_refused_as_worn.
+    ensures area { IfOk result (λ r. AreaRises node.old.disk node.new.disk (what_of event.now r.0)) }
     ensures memory { IfErr result (λ fault. (fault ≡ NoMemory) × (node.new ≡ record node.old { mounted = None })) }
 {
     note_sets(node);
     note_task(node);
+    note_ids(node);
+    node.is_fallen();
+    node.shows_its_disk();
     match node.step(event) {
         Ok(came) => {
             node.forget();
@@ -66,5 +74,14 @@ fn note_task(node: &DurableNode<MemDisk>)
 {
     if let Some(task) = node.vector().group_state.task {
         let _ = task.members();
+    }
+}
+
+/// The id of the next job is a number of 64 bits. It does nothing.
+fn note_ids(node: &DurableNode<MemDisk>)
+    ensures { (d : Durable) → node.now.kept ≡ Some d → d.next < 2 ^ 64 }
+{
+    if let Some((_, table)) = node.durable() {
+        let _ = table.next();
     }
 }

@@ -7,6 +7,7 @@ ghost use Rattle.node_lock.specs.declared.worker.Worker.TheVariants.{Intake, Ope
 ghost use Rattle.node_lock.specs.Asking.{Hand, asked_in, asked_by};
 ghost use Rattle.node_lock.specs.Kept.{what_quiet};
 ghost use Rattle.node_lock.specs.declared.line.Quiet.TheVariants.{Rested};
+ghost use Rattle.node_lock.specs.Drawing.{IsGiven};
 ghost use Rattle.node_lock.specs.Taking.{IsReady, TookTurn, TookNone, site_of, turn_of};
 ghost use Rattle.link_ring.specs.Sides.{Side};
 ghost use Rattle.node_lock.specs.Sending.{HasRoomFor, SameSides, Brings, most_to};
@@ -70,7 +71,12 @@ impl Site {
             OperatorOrder::Finish(origin, id) => Event::Finish(*origin, *id),
             OperatorOrder::Recover => Event::Recover,
             OperatorOrder::Arm(calls) => {
-                rest(&mut self.history, &self.numbers, Worker::Operator, index)?;
+                rest(
+                    &mut self.history,
+                    &mut self.numbers,
+                    Worker::Operator,
+                    index,
+                )?;
                 self.node.arm(*calls);
                 return Ok(());
             }
@@ -96,7 +102,7 @@ impl Site {
     {
         match arrived {
             Some(message) => self.deliver(index, message),
-            None => rest(&mut self.history, &self.numbers, Worker::Intake, index),
+            None => rest(&mut self.history, &mut self.numbers, Worker::Intake, index),
         }
     }
 
@@ -120,6 +126,8 @@ fn make_room(
     event: &Event,
 ) -> Result<(), AllocError>
     ensures turns { history.new.turns ≡ history.old.turns }
+    ensures numbers { history.new.numbers ≡ history.old.numbers }
+    ensures lost { history.new.lost ≡ history.old.lost }
     ensures same { SameSides puts.old.items puts.new.items }
     ensures room { OnOk result ((0 < history.new.room) × (0 < history.new.events)) }
     ensures sends { OnOk result (most_by node.now.nodes node.now.kept ≤ history.new.sends) }
@@ -133,12 +141,14 @@ fn make_room(
 /// A turn that hands no event to the node and leaves it as it is.
 fn rest(
     history: &mut TurnLog,
-    numbers: &TurnNumbers,
+    numbers: &mut TurnNumbers,
     worker: Worker,
     index: u32,
 ) -> Result<(), HeldFault>
     ensures taken { OnOk result (history.new.turns ≡ history.old.turns ++ turn_of worker index (record { what = what_quiet Rested; sent = [] }) ∷ []) }
-    ensures memory { IfErr result (λ fault. (fault ≡ NoMemory) × (history.new.turns ≡ history.old.turns)) }
+    ensures lost { history.new.lost ≡ history.old.lost }
+    ensures number { OnOk result (IsGiven numbers.old numbers.new history.old.numbers history.new.numbers) }
+    ensures memory { IfErr result (λ fault. (fault ≡ NoMemory) × (history.new.turns ≡ history.old.turns) × (history.new.numbers ≡ history.old.numbers) × (numbers.new ≡ numbers.old)) }
 {
     if history.reserve_quiet().is_err() {
         return Err(HeldFault::NoMemory);

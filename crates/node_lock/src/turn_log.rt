@@ -30,6 +30,7 @@ pub struct TurnLog {
     sent: MessageList,
     events: EventList,
     losses: Vec<Loss>,
+    failures: u64,
 }
 
 /// A message that a turn sent and that went onto no link: its link was full, or none leads to its receiver.
@@ -49,7 +50,7 @@ impl Model for TurnLog {
 
     ghost Value = { Log };
 
-    ghost view = { λ a. record { turns = map (turn_in a.sent.messages a.events.events) a.lines.items; numbers = map (λ (l : Line). l.number) a.lines.items; room = vec_capacity a.lines - vec_len a.lines; sends = min a.sent.room (MOST_KEPT - length a.sent.messages); events = min a.events.room (MOST_KEPT - length a.events.events); losses = vec_capacity a.losses - vec_len a.losses } };
+    ghost view = { λ a. record { turns = map (turn_in a.sent.messages a.events.events) a.lines.items; numbers = map (λ (l : Line). l.number) a.lines.items; room = vec_capacity a.lines - vec_len a.lines; sends = min a.sent.room (MOST_KEPT - length a.sent.messages); events = min a.events.room (MOST_KEPT - length a.events.events); losses = vec_capacity a.losses - vec_len a.losses; lost = a.losses.items; failures = a.failures } };
 
     ghost invariant = { λ a. All (LineStands (length a.sent.messages) (length a.events.events)) a.lines.items × (length a.sent.messages ≤ MOST_KEPT) };
 }
@@ -62,13 +63,16 @@ impl TurnLog {
         turns: usize,
         messages: usize,
     ) -> Result<TurnLog, AllocError>
-        ensures { IfOk result (λ log. log.turns ≡ []) }
+        ensures turns { IfOk result (λ log. log.turns ≡ []) }
+        ensures numbers { IfOk result (λ log. log.numbers ≡ []) }
+        ensures lost { IfOk result (λ log. log.lost ≡ []) }
     {
         let mut log = TurnLog {
             lines: Vec::with_capacity(alloc, turns)?,
             sent: MessageList::new(alloc),
             events: EventList::with_capacity(alloc, turns)?,
             losses: Vec::new(alloc),
+            failures: 0,
         };
         log.reserve(messages)?;
         Ok(log)
@@ -85,6 +89,8 @@ impl TurnLog {
     /// Makes room for one turn more that hands no event to its node.
     pub(crate) fn reserve_quiet(&mut self) -> Result<(), AllocError>
         ensures turns { self.new.turns ≡ self.old.turns }
+        ensures numbers { self.new.numbers ≡ self.old.numbers }
+        ensures lost { self.new.lost ≡ self.old.lost }
         ensures room { OnOk result (0 < self.new.room) }
     {
         Ok(self.lines.reserve(1)?)
@@ -93,6 +99,8 @@ impl TurnLog {
     /// Makes room for one turn more, which sends at most so many messages.
     pub(crate) fn reserve(&mut self, messages: usize) -> Result<(), AllocError>
         ensures turns { self.new.turns ≡ self.old.turns }
+        ensures numbers { self.new.numbers ≡ self.old.numbers }
+        ensures lost { self.new.lost ≡ self.old.lost }
         ensures room { OnOk result (0 < self.new.room) }
         ensures sends { OnOk result (messages ≤ self.new.sends) }
         ensures events { OnOk result (0 < self.new.events) }
@@ -110,7 +118,10 @@ impl TurnLog {
     /// Notes that the message at this place of those that the next turn sends was lost, in the room that is there.
     pub(crate) fn lose(&mut self, message: usize)
         requires { 0 < self.old.losses }
-        ensures { self.new ≡ record self.old { losses = self.old.losses - 1 } }
+        // Promise: What a turn put on no link is noted with the turn's own place, and is shown so, in order.
+        // Also: TurnLog::losses, send_all.
+        // Refuses: loss_of_the_next_turn, no_loss_shown, sent_noted_as_lost.
+        ensures { self.new ≡ record self.old { losses = self.old.losses - 1; lost = self.old.lost ++ (record { turn = length self.old.turns; message = message }) ∷ [] } }
     {
         self.losses.push_reserved(Loss {
             turn: self.lines.len(),
@@ -133,6 +144,7 @@ impl TurnLog {
         requires events { 0 < self.old.events }
         ensures turns { self.new.turns ≡ self.old.turns ++ (record { worker = worker; index = index; entry = record { what = what_of event.now event_outcome; sent = sent.now } }) ∷ [] }
         ensures numbers { self.new.numbers ≡ self.old.numbers ++ number ∷ [] }
+        ensures lost { self.new.lost ≡ self.old.lost }
     {
         let place = self.events.len() as u32;
         self.events.push(event);
@@ -153,6 +165,7 @@ impl TurnLog {
         requires { 0 < self.old.room }
         ensures turns { self.new.turns ≡ self.old.turns ++ (record { worker = worker; index = index; entry = record { what = what_quiet quiet; sent = [] } }) ∷ [] }
         ensures numbers { self.new.numbers ≡ self.old.numbers ++ number ∷ [] }
+        ensures lost { self.new.lost ≡ self.old.lost }
     {
         self.lines.push_reserved(Line {
             worker,
@@ -176,8 +189,24 @@ impl TurnLog {
     }
 
     /// The messages that were sent and lost, in the order in which they were sent.
-    pub fn losses(&self) -> &[Loss] {
+    pub fn losses(&self) -> &[Loss]
+        ensures { result.now ≡ self.now.lost }
+    {
         &self.losses
+    }
+
+    /// The history is over, and so many calls of its node's disk failed.
+    pub(crate) fn end(&mut self, failures: u64)
+        ensures { self.new ≡ record self.old { failures = failures } }
+    {
+        self.failures = failures;
+    }
+
+    /// How many calls of its node's disk failed: known once the history is over.
+    pub fn failures(&self) -> u64
+        ensures { result ≡ self.now.failures }
+    {
+        self.failures
     }
 
     /// What came of the turn at this place, where no event was handed to its node: none only where one was, or no turn stands

@@ -1,6 +1,6 @@
 -- What is known of a node when its workers have ended, in the words of its plans and its history, how long that is,
 -- and how the nodes are taken out of their locks one after another.
-use Rattle.std.proofs.Common.{◌≡◌, ℕ, ◌≤◌, Option, Some, None, IsSome, List, [], ◌∷◌, ◌++◌, length, slice_get, refl, ap, ◌∙◌, subst, subst₂, arith, ◌+◌, ◌<◌, sym, inl, inr}
+use Rattle.std.proofs.Common.{◌≡◌, ℕ, ◌≤◌, Bool, Option, Some, None, IsSome, List, [], ◌∷◌, ◌++◌, length, slice_get, refl, ap, ◌∙◌, subst, subst₂, arith, ◌+◌, ◌<◌, sym, inl, inr}
 use Rattle.std.proofs.lemmas.List.{append-nil, length-append}
 use Rattle.std.proofs.lemmas.Option.{slice_get_within, get_or_from_slice_get, same_Some}
 use Rattle.wire_msg.specs.Envelope.{Envelope}
@@ -20,6 +20,10 @@ use Rattle.node_lock.specs.HeldView.{HeldView, HeldInvariant, IsPutLink, IsTakeL
 use Rattle.node_lock.proofs.PublicLaws.{from_nothing}
 use Rattle.node_lock.specs.declared.held.TheConstants.{MOST_ENTRIES}
 use Rattle.node_lock.specs.Kept.{Log}
+use Rattle.node_lock.specs.Drawing.{HaveNumbers}
+use Rattle.node_lock.specs.Lost.{AreMarked, HasLost, all_losses, all_went}
+use Rattle.node_lock.specs.Sending.{addressed_to}
+use Rattle.node_lock.specs.Wearing.{NoneWorn}
 use Rattle.node_threads.specs.Nodes.{NodeEnds, run_at}
 use Rattle.node_threads.specs.Ended.{HasEnded, AreEnded}
 use Rattle.node_threads.specs.Whole.{IsInterleaving}
@@ -78,8 +82,8 @@ take_link h t none is = record {
   messages = rw (none, from_nothing h.plans.intake t.sender h.turns.intake [] refl, append-nil (polled h.plans.intake t.sender h.history)) at is.messages;
 }
 
-pub facts : (run : Run) (plan : Planned) (history : List Turn) (ends : NodeEnds) → HasEnded run plan history ends → Facts run plan history ends
-facts run plan history ends e =
+pub facts : (run : Run) (plan : Planned) (log : Log) (ends : NodeEnds) → HasEnded run plan log ends → Facts run plan log.turns ends
+facts run plan log ends e =
     let h = e.view in
     let none = nothing_by h.waiting (λ s. let lt = e.kept.waiting s in let least = e.used_up Intake in absurd (omega (arith, lt, least))) in
     record {
@@ -94,6 +98,30 @@ facts run plan history ends e =
           let at : slice_get h.plans.intake i ≡ Some j = rw e.is_plan is in
           rw (get_or_from_slice_get h.plans.intake i j 0 at, e.is_run) at (e.kept.intake i 0 (slice_get_within h.plans.intake i j at));
     }
+
+-- what its history names as lost, by its links to the others
+pub record LostFacts (log : Log) (ends : NodeEnds) : Type 0 where
+  pub went : List (List Bool)
+  pub marked : AreMarked went log.turns
+  pub is_lost : log.lost ≡ all_losses 0 went
+  pub put : (x : Side) → IsAmong x ends.puts → x.messages ≡ addressed_to x.receiver (all_went went log.turns)
+
+pub lost_facts : (run : Run) (plan : Planned) (log : Log) (ends : NodeEnds) → HasEnded run plan log ends → LostFacts log ends
+lost_facts run plan log ends e =
+    let h = e.view in
+    let has : HasLost log.turns log.lost h.puts = rw (e.is_history, e.is_lost) at e.kept.lost in
+    record {
+      went = has.went;
+      marked = has.marked;
+      is_lost = has.is_lost;
+      put = λ x is. let at = among_at x h.puts (rw e.is_puts is) in rw at.2 at (has.put at.0 x at.1);
+    }
+
+pub unworn_fact : (run : Run) (plan : Planned) (log : Log) (ends : NodeEnds) → HasEnded run plan log ends → NoneWorn (entries_of log.turns)
+unworn_fact run plan log ends e = rw e.is_history at e.kept.unworn
+
+pub numbers_fact : (run : Run) (plan : Planned) (log : Log) (ends : NodeEnds) → HasEnded run plan log ends → (drawn : List ℕ) × HaveNumbers drawn log.numbers
+numbers_fact run plan log ends e = (e.view.drawn, rw e.is_numbers at e.kept.numbers)
 
 -- the turns of all three workers
 abbrev taken : Turns → ℕ
@@ -114,8 +142,8 @@ as_many : (p : Planned) (ts : List Turn) (c : Turns) → FollowsPlans p ts c →
 as_many p ts c follows = let all = all_taken p no_turns ts c follows in omega (arith, all)
 
 -- all turns were taken, so there was room for them
-pub ended_fits : (run : Run) (plan : Planned) (history : List Turn) (ends : NodeEnds) → HasEnded run plan history ends → planned plan ≤ MOST_ENTRIES
-ended_fits run plan history ends e =
+pub ended_fits : (run : Run) (plan : Planned) (log : Log) (ends : NodeEnds) → HasEnded run plan log ends → planned plan ≤ MOST_ENTRIES
+ended_fits run plan log ends e =
     let h = e.view in
     subst (λ (p : Planned). planned p ≤ MOST_ENTRIES) e.is_plan
     (omega (arith, as_many h.plans h.history h.turns e.kept.turns, e.kept.few, e.used_up Intake, e.used_up Clock, e.used_up Operator))
@@ -137,7 +165,7 @@ pub all_fit : (size : RunSize) (plans : List Planned) (histories : List Log) (en
 all_fit size plans histories ends e m p below at =
     let h = place_of histories m (omega (arith, below, e.history_count)) in
     let o = place_of ends m (omega (arith, below, e.ends_count)) in
-    ended_fits (run_at size m) p h.0.turns o.0 (e.each m p h.0 o.0 at h.1 o.1)
+    ended_fits (run_at size m) p h.0 o.0 (e.each m p h.0 o.0 at h.1 o.1)
 
 -- one node more has plans that fit
 pub one_more_fits : (n : ℕ) (plans : List Planned) (p : Planned) → slice_get plans n ≡ Some p → planned p ≤ MOST_ENTRIES → FirstFit n plans → FirstFit (n + 1) plans
@@ -150,13 +178,13 @@ one_more_fits n plans p at few all m q below at' = elim (at_or_before m n below)
 pub record AreEndedBelow (bound : ℕ) (size : RunSize) (plans : List Planned) (histories : List Log) (ends : List NodeEnds) : Type 0 where
   pub history_count : length histories ≡ bound
   pub ends_count : length ends ≡ bound
-  pub each : (n : ℕ) (p : Planned) (h : Log) (e : NodeEnds) → slice_get plans n ≡ Some p → slice_get histories n ≡ Some h → slice_get ends n ≡ Some e → HasEnded (run_at size n) p h.turns e
+  pub each : (n : ℕ) (p : Planned) (h : Log) (e : NodeEnds) → slice_get plans n ≡ Some p → slice_get histories n ≡ Some h → slice_get ends n ≡ Some e → HasEnded (run_at size n) p h e
 
 -- what stands at the end of a list that was added to
 last_of : {A : Type 0} (xs : List A) (x y : A) (k : ℕ) → k ≡ length xs → slice_get (xs ++ x ∷ []) k ≡ Some y → y ≡ x
 last_of xs x y k here at = same_Some y x (sym at ∙ get_last xs k x here)
 
-pub ended_more : (bound : ℕ) (size : RunSize) (plans : List Planned) (histories : List Log) (ends : List NodeEnds) (plan : Planned) (log : Log) (mine : NodeEnds) (hs : List Log) (es : List NodeEnds) → hs ≡ histories ++ log ∷ [] → es ≡ ends ++ mine ∷ [] → slice_get plans bound ≡ Some plan → HasEnded (run_at size bound) plan log.turns mine
+pub ended_more : (bound : ℕ) (size : RunSize) (plans : List Planned) (histories : List Log) (ends : List NodeEnds) (plan : Planned) (log : Log) (mine : NodeEnds) (hs : List Log) (es : List NodeEnds) → hs ≡ histories ++ log ∷ [] → es ≡ ends ++ mine ∷ [] → slice_get plans bound ≡ Some plan → HasEnded (run_at size bound) plan log mine
     → AreEndedBelow bound size plans histories ends → AreEndedBelow (bound + 1) size plans hs es
 ended_more bound size plans histories ends plan log mine hs es logs_are ends_are plan_at has all =
     let many = all.history_count in

@@ -3,7 +3,7 @@ use Rattle.std.proofs.Common.{◌≡◌, ℕ, ◌==◌, ◌⊎◌, Bool, true, f
 use Rattle.std.proofs.lemmas.Bool.{eqb-true, cases_lt}
 use Rattle.std.proofs.lemmas.Bool.Decides.{nat_tests}
 use Rattle.std.proofs.lemmas.List.Elements.{filter-append}
-use Rattle.std.proofs.lemmas.Option.{get_or_from_slice_get, slice_get_within, slice_get-map}
+use Rattle.std.proofs.lemmas.Option.{get_or_from_slice_get, same_Some, slice_get_within, slice_get-map}
 use Rattle.std.proofs.lemmas.List.{length-map}
 use mathlib.Core.List.{IsPrefix}
 use Rattle.wire_msg.specs.Envelope.{Envelope}
@@ -27,10 +27,13 @@ use Rattle.node_lock.specs.History.{Turn, PlanStep, entries_of, polled, from_lin
 use Rattle.node_lock.proofs.PublicLaws.{from_nothing, none_of_tick, none_of_order}
 use Rattle.node_lock.specs.HeldView.{IsOther}
 use Rattle.node_lock.specs.Kept.{Log}
+use Rattle.node_lock.specs.Drawing.{HaveNumbers}
+use Rattle.node_lock.specs.Lost.{all_went}
+use Rattle.node_lock.specs.Wearing.{HasFailed, NoneWorn}
 use Rattle.node_threads.specs.Nodes.{NodeEnds, run_at}
 use Rattle.node_threads.specs.Links.{IsLinkOf, AreGathered}
 use Rattle.node_threads.specs.Whole.{IsCarried, sent_by, IsWhole, IsOneBook, histories_in}
-use Rattle.node_threads.proofs.Facts.{Facts, facts}
+use Rattle.node_threads.proofs.Facts.{Facts, LostFacts, facts, lost_facts, numbers_fact, unworn_fact}
 use Rattle.node_threads.specs.declared.size.RunSize.{RunSize}
 use Rattle.node_threads.specs.Ended.{AreEnded}
 use Rattle.node_threads.proofs.Places.{place_of, at_map}
@@ -184,6 +187,13 @@ carried a b p q from to link j of =
     let whole = j.facts_to.interleaved in
     record { from = l.sender; to = l.receiver; put = l.put; taken = l.taken; by_polls = l.by_polls; brought = l.by_polls ∙ polled_is_brought q no_turns to whole.turns a.node whole.follows of }
 
+-- what was put on a link is what its sender doesn't name as lost
+went_on : (a b : Run) (p q : Planned) (from : Log) (to : List Turn) (link : LinkEnd) (mine : NodeEnds) (losses : LostFacts from mine) → (j : Joined a b p q from.turns to link) → j.ends_from ≡ mine → link.put.messages ≡ addressed_to b.node (all_went losses.went from.turns)
+went_on a b p q from to link mine losses j same =
+    let l = j.is_link in
+    let to_b : l.put_end.receiver ≡ b.node = l.paired.receiver ∙ (j.facts_to.takes l.take_end l.is_take).receiver in
+    l.put ∙ losses.put l.put_end (subst (λ (e : NodeEnds). IsAmong l.put_end e.puts) same l.is_put) ∙ ap (λ (n : ℕ). addressed_to n (all_went losses.went from.turns)) to_b
+
 -- a run that has ended, with its links
 record Ended (size : RunSize) (plans : List Planned) (histories : List Log) (links : List LinkEnd) : Type 0 where
   nodes : length plans ≡ size.nodes
@@ -198,13 +208,23 @@ record NodeOf (size : RunSize) (plans : List Planned) (ends : List NodeEnds) (n 
   plan_at : slice_get plans n ≡ Some plan
   ends_at : slice_get ends n ≡ Some mine
   facts : Facts (run_at size n) plan h.turns mine
+  losses : LostFacts h mine
+  numbers : (drawn : List ℕ) × HaveNumbers drawn h.numbers
+  unworn : NoneWorn (entries_of h.turns)
+  failures : HasFailed (entries_of h.turns) h.failures
+
+with_plan : (size : RunSize) (plans : List Planned) (histories : List Log) (links : List LinkEnd) (r : Ended size plans histories links) (n : ℕ) (p : Planned) (h : Log) (e : NodeEnds) → slice_get plans n ≡ Some p → slice_get histories n ≡ Some h → slice_get r.ends n ≡ Some e
+    → NodeOf size plans r.ends n h
+with_plan size plans histories links r n p h e at_plan at at_end =
+    let has = r.ended.each n p h e at_plan at at_end in
+    record { plan = p; mine = e; plan_at = at_plan; ends_at = at_end; facts = facts (run_at size n) p h e has; losses = lost_facts (run_at size n) p h e has; numbers = numbers_fact (run_at size n) p h e has; unworn = unworn_fact (run_at size n) p h e has; failures = has.failures }
 
 node_of : (size : RunSize) (plans : List Planned) (histories : List Log) (links : List LinkEnd) (r : Ended size plans histories links) (n : ℕ) (h : Log) → slice_get histories n ≡ Some h → NodeOf size plans r.ends n h
 node_of size plans histories links r n h at =
     let within = slice_get_within histories n h at in
     let p = place_of plans n (omega (arith, within, r.ended.history_count)) in
     let e = place_of r.ends n (omega (arith, within, r.ended.history_count, r.ended.ends_count)) in
-    record { plan = p.0; mine = e.0; plan_at = p.1; ends_at = e.1; facts = facts (run_at size n) p.0 h.turns e.0 (r.ended.each n p.0 h e.0 p.1 at e.1) }
+    with_plan size plans histories links r n p.0 h e.0 p.1 at e.1
 
 -- the place of another node
 other_place : (i j : ℕ) → i ≢ j → (k : ℕ) × IsOther i k j
@@ -266,6 +286,7 @@ in_one_book histories bundle =
 
 -- the whole run, by what the locks gave back and the links that were gathered
 pub whole_run : (size : RunSize) (plans : List Planned) (histories : List Log) (ends : List NodeEnds) (links : List LinkEnd) → length plans ≡ size.nodes → AreEnded size plans histories ends → AreGathered ends links → IsWhole size plans histories links
+unfolding node_of joined with_plan
 whole_run size plans histories ends links nodes ended gathered =
     let r : Ended size plans histories links = record { nodes = nodes; ends = ends; ended = ended; gathered = gathered } in
     let bundle = is_bundle size plans histories links r in
@@ -273,13 +294,28 @@ whole_run size plans histories ends links nodes ended gathered =
       history_count = ended.history_count;
       interleaved = λ n p h at_plan at.
           let e = place_of ends n (omega (arith, slice_get_within histories n h at, ended.history_count, ended.ends_count)) in
-          (facts (run_at size n) p h.turns e.0 (ended.each n p h e.0 at_plan at e.1)).interleaved;
+          (facts (run_at size n) p h e.0 (ended.each n p h e.0 at_plan at e.1)).interleaved;
       of_slots = λ n h at. subst (λ (k : ℕ). FollowsSlots size.slots n k (opening n) (entries_of h.turns)) (sym nodes) (node_of size plans histories links r n h at).facts.slots;
+      lost = λ n h at.
+          let a = node_of size plans histories links r n h at in
+          record {
+            went = a.losses.went;
+            marked = a.losses.marked;
+            is_lost = a.losses.is_lost;
+            put = λ k j link other lt at_link.
+                let to = place_of histories j (omega (arith, lt, ended.history_count)) in
+                let l = joined size plans histories links r n k j h to.0 a (node_of size plans histories links r j to.0 to.1) other in
+                let same : l.0 ≡ link = same_Some l.0 link (sym l.1 ∙ at_link) in
+                subst (λ (x : LinkEnd). x.put.messages ≡ addressed_to j (all_went a.losses.went h.turns)) same (went_on (run_at size n) (run_at size j) a.plan _ h to.0.turns l.0 a.mine a.losses l.2 refl);
+          };
+      numbers = λ n h at. (node_of size plans histories links r n h at).numbers;
+      unworn = λ n h at. (node_of size plans histories links r n h at).unworn;
+      failures = λ n h at. (node_of size plans histories links r n h at).failures;
       link_count = gathered.count ∙ ap (λ (n : ℕ). n * (n - 1)) ended.ends_count;
       carried = λ i k j p from to at_from at_to at_plan other.
           let a = node_of size plans histories links r i from at_from in
           let e = place_of ends j (omega (arith, slice_get_within histories j to at_to, ended.history_count, ended.ends_count)) in
-          let b : NodeOf size plans ends j to = record { plan = p; mine = e.0; plan_at = at_plan; ends_at = e.1; facts = facts (run_at size j) p to.turns e.0 (ended.each j p to e.0 at_plan at_to e.1) } in
+          let b : NodeOf size plans ends j to = with_plan size plans histories links r j p to e.0 at_plan at_to e.1 in
           let l = joined size plans histories links r i k j from to a b other in
           (l.0, l.1, carried (run_at size i) (run_at size j) a.plan p from.turns to.turns l.0 l.2 (λ at k m named is. (polled_from size plans histories links r j to b at k m named is).2.by));
       one_book = in_one_book (histories_in histories) bundle;

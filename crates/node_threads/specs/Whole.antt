@@ -1,5 +1,5 @@
 -- What a whole run leaves.
-use Rattle.std.specs.Prelude.{◌≡◌, ℕ, ◌+◌, ◌*◌, ◌-◌, ◌==◌, List, [], map, length, slice_get, Some}
+use Rattle.std.specs.Prelude.{◌≡◌, ℕ, ◌+◌, ◌*◌, ◌-◌, ◌<◌, ◌==◌, Bool, List, [], map, length, slice_get, Some}
 use Rattle.std.specs.List.{filter}
 use mathlib.Core.List.{IsPrefix}
 use Rattle.group_task.specs.Assignment.{Assignment}
@@ -25,8 +25,11 @@ use Rattle.node_lock.specs.declared.worker.Worker.{Worker}
 use Rattle.node_lock.specs.HeldView.{IsOther}
 use Rattle.node_lock.specs.History.{Turn, FollowsPlans, entries_of, polled}
 use Rattle.node_lock.specs.Kept.{Log}
+use Rattle.node_lock.specs.Drawing.{HaveNumbers}
+use Rattle.node_lock.specs.Lost.{AreMarked, all_losses, all_went}
 use Rattle.node_lock.specs.Planned.{Planned, plan_len, turns_of}
 use Rattle.node_lock.specs.Sending.{PutsSome, addressed_to}
+use Rattle.node_lock.specs.Wearing.{HasFailed, NoneWorn}
 use Rattle.node_threads.specs.declared.size.RunSize.{RunSize}
 
 -- each worker's turns are its whole plan, in its order
@@ -49,6 +52,13 @@ pub record IsCarried (capacity sender receiver : ℕ) (plan : Planned) (sender_h
   pub taken : IsPrefix link.taken.messages link.put.messages
   pub by_polls : link.taken.messages ≡ polled plan.intake sender receiver_history
   pub brought : link.taken.messages ≡ sent_by sender (brought_in (entries_of receiver_history))
+
+-- the messages of a node's history that went onto no link are just those that it names as lost: each other one is what the link to its receiver carried
+pub record AreLosses (nodes n : ℕ) (links : List LinkEnd) (h : Log) : Type 0 where
+  pub went : List (List Bool)
+  pub marked : AreMarked went h.turns
+  pub is_lost : h.lost ≡ all_losses 0 went
+  pub put : (k j : ℕ) (link : LinkEnd) → IsOther n k j → j < nodes → slice_get links (n * (nodes - 1) + k) ≡ Some link → link.put.messages ≡ addressed_to j (all_went went h.turns)
 
 -- the histories of the nodes
 abbrev pub histories_in : List Log → List (List Entry)
@@ -77,6 +87,13 @@ pub record IsWhole (size : RunSize) (plans : List Planned) (histories : List Log
   pub interleaved : (n : ℕ) (p : Planned) (h : Log) → slice_get plans n ≡ Some p → slice_get histories n ≡ Some h → IsInterleaving p h.turns
   -- no entry is one that a journal of so many slots doesn't allow
   pub of_slots : (n : ℕ) (h : Log) → slice_get histories n ≡ Some h → FollowsSlots size.slots n (length plans) (opening n) (entries_of h.turns)
+  -- the messages that a history names as lost are those that went onto no link
+  pub lost : (n : ℕ) (h : Log) → slice_get histories n ≡ Some h → AreLosses (length plans) n links h
+  -- the numbers of a node's turns rise, and are those that it drew
+  pub numbers : (n : ℕ) (h : Log) → slice_get histories n ≡ Some h → (drawn : List ℕ) × HaveNumbers drawn h.numbers
+  -- no event was refused since the areas of the disk are used up, and the disk failed just where an event says so
+  pub unworn : (n : ℕ) (h : Log) → slice_get histories n ≡ Some h → NoneWorn (entries_of h.turns)
+  pub failures : (n : ℕ) (h : Log) → slice_get histories n ≡ Some h → HasFailed (entries_of h.turns) h.failures
   pub link_count : length links ≡ length plans * (length plans - 1)
   pub carried : (i k j : ℕ) (p : Planned) (from to : Log) → slice_get histories i ≡ Some from → slice_get histories j ≡ Some to → slice_get plans j ≡ Some p → IsOther i k j → (link : LinkEnd) × (slice_get links (i * (length plans - 1) + k) ≡ Some link) × IsCarried size.capacity i j p from.turns to.turns link
   pub one_book : IsOneBook (histories_in histories)

@@ -46,7 +46,7 @@ pub(crate) fn take_all(
 
 /// What is left of a node, where it is this node of this run, has these plans, and its workers have taken all their turns.
 fn take_out(lock: NodeLock, run: Run, plan: &Plans) -> Result<(TurnLog, Left), ThreadsFault>
-    ensures { IfOk result (λ r. HasEnded run plan.now r.0.turns r.1) }
+    ensures { IfOk result (λ r. HasEnded run plan.now r.0 r.1) }
 {
     let held = lock.into_held();
     if held.run() != run || !is_ended(&held) {

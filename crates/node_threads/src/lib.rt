@@ -15,6 +15,7 @@ mod ended;
 mod ends;
 mod fault;
 mod gathering;
+mod laws;
 mod plans;
 mod run;
 mod size;
@@ -22,6 +23,7 @@ mod wiring;
 mod workers;
 
 pub use fault::ThreadsFault;
+pub use laws::faults_have_failures;
 pub use plans::poll_others;
 pub use run::{Gathered, run_threads};
 pub use size::RunSize;

@@ -54,6 +54,16 @@ pub fn run_threads<R: Threads + Wait + Sync, G: Gate + Send>(
     // that its history was brought from this sender.
     // Promise: The histories are a bundle, each node's counts rise, and one book agrees with all moments: in a group there is one
     // coordinator and one task.
+    // Promise: The messages that a history names as lost are just those of it that went onto no link; each other one is what the link to its
+    // receiver carried.
+    // Refuses: node_lock::sent_noted_as_lost, node_lock::loss_of_the_next_turn.
+    // Promise: The numbers of a node's turns are those that it drew, in their order, and rise.
+    // Also: node_lock::TurnNumbers::draw.
+    // Refuses: node_lock::one_number_for_all, node_lock::numbers_skipped.
+    // Promise: No event is refused because a disk's areas are used up, and the count of failed calls that a history tells rose just at the
+    // events that say that the device failed.
+    // Also: faults_have_failures.
+    // Refuses: node_lock::threads_refused_as_worn, node_lock::failures_never_shown.
     // Promise: No entry is one that a journal of the run's slots doesn't allow.
     // Refuses: cluster_sim::disks_of_four_slots.
     // Promise: Each job that a node takes out of its journal was finished by a node that had it in hand and owned its queue then;

@@ -92,7 +92,7 @@ pub(crate) fn lock_nodes(
     requires wired { AreWired size.nodes size.capacity ends.items }
     ensures { IfOk result (λ locks. vec_len locks ≡ length plans.now) }
 {
-    let numbers = TurnNumbers::new(alloc)?;
+    let mut numbers = TurnNumbers::new(alloc)?;
     let mut locks = Vec::new(alloc);
     for node in 0..plans.len() {
         let mine = mem::replace(&mut ends[node], Ends::new(alloc));

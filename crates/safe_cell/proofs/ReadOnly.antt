@@ -2,7 +2,7 @@
 use Rattle.std.proofs.Common.{◌≡◌, ℕ, inl, inr, ⊎_elim, ◌∙◌, arith, IsTrue}
 use Rattle.sector_disk.specs.Disk.{DiskState, nothing}
 use Rattle.sector_disk.specs.Run.{Run}
-use Rattle.sector_disk.proofs.PublicLaws.{run_of_two, run_widen}
+use Rattle.sector_disk.proofs.PublicLaws.{no_more_then, run_of_two, run_widen}
 use Rattle.safe_cell.specs.Answered.{OnlyReads}
 
 -- together they touch what either does
@@ -20,6 +20,7 @@ reads_on old mid new first last failed went known fails before after =
       counts = record {
         sectors = after.counts.sectors ∙ before.counts.sectors;
         honest = after.counts.honest ∙ before.counts.honest;
+        arms = no_more_then old.armed mid.armed new.armed before.counts.arms after.counts.arms;
         later = omega (arith, after.counts.later, same);
         unchanged = λ done. after.counts.unchanged (λ l. done (known l)) ∙ same;
         cause = λ f. ⊎_elim (λ rose. inl (omega (arith, rose, same))) (λ top. inr top) (after.counts.cause (fails f));

@@ -1,3 +1,4 @@
+mod Arms
 mod Runs
 mod Shorts
 mod Bytes

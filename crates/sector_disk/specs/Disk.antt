@@ -1,5 +1,5 @@
 -- What a disk of sectors holds, what a crash may leave of it, and what each call changes.
-use Rattle.std.specs.Prelude.{◌<◌, ◌≡◌, ◌⊎◌, ℕ, ◌-◌, ◌^◌, ◌≤◌, List, [], length, get_or, Bool}
+use Rattle.std.specs.Prelude.{◌<◌, ◌≡◌, ◌⊎◌, ℕ, ◌-◌, ◌^◌, ◌≤◌, List, [], length, get_or, Bool, Option, Some, None}
 
 -- a list of sectors, each a list of bytes
 abbrev pub Image : Type 0
@@ -14,6 +14,8 @@ pub record DiskState : Type 1 where
   pub sectors : ℕ
   -- how many of its calls have failed
   pub failures : ℕ
+  -- how many calls still pass, where it was armed to fail behind them
+  pub armed : Option ℕ
   -- whether it keeps to the model of a disk
   pub honest : Bool
   -- what reads give
@@ -52,10 +54,17 @@ pub record Touches (touched : ℕ → Type 0) (old new : DiskState) : Type 0 whe
   pub synced : (at : ℕ) → (touched at → ⊥) → old.synced at → new.synced at
   pub time : Elapses old new
 
--- A call that answers Ok leaves the count of failures as it is, and answers `Device` only where it rose, or stands at its greatest value.
+-- no more calls pass than before, and where none was to fail none is
+abbrev pub NoMorePass : Option ℕ → Option ℕ → Type 0
+NoMorePass None now = now ≡ None
+NoMorePass (Some was) None = ⊥
+NoMorePass (Some was) (Some now) = now ≤ was
+
+-- A call that answers Ok leaves the count of failures as it is, and answers `Device` only where it rose, or stands at its greatest value. None arms the disk.
 pub record Counts (old new : DiskState) (failed done : Type 0) : Type 0 where
   pub sectors : new.sectors ≡ old.sectors
   pub honest : new.honest ≡ old.honest
+  pub arms : NoMorePass old.armed new.armed
   pub later : old.failures ≤ new.failures
   pub unchanged : done → new.failures ≡ old.failures
   pub cause : failed → (old.failures < new.failures) ⊎ (new.failures ≡ 2 ^ 64 - 1)

@@ -43,6 +43,7 @@ abbrev pub state_of : Memory → DiskState
 state_of m = record {
   sectors = length m.contents;
   failures = m.failures;
+  armed = m.left;
   honest = true;
   contents = m.contents;
   synced = λ at. IsFalse (is_unsynced m at);

@@ -9,7 +9,7 @@ use crate::sector::Sector;
 /// A disk: sectors that are read and written one at a time, and a sync.
 ///
 /// An honest disk keeps to the model of `docs/FORMATS.md`. Of a disk that isn't honest, as one over a
-/// real file, a contract knows no more than when each fault comes.
+/// real file, a contract knows no more than when each fault comes. No call arms a disk to fail.
 pub trait SectorDisk {
     ghost state: { Self → DiskState };
 
@@ -24,7 +24,7 @@ pub trait SectorDisk {
     /// Reads a sector. After an `Err` nothing is known of `into`.
     fn read(&mut self, at: u64, into: &mut Sector) -> Result<(), DiskFault>
         // Promise: Over any disk: `Device` comes only where the count of failures rose in that call or stands at 2^64 - 1; an `Ok`
-        // leaves the count; no call changes `sectors`; honesty is kept in both directions.
+        // leaves the count; no call changes `sectors`, or lets more calls pass than were to; honesty is kept in both directions.
         // Also: SectorDisk::write, SectorDisk::sync.
         // Refuses: device_fault_without_failure.
         ensures counts { Counts (state self.old) (state self.new) (IsErrOf result Device) (IsOk result) }

@@ -2,7 +2,7 @@
 use Rattle.std.proofs.Common.{◌≡◌, ◌<◌, ℕ, inl, inr, ⊎_elim, sym, ◌∙◌, subst, arith, IsTrue}
 use Rattle.sector_disk.specs.Disk.{DiskState, Laws, Touches, nothing}
 use Rattle.sector_disk.specs.Run.{Run}
-use Rattle.sector_disk.proofs.PublicLaws.{quiet_run, run_of_two, run_widen, write_run}
+use Rattle.sector_disk.proofs.PublicLaws.{no_more_then, quiet_run, run_of_two, run_widen, write_run}
 use Rattle.slot_gate.specs.Writing.{WritesOnly}
 
 -- a call that writes nothing
@@ -26,12 +26,13 @@ run_on more {some = some} {old = old} {mid = mid} {new = new} into same first se
 -- calls one after another: the answer is that of the last one
 pub writes_on : (more : ℕ → Type 0) {some here : ℕ → Type 0} {old mid new : DiskState} {missed was_done failed done : Type 0} → ((at : ℕ) → some at → more at) → ((at : ℕ) → here at → more at)
     → was_done → WritesOnly some old mid missed was_done → WritesOnly here mid new failed done → WritesOnly more old new failed done
-writes_on more {some = some} {old = old} {mid = mid} first last went before call =
+writes_on more {some = some} {old = old} {mid = mid} {new = new} first last went before call =
     let same = before.counts.unchanged went in record {
       answers = call.answers;
       counts = record {
         sectors = call.counts.sectors ∙ before.counts.sectors;
         honest = call.counts.honest ∙ before.counts.honest;
+        arms = no_more_then old.armed mid.armed new.armed before.counts.arms call.counts.arms;
         later = omega (arith, call.counts.later, same);
         unchanged = λ d. call.counts.unchanged d ∙ same;
         cause = λ f. ⊎_elim (λ rose. inl (omega (arith, rose, same))) (λ top. inr top) (call.counts.cause f);

@@ -1,9 +1,9 @@
 -- Unsealing slots one behind another.
 use Rattle.std.proofs.Common.{◌≡◌, ◌+◌, ◌*◌, ◌<◌, inl, ℕ, None, sym, ◌∙◌, subst, refl, arith, IsTrue}
 use borrow.Author.Count.{below_more}
-use Rattle.sector_disk.specs.Disk.{DiskState, Laws, Counts}
+use Rattle.sector_disk.specs.Disk.{DiskState, Laws, Counts, NoMorePass}
 use Rattle.sector_disk.specs.Run.{Run}
-use Rattle.sector_disk.proofs.PublicLaws.{same_image}
+use Rattle.sector_disk.proofs.PublicLaws.{no_more_still, no_more_then, same_image}
 use Rattle.slot_gate.specs.Slot.{slot_at, InSlots}
 use Rattle.slot_gate.proofs.Calls.{run_on}
 use Rattle.slot_gate.proofs.Slots.{slot_same}
@@ -12,6 +12,7 @@ use Rattle.slot_gate.proofs.Slots.{slot_same}
 pub record Erased (first slots : ℕ) (old now : DiskState) (erased : ℕ) : Type 0 where
   pub sectors : now.sectors ≡ old.sectors
   pub honest : now.honest ≡ old.honest
+  pub arms : NoMorePass old.armed now.armed
   pub failures : now.failures ≡ old.failures
   pub run : IsTrue old.honest → Run (InSlots first slots) old now
   pub unsealed : IsTrue old.honest → (k : ℕ) → k < erased → slot_at now.contents (first + 2 * k) ≡ None
@@ -20,6 +21,7 @@ pub erased_start : (first slots : ℕ) (disk : DiskState) → (IsTrue disk.hones
 erased_start first slots disk laws = record {
   sectors = refl;
   honest = refl;
+  arms = no_more_still disk.armed;
   failures = refl;
   run = λ honest. (let l = laws honest in record {
     later = omega arith;
@@ -47,6 +49,7 @@ pub erased_more : (first slots erased : ℕ) (old mid new : DiskState) (failed d
 erased_more first slots erased old mid new failed done ok less so_far counts run none = record {
   sectors = counts.sectors ∙ so_far.sectors;
   honest = counts.honest ∙ so_far.honest;
+  arms = no_more_then old.armed mid.armed new.armed so_far.arms counts.arms;
   failures = counts.unchanged ok ∙ so_far.failures;
   run = erased_run first slots erased old mid new less so_far run;
   unsealed = λ honest. (let still = subst (λ b. IsTrue b) (sym so_far.honest) honest in

@@ -3,6 +3,7 @@ mod Cuts
 mod Filling
 mod Numbers
 mod Orderings
+mod Namings
 mod Polls
 mod Texts
 mod Tracings

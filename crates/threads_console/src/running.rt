@@ -1,6 +1,6 @@
 //! The command `threads`.
 
-ghost use Rattle.std.specs.Prelude.{◌≡◌, ◌≤◌, ◌+◌, ◌++◌, IfOk, OnOk, codes, decimal, false, vec_len};
+ghost use Rattle.std.specs.Prelude.{◌≡◌, ◌≤◌, ◌+◌, ◌++◌, IfOk, MatchResult, OnOk, codes, decimal, false, vec_len};
 ghost use Rattle.group_task.specs.declared.node.TheConstants.{NODES};
 ghost use Rattle.console_text.specs.Ends.{printout_of, refused, IsWhy, Prints};
 ghost use Rattle.threads_console.specs.Printed.{IsThreading, IsRunPrinted, PrintsRun, fault_text, worker_name};
@@ -97,7 +97,22 @@ fn run<T: Threads + Wait + Sync>(
     requires { CanRun setup.now.size setup.now.plans.items }
     ensures { IfOk result (λ printout. PrintsRun kind setup.now.size setup.now.plans.items (printout_of printout)) }
 {
-    match run_threads(rt, alloc, setup.size, &setup.plans, &Open) {
+    let outcome = run_threads(rt, alloc, setup.size, &setup.plans, &Open);
+    print_outcome(alloc, kind, outcome)
+}
+
+/// What is printed of a run that ended so.
+fn print_outcome(
+    alloc: Global,
+    kind: TraceKind,
+    outcome: Result<Gathered, ThreadsFault>,
+) -> Result<Output, AllocError>
+    requires { IfOk outcome (λ run. vec_len run.histories ≤ NODES) }
+    // Promise: A run that was gathered is printed as its trace, and each fault by its own name: what `run_threads` answered is what is told.
+    // Refuses: every_fault_is_unpaired, fault_answered_as_another.
+    ensures { IfOk result (λ printout. MatchResult outcome (λ run. IsRunPrinted kind run.histories.items (printout_of printout)) (λ fault. printout_of printout ≡ refused (fault_text fault))) }
+{
+    match outcome {
         Ok(run) => print_run(alloc, kind, run),
         Err(ThreadsFault::NoMemory) => Err(AllocError),
         Err(fault) => refuse(alloc, fault),

@@ -35,6 +35,13 @@ pub struct Held {
     pub until: BootTime,
 }
 
+impl Held {
+    /// What is held behind an event that says so. The epoch of a renewal may be a greater one: what runs under the lease keeps the one that it was given.
+    fn told(before: Option<Held>, epoch: u64, until: BootTime) -> Held {
+        Held { epoch: before.map_or(epoch, |before| before.epoch), until }
+    }
+}
+
 /// An answer to `status`, and when it was asked for: it was so at some time behind that.
 #[derive(Clone, Debug)]
 pub struct Said {
@@ -227,7 +234,7 @@ impl Follow<'_> {
             Some("held") => {
                 let held = line["epoch"].as_u64().zip(line["until_ms"].as_u64());
                 if let (Some(claim), Some((epoch, until))) = (self.claims.get_mut(name), held) {
-                    let before = claim.replace(Held { epoch, until: BootTime::of_ms(until) });
+                    let before = claim.replace(Held::told(*claim, epoch, BootTime::of_ms(until)));
                     if before.is_none() {
                         self.pace.had(BootTime::now());
                     }
@@ -313,5 +320,19 @@ impl Follow<'_> {
     /// Whether all that was asked is answered.
     pub fn is_answered(&self) -> bool {
         self.asked.is_empty()
+    }
+}
+
+#[cfg(test)]
+mod tests {
+    use super::*;
+
+    #[test]
+    fn a_lease_that_is_renewed_under_a_greater_epoch_keeps_its_first_one() {
+        let at = BootTime::of_ms;
+        let held = Held::told(None, 256, at(1000));
+        assert_eq!(held, Held { epoch: 256, until: at(1000) });
+        assert_eq!(Held::told(Some(held), 384, at(2000)), Held { epoch: 256, until: at(2000) });
+        assert_eq!(Held::told(None, 384, at(2000)).epoch, 384);
     }
 }

@@ -8,7 +8,8 @@ use histories::{HistoryEvent, NoOpKind};
 use link_ring::{LinkLog, PutEnd, TakeEnd, link};
 use node_core::{Event, Timer};
 use node_lock::{
-    Gate, Held, HeldFault, HeldParts, NodeLock, Plans, Run, TurnFault, TurnLog, TurnNumbers, Worker,
+    Gate, Held, HeldFault, HeldParts, Loss, NodeLock, Plans, Run, TurnFault, TurnLog, TurnNumbers,
+    Worker,
 };
 use node_threads::Gathered;
 use std::alloc::{AllocError, Global};
@@ -53,6 +54,7 @@ fn paired(
     requires within { node < 2 }
     requires put { ends.0 ≡ unused node (1 - node) capacity }
     requires take { ends.1 ≡ unused (1 - node) node capacity }
+    requires none_drawn { numbers ≡ [] }
 {
     let run = Run {
         node: NodeId::numbered(node),
@@ -231,7 +233,7 @@ fn refused_next(rt: HostRuntime) {
 fn asking(alloc: Global) -> Result<(Held, Held), AllocError> {
     let (put, their_take) = link(alloc, NodeId::numbered(0), NodeId::numbered(1), 1)?;
     let (their_put, take) = link(alloc, NodeId::numbered(1), NodeId::numbered(0), 1)?;
-    let numbers = TurnNumbers::new(alloc)?;
+    let mut numbers = TurnNumbers::new(alloc)?;
     let first = paired(alloc, 0, 0, 3, 1, (put, take), numbers.try_clone()?)?;
     let second = paired(alloc, 1, 2, 0, 1, (their_put, their_take), numbers)?;
     Ok((first, second))
@@ -263,6 +265,13 @@ fn order_names_what_was_not_lost(rt: HostRuntime) {
         second.into_parts().history,
     )
     .expect(&rt, "memory for a run");
+    let lost = Loss {
+        turn: 1,
+        message: 0,
+    };
+    assert!(rt; run.histories[0].losses() == [lost].as_slice());
+    assert!(rt; run.histories[1].losses() == [lost].as_slice());
+    assert!(rt; run.histories[0].failures() == 0);
     let order = order_of(rt.alloc(), &run).expect(&rt, "memory for an order");
     let order = order.expect(&rt, "an order");
     let nodes = [0, 0, 1, 0, 1];

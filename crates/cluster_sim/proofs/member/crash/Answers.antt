@@ -1,5 +1,6 @@
-use Rattle.std.proofs.Common.{◌≡◌, refl, ◌∙◌, sym, arith}
+use Rattle.std.proofs.Common.{length, ◌∙◌, sym}
 use Rattle.cluster_sim.proofs.Answering.{area_stays}
+use Rattle.cluster_sim.proofs.Arming.{crash_counted}
 use Rattle.cluster_sim.proofs.Coming.{some_of}
 use Rattle.cluster_sim.proofs.member.crash.Goals as goal
 
@@ -12,8 +13,7 @@ returns-clause-same c =
 pub returns-clause-counted : goal.returns-clause-counted
 returns-clause-counted c = λ was now before after.
     let is = c.crash.ensures.disk was now before after in
-    let same : now.failures ≡ was.failures = λ i. (is.1 i).failures in
-    record { sectors = is.0.size; honest = refl; later = omega (arith, same); unchanged = λ _. same; cause = λ faulted. absurd (let bad = sym c.nothing_sent.ensures ∙ faulted in cc) }
+    rw c.nothing_sent.ensures (crash_counted was now (length c.args.net.now.network.sent) is.0.size is.1)
 
 pub returns-clause-left : goal.returns-clause-left
 returns-clause-left c = rw (← c.as_slice.ensures) c.crash.ensures.disk

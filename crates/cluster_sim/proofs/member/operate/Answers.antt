@@ -14,3 +14,12 @@ returns-in-Compact-clause-came c = rw c.in-Compact.is (λ slots s stands. c.comp
 
 pub returns-in-Compact-clause-disk : goal.returns-in-Compact-clause-disk
 returns-in-Compact-clause-disk c = rw c.in-Compact.is c.compact.ensures.compacted
+
+pub returns-in-Arm-clause-counted : goal.returns-in-Arm-clause-counted
+returns-in-Arm-clause-counted c = rw c.in-Arm.is c.arm.ensures.counted
+
+pub returns-in-Crash-clause-counted : goal.returns-in-Crash-clause-counted
+returns-in-Crash-clause-counted c = rw c.in-Crash.is c.crash.ensures.counted
+
+pub returns-in-Compact-clause-counted : goal.returns-in-Compact-clause-counted
+returns-in-Compact-clause-counted c = rw c.in-Compact.is c.compact.ensures.counted

@@ -8,6 +8,7 @@ use Rattle.durable_node.specs.Refusing.{Answers}
 use Rattle.durable_node.specs.Remounting.{IsMountedBy, Remounted}
 use Rattle.durable_node.specs.Stepping.{AreaGoesOn, CountsOf}
 use Rattle.node_lock.proofs.Once.{sends_few}
+use Rattle.node_lock.proofs.Wearing.{event_area}
 use Rattle.node_lock.proofs.perform.perform.Goals as goal
 
 pub returns-in-Ok-clause-did : goal.returns-in-Ok-clause-did
@@ -32,3 +33,7 @@ returns-in-Ok-clause-did c =
 
 pub returns-in-Ok-clause-each : goal.returns-in-Ok-clause-each
 returns-in-Ok-clause-each c = sends_few _ c.forget.new.self c.args.event.now c.in-Ok.came.event_outcome c.in-Ok.came.sent.items c.requires.stands (returns-in-Ok-clause-did c) c.in-Ok.ensures.few c.note_sets.ensures c.note_task.ensures
+
+pub returns-in-Ok-clause-area : goal.returns-in-Ok-clause-area
+returns-in-Ok-clause-area c = event_area _ c.forget.new.self c.args.event.now _ c.in-Ok.came.sent.items (returns-in-Ok-clause-did c)
+    (record { fallen = c.is_fallen.ensures; up = c.shows_its_disk.ensures.up; number = λ disk area on at. c.shows_its_disk.ensures.number disk area on at refl; ids = c.note_ids.ensures }) c.requires.stands

@@ -1,7 +1,9 @@
-use Rattle.std.proofs.Common.{◌≡◌, true, sym, ◌∙◌, ap, arith}
+use Rattle.std.proofs.Common.{◌≡◌, true, List, sym, ◌∙◌, ap, subst, arith}
 use Rattle.std.proofs.lemmas.Bool.{not-false}
 use Rattle.std.proofs.lemmas.Bool.Decides.{nat_tests}
 use Rattle.node_lock.specs.declared.run.Run.{Run}
+use Rattle.node_lock.specs.History.{Turn, entries_of}
+use Rattle.node_lock.specs.Wearing.{HasFailed}
 use Rattle.node_lock.specs.contracts.run.RunPartialEq as eq
 use Rattle.node_threads.specs.Nodes.{NodeEnds}
 use Rattle.node_threads.proofs.ended.take_out.Goals as goal
@@ -27,7 +29,10 @@ returns c =
       is_run = sym c.run.ensures ∙ same;
       is_plan = sym p.1 ∙ c.same_plans.ensures.0 c.if-not-same_plans.false;
       is_history = sym p.2;
-      is_puts = sym p.3 ∙ sym (ap (λ (e : NodeEnds). e.puts) ends);
-      is_takes = sym p.4 ∙ sym (ap (λ (e : NodeEnds). e.takes) ends);
+      is_lost = sym p.3;
+      is_numbers = sym p.4;
+      failures = subst (λ (ts : List Turn). HasFailed (entries_of ts) c.into_parts-parts.result.history.failures) (sym p.2) c.into_parts-parts.ensures.failures;
+      is_puts = sym p.5 ∙ sym (ap (λ (e : NodeEnds). e.puts) ends);
+      is_takes = sym p.6 ∙ sym (ap (λ (e : NodeEnds). e.takes) ends);
       used_up = c.is_ended.ensures c.if-not-is_ended.false;
     }

@@ -4,7 +4,10 @@ use Rattle.cluster_sim.proofs.Answering.{areas_if, idle_areas}
 use Rattle.std.proofs.lemmas.Option.{slice_get_read}
 use Rattle.runs.specs.Acts.{At}
 use Rattle.runs.proofs.PublicLaws.{get_set_same}
-use Rattle.cluster_sim.specs.World.{bare}
+use Rattle.cluster_sim.specs.World.{armed_by, bare, disk_of}
+use Rattle.cluster_sim.specs.Names.{node_named}
+use Rattle.cluster_sim.proofs.Arming.{still_counted}
+use Rattle.runs.specs.declared.outcome.ActRefusal.TheVariants as refusal
 use Rattle.cluster_sim.specs.Operated.{OperatedAs}
 use Rattle.cluster_sim.proofs.Members.{denied_at, still_cluster, takes, faults_if}
 use Rattle.cluster_sim.proofs.Doings.{operates, quietly, performed}
@@ -37,7 +40,11 @@ pub returns-clause-faults : goal.returns-clause-faults
 returns-clause-faults c =
     let was = c.self.inside in
     rw ((operates c.args.act.now c.args.id c.requires).named (length c.args.self.now.nodes) c.args.self.now.net.sent, ← c.from-place.ensures ∙ c.number.ensures.value)
-    (faults_if {E = ℕ} was.slots c.from-place.result was.nodes.items c.index_mut.result.now c.operate.new.node was.net.network was.net.network (Ok (bare c.operate.result)) c.args.self.now c.self.view_is (there c) c.operate.ensures.counted)
+    (faults_if {E = ℕ} (armed_by c.args.act.now) was.slots c.from-place.result was.nodes.items c.index_mut.result.now c.operate.new.node was.net.network was.net.network (Ok (bare c.operate.result)) c.args.self.now c.self.view_is (there c) c.operate.ensures.counted)
+
+pub returns-then-place-len-clause-faults : goal.returns-then-place-len-clause-faults
+returns-then-place-len-clause-faults c =
+    record { here = still_counted c.args.act.now (disk_of (slice_get c.args.self.now.nodes (node_named (length c.args.self.now.nodes) c.args.self.now.net.sent c.args.act.now))) refusal.Stranger; elsewhere = λ k other. refl }
 
 pub returns-then-place-len-clause-disk : goal.returns-then-place-len-clause-disk
 returns-then-place-len-clause-disk c =

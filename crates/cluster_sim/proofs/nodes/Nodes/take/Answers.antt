@@ -8,7 +8,7 @@ use Rattle.runs.proofs.PublicLaws.{at_place}
 use Rattle.cluster_sim.proofs.Answering.{answers_if, areas_if, idle_areas}
 use Rattle.histories.specs.HistoryEvent.{AreAddressed, brought, IsOf}
 use Rattle.cluster_sim.proofs.Members.{denied_at, still_cluster, takes, rests_if, untouched_if, faults_if}
-use Rattle.cluster_sim.specs.World.{StandsFor}
+use Rattle.cluster_sim.specs.World.{StandsFor, as_before}
 use Rattle.cluster_sim.proofs.Doings.{brought_came}
 use Rattle.cluster_sim.proofs.nodes.Nodes.take.Goals as goal
 
@@ -50,7 +50,7 @@ pub returns-clause-faults : goal.returns-clause-faults
 returns-clause-faults c =
     let was = c.self.inside in
     rw (← c.from-place.ensures ∙ c.number.ensures.value)
-    (faults_if was.slots c.from-place.result was.nodes.items c.index_mut.result.now c.handle.new.node was.net.network c.handle.new.net.network c.handle.result c.args.self.now c.self.view_is (there c) c.handle.ensures.counted)
+    (faults_if as_before was.slots c.from-place.result was.nodes.items c.index_mut.result.now c.handle.new.node was.net.network c.handle.new.net.network c.handle.result c.args.self.now c.self.view_is (there c) c.handle.ensures.counted)
 
 -- the node stands for a state
 node_state : (c : goal.After-self-1) (w : World) → StandsFor c.args.self.now w → (s : NodeState) × Stands state_of c.index_mut.result.now s

@@ -2,7 +2,7 @@ use Rattle.std.proofs.Common.{◌≡◌, List, length, refl, sym, ap, ◌∙◌,
 use Rattle.lease_machine.specs.declared.name_entry.NameEntry.{NameEntry}
 use Rattle.lease_machine.specs.Names.{entry_of, dead_from}
 use Rattle.lease_machine.specs.Machine.{unknown}
-use Rattle.lease_machine.proofs.Names.{apart_from, at_get, push_new, push_other, set_new, unlike, none_dead}
+use Rattle.lease_machine.proofs.Names.{apart_from, at_get, push_new, push_other, set_new, unlike, none_dead, not_in_use}
 use Rattle.lease_machine.proofs.Keeping.{dead_found, entry_at, kept_pushed, kept_set, same_left, replaced_left}
 use Rattle.lease_machine.proofs.state.LeaseMachine.add.Goals as goal
 
@@ -65,3 +65,12 @@ returns-clause-others c = λ _ other differ.
     replaced_left c.args.now (unknown m) (record (unknown m) { last = c.max-self.result }) m.names.items c.in-Some.place p.d c.args.entry other p.at (apart_from m.names.items m.kept.apart) c.requires.new p.passes differ
     (inr (record { over = refl; keeps = refl; bound = refl; began = refl; last = omega (arith, c.max-self.ensures); free = refl }))
     (λ over. record { over = over; keeps = sym of.keeps; bound = sym of.allowed; began = sym of.since; last = omega (arith, last, c.max-self.ensures); free = refl })
+
+pub returns-then-len-lt-NAMES-clause-room : goal.returns-then-len-lt-NAMES-clause-room
+returns-then-len-lt-NAMES-clause-room c = λ _ full. absurd (omega (arith, c.len.ensures, c.if-len-lt-NAMES.true, full.0))
+
+pub returns-clause-room : goal.returns-clause-room
+returns-clause-room c = λ _ full.
+    let m = c.args.self.now in
+    let p = dead_found c.args.now c.in-Some.place _ m.names.items _ c.deref.ensures.value c.dead_place.ensures c.in-Some.is in
+    not_in_use c.args.now c.in-Some.place p.d m.names.items p.at p.passes full.1

@@ -6,7 +6,7 @@ use Rattle.lease_machine.specs.Kept.{IsOwn}
 use Rattle.lease_machine.specs.Names.{entry_of, place_from}
 use Rattle.lease_machine.specs.Machine.{claim_in, unknown, voter_in}
 use Rattle.lease_machine.proofs.Names.{unplaced}
-use Rattle.lease_machine.proofs.Keeping.{added_voter, all_stay, is_read, kept_asked, name_found, same_left, the_claim}
+use Rattle.lease_machine.proofs.Keeping.{added_voter, all_stay, is_read, kept_asked, kept_needs_none, name_found, same_left, the_claim}
 use Rattle.lease_machine.proofs.state.LeaseMachine.place_claim.Goals as goal
 
 pub index_mut-requires : goal.index_mut-requires
@@ -58,4 +58,18 @@ returns-clause-voter c =
     (unplaced 0 c.args.name.now c.args.self.now.names.items (ap (place_from 0 c.args.name.now) (sym c.deref.ensures.value) ∙ sym c.place_of.ensures ∙ c.in_default.is)) c.unknown.ensures
 
 pub returns-clause-full : goal.returns-clause-full
-returns-clause-full c = λ no. (let full = c.add.ensures.full no in (all_stay c.args.self.now c.add.new.self full.0, full.1))
+returns-clause-full c = λ no.
+    let full = c.add.ensures.full no in
+    let unkept = unplaced 0 c.args.name.now c.args.self.now.names.items (ap (place_from 0 c.args.name.now) (sym c.deref.ensures.value) ∙ sym c.place_of.ensures ∙ c.in_default.is) in
+    (all_stay c.args.self.now c.add.new.self full.0, (unkept, full.1))
+
+pub returns-clause-room : goal.returns-clause-room
+returns-clause-room c = λ yes none. c.add.ensures.room yes none.1
+
+pub returns-in-Some-clause-room : goal.returns-in-Some-clause-room
+returns-in-Some-clause-room c = λ _ none.
+    let m = c.args.self.now in
+    let e = c.index_mut.result.now in
+    let p = name_found c.args.name.now c.in-Some.place _ m.names.items _ c.deref.ensures.value c.place_of.ensures c.in-Some.is in
+    let r = is_read c.args.name.now m.names.items c.in-Some.place e (record e { claim = Some c.args.claim }) p m.kept.apart c.index_mut.ensures.value refl in
+    kept_needs_none (entry_of c.args.name.now m.names.items) r.old none.0

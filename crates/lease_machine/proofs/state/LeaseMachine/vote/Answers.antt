@@ -6,7 +6,7 @@ use Rattle.lease_machine.specs.declared.name_entry.NameEntry.{NameEntry}
 use Rattle.lease_machine.specs.Names.{entry_of, place_from}
 use Rattle.lease_machine.specs.Machine.{claim_in, unknown, voter_in}
 use Rattle.lease_machine.proofs.Names.{unplaced}
-use Rattle.lease_machine.proofs.Keeping.{asked_like, entry_at, is_read, kept_like, name_found, same_left, step_of, unchanged}
+use Rattle.lease_machine.proofs.Keeping.{asked_like, entry_at, is_read, kept_like, kept_needs_none, name_found, same_left, step_of, unchanged}
 use Rattle.lease_machine.proofs.state.LeaseMachine.vote.Goals as goal
 
 pub vote_anew-requires-clause-new : goal.vote_anew-requires-clause-new
@@ -89,3 +89,11 @@ returns-else-ask-clause-claim c =
     let p = name_found c.args.name.now c.in-Some.place _ m.names.items _ c.deref.ensures.value c.place_of.ensures c.in-Some.is in
     let r = is_read c.args.name.now m.names.items c.in-Some.place e (record e { voter = c.ask.new.self }) p m.kept.apart c.index_mut.ensures.value refl in
     ap claim_in r.new ∙ sym (ap claim_in r.old)
+
+pub returns-then-ask-clause-room : goal.returns-then-ask-clause-room
+returns-then-ask-clause-room c = λ _ none.
+    let m = c.args.self.now in
+    let e = c.index_mut.result.now in
+    let p = name_found c.args.name.now c.in-Some.place _ m.names.items _ c.deref.ensures.value c.place_of.ensures c.in-Some.is in
+    let r = is_read c.args.name.now m.names.items c.in-Some.place e (record e { voter = c.ask.new.self }) p m.kept.apart c.index_mut.ensures.value refl in
+    kept_needs_none (entry_of c.args.name.now m.names.items) r.old none.0

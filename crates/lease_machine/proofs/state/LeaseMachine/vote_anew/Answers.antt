@@ -3,8 +3,7 @@ use Rattle.lease_runs.specs.declared.voter.LeaseVoter.{LeaseVoter}
 use Rattle.lease_runs.specs.Code.{CanGrant, ask_of}
 use Rattle.lease_runs.specs.Voter.{grants}
 use Rattle.lease_machine.specs.Names.{entry_of}
-use Rattle.lease_machine.specs.declared.state.LeaseMachine.{LeaseMachine}
-use Rattle.lease_machine.specs.Machine.{AllStay, unknown, voter_in}
+use Rattle.lease_machine.specs.Machine.{unknown, voter_in}
 use Rattle.lease_machine.proofs.Keeping.{asked_like, step_of}
 use Rattle.lease_machine.proofs.state.LeaseMachine.vote_anew.Goals as goal
 
@@ -34,4 +33,7 @@ returns-else-add-clause-full c = λ _.
     let full = c.add.ensures.full c.if-add.false in
     let h = c.ask.ensures.grants c.if-not-ask.false 0 0 (λ boot at. c.args.now) 0 0 refl in
     let is : voter_in (unknown m) (entry_of c.args.name.now m.names.items) ≡ c.unknown-voter.result = ap (voter_in (unknown m)) c.requires.new ∙ sym c.unknown-voter.ensures in
-    (subst (λ (n : LeaseMachine). AllStay m n) (sym full.0) (λ name. (refl, refl)), full.1, subst (λ (v : LeaseVoter). CanGrant v c.args.now c.args.client c.args.epoch) (sym is) h.0)
+    (full.0, (c.requires.new, full.1), subst (λ (v : LeaseVoter). CanGrant v c.args.now c.args.client c.args.epoch) (sym is) h.0)
+
+pub returns-then-add-clause-room : goal.returns-then-add-clause-room
+returns-then-add-clause-room c = λ _ none. c.add.ensures.room c.if-add.true none.1

@@ -52,8 +52,8 @@ returns-then-keeps-clause-replies g c = λ is none. record {
   answered = c.refuse_request.ensures.replies none;
   reply = refl;
   right = elim c.then-keeps.branch [
-    | then-keeps-via-then-keeps w ↦ inl (λ same. grind (arith, same, w.if-keeps, c.keeps.ensures.value))
-    | then-keeps-via-else-keeps+then-list w ↦ inr (inl (λ same. grind (arith, same, w.if-list, w.list.ensures)))
+    | then-keeps-via-then-keeps w ↦ inl (refl, inl (λ same. grind (arith, same, w.if-keeps, c.keeps.ensures.value)))
+    | then-keeps-via-else-keeps+then-list w ↦ inl (refl, inr (λ same. grind (arith, same, w.if-list, w.list.ensures)))
   ];
 }
 
@@ -74,6 +74,10 @@ returns-in-Refused-clause-replies g c = λ is none. record {
   body = Refusal c.args.number c.in-Refused.reason c.in-Refused.lasts;
   answered = c.refuse_request-in-Refused.ensures.replies none;
   reply = refl;
-  right = inr (inr (right_refused c.args.now c.vote.new.self.process c.refuse_request-in-Refused.new.self.process c.args.message.now c.in-Refused.is c.client_of.ensures c.refuse_request-in-Refused.ensures.quiet.machine
-      (c.vote.ensures.right ((c.refuse_request-in-Refused.ensures.turn c.args.now).goes_on none))));
+  right = inr (
+    grind (arith, c.if-keeps.false, c.keeps.ensures.value),
+    grind (arith, c.if-list.false, c.list.ensures),
+    right_refused c.args.now c.vote.new.self.process c.refuse_request-in-Refused.new.self.process c.args.message.now c.in-Refused.is c.client_of.ensures c.refuse_request-in-Refused.ensures.quiet.machine
+        (c.vote.ensures.right ((c.refuse_request-in-Refused.ensures.turn c.args.now).goes_on none)),
+  );
 }

@@ -1,13 +1,13 @@
-use Rattle.std.proofs.Common.{◌≡◌, ◌≤◌, Option, refl, subst}
+use Rattle.std.proofs.Common.{Option, refl, subst}
 use Rattle.lease_runs.specs.Code.{client_of}
 use Rattle.lease_machine.specs.declared.state.LeaseMachine.{LeaseMachine}
-use Rattle.lease_session.specs.Votes.{IsAllowed, IsCrowded, IsGrantable}
+use Rattle.lease_session.specs.Votes.{IsAllowed}
 use Rattle.lease_machine.specs.Machine.{voter_at}
 use Rattle.lease_machine.specs.declared.voting.Vote.{Vote}
 use Rattle.lease_machine.specs.declared.voting.Vote.TheVariants as vote
 use Rattle.lease_session.proofs.Turns.{itself, its_machine}
 use Rattle.lease_session.proofs.Calls.{all_still, voted}
-use Rattle.lease_session.proofs.Granting.{crowded, granted_last, refused_so}
+use Rattle.lease_session.proofs.Granting.{crowded_so, granted_last, refused_so, still_same}
 use Rattle.lease_session.proofs.Leases.{leases_beside, leases_same}
 use Rattle.lease_session.proofs.Bounds.{bound_kept}
 use Rattle.lease_session.proofs.process.LeaseProcess.vote.Goals as goal
@@ -17,7 +17,7 @@ returns-in-Some-clause-vote c = λ number. voted c.vote.result c.args.name.now n
     (λ granted. c.votes_are_steps.ensures.votes c.in-Some.machine c.vote.new.self c.args.now c.args.epoch number c.args.name.now c.args.client (itself c.args.self.now)
     (its_machine c.args.self.now c.in-Some.machine c.in-Some.is) (c.vote.ensures.granted granted) c.vote.ensures.others c.vote.ensures.claim c.vote.ensures.goes_on)
     (λ refused. all_still (c.vote.ensures.refused refused).0 c.vote.ensures.goes_on)
-    (λ full. all_still (c.vote.ensures.full full).0 c.vote.ensures.goes_on)
+    (λ full. all_still (still_same c.in-Some.machine c.vote.new.self (c.vote.ensures.full full).0) c.vote.ensures.goes_on)
     (leases_beside c.in-Some.machine c.vote.new.self c.args.now c.args.name.now (leases_same c.in-Some.machine c.vote.new.self c.args.name.now c.vote.ensures.claim) c.vote.ensures.others)
 
 pub returns-in-Some-clause-granted : goal.returns-in-Some-clause-granted
@@ -25,14 +25,14 @@ returns-in-Some-clause-granted c = λ granted.
     granted_last c.args.now c.args.epoch c.args.client (voter_at c.in-Some.machine c.args.name.now) (voter_at c.vote.new.self c.args.name.now) (c.vote.ensures.granted granted)
 
 pub returns-in-Some-clause-refused : goal.returns-in-Some-clause-refused
-returns-in-Some-clause-refused c = λ other fits. by_vote c.vote.result refl other (subst (λ (o : Option LeaseMachine). IsAllowed c.args.epoch o) c.in-Some.is fits)
-  where
-    by_vote : (v : Vote) → c.vote.result ≡ v → (c.vote.result ≡ vote.Granted → ⊥) → c.args.epoch ≤ c.in-Some.machine.bound
-        → IsGrantable (voter_at c.vote.new.self c.args.name.now) c.args.now (client_of c.args.client) c.args.epoch → IsCrowded c.args.now c.vote.new.self
-    by_vote vote.Granted is other fits may = absurd (other is)
-    by_vote vote.Refused is other fits may = refused_so c.args.now c.args.epoch c.args.client c.in-Some.machine c.vote.new.self c.args.name.now (c.vote.ensures.refused is).0
-        (c.vote.ensures.refused is).1 fits may
-    by_vote vote.Full is other fits may = crowded c.args.now c.in-Some.machine c.vote.new.self (c.vote.ensures.full is).0 (c.vote.ensures.full is).1
+returns-in-Some-clause-refused c = λ is fits.
+    let it = c.vote.ensures.refused is in
+    refused_so c.args.now c.args.epoch c.args.client c.in-Some.machine c.vote.new.self c.args.name.now it.0 it.1 (subst (λ (o : Option LeaseMachine). IsAllowed c.args.epoch o) c.in-Some.is fits)
+
+pub returns-in-Some-clause-full : goal.returns-in-Some-clause-full
+returns-in-Some-clause-full c = λ is.
+    let it = c.vote.ensures.full is in
+    crowded_so c.args.now c.args.epoch c.args.client c.in-Some.machine c.vote.new.self c.args.name.now it.0 it.1 it.2
 
 pub returns-in-Some-clause-bound : goal.returns-in-Some-clause-bound
 returns-in-Some-clause-bound c = bound_kept refl c.in-Some.is refl c.vote.ensures.goes_on.bound

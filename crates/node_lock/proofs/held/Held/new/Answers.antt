@@ -1,9 +1,11 @@
 use Rattle.std.proofs.Common.{◌≡◌, ◌<◌, [], length, vec_len, rules, refl, sym, ◌∙◌, subst, ℕ}
 use Rattle.node_lock.proofs.Keeping.{from_nothing}
+use Rattle.node_lock.proofs.Drawing.{no_numbers}
+use Rattle.node_lock.proofs.Losing.{nothing_lost}
 use Rattle.node_lock.proofs.held.Held.new.Goals as goal
 
 pub invariant_of-result : goal.invariant_of-result
-invariant_of-result c = rw c.in_ok-history.ensures (record {
+invariant_of-result c = rw (c.in_ok-history.ensures.turns, c.in_ok-history.ensures.lost) (record {
   id = search rules;
   nodes = search rules;
   member = search rules;
@@ -23,4 +25,9 @@ invariant_of-result c = rw c.in_ok-history.ensures (record {
   intake = search rules;
   waiting = search rules;
   few = search rules;
+  lost = nothing_lost c.args.puts.items (λ k d lt. (let long : length c.args.puts.items ≡ vec_len c.args.puts = search rules in (c.requires.ends k d (subst (λ (n : ℕ). k < n) long lt)).2));
+  numbers = rw (c.requires.none_drawn, c.in_ok-history.ensures.numbers) no_numbers;
+  area = c.in_ok-node.ensures.number;
+  unworn = tt;
+  failures = λ disk at. sym (c.in_ok-node.ensures.failures disk at);
 })

@@ -9,6 +9,7 @@ use Rattle.node_lock.specs.HeldView.{HeldView}
 use Rattle.node_lock.specs.Taking.{turn_of}
 use Rattle.node_lock.proofs.Counted.{few_turns}
 use Rattle.node_lock.proofs.Keeping.{gives_in}
+use Rattle.node_lock.proofs.Resting.{keeps_none_past}
 use Rattle.node_lock.proofs.Taking.{takes_next, keeps_next_past}
 use Rattle.node_lock.proofs.Comings.{none_of_tick}
 use Rattle.node_lock.proofs.held.Held.next_clock.Goals as goal
@@ -42,3 +43,6 @@ returns-clause-taken c =
     let e = c.in_ok-hand.ensures.taken.0 in
     let took = c.in_ok-hand.ensures.taken.1 in
     rw (← c.self.view_is) (refl, takes_next _ _ Clock (Hand (on.Timer timer)) e c.self.invariant ((timer, got, refl), took, refl) tt)
+
+pub invariant_of-self : goal.invariant_of-self
+invariant_of-self c = keeps_none_past _ _ c.self.invariant refl refl refl c.in_err-hand.ensures.memory.1 refl refl

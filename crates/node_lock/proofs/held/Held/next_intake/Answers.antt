@@ -10,6 +10,7 @@ use Rattle.node_lock.proofs.Counted.{few_turns}
 use Rattle.node_lock.proofs.Keeping.{gives_in, same_again}
 use Rattle.node_lock.proofs.Comings.{brought_polled}
 use Rattle.node_lock.proofs.Fetching.{fetched, entered, finds, index_of}
+use Rattle.node_lock.proofs.Resting.{keeps_none}
 use Rattle.node_lock.proofs.Taking.{takes_next, keeps_next, waits_since, unserved_by}
 use Rattle.node_lock.proofs.held.Held.next_intake.Goals as goal
 
@@ -41,7 +42,7 @@ returns-clause-taken c =
     let arrived = c.fetch.new.waiting in
     let did = c.in_ok-receive.ensures.taken in
     let gives = gives_in _ (asked_by arrived) (turn_of Intake h.turns.intake did.0) _ c.self.invariant did.1.did in
-    let v : HeldView = record { node = h.site.node; run = h.run; puts = h.site.puts.items; takes = h.takes.items; plans = h.plans; turns = h.turns; history = h.site.history.turns; waiting = h.waiting; room = h.site.history.room; sends = h.site.history.sends; events = h.site.history.events } in
+    let v : HeldView = record { node = h.site.node; run = h.run; puts = h.site.puts.items; takes = h.takes.items; plans = h.plans; turns = h.turns; history = h.site.history.turns; lost = h.site.history.lost; numbers = h.site.history.numbers; drawn = h.site.numbers; waiting = h.waiting; room = h.site.history.room; sends = h.site.history.sends; events = h.site.history.events } in
     let polls : Polls v Intake (turn_of Intake h.turns.intake did.0) = (arrived, brought_polled arrived did.0.what gives, finds v c.fetch.new.takes.items c.place_of-place.result c.index-intake-index.result arrived c.place_of-place.ensures read.1 c.fetch.ensures.none c.in_ok-fetch.ensures.empty c.fetch.ensures.some) in
     rw (← c.self.view_is) (refl, takes_next _ _ Intake (asked_by arrived) did.0 c.self.invariant (((c.index-intake-index.result, read.0), (arrived, refl)), did.1, refl) polls)
 
@@ -58,4 +59,12 @@ returns-in_err-fetch-clause-memory c =
     let h = c.self.inside in
     let err = err_from_is_err_and c.from_residual.result c.from_residual.ensures.1 in
     let waits = waits_since c.place_of-place.result c.fetch.new.waiting h.waiting h.takes.items c.fetch.new.takes.items c.fetch.ensures.none c.fetch.ensures.some in
-    rw (← c.self.view_is) (rw err.1 (err.2 ∙ c.in_err-fetch.ensures.memory, unserved_by _ _ refl refl refl (record { node = refl; puts = same_again h.site.puts.items; turns = refl }) waits))
+    rw (← c.self.view_is) (rw err.1 (err.2 ∙ c.in_err-fetch.ensures.memory, unserved_by _ _ refl refl refl (record { node = refl; puts = same_again h.site.puts.items; turns = refl; lost = refl; numbers = refl; drawn = refl }) waits))
+
+pub invariant_of-self-in_err-receive : goal.invariant_of-self-in_err-receive
+invariant_of-self-in_err-receive c =
+    let h = c.self.inside in
+    let more : h.turns.intake < length h.plans.intake = subst (λ (v : HeldView). v.turns.intake < length v.plans.intake) (sym c.self.view_is) c.requires.more in
+    let read = index_of h.plans.intake _ h.turns.intake _ more c.index-intake-index.is c.intake.ensures in
+    let links = fetched _ c.fetch.new.takes.items c.place_of-place.result c.index-intake-index.result c.fetch.new.waiting c.self.invariant c.place_of-place.ensures read.1 c.fetch.ensures.none c.fetch.ensures.some in
+    keeps_none _ _ c.self.invariant refl refl refl c.in_err-receive.ensures.memory.1 links.0 links.1 (λ _. more)

@@ -7,6 +7,7 @@ use Rattle.node_lock.specs.HeldView.{HeldView}
 use Rattle.node_lock.specs.Taking.{turn_of}
 use Rattle.node_lock.proofs.Counted.{few_turns}
 use Rattle.node_lock.proofs.Keeping.{gives_in}
+use Rattle.node_lock.proofs.Resting.{keeps_none_past}
 use Rattle.node_lock.proofs.Taking.{takes_next, keeps_next_past}
 use Rattle.node_lock.proofs.Comings.{none_of_order}
 use Rattle.node_lock.proofs.held.Held.next_operator.Goals as goal
@@ -38,3 +39,6 @@ returns-clause-taken c =
     let order = c.index-operator-index.result in
     let got = slice_get-get_or h.plans.operator h.turns.operator order more ∙ ap (λ o. Some o) (ap (λ l. get_or l h.turns.operator order) (sym c.operator.ensures) ∙ sym c.index-operator-index.is) in
     rw (← c.self.view_is) (refl, takes_next _ _ Operator (asked_in order) c.in_ok-operate.ensures.taken.0 c.self.invariant ((order, got, refl), c.in_ok-operate.ensures.taken.1, refl) tt)
+
+pub invariant_of-self : goal.invariant_of-self
+invariant_of-self c = keeps_none_past _ _ c.self.invariant refl refl refl c.in_err-operate.ensures.memory.1 refl refl
