@@ -200,7 +200,7 @@ by_meaning later line old new behind (Deliver now word) within going given came 
 by_meaning later line old new behind (Acquire now name user) within going given came e =
     timed later now line old new behind within going (brings_none line old now (Acquire now name user) (λ time t. t) given) came.0 e
 by_meaning later line old new behind (Release now name user) within going given came e =
-    timed later now line old new behind within going (brings_none line old now (Release now name user) (λ time t. t) given) came e
+    timed later now line old new behind within going (brings_none line old now (Release now name user) (λ time t. t) given) came.0 e
 
 -- nothing is answered
 silent : (line : List ℕ) (old new : At) → new ≡ old → IsSound old → Marked line old new

@@ -13,11 +13,12 @@ use Rattle.lease_machine.specs.declared.voting.Vote.{Vote}
 use Rattle.lease_machine.specs.declared.voting.Vote.TheVariants as vote
 use Rattle.lease_session.specs.declared.process.LeaseProcess.{LeaseProcess}
 use Rattle.lease_session.specs.declared.asked.Came.{Came}
+use Rattle.lease_session.specs.declared.refusing.Refusal.TheVariants as why
 use Rattle.lease_session.specs.Lines.{brought_by}
-use Rattle.lease_session.specs.Replies.{Asks, AsksFor}
+use Rattle.lease_session.specs.Replies.{Asks, AsksFor, AsksOrEnds, IsFreeIn, Releases}
 use Rattle.lease_session.specs.Rows.{asker, said, said_by}
 use Rattle.lease_session.specs.Turns.{Requested, Turn, Voted, sent_in, who}
-use Rattle.lease_session.proofs.Turns.{follow_more, nothing_had, sends_still, sent_both, sent_more, then, then_had}
+use Rattle.lease_session.proofs.Turns.{follow_more, nothing_had, sends_still, sent_both, sent_more, stay, then, then_had}
 
 one_of : {message : Message} (sent : List Message) → IsAmong message sent → (x : Message) → IsAmong x (message ∷ []) → IsAmong x sent
 one_of sent h x (inl e) = subst (λ (y : Message). IsAmong y sent) (sym e) h
@@ -134,9 +135,18 @@ asked_behind {name = name} t q = record {
 }
 
 pub asks_behind : {name : Name} {user now : ℕ} {a b c : LeaseProcess} → Turn [] [] now a b → Asks name user now b c → Asks name user now a c
-asks_behind t (inl q) = inl (asked_behind t q)
-asks_behind t (inr told) = inr told
+asks_behind t (inl q) = inl (record { kept = q.kept; by_then = then t q.by_then; free = q.free; asks = asked_behind t q.asks })
+asks_behind t (inr q) = inr (record { kept = q.kept; by_then = then t q.by_then; reason = q.reason; right = q.right; told = q.told })
 
-pub asks_same : {name other : Name} {user also now : ℕ} {a b : LeaseProcess} → name ≡ other → user ≡ also → Asks name user now a b → Asks other also now a b
-asks_same {other = other} {user = user} {now = now} {a = a} {b = b} named used q =
-    subst (λ (u : ℕ). Asks other u now a b) used (subst (λ (n : Name). Asks n user now a b) named q)
+pub releases_behind : {name : Name} {user now : ℕ} {a b c : LeaseProcess} → Turn [] [] now a b → Releases name user now b c → Releases name user now a c
+releases_behind t q = record { kept = q.kept; by_then = then t q.by_then; done = q.done }
+
+-- who asks is free to, and asks, or finds no number or epoch left
+pub asked_free : {name other : Name} {user also now : ℕ} {a b c : LeaseProcess} → other ≡ name → also ≡ user → IsFreeIn a.machine now name → Turn [] [] now a b
+    → AsksOrEnds other also now b c → Asks name user now a c
+asked_free {name = name} {user = user} {also = also} {now = now} {a = a} {b = b} {c = c} named used free t q =
+    by (subst (λ (u : ℕ). AsksOrEnds name u now b c) used (subst (λ (n : Name). AsksOrEnds n also now b c) named q))
+  where
+    by : AsksOrEnds name user now b c → Asks name user now a c
+    by (inl asks) = inl (record { kept = a; by_then = stay a; free = free; asks = asked_behind t asks })
+    by (inr told) = inr (record { kept = a; by_then = stay a; reason = why.Exhausted; right = tt; told = told })

@@ -11,7 +11,7 @@ use Rattle.lease_session.specs.declared.refusing.Refusal.{Refusal as Refused}
 use Rattle.lease_session.specs.declared.refusing.Refusal.TheVariants as why
 use Rattle.lease_session.specs.Reading.{Meaning, Bad, Tick, Deliver, Acquire, Release}
 use Rattle.lease_session.specs.Opening.{BringsBy}
-use Rattle.lease_session.specs.Replies.{Asks, RepliesTo}
+use Rattle.lease_session.specs.Replies.{Asks, Releases, RepliesTo}
 use Rattle.lease_session.specs.Rows.{Row, refused, next, fault, row_text, said}
 use Rattle.lease_session.specs.Turns.{IsOut, IsStill, Turn}
 
@@ -61,7 +61,7 @@ ComesOf Bad told then old new = Refuses why.Bad told then old new
 ComesOf (Tick now) told then old new = Comes now [] told then old new
 ComesOf (Deliver now word) told then old new = Delivers now word told then old new
 ComesOf (Acquire now name user) told then old new = Comes now [] told then old new × (goes_on told now ≡ true → Asks name user now old new)
-ComesOf (Release now name user) told then old new = Comes now [] told then old new
+ComesOf (Release now name user) told then old new = Comes now [] told then old new × (goes_on told now ≡ true → Releases name user now old new)
 
 -- ---- how its answer ends
 

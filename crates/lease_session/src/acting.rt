@@ -2,6 +2,7 @@
 ghost use Rattle.std.specs.Prelude.{◌≡◌, ◌<◌, ◌^◌, ◌≤◌, ℕ, [], ◌∷◌, IfSome, IsNone, None, true, false};
 ghost use Rattle.lease_runs.specs.Code.{client_of as by_code};
 ghost use Rattle.lease_network.specs.Network.{request as request_of, grant as grant_of};
+ghost use Rattle.lease_session.specs.Replies.{IsClaimedBy, IsClaimedIn};
 ghost use Rattle.lease_session.specs.Rows.{asker, said};
 ghost use Rattle.lease_session.specs.Votes.{IsAllowed, IsCrowdedOut, IsForbidden, IsGrantedBy};
 ghost use Rattle.lease_session.specs.Telling.{NoneUpTo};
@@ -18,6 +19,7 @@ use lease_runs::ClientId;
 impl LeaseProcess {
     /// The user who asks here for a name asks no more.
     pub(crate) fn withdraw(&mut self, name: &LeaseName)
+        ensures nobody { IsClaimedIn self.new.machine name.now → ⊥ }
         ensures turn { (now : ℕ) → Turn [] [] now self.old self.new }
         ensures bound { AllowsNoMore self.old self.new }
     {
@@ -212,6 +214,20 @@ impl LeaseProcess {
         ensures { result ≡ false → NoneUpTo name.now epoch self.now.told.items }
     {
         told_up_to(&self.told, name, epoch).is_some()
+    }
+
+    /// Whether it is this user who asks here for a name.
+    pub(crate) fn is_claimed_by(&self, name: &LeaseName, user: u64) -> bool
+        ensures yes { result ≡ true → IsClaimedBy self.now.machine name.now user }
+        ensures no { result ≡ false → IsClaimedBy self.now.machine name.now user → ⊥ }
+    {
+        let Some(machine) = &self.machine else {
+            return false;
+        };
+        match machine.claimed(name) {
+            Some(claim) => claim.user == user,
+            None => false,
+        }
     }
 
     /// Whether the client that asks here for a name has this number.

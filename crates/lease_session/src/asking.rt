@@ -2,7 +2,7 @@
 ghost use Rattle.std.specs.Prelude.{◌≡◌, ◌<◌, ◌^◌, ℕ, [], ◌∷◌, true};
 ghost use Rattle.lease_runs.specs.Code.{client_of as by_code};
 ghost use Rattle.lease_network.specs.Network.{request as request_of, grant as grant_of};
-ghost use Rattle.lease_session.specs.Replies.{Asks, AsksFor};
+ghost use Rattle.lease_session.specs.Replies.{Asks, AsksFor, AsksOrEnds, IsClaimedIn, Releases};
 ghost use Rattle.lease_session.specs.Rows.{said};
 ghost use Rattle.lease_session.specs.Turns.{Turn};
 
@@ -14,7 +14,6 @@ use crate::voting::Answer;
 use crate::want::{Bound, NEVER, Stage, Want, epoch_above};
 use crate::writing::client_of;
 use group_task::NodeId;
-use lease_machine::NAMES;
 use lease_message::{LeaseBody, LeaseMessage, LeaseName, Reason};
 use lease_runs::{ClientId, Request};
 
@@ -60,12 +59,13 @@ impl<S: EpochStore + Drop> Participant<S> {
     fn forget(&mut self, name: &LeaseName)
         ensures turn { (now : ℕ) → Turn [] [] now self.old.process self.new.process }
         ensures told { self.new.told ≡ self.old.told }
+        ensures nobody { IsClaimedIn self.new.process.machine name.now → ⊥ }
     {
-        let Some(place) = self.place_of(name) else {
-            return;
-        };
-        if place < self.wants.len() {
-            self.wants.remove(place);
+        match self.place_of(name) {
+            Some(place) if place < self.wants.len() => {
+                self.wants.remove(place);
+            }
+            _ => {}
         }
         self.process.withdraw(name);
     }
@@ -131,7 +131,7 @@ impl<S: EpochStore + Drop> Participant<S> {
         ensures told { self.new.told ≡ self.old.told }
         ensures asks { Asks name.now user now self.old.process self.new.process }
     {
-        if let Err(why) = self.claim(now, name, user) {
+        if let Err(why) = self.process.claim(now, name, user) {
             self.process.refuse_user(why, name, user);
             return;
         }
@@ -142,27 +142,27 @@ impl<S: EpochStore + Drop> Participant<S> {
         }
     }
 
-    fn claim(&mut self, now: u64, name: &LeaseName, user: u64) -> Result<(), Refusal>
-        ensures turn { Turn [] [] now self.old.process self.new.process }
-        ensures told { self.new.told ≡ self.old.told }
-    {
-        if self.wants.len() >= NAMES && !self.process.is_claimed(name) {
-            return Err(Refusal::Full);
-        }
-        self.process.claim(now, name, user)
-    }
-
     /// A user wants it no more.
     pub(crate) fn release(&mut self, now: u64, name: &LeaseName, user: u64)
         ensures turn { Turn [] [] now self.old.process self.new.process }
         ensures told { self.new.told ≡ self.old.told }
+        ensures releases { Releases name.now user now self.old.process self.new.process }
     {
-        match self.want_of(name) {
-            Some(mut want) if want.user == user => {
-                self.stop(now, &mut want);
-                self.forget(name);
-            }
-            _ => self.process.refuse_user(Refusal::Unclaimed, name, user),
+        if !self.process.is_claimed_by(name, user) {
+            self.process.refuse_user(Refusal::Unclaimed, name, user);
+            return;
+        }
+        self.stop_wanted(now, name);
+        self.forget(name);
+    }
+
+    /// The one who wants a name relies on its lease no more.
+    fn stop_wanted(&mut self, now: u64, name: &LeaseName)
+        ensures turn { Turn [] [] now self.old.process self.new.process }
+        ensures told { self.new.told ≡ self.old.told }
+    {
+        if let Some(mut want) = self.want_of(name) {
+            self.stop(now, &mut want);
         }
     }
 }
@@ -224,7 +224,7 @@ impl<S: EpochStore + Drop> Participant<S> {
         requires { now < 2 ^ 62 }
         ensures turn { Turn [] [] now self.old.process self.new.process }
         ensures told { self.new.told ≡ self.old.told }
-        ensures asks { Asks want.old.name want.old.user now self.old.process self.new.process }
+        ensures asks { AsksOrEnds want.old.name want.old.user now self.old.process self.new.process }
     {
         let name = want.name;
         let user = want.user;

@@ -1,7 +1,8 @@
 // How a process begins, and those that ask in it.
-ghost use Rattle.std.specs.Prelude.{◌≡◌, ◌≤◌, ℕ, [], IfOk, None, Some};
+ghost use Rattle.std.specs.Prelude.{◌≡◌, ◌≤◌, ℕ, [], IfErr, IfOk, IsOk, None, Some};
 ghost use Rattle.line_words.specs.Lines.{bytes_of};
 ghost use Rattle.lease_session.specs.Opening.{Brings, BringsBy};
+ghost use Rattle.lease_session.specs.Replies.{IsFreeIn, IsUnservedFor};
 ghost use Rattle.lease_session.specs.Turns.{AllowsNoMore, AllowsUpTo, IsQuiet, Turn, key_of};
 
 use crate::asked::Came;
@@ -115,16 +116,10 @@ impl LeaseProcess {
         }
     }
 
-    /// Whether a user asks here for a name.
-    pub(crate) fn is_claimed(&self, name: &LeaseName) -> bool {
-        match &self.machine {
-            Some(machine) => machine.is_claimed(name),
-            None => false,
-        }
-    }
-
     /// A user begins to ask for the lease of a name.
     pub(crate) fn claim(&mut self, now: u64, name: &LeaseName, user: u64) -> Result<(), Refusal>
+        ensures free { IsOk result → IsFreeIn self.old.machine now name.now }
+        ensures refused { IfErr result (λ why. IsUnservedFor why now name.now self.old.machine) }
         ensures turn { Turn [] [] now self.old self.new }
         ensures bound { AllowsNoMore self.old self.new }
     {

@@ -124,9 +124,11 @@ impl<S: EpochStore + Drop> Participant<S> {
         // Refuses: grant_never_answered, refused_at_will, told_full_at_will, terms_not_compared, refused_unreserved,
         // lease_machine::kept_name_refused_as_full.
         ensures replies { goes_on self.old.told now ≡ true → RepliesTo self.old.process.terms now came self.new.process }
-        // Promise: For a user that begins to ask for a lease a request is sent at once, or the user is told why not.
-        // Also: Participant::acquire, Participant::ask_or_tell, Participant::request.
-        // Refuses: acquire_never_asked.
+        // Promise: For a user that begins to ask for a lease a request is sent at once, where the process has begun, nobody here asks for the name, and
+        // it is kept or there is room; or the user is told which of these isn't so, or that no number or epoch is left.
+        // Who wants a lease no more is asked for no more, and is told `Unclaimed` where it isn't the one who asks here for the name alone.
+        // Also: Participant::acquire, Participant::ask_or_tell, Participant::request, Participant::release.
+        // Refuses: acquire_never_asked, claimed_told_as_full, users_refused_by_their_number, release_refused_at_will.
         ensures asks { goes_on self.old.told now ≡ true → AsksTo came now self.old.process self.new.process }
     {
         if !self.goes_on(now) {

@@ -192,7 +192,7 @@ impl LeaseProcess {
     /// A user's request isn't taken.
     pub(crate) fn refuse_user(&mut self, why: Refusal, name: &LeaseName, user: u64)
         ensures turn { (now : ℕ) → Turn [] [] now self.old self.new }
-        ensures says { self.new.halt ≡ None → IsToldWhy name.now user self.new }
+        ensures says { self.new.halt ≡ None → IsToldWhy why name.now user self.new }
         ensures quiet { IsQuiet self.old self.new }
     {
         if self.halt.is_some() {

@@ -3,7 +3,7 @@ use Rattle.lease_machine.specs.declared.terms.LeaseTerms.{LeaseTerms}
 use Rattle.lease_session.specs.declared.asked.Came.{Came}
 use Rattle.lease_session.specs.Replies.{AsksTo, Replies, RepliesTo}
 use Rattle.lease_session.proofs.Turns.{then, then_too}
-use Rattle.lease_session.proofs.Votes.{as_brought, asks_behind, brought_is}
+use Rattle.lease_session.proofs.Votes.{as_brought, asks_behind, brought_is, releases_behind}
 use Rattle.lease_session.proofs.participant.Participant.take_came.Goals as goal
 
 pub returns-in-Nothing-clause-turn : goal.returns-in-Nothing-clause-turn
@@ -36,3 +36,8 @@ pub returns-in-Acquire-clause-asks : goal.returns-in-Acquire-clause-asks
 returns-in-Acquire-clause-asks g c =
     subst (λ (it : Came). AsksTo it c.args.now c.args.self.now.process c.acquire.new.self.process) (sym c.in-Acquire.is)
     (asks_behind (then c.begin_where_due.ensures.turn c.serve_due.ensures.turn) c.acquire.ensures.asks)
+
+pub returns-in-Release-clause-asks : goal.returns-in-Release-clause-asks
+returns-in-Release-clause-asks g c =
+    subst (λ (it : Came). AsksTo it c.args.now c.args.self.now.process c.release.new.self.process) (sym c.in-Release.is)
+    (releases_behind (then c.begin_where_due.ensures.turn c.serve_due.ensures.turn) c.release.ensures.releases)
