@@ -397,5 +397,4 @@ class Agent(AsyncAgent):
     """The same calls, each of which ends before it returns."""
     link, job, watch, lead, lock = Link, Job, each(AsyncAgent.watch), each(AsyncAgent.lead), contextlib.contextmanager(each(AsyncAgent.lock.__wrapped__))
     status, members, submit, kick, take, work = (blocking(getattr(AsyncAgent, name)) for name in "status members submit kick take work".split())
-    async def sleep(self, seconds):
-        time.sleep(seconds)
+    async def sleep(self, seconds): time.sleep(seconds)

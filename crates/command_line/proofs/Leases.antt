@@ -1,10 +1,16 @@
 -- A process of leases that isn't served, or whose device failed.
-use Rattle.std.proofs.Common.{◌≡◌, ℕ, List, [], Option, Result, Ok, Err, IfOk, inl, inr, ⊎_elim}
+use Rattle.std.proofs.Common.{◌≡◌, ◌∙◌, ap, subst, ℕ, ◌+◌, List, [], Option, Result, Ok, Err, IfOk, inl, inr, ⊎_elim}
+use Rattle.lease_file.specs.Blocks.{bound_of}
+use Rattle.lease_file.specs.Calls.{begun_by}
+use Rattle.lease_file.specs.Kept.{FileState, Kept, kept, kept_of}
+use Rattle.lease_file.specs.declared.file.Begun.{Begun}
 use Rattle.lease_machine.specs.declared.terms.LeaseTerms.{LeaseTerms}
+use Rattle.lease_session.specs.Served.{IsServed}
+use Rattle.lease_session.specs.declared.seals.LeaseSeal.{LeaseSeal}
 use Rattle.lease_session.specs.declared.serving.LeaseEnd.{LeaseEnd}
 use Rattle.lease_session.specs.declared.serving.LeaseEnd.TheVariants as end
 use Rattle.command_line.specs.Ends.{code_of}
-use Rattle.command_line.specs.LeaseServed.{AreTermsOf, IsNotBegun, LeaseServesSo, LeaseServesTo}
+use Rattle.command_line.specs.LeaseServed.{AreTermsOf, IsLeaseSealUnder, IsNotBegun, LeaseServesSo, LeaseServesTo, start_by}
 use Rattle.command_line.specs.Obeyed.{AreKeysOf, LeasesFor}
 use Rattle.command_line.specs.Served.{IsStopped}
 use Rattle.command_line.specs.declared.invocation.NodePlace.{NodePlace}
@@ -59,3 +65,16 @@ pub leases_end : {E : Type 0} (place : NodePlace) (round_trip : ℕ) (sealing : 
     → IfOk result (λ (code : ℕ). code ≡ code_of ended) → IfOk result (LeasesFor place round_trip sealing input rest before behind)
 leases_end place round_trip sealing input rest before behind ended keys terms (Ok code) are of serves is = inr (ended, keys, terms, is, are, of, serves)
 leases_end place round_trip sealing input rest before behind ended keys terms (Err e) are of serves is = tt
+
+-- a process that took a block more than a file kept was served so
+pub serves_to : {Disk : Type 0} (keys : Option Keys) (terms : LeaseTerms) (input rest before behind : Option (List ℕ)) (seal : Option LeaseSeal) (was now stored : FileState Disk) (begun : Begun) (keeps : ℕ) (how : LeaseEnd)
+    → IsLeaseSealUnder keys terms.machines seal → begun ≡ begun_by (kept_of was) → kept_of now ≡ kept ((kept_of was).count + 1) keeps → stored ≡ now
+    → IsServed terms (start_by begun) seal (bound_of (kept_of stored).count) input rest before behind how → LeaseServesTo keys terms input rest before behind how
+serves_to {Disk = Disk} keys terms input rest before behind seal was now stored begun keeps how under is keeps_so same served = (
+  seal,
+  kept_of was,
+  under,
+  subst (λ (b : Begun). IsServed terms (start_by b) seal (bound_of ((kept_of was).count + 1)) input rest before behind how) is
+  (subst (λ (n : ℕ). IsServed terms (start_by begun) seal n input rest before behind how)
+  (ap (λ (f : FileState Disk). bound_of (kept_of f).count) same ∙ ap (λ (k : Kept). bound_of k.count) keeps_so) served),
+)

@@ -1,3 +1,4 @@
 mod Texts
 mod Stopped
 mod Endings
+mod Leases

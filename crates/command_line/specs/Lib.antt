@@ -6,4 +6,5 @@ pub mod Obeyed
 pub mod Performed
 pub mod Served
 pub mod LeaseLabel
+pub mod LeaseServed
 pub mod Watched

@@ -1,7 +1,8 @@
 -- What is printed, and with which status the program ends, of what its command line asks for.
-use Rattle.std.specs.Prelude.{ℕ, ◌≡◌, ◌⊎◌, List, map, Option, Some, None, string_bytes}
+use Rattle.std.specs.Prelude.{ℕ, ◌≡◌, ◌⊎◌, List, [], map, Option, Some, None, string_bytes}
 use Rattle.console_text.specs.Ends.{Printout, Prints, status_of}
 use Rattle.console_text.specs.declared.ends.ExitKind.{ExitKind}
+use Rattle.lease_machine.specs.declared.terms.LeaseTerms.{LeaseTerms}
 use Rattle.pace.specs.Timers.{measured}
 use Rattle.store_console.specs.Printed.{IsShown}
 use Rattle.store_console.specs.Salvaged.{IsSalvagePrintout}
@@ -9,6 +10,7 @@ use Rattle.trace_console.specs.Files.{PrintsFiles}
 use Rattle.trace_console.specs.declared.files.TraceFile.{TraceFile}
 use Rattle.trace_console.specs.declared.judging.Stage.{Stage}
 use Rattle.command_line.specs.Ends.{code_of}
+use Rattle.command_line.specs.LeaseServed.{AreTermsOf, LeaseServesSo, LeaseServesTo}
 use Rattle.command_line.specs.Performed.{IsOutcomeOf}
 use Rattle.command_line.specs.Served.{ServesSo, ServesTo}
 use Rattle.command_line.specs.declared.invocation.Invocation.{Invocation}
@@ -54,13 +56,20 @@ ServesFor place round_trip sealing life input rest before behind code =
     (status : Status) × (keys : Option Keys) × (code ≡ code_of status) × AreKeysOf sealing life keys
     × ServesSo ((rest ≡ input) × (behind ≡ before)) (ServesTo keys place.id place.nodes (measured round_trip) input rest before behind) status
 
+-- A process of leases was served as its command line says; without a round trip there are no terms, and nothing is read or written.
+abbrev pub LeasesFor : NodePlace → ℕ → Option Sealing → Option (List ℕ) → Option (List ℕ) → Option (List ℕ) → Option (List ℕ) → ℕ → Type 0
+LeasesFor place round_trip sealing input rest before behind code =
+    ((round_trip ≡ 0) × (code ≡ 2) × (rest ≡ input) × (behind ≡ before))
+    ⊎ ((status : Status) × (keys : Option Keys) × (terms : LeaseTerms) × (code ≡ code_of status) × AreKeysOf sealing [] keys × AreTermsOf place round_trip sealing terms
+    × LeaseServesSo ((rest ≡ input) × (behind ≡ before)) (LeaseServesTo keys terms input rest before behind) status)
+
 -- By what is asked for. Of a file that is made nothing is printed: its jobs can't be read, or the status is that of how it was made.
 abbrev pub Obeys : Invocation → Option (List ℕ) → Option (List ℕ) → Option (List ℕ) → Option (List ℕ) → ℕ → Type 0
 Obeys (invocation.Batch batch) input rest before behind code = EndsBy (IsOutcomeOf batch) input before behind code
 Obeys (invocation.Format path making jobs cluster) input rest before behind code = (behind ≡ before) × (EndsAs code ⊎ (code ≡ 1))
 Obeys (invocation.Node path place round_trip sealing cluster life) input rest before behind code = ServesFor place round_trip sealing life.items input rest before behind code
 Obeys (invocation.FormatLeases path machine first) input rest before behind code = (rest ≡ input) × (behind ≡ before) × EndsAs code
-Obeys (invocation.Lease path place round_trip sealing) input rest before behind code = EndsAs code ⊎ (code ≡ 2)
+Obeys (invocation.Lease path place round_trip sealing) input rest before behind code = LeasesFor place round_trip sealing input rest before behind code
 Obeys (invocation.Look path shown) input rest before behind code = (rest ≡ input) × EndsByFile (IsShown shown) before behind code
 Obeys (invocation.Salvage path) input rest before behind code = (rest ≡ input) × EndsByFile IsSalvagePrintout before behind code
 Obeys (invocation.Trace stage paths) input rest before behind code = (rest ≡ input) × EndsByRecords stage (map string_bytes paths.items) before behind code

@@ -3,6 +3,8 @@ ghost use Rattle.std.specs.Prelude.{◌≡◌, IfOk, IfSome, option_map};
 ghost use Rattle.line_words.specs.Lines.{lines_of};
 ghost use Rattle.sealed_msg.specs.Cluster.{cluster_key};
 ghost use Rattle.command_line.specs.Keys.{first_and, one_of, pair_of, secret_in, secrets_of, two_of};
+ghost use Rattle.lease_session.specs.Key.{lease_key};
+ghost use Rattle.command_line.specs.LeaseServed.{IsLeaseSealBy, IsLeaseSealOf};
 ghost use Rattle.command_line.specs.Served.{AreSpelled, IsSealBy, seals_by};
 
 use lease_session::{LeaseSeal, lease_key};
@@ -91,17 +93,44 @@ pub(crate) fn read_lease_seal(
     alloc: Global,
     keys: Keys<'_>,
     machines: u8,
-) -> io::Result<Option<LeaseSeal>> {
+) -> io::Result<Option<LeaseSeal>>
+    ensures { IfOk result (λ seal. IfSome seal (IsLeaseSealBy machines keys.entry.cluster.now)) }
+{
     let Some(secrets) = read_secrets(rt, alloc, keys.path)? else {
         return Ok(None);
     };
-    let name = keys.cluster.as_bytes();
-    let own = lease_key(alloc, &secrets.own, machines, name)?;
-    let other = match &secrets.other {
-        Some(other) => Some(lease_key(alloc, other, machines, name)?),
-        None => None,
-    };
-    Ok(Some(LeaseSeal::new(own, other)))
+    Ok(Some(lease_seal_by(alloc, &secrets, machines, keys.cluster.as_bytes())?))
+}
+
+/// What seals and opens the messages of leases of so many machines, in the cluster of this name, by these secrets.
+fn lease_seal_by(
+    alloc: Global,
+    secrets: &Secrets,
+    machines: u8,
+    cluster: &[u8],
+) -> Result<LeaseSeal, AllocError>
+    // Promise: Under keys a process of leases seals by the first secret of its file and opens by either, each bound to the cluster's name and the number of its
+    // machines.
+    // Refuses: leases_of_any_cluster_opened.
+    ensures { IfOk result (IsLeaseSealOf (pair_of secrets.now) machines cluster.now) }
+{
+    let own = lease_key(alloc, &secrets.own, machines, cluster)?;
+    let other = other_lease_key(alloc, &secrets.other, machines, cluster)?;
+    Ok(LeaseSeal::new(own, other))
+}
+
+fn other_lease_key(
+    alloc: Global,
+    other: &Option<Vec<u8>>,
+    machines: u8,
+    cluster: &[u8],
+) -> Result<Option<Key>, AllocError>
+    ensures { IfOk result (λ key. key ≡ option_map (λ other. lease_key other.items machines cluster.now) other.now) }
+{
+    match other {
+        Some(other) => Ok(Some(lease_key(alloc, other, machines, cluster)?)),
+        None => Ok(None),
+    }
 }
 
 /// The secrets of the file of this path. None where it isn't one of keys, or others may read it.

@@ -14,7 +14,9 @@ pub(crate) struct EpochFile<D: SectorDisk> {
 }
 
 impl<D: SectorDisk> EpochFile<D> {
-    pub(crate) fn new(file: LeaseFile<D>) -> EpochFile<D> {
+    pub(crate) fn new(file: LeaseFile<D>) -> EpochFile<D>
+        ensures { result.file ≡ file }
+    {
         EpochFile { file }
     }
 

@@ -1,4 +1,8 @@
-// A process of leases that is fed with lines and writes lines, and its file.
+// A process of leases that is served over its file.
+ghost use Rattle.std.specs.Prelude.{◌≡◌, IfErr, IfOk};
+ghost use Rattle.command_line.specs.LeaseServed.{IsLeaseSealUnder, IsNotBegun, LeaseServesSo, LeaseServesTo, list_of};
+
+use crate::invocation::Sealing;
 use crate::keys::{Keys, read_lease_seal};
 use crate::label::{LabelOwner, owner_of};
 use crate::lease_label::{lease_label, machine_of};
@@ -8,17 +12,14 @@ use file_disk::{FileDisk, LABEL, OpenFault, Stride};
 use group_task::NodeId;
 use lease_file::{Begun, LeaseFault, LeaseFile, SECTORS, format};
 use lease_machine::LeaseTerms;
-use lease_session::{EpochStore, LeaseSeal, LeaseSession, Start};
+use lease_session::{LeaseEnd, LeaseSeal, Start};
 use sealed_msg::Key;
 use sector_disk::SectorDisk;
 use std::alloc::{AllocError, Global};
+use std::fs;
 use std::fs::{File, Files};
 use std::io::{ErrorKind, Read, Write};
 use std::path::AsPath;
-use std::{fs, io};
-
-/// How many bytes one read may give.
-const PIECE: usize = 65_536;
 
 /// Makes the file of leases of a machine, whose processes are numbered from behind this number on. It is refused where there is something of its
 /// name. Where it fails, what it made is removed.
@@ -46,21 +47,27 @@ pub fn format_leases<P: AsPath>(
 pub(crate) fn list_of(
     alloc: Global,
     machines: u8,
-    cluster: Option<&str>,
-) -> Result<u64, AllocError> {
-    let Some(name) = cluster else {
+    sealing: &Option<Sealing>,
+) -> Result<u64, AllocError>
+    // Promise: Machines take no lease messages of another list: its number is how many they are, or, under keys, a hash of that and of their cluster's name.
+    // Refuses: list_of_any_cluster.
+    ensures { IfOk result (λ list. list ≡ list_of machines sealing.now) }
+{
+    let Some(sealing) = sealing else {
         return Ok(u64::from(machines));
     };
     let mut text = Vec::from_slice(alloc, b"dumgerok leases 1")?;
     text.push(machines)?;
-    let tag = Key::new(name.as_bytes()).tag(&text);
+    let tag = Key::new(sealing.cluster.as_bytes()).tag(&text);
+    let (front, _) = tag.as_slice().split_at(8);
     Ok(u64::from_be_bytes([
-        tag[0], tag[1], tag[2], tag[3], tag[4], tag[5], tag[6], tag[7],
+        front[0], front[1], front[2], front[3], front[4], front[5], front[6], front[7],
     ]))
 }
 
 /// Serves a process of leases over its file until the input ends, with its messages sealed where there are keys. Its first line is `process`
 /// and its number: no time may be read before it for a line of the input.
+#[tactic(auto, using(crate::proofs::Leases::stops_so, crate::proofs::Leases::unbegun_so))]
 pub fn serve_leases<P: AsPath, R: Read, W: Write>(
     rt: &impl Files<File = File>,
     alloc: Global,
@@ -70,7 +77,14 @@ pub fn serve_leases<P: AsPath, R: Read, W: Write>(
     keys: Option<Keys<'_>>,
     input: &mut R,
     output: &mut W,
-) -> Status {
+) -> Status
+    // Promise: `lease` reads its input to the end, or until the device fails, and writes the number of its process, which no other process of its file
+    // has, and then just the answers of its session to what it read, by the terms of the command line, with its messages sealed under the keys of the
+    // cluster's name and number of machines where keys are given, and nowhere else. Where the file isn't served, nothing is read or written.
+    // Also: lease_session::serve_leases.
+    // Refuses: lease_keys_not_used, process_of_the_one_before.
+    ensures { LeaseServesSo ((input.new ≡ input.old) × (output.new ≡ output.old)) (LeaseServesTo keys.entry terms (R.remaining input.old) (R.remaining input.new) (W.contents output.old) (W.contents output.new)) result }
+{
     let seal = match lease_seal_of(rt, alloc, keys, terms.machines()) {
         Ok(seal) => seal,
         Err(status) => return status,
@@ -79,18 +93,25 @@ pub fn serve_leases<P: AsPath, R: Read, W: Write>(
         Ok(file) => file,
         Err(status) => return status,
     };
-    let begun = match file.begin(terms.keeps()) {
+    let Begun {
+        process,
+        floor,
+        waits,
+        ..
+    } = match file.begin(terms.keeps()) {
         Ok(begun) => begun,
         Err(LeaseFault::Device) => return stopped(file.into_disk().why()),
         Err(fault) => return Status::Spent(fault),
     };
-    let mut session = match begin_session(alloc, terms, round_trip, begun, file, seal) {
-        Ok(session) => session,
-        Err(error) => return Status::Failed(error),
+    let start = Start {
+        process,
+        floor,
+        waits,
     };
-    match serve_session(&mut session, begun, input, output) {
-        Ok(true) => Status::Done,
-        Ok(false) => stopped(session.into_store().into_disk().why()),
+    let store = EpochFile::new(file);
+    match lease_session::serve_leases(alloc, terms, round_trip, start, store, seal, input, output) {
+        Ok((LeaseEnd::Input, _)) => Status::Done,
+        Ok((LeaseEnd::Device, store)) => stopped(store.into_disk().why()),
         Err(error) => Status::Failed(error),
     }
 }
@@ -101,7 +122,10 @@ fn lease_seal_of(
     alloc: Global,
     keys: Option<Keys<'_>>,
     machines: u8,
-) -> Result<Option<LeaseSeal>, Status> {
+) -> Result<Option<LeaseSeal>, Status>
+    ensures seal { IfOk result (λ seal. IsLeaseSealUnder keys.entry machines seal) }
+    ensures unserved { IfErr result IsNotBegun }
+{
     let Some(keys) = keys else {
         return Ok(None);
     };
@@ -118,7 +142,9 @@ fn opened_leases<P: AsPath>(
     rt: &impl Files<File = File>,
     path: P,
     machine: NodeId,
-) -> Result<LeaseFile<FileDisk>, Status> {
+) -> Result<LeaseFile<FileDisk>, Status>
+    ensures { IfErr result IsNotBegun }
+{
     let disk = match FileDisk::open_labelled(rt, path) {
         Ok(disk) => disk,
         Err(fault) => return Err(Status::File(fault)),
@@ -144,51 +170,4 @@ fn lease_owner(label: Option<[u8; LABEL]>) -> LabelOwner {
         LabelOwner::Nobody => LabelOwner::NoLeases,
         owner => owner,
     }
-}
-
-fn begin_session(
-    alloc: Global,
-    terms: LeaseTerms,
-    round_trip: u16,
-    begun: Begun,
-    file: LeaseFile<FileDisk>,
-    seal: Option<LeaseSeal>,
-) -> io::Result<LeaseSession<EpochFile<FileDisk>>> {
-    let start = Start {
-        process: begun.process,
-        floor: begun.floor,
-        waits: begun.waits,
-    };
-    let mut session = LeaseSession::begin(alloc, terms, round_trip, start, EpochFile::new(file))?;
-    if let Some(seal) = seal {
-        session.seal(seal);
-    }
-    Ok(session)
-}
-
-/// Says the number of the process, then feeds what each read gives, and writes what is answered to it in one go. It ends where the input does,
-/// or where the device failed, and tells whether it was the input; a last line that isn't whole is not answered.
-fn serve_session<S: EpochStore + Drop, R: Read, W: Write>(
-    session: &mut LeaseSession<S>,
-    begun: Begun,
-    input: &mut R,
-    output: &mut W,
-) -> io::Result<bool> {
-    writeln!(output, "process {}", begun.process)?;
-    output.flush()?;
-    let mut piece = [0u8; PIECE];
-    for _read in 0..u64::MAX {
-        let count = input.read(&mut piece)?;
-        if count == 0 {
-            break;
-        }
-        session.feed(&piece[..count])?;
-        output.write_all(session.text())?;
-        output.flush()?;
-        session.clear();
-        if session.has_stopped() {
-            return Ok(false);
-        }
-    }
-    Ok(true)
 }

@@ -4,7 +4,7 @@ ghost use Rattle.console_text.specs.Ends.{status_of};
 ghost use Rattle.store_console.specs.Printed.{IsShown};
 ghost use Rattle.store_console.specs.Salvaged.{IsSalvagePrintout};
 ghost use Rattle.command_line.specs.Ends.{code_of};
-ghost use Rattle.command_line.specs.Obeyed.{AreKeysOf, EndsAs, EndsBy, EndsByFile, EndsByRecords, Obeys, ServesFor, names_of};
+ghost use Rattle.command_line.specs.Obeyed.{AreKeysOf, EndsAs, EndsBy, EndsByFile, EndsByRecords, LeasesFor, Obeys, ServesFor, names_of};
 ghost use Rattle.command_line.specs.Performed.{IsOutcomeOf};
 
 use crate::invocation::{Batch, Invocation, Making, NodePlace, Sealing};
@@ -46,9 +46,9 @@ pub(crate) fn carry_out<T: Threads + Wait + Sync, R: Read, W: Write, E: Write>(
     errors: &mut E,
 ) -> io::Result<u8>
     // Promise: What the command line asks for is what is carried out, over the streams that it is given: a command that reads its whole input prints
-    // what its own promise says of all that it read, `node` serves as its own says, `inspect` and `export` print what theirs say of the bytes of some
+    // what its own promise says of all that it read, `node` and `lease` serve as their own say, `inspect` and `export` print what theirs say of the bytes of some
     // file, `trace FILE..` judges files of just the names that were given, in their order, and the exit status is that of how each ended. Of `format`
-    // and `lease` the status alone is said, and of a file that is told as unreadable nothing.
+    // the status alone is said, and of a file that is told as unreadable nothing.
     // Refuses: printed_with_status_zero, records_judged_as_going_on, first_record_alone_judged, salvaged_where_jobs_are_asked_for.
     ensures { IfOk result (Obeys invocation.now (R.remaining input.old) (R.remaining input.new) (W.contents output.old.writer) (W.contents output.new.writer)) }
 {
@@ -283,13 +283,9 @@ fn lease<R: Read, W: Write, E: Write>(
     output: &mut Sink<W>,
     errors: &mut E,
 ) -> io::Result<u8>
-    ensures { IfOk result (λ code. EndsAs code ⊎ (code ≡ 2)) }
+    ensures { IfOk result (LeasesFor place round_trip sealing.now (R.remaining input.old) (R.remaining input.new) (W.contents output.old.writer) (W.contents output.new.writer)) }
 {
-    let cluster = match sealing {
-        Some(sealing) => Some(sealing.cluster.as_str()),
-        None => None,
-    };
-    let list = list_of(alloc, place.nodes, cluster)?;
+    let list = list_of(alloc, place.nodes, sealing)?;
     let Some(terms) = LeaseTerms::new(place.id, place.nodes, list, keeps_for(round_trip)) else {
         return Ok(UNREADABLE);
     };
