@@ -75,6 +75,6 @@ serves_to {Disk = Disk} keys terms input rest before behind seal was now stored 
   kept_of was,
   under,
   subst (λ (b : Begun). IsServed terms (start_by b) seal (bound_of ((kept_of was).count + 1)) input rest before behind how) is
-  (subst (λ (n : ℕ). IsServed terms (start_by begun) seal n input rest before behind how)
-  (ap (λ (f : FileState Disk). bound_of (kept_of f).count) same ∙ ap (λ (k : Kept). bound_of k.count) keeps_so) served),
+      (subst (λ (n : ℕ). IsServed terms (start_by begun) seal n input rest before behind how)
+      (ap (λ (f : FileState Disk). bound_of (kept_of f).count) same ∙ ap (λ (k : Kept). bound_of k.count) keeps_so) served),
 )
