@@ -145,6 +145,7 @@ nothing_fed disks s none = record {
       came = tt;
       exact = refl;
       timed = ([], refl);
+      messages = tt;
       honest = λ honest. tt;
       state = state;
       stands = stands;

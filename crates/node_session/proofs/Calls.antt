@@ -1,7 +1,10 @@
 -- Calls of the node, one behind another.
 use Rattle.std.proofs.Common.{◌≡◌, ℕ, List, [], ◌∷◌, ◌++◌, Bool, true, false, None, Some, refl, sym, ap, ◌∙◌, subst, append_assoc, append-nil, Result, Ok, Err}
-use Rattle.std.specs.Prelude.{IfOk}
+use Rattle.std.specs.Prelude.{All, IfOk}
+use Rattle.std.proofs.lemmas.List.Elements.{All-append, All-nil}
 use Rattle.sector_disk.specs.Disk.{DiskState}
+use Rattle.wire_msg.specs.Envelope.{Envelope}
+use Rattle.wire_msg.specs.Spelling.{IsMessage}
 use Rattle.node_core.specs.declared.event.Event.{Event}
 use Rattle.node_store.specs.Store.{slots_for}
 use Rattle.durable_node.specs.Node.{Node, Stands}
@@ -10,11 +13,12 @@ use Rattle.node_session.proofs.Happens.{caused}
 use Rattle.node_session.specs.declared.call_outcome.CallOutcome.{CallOutcome}
 use Rattle.node_session.specs.declared.call_outcome.CallOutcome.TheVariants as end
 use Rattle.node_core.specs.State.{State, is_down}
-use Rattle.node_session.specs.Turns.{Turn, after_turn, cause, end_of, IsFired, IsTimely, IsGoing, MayComeOf, MayCompact}
+use Rattle.node_session.specs.Turns.{Turn, after_turn, cause, end_of, sent_in, IsFired, IsTimely, IsGoing, MayComeOf, MayCompact}
 use Rattle.pace.specs.Retransmission.{Waits}
 use Rattle.node_session.specs.Chains.{AreGoing, AreTimely, ComesAndEnds, IsOne, IsWrittenAnew, brought_up, after_turns, last_end, waits_turn, waits_turns}
 use Rattle.node_session.specs.Text.{fired_by, fired_line, fired_news, turn_text, turns_text, no_news}
 use Rattle.node_session.specs.Exact.{IsCallOf, AreCallsOf}
+use Rattle.node_session.specs.Sending.{sent_turns}
 use Rattle.node_session.specs.Serving.{Progress, IsNodeOf, Turned, Turns, Calls}
 use Rattle.node_session.specs.Timing.{Timers, Timely}
 
@@ -46,6 +50,22 @@ calls_more : {Disk : Type 0} (disks : Disk → DiskState) (self nodes : ℕ) (s 
     → IsCallOf disks self nodes (after_turns self nodes s ts) t mid new → AreCallsOf disks self nodes s (ts ++ t ∷ []) old new
 calls_more {Disk} disks self nodes s [] t old mid new all more = (new, subst (λ (n : Node Disk). IsCallOf disks self nodes s t n new) all more, refl)
 calls_more disks self nodes s (u ∷ ts) t old mid new all more = (all.0, all.1, calls_more disks self nodes (after_turn self nodes s u) ts t all.0 mid new all.2 more)
+
+sends_more : (self nodes : ℕ) (s : NodeState) (ts : List Turn) (t : Turn) → sent_turns self nodes s (ts ++ t ∷ []) ≡ sent_turns self nodes s ts ++ sent_in self nodes (after_turns self nodes s ts) t
+sends_more self nodes s [] t = append-nil (sent_in self nodes s t)
+sends_more self nodes s (u ∷ ts) t =
+    let v = after_turn self nodes s u in
+    ap (λ (ms : List Envelope). sent_in self nodes s u ++ ms) (sends_more self nodes v ts t)
+    ∙ sym (append_assoc (sent_in self nodes s u) (sent_turns self nodes v ts) (sent_in self nodes (after_turns self nodes v ts) t))
+
+messages_more : (self nodes : ℕ) (s : NodeState) (ts : List Turn) (t : Turn) → All IsMessage (sent_turns self nodes s ts) → All IsMessage (sent_in self nodes (after_turns self nodes s ts) t)
+    → All IsMessage (sent_turns self nodes s (ts ++ t ∷ []))
+messages_more self nodes s ts t all more =
+    subst (All IsMessage) (sym (sends_more self nodes s ts t)) (All-append IsMessage (sent_turns self nodes s ts) (sent_in self nodes (after_turns self nodes s ts) t) all more)
+
+-- those of one
+one_sends : (self nodes : ℕ) (s : NodeState) (t : Turn) → All IsMessage (sent_in self nodes s t) → All IsMessage (sent_turns self nodes s (t ∷ []))
+one_sends self nodes s t all = All-append IsMessage (sent_in self nodes s t) [] all (All-nil IsMessage)
 
 three_and_more : (a b c d : List ℕ) → a ++ (b ++ (c ++ d)) ≡ (a ++ (b ++ c)) ++ d
 three_and_more a b c d = ap (λ (x : List ℕ). a ++ x) (sym (append_assoc b c d)) ∙ sym (append_assoc a (b ++ c) d)
@@ -101,6 +121,7 @@ one_call disks old new May before ended a = record {
         turns = x.turn ∷ [];
         may = x.may;
         exact = (new.node, x.exact, refl);
+        messages = one_sends old.node.id old.node.nodes s x.turn x.messages;
         honest = λ honest. (x.honest honest, tt);
         stands = x.stands;
         ended_so = x.ended_so;
@@ -131,6 +152,7 @@ step_alone {Disk} disks old new event ended a stays = record {
         turns = x.turn ∷ [];
         may = ((x.may, subst (λ (b : Bool). IsWrittenAnew b old.node.id old.node.nodes (slots_for (disks was).sectors) t []) (sym none) tt), x.ended_so);
         exact = (new.node, x.exact, refl);
+        messages = one_sends old.node.id old.node.nodes s x.turn x.messages;
         honest = λ honest. (x.honest honest, tt);
         stands = x.stands;
         ended_so = x.ended_so;
@@ -158,6 +180,7 @@ step_anew {Disk} disks old mid new event step last a up b = record {
         turns = x.turn ∷ (y.turn ∷ []);
         may = ((x.may, subst (λ (b : Bool). IsWrittenAnew b id nodes slots t (y.turn ∷ [])) (sym brought) may), x.ended_so);
         exact = (mid.node, x.exact, (new.node, y.exact, refl));
+        messages = All-append IsMessage (sent_in id nodes s x.turn) (sent_turns id nodes t (y.turn ∷ [])) x.messages (one_sends id nodes t y.turn y.messages);
         honest = λ honest. (x.honest honest, (y.honest (d.honest ∙ honest), tt));
         stands = y.stands;
         ended_so = y.ended_so;
@@ -172,7 +195,7 @@ pub no_call : {Disk : Type 0} (disks : Disk → DiskState) (p : Progress Disk) (
 no_call disks p before So so = record {
   node = node_refl disks p.node;
   same = refl;
-  called = λ was s is stands. record { turns = []; may = (tt, so s stands); exact = refl; honest = λ honest. tt; stands = stands; ended_so = refl; text = sym (append-nil p.text); waits = refl };
+  called = λ was s is stands. record { turns = []; may = (tt, so s stands); exact = refl; messages = All-nil IsMessage; honest = λ honest. tt; stands = stands; ended_so = refl; text = sym (append-nil p.text); waits = refl };
 }
 
 -- the timers alone were looked at behind calls
@@ -192,6 +215,7 @@ look_more {Disk} disks old mid new before ended Before After is goes a =
             turns = x.turns;
             may = (x.may.0, goes s x.turns x.stands a.node.id x.waits x.ended_so x.may.1);
             exact = subst (λ (n : Node Disk). AreCallsOf disks old.node.id old.node.nodes s x.turns old.node n) (sym there) x.exact;
+            messages = x.messages;
             honest = x.honest;
             stands = subst (λ (n : Node Disk). Stands disks n (after_turns old.node.id old.node.nodes s x.turns)) (sym there) x.stands;
             ended_so = x.ended_so;
@@ -227,6 +251,7 @@ call_more {Disk} disks old mid new event said told before between ended Before A
           goes s x.turns y.turn x.stands a.node.id x.waits x.ended_so (sym (caused old.node.id old.node.nodes (slots_for (disks was).sectors) t event y.turn may)) y.ended_so (ap (λ (p : Progress Disk). p.timers) b.same) x.may.1,
         );
         exact = calls_more disks old.node.id old.node.nodes s x.turns y.turn old.node mid.node new.node x.exact y.exact;
+        messages = messages_more old.node.id old.node.nodes s x.turns y.turn x.messages y.messages;
         honest = λ honest. going_more x.turns y.turn (x.honest honest) (y.honest (d.honest ∙ honest));
         stands = subst (λ (u : NodeState). Stands disks new.node u) (sym (after_more old.node.id old.node.nodes s x.turns y.turn)) y.stands;
         ended_so = y.ended_so ∙ sym (end_more old.node.id old.node.nodes before s x.turns y.turn);

@@ -3,6 +3,8 @@ use Rattle.std.proofs.Common.{◌≡◌, ℕ, ◌+◌, ◌==◌, ◌&&◌, Bool,
 use Rattle.std.proofs.lemmas.Bool.{and_parts}
 use Rattle.std.specs.Prelude.{All, codes, decimal, if◌then◌else◌, length}
 use Rattle.std.specs.List.{flat_map}
+use Rattle.sector_disk.specs.Disk.{DiskState}
+use Rattle.node_store.specs.Store.{slots_for}
 use Rattle.line_words.specs.Lines.{is_line_feed, lines_of}
 use Rattle.line_words.specs.Words.{is_space, words_of}
 use Rattle.sealed_msg.specs.declared.stamp.Stamp.{Stamp}
@@ -40,9 +42,10 @@ use Rattle.node_session.specs.Changes.{changes, drop_line, drops_by, gone_at, go
 use Rattle.node_words.specs.Words.{core_name, event_word, group_part, group_text, id_text, ids_text, more_ids_text, phase_text, truth_text}
 use Rattle.node_session.specs.Turns.{Turn, after_turn, cause, end_of, sent_in}
 use Rattle.node_session.specs.Chains.{LineOutcome, IsNone, MayCome, after_turns, event_line_end, line_end, next}
-use Rattle.node_session.specs.Lines.{At, Comes, after_by, answer_by, plain_answer}
+use Rattle.node_session.specs.Lines.{At, AreOf, Comes, after_by, after_line, answer_by, plain_answer}
 use Rattle.node_session.specs.Seals.{Seals, Brought, NoBytes, Strange, Garbled, Opened, asked_under, brought_by, brought_word, is_fresh, life_of, numbered, sealed_behind, sealed_lines, taken_brought, taken_fresh, taken_sealed, taken_told, taken_under, taken_words, told_life, written}
-use Rattle.node_session.specs.Sending.{SendsSealed, again, counted_under, handed_by, is_send, plain_sends, sealed_sends, sealed_so_far, send_of, sends_in, sends_under, sent_turns}
+use Rattle.node_session.specs.Sending.{AreMessagesIn, AreSentIn, MessagesAreSealed, again, counted_under, handed_by, is_send, plain_sends, sealed_sends, sealed_so_far, send_of, sends_in, sends_under, sent_turns}
+use Rattle.node_session.specs.Serving.{SendsSealed, at_of}
 use Rattle.node_session.specs.Text.{answer, answer_text, asks_part, bad_line, closing, denial_line, event_closing, event_end, fault_name, fired_by, fired_news, hand_line, jobs_by, jobs_lines, jobs_part, keeps_by, keeps_news, next_line, no_news, ok_line, pending_line, refused_line, send_line, send_lines, sets_part, state_by, state_line, tick_end, turn_text, turns_text, up_line}
 use Rattle.node_session.proofs.Rows.{both_lines, none_first, none_of, number_line, one_line, other_word, work_line}
 use Rattle.node_session.proofs.Sends.{Piece, Quiet, Sends, AreQuiet, Reads, messages_of, none_so, numbered_so, plain_so, sealed_so, text_of}
@@ -466,5 +469,17 @@ sent_by reads self nodes slots false a line came comes all =
     let is = under_so reads a.seal line (life_of (after_turns self nodes a.state came.turns)) (plain_answer self nodes a asked came) (handed_by self nodes false a asked came) made all in
     record { lines = is.lines; number = is.number }
 
-pub sends_sealed : Reads → SendsSealed
-sends_sealed reads self nodes slots a line came comes all = (let is = sent_by reads self nodes slots a.stopped a line came comes all in record { lines = is.lines; number = is.number })
+pub messages_sealed : Reads → MessagesAreSealed
+messages_sealed reads self nodes slots a line came comes all = (let is = sent_by reads self nodes slots a.stopped a line came comes all in record { lines = is.lines; number = is.number })
+
+-- ---- of lines, one behind another
+
+lines_sent : Reads → (self nodes slots : ℕ) (a : At) (ls : List (List ℕ)) (cs : List LineOutcome) → AreOf self nodes slots a ls cs → AreMessagesIn self nodes a ls cs → AreSentIn self nodes a ls cs
+lines_sent reads self nodes slots a [] cs came all = tt
+lines_sent reads self nodes slots a (l ∷ ls) [] came all = tt
+lines_sent reads self nodes slots a (l ∷ ls) (c ∷ cs) came all =
+    (messages_sealed reads self nodes slots a l c came.0 all.0, lines_sent reads self nodes slots (after_line self nodes a l c) ls cs came.1 all.1)
+
+pub sends_sealed : {Disk : Type 0} (disks : Disk → DiskState) → Reads → SendsSealed disks
+sends_sealed disks reads old new self nodes lines was s served =
+    lines_sent reads self nodes (slots_for (disks was).sectors) (at_of old s) lines served.all served.came served.messages

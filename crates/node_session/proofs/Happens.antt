@@ -1,9 +1,11 @@
 -- What comes of an event, over any disk.
 use Rattle.std.proofs.Common.{◌≡◌, ◌⊎◌, inl, inr, ℕ, ◌+◌, ◌-◌, ◌^◌, ◌<◌, ◌++◌, Bool, true, false, List, [], refl, sym, ap, ◌∙◌, subst, append-nil, append_assoc, arith, Option, Some, None, Result, Ok, Err}
-use Rattle.std.specs.Prelude.{◌≢◌, IfOk, IfErr, IsTrue, IsSome}
+use Rattle.std.specs.Prelude.{◌≢◌, All, IfOk, IfErr, IsTrue, IsSome}
+use Rattle.std.proofs.lemmas.List.Elements.{All-nil}
 use Rattle.sector_disk.specs.Disk.{DiskState}
 use Rattle.job_model.specs.Durable.{Durable}
 use Rattle.wire_msg.specs.Envelope.{Envelope}
+use Rattle.wire_msg.specs.Spelling.{IsMessage}
 use Rattle.node_core.specs.Start.{down as down_state}
 use Rattle.node_core.specs.State.{State, is_down}
 use Rattle.node_core.specs.declared.event.Event.{Event}
@@ -210,11 +212,11 @@ three_texts a b c d x y z first second third =
 pub event_turns : {Disk : Type 0} (disks : Disk → DiskState) (old : Progress Disk) (node' : Node Disk) (event : Event) (reply : Result StepReport NodeFault) (waits : Waits) (sent changed text : List ℕ)
     → node'.id ≡ old.node.id → node'.nodes ≡ old.node.nodes → IfOk reply (Steps disks old.node node' event) → IfErr reply (Stuck disks old.node node' event) → reply ≢ Err (node.Core NoMemory)
     → (is_down old.node.state.phase ≡ true → event ≡ on.Recover → Remounted old.node node' (answered reply) node'.mounted) → (is_down old.node.state.phase ≡ true → old.node.state ≡ down_state old.node.id)
-    → CountsOf disks old.node.disk node'.disk (answered reply) → StepSays disks old.node event reply node'
+    → CountsOf disks old.node.disk node'.disk (answered reply) → StepSays disks old.node event reply node' → All IsMessage (sent_by (answered reply))
     → waits ≡ waits_behind (Some event) (sent_by (answered reply)) node'.state old.waits
     → sent ≡ old.text ++ send_lines (sent_by (answered reply)) → changed ≡ sent ++ changes (is_finish (Some event)) old.node.state node'.state → text ≡ changed ++ gone_news (Some event) (ended_by (answered reply))
     → Turns disks old (record old { node = node'; text = text; waits = waits }) (λ i n. MayComeOf i n event) (ended_by (answered reply))
-event_turns {Disk} disks old node' event reply waits sent changed text id nodes steps stuck memory mounting fallen counts says waited first second third = record {
+event_turns {Disk} disks old node' event reply waits sent changed text id nodes steps stuck memory mounting fallen counts says fits waited first second third = record {
   node = same_node disks old.node node' (answered reply) id nodes counts;
   same = refl;
   turned = λ was s is stands. (let h = happens disks old.node node' event reply was s steps stuck memory mounting fallen is stands
@@ -228,6 +230,7 @@ event_turns {Disk} disks old node' event reply waits sent changed text id nodes 
         may = h.may;
         exact = subst (λ (o : Option Event). IsCallBy disks o old.node (sent_in self count s h.turn) (end_of self count s h.turn) node') (caused self count (slots_for (disks was).sectors) s event h.turn h.may)
             (record { reply = reply; ended_so = sym h.ended; sent_so = sym h.sent; says = says });
+        messages = subst (All IsMessage) h.sent fits;
         honest = h.going;
         stands = h.stands;
         ended_so = h.ended;
@@ -256,13 +259,13 @@ pub turn_so : {Disk : Type 0} (disks : Disk → DiskState) (old here : Progress 
     → (is_down here.node.state.phase ≡ true → event ≡ on.Recover → Remounted here.node node' (answered reply) node'.mounted) → (is_down here.node.state.phase ≡ true → here.node.state ≡ down_state here.node.id)
     → CountsOf disks here.node.disk node'.disk (answered reply) → StepSays disks here.node event reply node'
     → seen ≡ seen_of here.node.state → AreChanges seen node'.state came → finished ≡ is_finish (Some event) → ended ≡ ended_by (answered reply)
-    → given ≡ sent_by (answered reply) → behind ≡ node'.state → waits ≡ waits_behind (Some event) given behind here.waits
+    → given ≡ sent_by (answered reply) → All IsMessage given → behind ≡ node'.state → waits ≡ waits_behind (Some event) given behind here.waits
     → sent ≡ here.text ++ send_lines given → changed ≡ sent ++ news finished came.group came.taken.items came.dropped.items → text ≡ changed ++ gone_news (Some event) ended
     → Turns disks old (record here { node = node'; text = text; waits = waits }) (λ i n. MayComeOf i n event) ended
-turn_so {Disk} disks old here node' event reply ended finished seen came behind given waits sent changed text is id nodes steps stuck memory mounting fallen counts says sees are finish ends_so given_so then waited first second third =
+turn_so {Disk} disks old here node' event reply ended finished seen came behind given waits sent changed text is id nodes steps stuck memory mounting fallen counts says sees are finish ends_so given_so fits then waited first second third =
     subst (λ (p : Progress Disk). Turns disks p (record here { node = node'; text = text; waits = waits }) (λ i n. MayComeOf i n event) ended) is
     (subst (λ (e : CallOutcome). Turns disks here (record here { node = node'; text = text; waits = waits }) (λ i n. MayComeOf i n event) e) (sym ends_so)
-    (event_turns disks here node' event reply waits sent changed text id nodes steps stuck memory mounting fallen counts says
+    (event_turns disks here node' event reply waits sent changed text id nodes steps stuck memory mounting fallen counts says (subst (All IsMessage) given_so fits)
     (waited ∙ (ap (λ (ms : List Envelope). waits_behind (Some event) ms behind here.waits) given_so ∙ ap (λ (v : State). waits_behind (Some event) (sent_by (answered reply)) v here.waits) then))
     (first ∙ ap (λ (ms : List Envelope). here.text ++ send_lines ms) given_so)
     (changed_so (is_finish (Some event)) seen here.node.state node'.state came sent changed sees are
@@ -313,6 +316,7 @@ compaction_turns {Disk} disks old node' result waits text id nodes says waited s
         may = (of.of, step.2, of.of_slots);
         exact = subst (λ (o : Option Event). IsCallBy disks o old.node (sent_at self count s what) (end_at self count s what) node') (sym of.causeless)
             (record { result = result; ended_so = sym of.ended; says = says });
+        messages = subst (All IsMessage) (sym of.silent) (All-nil IsMessage);
         honest = λ honest. tt;
         stands = step.3;
         ended_so = of.ended;

@@ -5,6 +5,7 @@ use Rattle.durable_node.specs.Node.{Node}
 use Rattle.node_session.specs.Chains.{LineOutcome, AllGoing}
 use Rattle.node_session.specs.Lines.{At, AreOf, after_line, after_lines, answer_at, answers}
 use Rattle.node_session.specs.Exact.{AreCallsIn}
+use Rattle.node_session.specs.Sending.{AreMessagesIn}
 use Rattle.histories.specs.NodeState.{NodeState}
 use Rattle.node_session.specs.Timing.{Timers, AreTimedIn}
 
@@ -43,6 +44,14 @@ calls_both disks self nodes slots a [] ms (c ∷ cs) ds old mid new of first sec
 calls_both disks self nodes slots a (l ∷ ls) ms [] ds old mid new of first second = absurd of
 calls_both disks self nodes slots a (l ∷ ls) ms (c ∷ cs) ds old mid new of first second =
     (first.0, first.1, calls_both disks self nodes slots (after_line self nodes a l c) ls ms cs ds first.0 mid new of.1 first.2 second)
+
+pub messages_both : (self nodes slots : ℕ) (a : At) (ls ms : List (List ℕ)) (cs ds : List LineOutcome) → AreOf self nodes slots a ls cs → AreMessagesIn self nodes a ls cs
+    → AreMessagesIn self nodes (after_lines self nodes a ls cs) ms ds → AreMessagesIn self nodes a (ls ++ ms) (cs ++ ds)
+messages_both self nodes slots a [] ms [] ds of first second = second
+messages_both self nodes slots a [] ms (c ∷ cs) ds of first second = absurd of
+messages_both self nodes slots a (l ∷ ls) ms [] ds of first second = absurd of
+messages_both self nodes slots a (l ∷ ls) ms (c ∷ cs) ds of first second =
+    (first.0, messages_both self nodes slots (after_line self nodes a l c) ls ms cs ds of.1 first.1 second)
 
 -- ---- the timers
 

@@ -43,7 +43,7 @@ behind_text disks mid new piece a = record {
   serves = record {
     node = a.serves.node;
     served = λ was s is stands. (let x = a.serves.served was s is stands in
-        record { all = x.all; came = x.came; exact = x.exact; timed = x.timed; honest = x.honest; state = x.state; stands = x.stands; left = x.left; text = ap (λ (t : List ℕ). mid.text ++ t) x.text });
+        record { all = x.all; came = x.came; exact = x.exact; timed = x.timed; messages = x.messages; honest = x.honest; state = x.state; stands = x.stands; left = x.left; text = ap (λ (t : List ℕ). mid.text ++ t) x.text });
   };
 }
 
@@ -58,7 +58,7 @@ serves_rest : {Disk : Type 0} (disks : Disk → DiskState) (old new : Progress D
 serves_rest disks old new lines was now a = record {
   node = a.node;
   served = λ was s is stands. (let x = a.served was s is stands in
-      record { all = x.all; came = x.came; exact = x.exact; timed = x.timed; honest = x.honest; state = x.state; stands = x.stands; left = x.left; text = x.text });
+      record { all = x.all; came = x.came; exact = x.exact; timed = x.timed; messages = x.messages; honest = x.honest; state = x.state; stands = x.stands; left = x.left; text = x.text });
 }
 
 -- lines that are answered in one go
@@ -71,6 +71,7 @@ at_once_serves disks old new lines a = record {
         came = x.came;
         exact = x.exact;
         timed = timed_so Nothing OwnTime (λ self s x y same. ([], same)) old.node.id old.node.nodes (at_of old s) lines x.all old.timers new.timers x.timed;
+        messages = x.messages;
         honest = x.honest;
         state = x.state;
         stands = x.stands;
@@ -105,6 +106,7 @@ any_taking_so disks old new piece ms timers fed spends = record {
           came = x.came;
           exact = x.exact;
           timed = taken_behind old.node.id old.node.nodes ms (at_of old s) fed.lines x.all old.timers new.timers timers x.timed (subst (λ (v : State). Spends old.node.id ms v new.timers timers) state id);
+          messages = x.messages;
           honest = x.honest;
           state = x.state;
           stands = x.stands;

@@ -1,11 +1,14 @@
 -- Lines that are answered, one after another.
 use Rattle.std.proofs.Common.{◌≡◌, ℕ, List, [], ◌∷◌, ◌++◌, Bool, true, false, refl, sym, ap, ◌∙◌, subst, append_assoc, append-nil, length, take, drop, ◌+◌, None, Option, Result, Ok, Err}
 use Rattle.std.proofs.Math.Seq.{take-append_seam, drop-append_seam}
-use Rattle.std.specs.Prelude.{OnOk, IfSome}
+use Rattle.std.specs.Prelude.{All, OnOk, IfSome}
+use Rattle.std.proofs.lemmas.List.Elements.{All-append, All-nil}
 use Rattle.sector_disk.specs.Disk.{DiskState}
 use Rattle.node_store.specs.Store.{slots_for}
 use Rattle.durable_node.specs.Node.{Stands}
 use Rattle.histories.specs.NodeState.{NodeState}
+use Rattle.wire_msg.specs.Envelope.{Envelope}
+use Rattle.wire_msg.specs.Spelling.{IsMessage}
 use Rattle.node_session.specs.declared.asked.Asked.{Asked}
 use Rattle.node_session.specs.declared.asked.Asked.TheVariants as ask
 use Rattle.node_session.specs.declared.call_outcome.CallOutcome.{CallOutcome}
@@ -22,7 +25,8 @@ use Rattle.node_session.specs.Serving.{Progress, Called, Calls, IsNodeOf, Replie
 use Rattle.node_session.specs.Timing.{Timers, AreTimedIn, Fires, GivesUp, IsTimed, IsTimedBy, IsToldNext, Nothing, Timely, heard, told_time}
 use Rattle.node_session.proofs.Calls.{at_node, node_refl, node_then, one_call}
 use Rattle.node_session.specs.Exact.{AreCallsIn, AreCallsOf}
-use Rattle.node_session.proofs.Lines.{of_both, after_both, calls_both, going_both, answers_both, timed_both}
+use Rattle.node_session.specs.Sending.{AreMessagesIn, again as sent_first, handed_by, sent_turns}
+use Rattle.node_session.proofs.Lines.{of_both, after_both, calls_both, going_both, answers_both, messages_both, timed_both}
 
 both_texts : (a b c x y : List ℕ) → b ≡ a ++ x → c ≡ b ++ y → c ≡ a ++ (x ++ y)
 both_texts a b c x y first second = second ∙ (ap (λ (t : List ℕ). t ++ y) first ∙ append_assoc a x y)
@@ -48,6 +52,7 @@ serves_then {Disk} disks Between then old mid new ls ms a b = record {
         came = of_both id nodes (slots_for (disks was).sectors) start ls ms x.all y.all x.came came;
         exact = calls_both disks id nodes (slots_for (disks was).sectors) start ls ms x.all y.all old.node mid.node new.node x.came x.exact (subst (λ (t : At). AreCallsIn disks id nodes t ms y.all mid.node new.node) x.left y.exact);
         timed = timed_both Between then id nodes (slots_for (disks was).sectors) start ls ms x.all y.all old.timers mid.timers new.timers x.came x.timed (subst (λ (t : At). AreTimedIn Between id nodes t ms y.all mid.timers new.timers) x.left y.timed);
+        messages = messages_both id nodes (slots_for (disks was).sectors) start ls ms x.all y.all x.came x.messages (subst (λ (t : At). AreMessagesIn id nodes t ms y.all) x.left y.messages);
         honest = λ honest. going_both x.all y.all (x.honest honest) (y.honest (d.honest ∙ honest));
         state = y.state;
         stands = y.stands;
@@ -61,7 +66,7 @@ serves_then {Disk} disks Between then old mid new ls ms a b = record {
 pub serves_none : {Disk : Type 0} (disks : Disk → DiskState) (p : Progress Disk) → Serves disks Nothing p p []
 serves_none disks p = record {
   node = node_refl disks p.node;
-  served = λ was s is stands. record { all = []; came = tt; exact = refl; timed = refl; honest = λ honest. tt; state = s; stands = stands; left = refl; text = sym (append-nil p.text) };
+  served = λ was s is stands. record { all = []; came = tt; exact = refl; timed = refl; messages = tt; honest = λ honest. tt; state = s; stands = stands; left = refl; text = sym (append-nil p.text) };
 }
 
 -- a line behind the last one that is answered
@@ -74,6 +79,7 @@ stopped_line disks p line stopped = record {
         came = (subst (λ (b : Bool). Comes p.node.id p.node.nodes (slots_for (disks was).sectors) b s (asked_under p.seal line) none) (sym stopped) tt, tt);
         exact = (p.node, refl, refl);
         timed = (p.timers, p.timers, refl, subst (λ (b : Bool). IsTimedBy p.node.id p.node.nodes b (at_of p s) (asked_under p.seal line) none p.timers p.timers) (sym stopped) refl, refl);
+        messages = (subst (λ (b : Bool). All IsMessage (handed_by p.node.id p.node.nodes b (at_of p s) (asked_under p.seal line) none)) (sym stopped) (All-nil IsMessage), tt);
         honest = λ honest. (tt, tt);
         state = s;
         stands = stands;
@@ -135,6 +141,7 @@ sealed_so {Disk} disks old mid new line start runs starts replies sealing = reco
         came = (subst (λ (b : Bool). Comes id nodes slots b s asked came) (sym runs) (x.may, x.told), tt);
         exact = (new.node, subst (λ n. AreCallsOf disks id nodes s x.turns old.node n) (sym (ap (λ p. p.node) sealing.same)) x.exact, refl);
         timed = (old.timers, mid.timers, refl, subst (λ (b : Bool). IsTimedBy id nodes b a asked came old.timers mid.timers) (sym runs) x.timed, ap (λ p. p.timers) sealing.same);
+        messages = (subst (λ (b : Bool). All IsMessage (handed_by id nodes b a asked came)) (sym runs) x.messages, tt);
         honest = λ honest. (x.honest honest, tt);
         state = t;
         stands = subst (λ n. Stands disks n t) (sym (ap (λ p. p.node) sealing.same)) x.stands;
@@ -187,9 +194,9 @@ called_line : {Disk : Type 0} (disks : Disk → DiskState) (old here mid : Progr
     → next old.count a ≡ old.count + 1 → number ≡ old.count + 1
     → begun ≡ old.text ++ again → here ≡ record old { count = number; text = begun; waits = waits_begun a old.waits; timers = told }
     → Gives May a → Calls disks here mid heading May (end.Done None) ended
-    → IsClosed disks mid close text → Tells disks mid a due → Times disks old mid May a due → Answers heading May number old.waits a again ended due close
+    → IsClosed disks mid close text → Tells disks mid a due → Times disks old mid May a due → Answers heading May number old.waits a again ended due close → All IsMessage (sent_first a old.waits)
     → Replies disks old (record mid { stopped = is_failed ended; text = text }) a
-called_line {Disk} disks old here mid heading May a number again ended due close begun text timers one counts begins is gives calls said told times closes =
+called_line {Disk} disks old here mid heading May a number again ended due close begun text timers one counts begins is gives calls said told times closes fits =
     let same : here.node ≡ old.node = ap (λ p. p.node) is in
     let counted : mid.count ≡ old.count + 1 = ap (λ (p : Progress Disk). p.count) calls.same ∙ (ap (λ p. p.count) is ∙ counts) in
     record {
@@ -206,6 +213,7 @@ called_line {Disk} disks old here mid heading May a number again ended due close
             may = gives old.node.id old.node.nodes (slots_for (disks was).sectors) s x.turns x.may;
             exact = subst (λ n. AreCallsOf disks old.node.id old.node.nodes s x.turns n mid.node) same x.exact;
             timed = times (slots_for (disks was).sectors) s x.turns x.may x.stands (calls.node.id ∙ ap (λ n. n.id) same) (x.waits ∙ ap (λ p. waits_turns old.node.id old.node.nodes s x.turns p.waits) is);
+            messages = All-append IsMessage (sent_first a old.waits) (sent_turns old.node.id old.node.nodes s x.turns) fits x.messages;
             honest = x.honest;
             stands = x.stands;
             stopped = ap is_failed x.ended_so;
@@ -222,11 +230,11 @@ called_so : {Disk : Type 0} (disks : Disk → DiskState) (old here mid stop : Pr
     → begun ≡ old.text ++ again → here ≡ record old { count = number; text = begun; waits = waits_begun a old.waits; timers = told }
     → Gives May a → Calls disks here mid heading May (end.Done None) ended
     → stop ≡ record mid { stopped = is_failed ended } → IsClosed disks stop close text → Tells disks stop a due → Times disks old stop May a due → Answers heading May number old.waits a again ended due close
-    → Replies disks old (record stop { text = text }) a
-called_so {Disk} disks old here mid stop heading May a number again ended due close begun text timers one counts begins is gives calls marked said told times closes =
+    → All IsMessage (sent_first a old.waits) → Replies disks old (record stop { text = text }) a
+called_so {Disk} disks old here mid stop heading May a number again ended due close begun text timers one counts begins is gives calls marked said told times closes fits =
     subst (λ (p : Progress Disk). Replies disks old (record p { text = text }) a) (sym marked)
     (called_line disks old here mid heading May a number again ended due close begun text timers one counts begins is gives calls
-    (subst (λ (p : Progress Disk). IsClosed disks p close text) marked said) (subst (λ (p : Progress Disk). Tells disks p a due) marked told) (subst (λ (p : Progress Disk). Times disks old p May a due) marked times) closes)
+    (subst (λ (p : Progress Disk). IsClosed disks p close text) marked said) (subst (λ (p : Progress Disk). Tells disks p a due) marked told) (subst (λ (p : Progress Disk). Times disks old p May a due) marked times) closes fits)
 
 -- the request is counted, and the timers are told of it
 pub told_so : {Disk : Type 0} (old p : Progress Disk) (number : ℕ) (told : Timers) (tell : Timers → Timers) → p ≡ record old { count = number } → told ≡ tell p.timers
@@ -244,7 +252,7 @@ event_line disks old here mid stop event number step last ended kept text counts
     (λ t stands. both_texts stop.text kept text (keeps_news event ended t) (event_closing number event ended) (keeps t stands) said) (λ t stands. refl) (λ slots s turns made stands id waits. ap (λ p. p.timers) marked ∙ (stays ∙ ap (λ p. p.timers) is))
     (λ self nodes slots s turns made so.
     ap (λ (e : CallOutcome). turns_text no_news self nodes s turns ++ (keeps_news event e (after_turns self nodes s turns) ++ event_closing number event e))
-    (sym (ends ∙ (ap (λ (e : CallOutcome). behind_end e last) made.1 ∙ ap (λ (e : CallOutcome). behind_end (step_end self nodes s turns) e) so))))
+    (sym (ends ∙ (ap (λ (e : CallOutcome). behind_end e last) made.1 ∙ ap (λ (e : CallOutcome). behind_end (step_end self nodes s turns) e) so)))) (All-nil IsMessage)
 
 pub compact_line : {Disk : Type 0} (disks : Disk → DiskState) (old here mid stop : Progress Disk) (number : ℕ) (ended : CallOutcome) (text : List ℕ)
     → number ≡ old.count + 1 → here ≡ record old { count = number } → Turns disks here mid MayCompact ended
@@ -252,7 +260,7 @@ pub compact_line : {Disk : Type 0} (disks : Disk → DiskState) (old here mid st
 compact_line disks old here mid stop number ended text counts is turns marked said =
     called_so disks old here mid stop no_news (λ i n slots s turns. MayCome i n slots s ask.Compact turns) ask.Compact number [] ended None (λ t. closing number ended) old.text text old.timers refl counts (sym (append-nil old.text)) is
     (λ self nodes slots s turns may. may) (one_call disks here mid MayCompact (end.Done None) ended turns) marked (λ t stands. said) (λ t stands. refl) (λ slots s ts may stands id waits. ap (λ p. p.timers) marked ∙ (ap (λ p. p.timers) turns.same ∙ ap (λ p. p.timers) is))
-    (λ self nodes slots s turns may so. ap (λ (e : CallOutcome). turns_text no_news self nodes s turns ++ closing number e) (sym so))
+    (λ self nodes slots s turns may so. ap (λ (e : CallOutcome). turns_text no_news self nodes s turns ++ closing number e) (sym so)) (All-nil IsMessage)
 
 -- the times that the timers were told, and what is told of them
 tick_times : {Disk : Type 0} (disks : Disk → DiskState) (old here stop : Progress Disk) (now : ℕ) (due : Option ℕ) → here.waits ≡ waits_on now old.waits → here.timers ≡ told_time now old.timers
@@ -266,11 +274,11 @@ tick_times disks old here stop now due waited told next = λ slots s turns may s
 
 pub tick_line : {Disk : Type 0} (disks : Disk → DiskState) (old first here mid stop : Progress Disk) (now number : ℕ) (ended : CallOutcome) (due : Option ℕ) (told text : List ℕ)
     → number ≡ old.count + 1 → first ≡ record old { count = number; timers = told_time now old.timers }
-    → here ≡ record first { text = first.text ++ send_lines (sent_again now first.waits); waits = waits_on now first.waits }
+    → here ≡ record first { text = first.text ++ send_lines (sent_again now first.waits); waits = waits_on now first.waits } → All IsMessage (sent_again now first.waits)
     → Calls disks here mid fired_news (Timely (Fires here.waits here.timers mid.timers)) (end.Done None) ended
     → stop ≡ record mid { stopped = is_failed ended } → Tells disks stop (ask.Tick now) due → ((t : NodeState) → Stands disks stop.node t → IfSome due (IsToldNext stop.node.id t stop.waits stop.timers now))
     → told ≡ stop.text ++ next_line due → text ≡ told ++ closing number ended → Replies disks old (record stop { text = text }) (ask.Tick now)
-tick_line {Disk} disks old first here mid stop now number ended due told text counts is sends calls marked tells says names said =
+tick_line {Disk} disks old first here mid stop now number ended due told text counts is sends fits calls marked tells says names said =
     let begun : here ≡ record old { count = number; text = old.text ++ send_lines (sent_again now old.waits); waits = waits_on now old.waits; timers = told_time now old.timers } =
     sends ∙ ap (λ (p : Progress Disk). record p { text = p.text ++ send_lines (sent_again now p.waits); waits = waits_on now p.waits }) is in
     called_so disks old here mid stop fired_news (Timely (Fires here.waits here.timers mid.timers)) (ask.Tick now) number (send_lines (sent_again now old.waits)) ended due (λ t. next_line due ++ closing number ended) (old.text ++ send_lines (sent_again now old.waits)) text (told_time now old.timers) refl counts refl
@@ -278,6 +286,7 @@ tick_line {Disk} disks old first here mid stop now number ended due told text co
     (subst (λ (t : Timers). Times disks old stop (Timely (Fires here.waits here.timers t)) (ask.Tick now) due) (ap (λ (p : Progress Disk). p.timers) marked)
     (tick_times disks old here stop now due (ap (λ (p : Progress Disk). p.waits) begun) (ap (λ (p : Progress Disk). p.timers) begun) says))
     (λ self nodes slots s turns may so. ap (λ (e : CallOutcome). send_lines (sent_again now old.waits) ++ (turns_text fired_news self nodes s turns ++ (next_line due ++ closing number e))) (sym so))
+    (subst (λ (p : Progress Disk). All IsMessage (sent_again now p.waits)) is fits)
 
 pub loss_line : {Disk : Type 0} (disks : Disk → DiskState) (old here mid stop : Progress Disk) (node number : ℕ) (ended : CallOutcome) (text : List ℕ)
     → number ≡ old.count + 1 → here ≡ record old { count = number } → Calls disks here mid fired_news (Timely (GivesUp node here.timers mid.timers)) (end.Done None) ended
@@ -287,16 +296,16 @@ loss_line {Disk} disks old here mid stop node number ended text counts is calls 
     (λ self nodes slots s turns may. may.0) calls marked (λ t stands. said) (λ t stands. refl)
     (λ slots s turns may stands id waits. subst (λ (t : Timers). GivesUp node old.timers t old.node.id old.node.nodes s turns) (sym (ap (λ (p : Progress Disk). p.timers) marked))
     (subst (λ (t : Timers). GivesUp node t mid.timers old.node.id old.node.nodes s turns) (ap (λ (p : Progress Disk). p.timers) is) may.1))
-    (λ self nodes slots s turns may so. ap (λ (e : CallOutcome). turns_text fired_news self nodes s turns ++ closing number e) (sym so))
+    (λ self nodes slots s turns may so. ap (λ (e : CallOutcome). turns_text fired_news self nodes s turns ++ closing number e) (sym so)) (All-nil IsMessage)
 
 -- a line that asks nothing of the node but what it knows
 pub quiet_line : {Disk : Type 0} (disks : Disk → DiskState) (old new : Progress Disk) (a : Asked) → old.stopped ≡ false
     → ((self nodes slots : ℕ) (s : NodeState) → MayCome self nodes slots s a [] × IsTold a s None)
     → ((self nodes : ℕ) (s : NodeState) (w : Waits) (t : Timers) → IsTimed self nodes s w a (record { turns = []; due = None }) t t) → new.timers ≡ old.timers
-    → new.node ≡ old.node → new.stopped ≡ false → new.count ≡ next old.count a → new.waits ≡ waits_begun a old.waits → new.seal ≡ old.seal
+    → new.node ≡ old.node → new.stopped ≡ false → new.count ≡ next old.count a → new.waits ≡ waits_begun a old.waits → new.seal ≡ old.seal → sent_first a old.waits ≡ []
     → ((s : NodeState) → Stands disks old.node s → new.text ≡ old.text ++ answer old.node.id old.node.nodes (next old.count a) s old.waits a (record { turns = []; due = None }))
     → Replies disks old new a
-quiet_line {Disk} disks old new a runs may stays timers same goes count waits seal text = record {
+quiet_line {Disk} disks old new a runs may stays timers same goes count waits seal none text = record {
   node = subst (λ n. IsNodeOf disks old.node n) (sym same) (node_refl disks old.node);
   seal = seal;
   replied = λ was s at stands. record {
@@ -306,6 +315,7 @@ quiet_line {Disk} disks old new a runs may stays timers same goes count waits se
     may = (may old.node.id old.node.nodes (slots_for (disks was).sectors) s).0;
     exact = same;
     timed = subst (λ (t : Timers). IsTimed old.node.id old.node.nodes s old.waits a (record { turns = []; due = None }) old.timers t) (sym timers) (stays old.node.id old.node.nodes s old.waits old.timers);
+    messages = subst (λ (ms : List Envelope). All IsMessage (ms ++ [])) (sym none) (All-nil IsMessage);
     honest = λ honest. tt;
     stands = subst (λ n. Stands disks n s) (sym same) stands;
     stopped = goes;
@@ -327,13 +337,14 @@ record MakesNone (a : Asked) : Type 0 where
   pub timed : (self nodes : ℕ) (s : NodeState) (w : Waits) (t : Timers) → IsTimed self nodes s w a (record { turns = []; due = None }) t t
   pub counts : (n : ℕ) → next n a ≡ n + 1
   pub waits : (w : Waits) → waits_begun a w ≡ w
+  pub none : (w : Waits) → sent_first a w ≡ []
   pub answer : (self nodes n : ℕ) (s : NodeState) (w : Waits) (came : LineOutcome) → answer self nodes n s w a came ≡ answer_at_once n s a
 
 makes_none : (a : Asked) → IsAtOnce a → MakesNone a
-makes_none ask.State once = record { may = λ self nodes slots s. (tt, refl); timed = λ self nodes s w t. refl; counts = λ n. refl; waits = λ w. refl; answer = λ self nodes n s w came. refl }
-makes_none ask.Jobs once = record { may = λ self nodes slots s. (tt, refl); timed = λ self nodes s w t. refl; counts = λ n. refl; waits = λ w. refl; answer = λ self nodes n s w came. refl }
-makes_none ask.Bad once = record { may = λ self nodes slots s. (tt, refl); timed = λ self nodes s w t. refl; counts = λ n. refl; waits = λ w. refl; answer = λ self nodes n s w came. refl }
-makes_none (ask.Refused why) once = record { may = λ self nodes slots s. (tt, refl); timed = λ self nodes s w t. refl; counts = λ n. refl; waits = λ w. refl; answer = λ self nodes n s w came. refl }
+makes_none ask.State once = record { may = λ self nodes slots s. (tt, refl); timed = λ self nodes s w t. refl; counts = λ n. refl; waits = λ w. refl; none = λ w. refl; answer = λ self nodes n s w came. refl }
+makes_none ask.Jobs once = record { may = λ self nodes slots s. (tt, refl); timed = λ self nodes s w t. refl; counts = λ n. refl; waits = λ w. refl; none = λ w. refl; answer = λ self nodes n s w came. refl }
+makes_none ask.Bad once = record { may = λ self nodes slots s. (tt, refl); timed = λ self nodes s w t. refl; counts = λ n. refl; waits = λ w. refl; none = λ w. refl; answer = λ self nodes n s w came. refl }
+makes_none (ask.Refused why) once = record { may = λ self nodes slots s. (tt, refl); timed = λ self nodes s w t. refl; counts = λ n. refl; waits = λ w. refl; none = λ w. refl; answer = λ self nodes n s w came. refl }
 makes_none a once = absurd once
 
 pub at_once : {Disk : Type 0} (disks : Disk → DiskState) (old here : Progress Disk) (a : Asked) (number : ℕ) (text : List ℕ) → old.stopped ≡ false → IsAtOnce a → number ≡ old.count + 1
@@ -341,7 +352,7 @@ pub at_once : {Disk : Type 0} (disks : Disk → DiskState) (old here : Progress 
 at_once disks old here a number text runs once counts is said =
     let none = makes_none a once in
     let numbered : number ≡ next old.count a = counts ∙ sym (none.counts old.count) in
-    quiet_line disks old (record here { text = text }) a runs none.may none.timed (ap (λ p. p.timers) is) (ap (λ p. p.node) is) (ap (λ p. p.stopped) is ∙ runs) (ap (λ p. p.count) is ∙ numbered) (ap (λ p. p.waits) is ∙ sym (none.waits old.waits)) (ap (λ p. p.seal) is)
+    quiet_line disks old (record here { text = text }) a runs none.may none.timed (ap (λ p. p.timers) is) (ap (λ p. p.node) is) (ap (λ p. p.stopped) is ∙ runs) (ap (λ p. p.count) is ∙ numbered) (ap (λ p. p.waits) is ∙ sym (none.waits old.waits)) (ap (λ p. p.seal) is) (none.none old.waits)
     (λ s stands. said s (subst (λ n. Stands disks n s) (sym (ap (λ p. p.node) is)) stands) ∙ (ap (λ p. p.text ++ answer_at_once number s a) is
     ∙ ap (λ (t : List ℕ). old.text ++ t) (ap (λ (n : ℕ). answer_at_once n s a) numbered ∙ sym (none.answer old.node.id old.node.nodes (next old.count a) s old.waits (record { turns = []; due = None })))))
 
@@ -351,7 +362,7 @@ all_ok (Err e) said so = tt
 
 -- an empty line
 pub nothing_line : {Disk : Type 0} (disks : Disk → DiskState) (old : Progress Disk) → old.stopped ≡ false → Replies disks old old ask.Nothing
-nothing_line disks old runs = quiet_line disks old old ask.Nothing runs (λ self nodes slots s. (tt, refl)) (λ self nodes s w t. refl) refl refl runs refl refl refl (λ s stands. sym (append-nil old.text))
+nothing_line disks old runs = quiet_line disks old old ask.Nothing runs (λ self nodes slots s. (tt, refl)) (λ self nodes s w t. refl) refl refl runs refl refl refl refl (λ s stands. sym (append-nil old.text))
 
 pub sealed_ok : {Disk T E Q : Type 0} (disks : Disk → DiskState) (start : ℕ) (mid new : Progress Disk) (r : Result T E) → new ≡ record mid { text = new.text; seal = new.seal }
     → ((t : NodeState) → Stands disks mid.node t → OnOk r (new.text ≡ take start mid.text ++ written mid.seal (life_of t) (drop start mid.text)))

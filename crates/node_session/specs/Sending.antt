@@ -81,6 +81,13 @@ counted_under (Some q) (Some life) ms = q.number + length ms
 
 -- ---- the law
 
+-- each message that these lines hand out has a spelling
+abbrev pub AreMessagesIn : ℕ → ℕ → At → List (List ℕ) → List LineOutcome → Type 0
+AreMessagesIn self nodes a [] all = Unit {0}
+AreMessagesIn self nodes a (line ∷ lines) [] = Unit {0}
+AreMessagesIn self nodes a (line ∷ lines) (came ∷ all) =
+    All IsMessage (handed_out self nodes a line came) × AreMessagesIn self nodes (after_line self nodes a line came) lines all
+
 -- The `send` lines of an answer are those of the messages that the step hands out, one for each and in their order: each message sealed
 -- under the key of its receiver's life, with the count that the node has behind the line and the next number of the session; without a key, as
 -- it is spelled.
@@ -88,6 +95,13 @@ pub record AreSent (self nodes : ℕ) (a : At) (line : List ℕ) (came : LineOut
   pub lines : sends_in (answer_at self nodes a line came) ≡ sends_under (taken_under a.seal line) (life_of (after_line self nodes a line came).state) (handed_out self nodes a line came)
   pub number : sealed_so_far (after_line self nodes a line came).seal ≡ counted_under a.seal (life_of (after_line self nodes a line came).state) (handed_out self nodes a line came)
 
-abbrev pub SendsSealed : Type 0
-SendsSealed =
+-- those of lines, one behind another
+abbrev pub AreSentIn : ℕ → ℕ → At → List (List ℕ) → List LineOutcome → Type 0
+AreSentIn self nodes a [] all = Unit {0}
+AreSentIn self nodes a (line ∷ lines) [] = Unit {0}
+AreSentIn self nodes a (line ∷ lines) (came ∷ all) = AreSent self nodes a line came × AreSentIn self nodes (after_line self nodes a line came) lines all
+
+-- so it is of any line that hands out such messages, wherever it comes
+abbrev pub MessagesAreSealed : Type 0
+MessagesAreSealed =
     (self nodes slots : ℕ) (a : At) (line : List ℕ) (came : LineOutcome) → ComesOf self nodes slots a line came → All IsMessage (handed_out self nodes a line came) → AreSent self nodes a line came

@@ -1,20 +1,22 @@
 -- A session, and what feeding it does.
-use Rattle.std.specs.Prelude.{ℕ, ◌≡◌, ◌≤◌, ◌<◌, ◌-◌, ◌^◌, ◌⊎◌, ◌++◌, List, [], ◌∷◌, Bool, true, false, IsTrue, IsFalse, Option, Some, None}
+use Rattle.std.specs.Prelude.{ℕ, ◌≡◌, ◌≤◌, ◌<◌, ◌-◌, ◌^◌, ◌⊎◌, ◌++◌, List, [], ◌∷◌, All, Bool, true, false, IsTrue, IsFalse, Option, Some, None}
 use Rattle.sector_disk.specs.Disk.{DiskState}
 use Rattle.job_model.specs.Durable.{Durable}
 use Rattle.node_core.specs.Start.{down}
 use Rattle.node_store.specs.Store.{slots_for}
 use Rattle.durable_node.specs.Node.{Node, Stands}
+use Rattle.wire_msg.specs.Spelling.{IsMessage}
 use Rattle.pace.specs.Retransmission.{Waits, none_waited}
 use Rattle.histories.specs.NodeState.{NodeState}
 use Rattle.histories.specs.declared.history_event.HistoryEvent.{HistoryEvent}
 use Rattle.histories.specs.After.{after}
 use Rattle.histories.specs.History.{Follows, FollowsSlots, replay}
 use Rattle.line_words.specs.Lines.{lines_of}
-use Rattle.node_session.specs.Turns.{Turn, Goes, Begins, begun, after_begun, after_turn, end_of, IsGoing}
+use Rattle.node_session.specs.Turns.{Turn, Goes, Begins, begun, after_begun, after_turn, end_of, sent_in, IsGoing}
 use Rattle.node_session.specs.Chains.{LineOutcome, AllGoing, AreGoing, IsTold, MayCome, after_turns, entries_in, is_failed, last_end, line_end, next, first_turn, waits_begun, waits_turn, waits_turns}
 use Rattle.node_session.specs.Lines.{At, AreOf, after_lines, answers}
 use Rattle.node_session.specs.Exact.{IsCallOf, AreCallsOf, AreCallsIn}
+use Rattle.node_session.specs.Sending.{AreMessagesIn, AreSentIn, again, sent_turns}
 use Rattle.node_session.specs.Seals.{Seals}
 use Rattle.node_session.specs.Timing.{Timers, AreTimedIn, IsTimed, Nothing, OwnTime, Spends, new_timers}
 use Rattle.pace.specs.declared.timer_settings.TimerSettings.{TimerSettings}
@@ -50,6 +52,8 @@ pub record Served {Disk : Type 0} (disks : Disk → DiskState) (Between : ℕ �
   pub exact : AreCallsIn disks self nodes (at_of old s) lines all old.node new.node
   -- by events that were due, where the timers made them, and with the times that they say
   pub timed : AreTimedIn Between self nodes (at_of old s) lines all old.timers new.timers
+  -- what they hand out are messages of the protocol
+  pub messages : AreMessagesIn self nodes (at_of old s) lines all
   -- over an honest disk it is one history
   pub honest : IsTrue (disks was).honest → AllGoing all
   -- the node stands for the state that this leaves
@@ -98,6 +102,7 @@ pub record Turned {Disk : Type 0} (disks : Disk → DiskState) (old new : Progre
   pub turn : Turn
   pub may : May self nodes (slots_for (disks was).sectors) s turn
   pub exact : IsCallOf disks self nodes s turn old.node new.node
+  pub messages : All IsMessage (sent_in self nodes s turn)
   pub honest : IsTrue (disks was).honest → IsGoing turn
   pub stands : Stands disks new.node (after_turn self nodes s turn)
   pub ended_so : ended ≡ end_of self nodes s turn
@@ -117,6 +122,7 @@ pub record Called {Disk : Type 0} (disks : Disk → DiskState) (old new : Progre
   pub turns : List Turn
   pub may : May self nodes (slots_for (disks was).sectors) s turns
   pub exact : AreCallsOf disks self nodes s turns old.node new.node
+  pub messages : All IsMessage (sent_turns self nodes s turns)
   pub honest : IsTrue (disks was).honest → AreGoing turns
   pub stands : Stands disks new.node (after_turns self nodes s turns)
   pub ended_so : ended ≡ last_end self nodes before s turns
@@ -139,6 +145,7 @@ pub record Replied {Disk : Type 0} (disks : Disk → DiskState) (old new : Progr
   pub may : MayCome old.node.id old.node.nodes (slots_for (disks was).sectors) s a turns
   pub exact : AreCallsOf disks old.node.id old.node.nodes s turns old.node new.node
   pub timed : IsTimed old.node.id old.node.nodes s old.waits a (record { turns = turns; due = due }) old.timers new.timers
+  pub messages : All IsMessage (again a old.waits ++ sent_turns old.node.id old.node.nodes s turns)
   pub honest : IsTrue (disks was).honest → AreGoing turns
   pub stands : Stands disks new.node (after_turns old.node.id old.node.nodes s turns)
   pub stopped : new.stopped ≡ is_failed (line_end old.node.id old.node.nodes s turns)
@@ -215,3 +222,9 @@ abbrev pub StopsWhereFailed : {Disk : Type 0} → (Disk → DiskState) → Type 
 StopsWhereFailed {Disk} disks =
     (old new : Progress Disk) (piece : List ℕ) (was now : Disk) (s : NodeState) → Fed disks old piece new → old.node.disk ≡ Some was → new.node.disk ≡ Some now → Stands disks old.node s →
     old.stopped ≡ false → new.stopped ≡ true → ((disks was).failures < (disks now).failures) ⊎ (2 ^ 64 - 1 ≤ (disks now).failures)
+
+-- Whatever a session is fed, the `send` lines of its answers are those of the messages that it hands out, each sealed.
+abbrev pub SendsSealed : {Disk : Type 0} → (Disk → DiskState) → Type 0
+SendsSealed {Disk} disks =
+    (old new : Progress Disk) (self nodes : ℕ) (lines : List (List ℕ)) (was : Disk) (s : NodeState) →
+    (served : Served disks OwnTime old new self nodes lines was s) → AreSentIn self nodes (at_of old s) lines served.all

@@ -2,9 +2,9 @@
 ghost use Rattle.node_session.specs.Exact.{DeviceWhereFailed, ExhaustedWhereNoneLeft};
 ghost use Rattle.node_session.specs.Lives.{LivesFollow};
 ghost use Rattle.node_session.specs.Stamping.{NoStampTwice, OpenedAlone, TakenRises};
-ghost use Rattle.node_session.specs.Sending.{SendsSealed};
+ghost use Rattle.node_session.specs.Sending.{MessagesAreSealed};
 ghost use Rattle.node_session.specs.Told.{OwnLifeAlone, ToldLifeAlone};
-ghost use Rattle.node_session.specs.Serving.{AnyClearing, AnyCutting, AnyTaking, AtOnceIsFed, BeginsAnywhere, BegunHistory, OneHistory, StopsWhereFailed};
+ghost use Rattle.node_session.specs.Serving.{AnyClearing, AnyCutting, AnyTaking, AtOnceIsFed, BeginsAnywhere, BegunHistory, OneHistory, SendsSealed, StopsWhereFailed};
 
 use line_words::numbers;
 use sector_disk::SectorDisk;
@@ -70,13 +70,14 @@ pub fn no_stamp_twice()
 {}
 
 /// Under a key each `send` line of an answer is the sealing of a message that the step hands out, with a stamp of its own.
-pub fn sends_sealed()
-    // Promise: The `send` lines of an answer are those of the messages that the step hands out, in their order, where what is handed out
-    // are messages of the protocol: each is the sealing of its message under the first key, for the life of its receiver that was told, with the
-    // node's count and the next number; without a key it is the message itself.
-    // Also: Session::feed.
-    // Refuses: another_message_sealed, stamp_used_twice, fallen_node_sends, sealed_for_another_life.
-    ensures { SendsSealed }
+pub fn sends_sealed<D: SectorDisk>()
+    // Promise: The `send` lines of an answer are those of the messages that the step hands out, in their order, and these are messages of the
+    // protocol: each is the sealing of its message under the first key, for the life of its receiver that was told, with the node's count and the
+    // next number; without a key it is the message itself.
+    // Also: line, Session::feed.
+    // Refuses: another_message_sealed, stamp_used_twice, fallen_node_sends, sealed_for_another_life, unspelled_message_sent.
+    ensures served { SendsSealed D.state }
+    ensures line { MessagesAreSealed }
 {
     numbers();
 }

@@ -1,5 +1,5 @@
 // A node that is fed with lines, and what it answers.
-ghost use Rattle.std.specs.Prelude.{◌≡◌, ◌<◌, ◌≤◌, ◌+◌, ◌++◌, ◌∷◌, ◌↔◌, List, ℕ, [], IfOk, IfSome, IsNone, OnOk, IsTrue, Err, None, Some, false, take, drop, length};
+ghost use Rattle.std.specs.Prelude.{◌≡◌, ◌<◌, ◌≤◌, ◌+◌, ◌++◌, ◌∷◌, ◌↔◌, List, ℕ, [], All, IfOk, IfSome, IsNone, OnOk, IsTrue, Err, None, Some, false, take, drop, length};
 ghost use Rattle.group_task.specs.declared.node.TheConstants.{NODES};
 ghost use Rattle.job_journal.specs.Journal.{IsSound};
 ghost use Rattle.job_model.specs.Durable.{Durable};
@@ -17,6 +17,7 @@ ghost use Rattle.durable_node.specs.Node.{Stands};
 ghost use Rattle.histories.specs.NodeState.{NodeState};
 ghost use Rattle.node_core.specs.State.{is_down, state_of};
 ghost use Rattle.pace.specs.Retransmission.{sent_again, waits_on};
+ghost use Rattle.wire_msg.specs.Spelling.{IsMessage};
 ghost use Rattle.node_session.specs.Text.{fired_line, fired_news, no_news, send_lines};
 ghost use Rattle.node_session.specs.Turns.{compaction_end, ended_by, sent_by, IsFired, MayComeOf, MayCompact};
 
@@ -371,6 +372,7 @@ impl<D: SectorDisk + Drop> Session<D> {
     /// Sends again what is waited for and due at this time.
     fn send_again(&mut self, now: u64) -> Result<(), AllocError>
         ensures again { OnOk result (self.new ≡ record self.old { text = self.old.text ++ send_lines (sent_again now self.old.waits); waits = waits_on now self.old.waits }) }
+        ensures messages { OnOk result (All IsMessage (sent_again now self.old.waits)) }
         ensures rest { self.new.rest ≡ self.old.rest }
     {
         let due = self.waiting.due(now)?;

@@ -9,6 +9,8 @@ use Rattle.node_store.specs.Store.{slots_for, stands_for}
 use Rattle.histories.specs.NodeState.{NodeState, settled}
 use Rattle.durable_node.specs.Node.{IsLeft, Node, Stands}
 use Rattle.node_session.specs.Lines.{At, AreOf, after_lines, answers}
+use Rattle.node_session.specs.Sending.{AreSentIn}
+use Rattle.node_session.specs.Serving.{SendsSealed}
 use Rattle.processes.specs.Processes.{found, left}
 use Rattle.processes.specs.Sessions.{FirstStands, IsFresh, NextStands, SessionsAreProcesses, with_lines}
 
@@ -49,8 +51,8 @@ next_stands disks last node was now s stands at stopped fresh =
 
 -- ---- a process
 
-pub sessions_are_processes : {Disk : Type 0} (disks : Disk → DiskState) → SessionsAreProcesses disks
-sessions_are_processes disks old new piece disk s p begins fed =
+pub sessions_are_processes : {Disk : Type 0} (disks : Disk → DiskState) → SendsSealed disks → SessionsAreProcesses disks
+sessions_are_processes disks sealed old new piece disk s p begins fed =
     let self = old.node.id in
     let nodes = old.node.nodes in
     let slots = slots_for (disks disk).sectors in
@@ -63,6 +65,7 @@ sessions_are_processes disks old new piece disk s p begins fed =
         came = subst (λ (a : At). AreOf self nodes slots a fed.lines it.all) begins.at it.came;
         going = it.honest begins.honest;
         text = it.text ∙ ap (λ (a : At). old.text ++ answers self nodes a fed.lines it.all) begins.at;
+        sent = subst (λ (a : At). AreSentIn self nodes a fed.lines it.all) begins.at (sealed old new self nodes fed.lines disk (found self s p) it);
         stands = subst (λ (x : NodeState). Stands disks new.node x) state it.stands;
       },
     )

@@ -10,6 +10,7 @@ use Rattle.histories.specs.Possible.{IsSettling}
 use Rattle.durable_node.specs.Node.{Node, Stands}
 use Rattle.node_session.specs.Chains.{LineOutcome, AllGoing}
 use Rattle.node_session.specs.Lines.{AreOf, answers}
+use Rattle.node_session.specs.Sending.{AreSentIn}
 use Rattle.node_session.specs.Serving.{Fed, Progress, at_of}
 use Rattle.processes.specs.Files.{at_first}
 use Rattle.processes.specs.Processes.{Process, begun, found, left}
@@ -53,11 +54,13 @@ pub record Begins {Disk : Type 0} (disks : Disk → DiskState) (session : Progre
 abbrev pub with_lines : Process → List (List ℕ) → List LineOutcome → Process
 with_lines p lines all = record p { life = record p.life { lines = lines; all = all } }
 
--- a session that was fed is a process: these came of its lines, its text is their answers, and it leaves what the process leaves
+-- a session that was fed is a process: these came of its lines, its text is their answers, whose `send` lines are those of the messages that
+-- it hands out, and it leaves what the process leaves
 pub record IsProcess {Disk : Type 0} (disks : Disk → DiskState) (old new : Progress Disk) (self nodes slots : ℕ) (s : NodeState) (p : Process) : Type 0 where
   pub came : AreOf self nodes slots (begun self nodes s p) p.life.lines p.life.all
   pub going : AllGoing p.life.all
   pub text : new.text ≡ old.text ++ answers self nodes (begun self nodes s p) p.life.lines p.life.all
+  pub sent : AreSentIn self nodes (begun self nodes s p) p.life.lines p.life.all
   pub stands : Stands disks new.node (left self nodes s p)
 
 abbrev pub SessionsAreProcesses : {Disk : Type 0} → (Disk → DiskState) → Type 0

@@ -7,7 +7,7 @@ ghost use Rattle.processes.specs.Jobs.{CommandsAreWhole, DoneStaysDone, DoneWasF
 ghost use Rattle.processes.specs.Printed.{AreACluster, NumberNamesLeader, OneCoordinatorEach, OneLeaderEach, OneLineEach};
 ghost use Rattle.processes.specs.Sessions.{FirstStands, NextStands, SessionsAreProcesses};
 
-use node_session::one_history;
+use node_session::{one_history, sends_sealed};
 use sector_disk::SectorDisk;
 
 /// The headline of processes. Take any number of processes of each node, one after another over its file, each ended at any
@@ -53,7 +53,9 @@ pub fn processes_are_a_cluster()
 /// What the premises say of disks is what the contracts of sessions say of them.
 pub fn sessions_are_processes<D: SectorDisk>()
     // Promise: A session over a disk that keeps to the disk model, begun where the last process of its node was stopped and fed with any pieces,
-    // is such a process: its text is the answers to its lines, and it leaves what the process leaves.
+    // is such a process: its text is the answers to its lines, the `send` lines in it are those of the messages that it hands out, each sealed, and
+    // it leaves what the process leaves.
+    // Refuses: node_session::another_message_sealed.
     ensures fed { SessionsAreProcesses D.state }
     // Promise: A node that knows nothing yet of its disk stands for what a format left there; and over what a stop left of the last one's
     // disk, for what that kept, with the whole of the command in doubt or with nothing of it.
@@ -61,7 +63,9 @@ pub fn sessions_are_processes<D: SectorDisk>()
     // Refuses: two_images_left.
     ensures first { FirstStands D.state }
     ensures next { NextStands D.state }
-{}
+{
+    sends_sealed::<D>();
+}
 
 /// The premises can be met.
 pub fn processes_happen()

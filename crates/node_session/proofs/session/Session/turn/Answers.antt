@@ -8,4 +8,4 @@ returns-clause-turn g c =
     c.push_messages.new.text.items c.push_changes.new.text.items c.push_gone.new.text.items c.self.view_is e.id e.nodes
     e.step e.stuck (λ none. (let bad = c.ran_out.ensures.1 none in absurd cc)) e.mounting c.is_fallen.ensures e.counts
     (record { step = e.step; stuck = e.stuck; memory = λ none. (let bad = c.ran_out.ensures.1 none in absurd cc); answers = e.answers; counts = e.counts; area = e.area; mounting = e.mounting; mounted = e.mounted; few = e.few })
-    c.in_ok-seen.ensures c.in_ok-changes.ensures c.is_finish.ensures c.ended_by-ended.ensures c.sent_of-sent.ensures c.vector.ensures c.in_ok-keep.ensures c.in_ok-push_messages.ensures c.in_ok-push_changes.ensures c.in_ok-push_gone.ensures
+    c.in_ok-seen.ensures c.in_ok-changes.ensures c.is_finish.ensures c.ended_by-ended.ensures c.sent_of-sent.ensures c.in_ok-push_messages.ensures.messages c.vector.ensures c.in_ok-keep.ensures c.in_ok-push_messages.ensures.text c.in_ok-push_changes.ensures c.in_ok-push_gone.ensures
