@@ -23,6 +23,8 @@ pub struct Notify {
     /// How often it wants to hear that the node lives: half of the time after which it would end the agent.
     watchdog: Option<Duration>,
     told: Instant,
+    /// When it is to be told that the agent is ready.
+    ready: Option<Instant>,
 }
 
 impl Notify {
@@ -35,7 +37,7 @@ impl Notify {
         };
         let to = std::env::var_os("NOTIFY_SOCKET").map(start).transpose()?;
         let watchdog = has_watchdog.then(|| Duration::from_micros(micros / 2));
-        Ok(Notify { to, watchdog, told: Instant::now() })
+        Ok(Notify { to, watchdog, told: Instant::now(), ready: None })
     }
 
     fn say(&self, notice: Notice) {
@@ -46,8 +48,21 @@ impl Notify {
         }
     }
 
-    pub fn ready(&self) {
-        self.say(Notice::Ready);
+    /// The agent is ready at this time.
+    pub fn ready_at(&mut self, at: Instant) {
+        self.ready = Some(at);
+    }
+
+    /// Says that it is, where it is time.
+    pub fn tell_ready(&mut self, now: Instant) {
+        if self.sleep(now).is_zero() {
+            self.ready = None;
+            self.say(Notice::Ready);
+        }
+    }
+
+    pub fn sleep(&self, now: Instant) -> Duration {
+        self.ready.map_or(Duration::MAX, |at| at.saturating_duration_since(now))
     }
 
     pub fn stopping(&self) {

@@ -5,9 +5,10 @@
 
 Three agents with leases, at each `dumgerokctl lead`, or `own` of 64 shards. Each kind of fault befalls the leader N times; commands of two machines never run at a time, by a clock
 that none of them reads, epochs rise, and nobody leads for 3 s at most. With a clock that is out of its bounds two are seen to lead: so the test can fail.
---trace tells of each shard that paused for so long what became of its lease meanwhile.
+`shards`: a machine goes and comes N times, once all three vote on all leases; no shard pauses but those that move. `hurried`: one goes as soon as the one before has
+its shards again, and doesn't vote yet: others pause, too. --trace tells of each shard that paused for so long what became of its lease meanwhile.
 """
-import argparse, concurrent.futures, glob, os, signal, subprocess, sys, tempfile, time, traceback
+import argparse, collections, concurrent.futures, glob, os, signal, statistics, subprocess, sys, tempfile, time, traceback
 
 HERE = os.path.dirname(os.path.abspath(__file__))
 sys.path[:0] = [HERE]
@@ -18,9 +19,10 @@ from lease_events import LeaseEvents
 LEASE_MS = 2000
 # Nobody leads for so long at most, at round trips of 20 ms, and a busy machine adds this.
 NOBODY, MORE = 3.0, 1.0
-# So many shards; of these less than this part pauses where a third machine comes, and where one goes. Then leases may end of another one, too, that rest on the
-# vote of who goes: the third one's process, where it began anew meanwhile, renews none that it didn't grant.
-SHARDS, COME, GO = 64, 0.5, 0.75
+# So many shards. Those that move pause, and one in so many more: whose command the machine kept from its turn for a tenth of a second counts, too.
+SHARDS, KEPT_FROM_A_TURN = 64, 12
+# Who began anew grants nothing for the time of a lease, and is asked for each renewal within a third of it: then all three vote on all leases.
+ALL_VOTE = 1.5
 # What a millionth of a clock's rate is, of right clocks, of those at their bounds, and of one out of them.
 RIGHT, FAST, SLOW, OUT = 1_000_000, 1_031_250, 968_750, 700_000
 
@@ -227,44 +229,76 @@ def hung(program, programs, folder, shards, lease_ms=LEASE_MS):
         cluster.stop()
 
 
-def changes(program, programs, folder, count, shards=SHARDS, lease_ms=LEASE_MS, trace=None):
-    """A machine goes and comes, another one each time, so many changes: for how long two ran a shard, for each change how many paused and the longest pause, and
-    for how long the machine stopped an observer at most. Pauses from `trace` seconds on are told."""
-    cluster = Cluster(program, programs, folder, words=("own", str(shards)), lease_ms=lease_ms, relay=Direct(3))
-    paths, rows = cluster.leads.paths, []
-    seen = ShardSpans(paths, shards)
-    cluster.environment = [dict(BEAT_MS="20")] * 3
-    events = LeaseEvents(cluster.agents) if trace else None
+Change = collections.namedtuple("Change", "goes moved paused longest")
 
+
+def pauses(row, at):
+    """For how long nobody ran a shard each time behind this one, by the times in which it was run."""
+    behind = [span for span in row if span[1] > at]
+    first = [behind[0][0] - at] if behind and behind[0][0] > at else []
+    return first + [b[0] - a[1] for a, b in zip(behind, behind[1:])]
+
+
+def moves(which, shards):
+    """How many shards fall to another one where this machine goes or comes."""
+    return sum(owner(shard % 64, range(3)) == which for shard in range(shards))
+
+
+def only_those_that_move(change, shards):
+    """Whether shards that move pause alone, where a machine goes each of them: where one comes some may move in less than a tenth of a second."""
+    return (change.moved if change.goes else 0) <= change.paused <= change.moved + shards // KEPT_FROM_A_TURN
+
+
+class Changes:
+    """A machine goes and comes, another one each time. Pauses from `trace` seconds on are told."""
+
+    def __init__(self, cluster, shards, trace=None, hurries=False):
+        self.cluster, self.shards, self.trace, self.hurries = cluster, shards, trace, hurries
+        self.seen, self.events = ShardSpans(cluster.leads.paths, shards), LeaseEvents(cluster.agents) if trace else None
+        # when the last one that came votes
+        self.vote = 0.0
+
+    def run(self, of):
+        self.cluster.agents.until(lambda: each_runs(self.cluster.leads.paths, of, self.shards))
+
+    def change(self, number):
+        # the greatest leads, the others are members
+        agents, goes, which = self.cluster.agents, number % 2 == 0, (2, 0, 1)[number // 2 % 3]
+        time.sleep(0.5 if self.hurries or not goes else max(0.5, self.vote - clock()))
+        at, of = clock(), [i for i in range(3) if i != which or not goes]
+        if goes:
+            agents.kill(which)
+        else:
+            self.cluster.restart(which)
+            self.vote = clock() + ALL_VOTE * agents.settings["lease_ms"] / 1000
+        agents.one_group(of)
+        self.run(of)
+        found = {shard: [pause for pause in pauses(row, at) if pause > GAP] for shard, row in self.seen.look().items()}
+        self.tell("change %d, machine %d %s" % (number, which, "goes" if goes else "comes"), found, at)
+        return Change(goes, moves(which, self.shards), sum(map(bool, found.values())), max((max(all_of) for all_of in found.values() if all_of), default=0.0))
+
+    def tell(self, name, found, at):
+        rows = self.seen.look() if self.trace else {}
+        for shard, row in rows.items():
+            if max(found[shard], default=0.0) >= self.trace:
+                runs_ = "; ".join("%d from %+.2f to %+.2f" % (i, begin - at, end - at) for begin, end, i in row if end > at)
+                told = "; ".join(self.events.told("own.%d" % (shard % 64), at))
+                print("%s, shard %d paused for %s s: run by %s. Told: %s" % (name, shard, ["%.2f" % pause for pause in found[shard]], runs_, told), flush=True)
+
+
+def changes(program, programs, folder, count, shards=SHARDS, lease_ms=LEASE_MS, trace=None, hurries=False):
+    """So many changes: for how long two ran a shard, what came of each, and for how long the machine stopped an observer at most."""
+    cluster = Cluster(program, programs, folder, words=("own", str(shards)), lease_ms=lease_ms, relay=Direct(3))
+    cluster.environment = [dict(BEAT_MS="20")] * 3
+    all_of = Changes(cluster, shards, trace, hurries)
     try:
         cluster.start()
-        cluster.agents.until(lambda: each_runs(paths, range(3), shards))
-        for change in range(count):
-            time.sleep(0.5)
-            # the greatest leads, the others are members
-            at, goes, which = clock(), change % 2 == 0, (2, 0, 1)[change // 2 % 3]
-            rest = [i for i in range(3) if i != which]
-            if goes:
-                cluster.agents.kill(which)
-                cluster.agents.one_group(rest)
-            else:
-                cluster.restart(which)
-                cluster.agents.one_group()
-            cluster.agents.until(lambda: each_runs(paths, rest if goes else range(3), shards))
-            pauses = []
-            for shard, row in seen.look().items():
-                behind = [span for span in row if span[1] > at]
-                own = [b[0] - a[1] for a, b in zip(behind, behind[1:])] or ([behind[0][0] - at] if behind[0][0] > at else [])
-                pauses += own
-                if trace and max(own, default=0.0) >= trace:
-                    runs_ = "; ".join("%d from %+.2f to %+.2f" % (i, begin - at, end - at) for begin, end, i in behind)
-                    told = "; ".join(events.told("own.%d" % (shard % 64), at))
-                    print("change %d, machine %d %s, shard %d paused for %.2f s: run by %s. Told: %s" % (change, which, "goes" if goes else "comes", shard, max(own), runs_, told), flush=True)
-            rows.append((goes, sum(pause > GAP for pause in pauses), max(pauses, default=0.0)))
-        return two_at_a_time(seen.look()), rows, cluster.leads.observer.longest()
+        all_of.run(range(3))
+        rows = [all_of.change(number) for number in range(count)]
+        return two_at_a_time(all_of.seen.look()), rows, cluster.leads.observer.longest()
     finally:
-        if events:
-            events.ends = True
+        if all_of.events:
+            all_of.events.ends = True
         cluster.stop()
 
 
@@ -294,11 +328,24 @@ def wrong_clock(program, programs, folder, count, rate=OUT, lease_ms=LEASE_MS):
         cluster.stop()
 
 
+def of_changes(kind, result, shards, most):
+    """Whether changes were as they are to be, and what is told of them."""
+    two, rows, stopped = result
+    told = "%d changes, two ran a shard for %.2f s" % (len(rows), two)
+    for word, goes in (("goes", True), ("comes", False)):
+        these = [row for row in rows if row.goes is goes]
+        counts, times = ([getattr(row, name) for row in these] for name in ("paused", "longest"))
+        told += "; where a machine %s %d to %d of %d pause (%d to %d move), for %.2f s at most, %.2f s in the median of changes, %.2f at least" % (
+            word, min(counts), max(counts), shards, min(row.moved for row in these), max(row.moved for row in these), max(times), statistics.median(times), min(times))
+    is_so = two == 0 and all(row.longest <= most and (kind == "hurried" or only_those_that_move(row, shards)) for row in rows)
+    return is_so, told + "; the machine stopped an observer for %.2f s at most" % stopped
+
+
 def main():
     words = argparse.ArgumentParser(description=__doc__, formatter_class=argparse.RawDescriptionHelpFormatter)
     words.add_argument("program")
     words.add_argument("--faults", type=int, default=50, metavar="N")
-    words.add_argument("--only", nargs="*", default=KINDS + ["clocks at their bounds", "a clock out of them", "shards"])
+    words.add_argument("--only", nargs="*", default=KINDS + ["clocks at their bounds", "a clock out of them", "shards", "hurried"])
     words.add_argument("--shards", type=int, default=SHARDS)
     words.add_argument("--lease-ms", type=int, default=LEASE_MS, help="with round trips of a hundredth; all bounds scale with it")
     words.add_argument("--jobs", type=int, default=2, help="so many kinds at a time")
@@ -313,8 +360,8 @@ def main():
         try:
             if kind == "a clock out of them":
                 return wrong_clock(program, programs, place, max(3, given.faults // 10), lease_ms=given.lease_ms)
-            if kind == "shards":
-                return changes(program, programs, place, 2 * given.faults, given.shards, given.lease_ms, given.trace)
+            if kind in ("shards", "hurried"):
+                return changes(program, programs, place, 2 * given.faults, given.shards, given.lease_ms, given.trace, kind == "hurried")
             if kind == "clocks at their bounds":
                 return many(program, programs, place, "cut off", given.faults, (SLOW, FAST, RIGHT), lease_ms=given.lease_ms)
             return many(program, programs, place, kind, given.faults, lease_ms=given.lease_ms)
@@ -330,13 +377,8 @@ def main():
                 is_right, told = result is not None and result > 0, "two led for %.2f s, as they may" % (result or 0)
             elif result is None:
                 is_right, told = False, "it ended early"
-            elif kind == "shards":
-                two, rows, _ = result
-                is_right = two == 0 and all(0 < count <= (GO if goes else COME) * given.shards and longest <= most for goes, count, longest in rows)
-                told = "%d changes, two ran a shard for %.2f s" % (len(rows), two)
-                for word, goes in (("goes", True), ("comes", False)):
-                    these = [row for row in rows if row[0] is goes]
-                    told += "; where a machine %s %d to %d of %d pause, for %.2f s at most" % (word, min(row[1] for row in these), max(row[1] for row in these), given.shards, max(row[2] for row in these))
+            elif kind in ("shards", "hurried"):
+                is_right, told = of_changes(kind, result, given.shards, most)
             else:
                 two, nobody, epochs_rise = result
                 is_right = two == 0 and epochs_rise and max(nobody) <= most

@@ -4,6 +4,7 @@ import json, os, random, shutil, signal, subprocess, time
 import leases
 from bed import PATIENCE
 from beats import GAP, Leads, beats, clock, family, last, overlap, runs
+from machine import Notices
 
 ROOT = os.path.dirname(os.path.dirname(os.path.dirname(os.path.abspath(__file__))))
 
@@ -180,14 +181,16 @@ def shards(bed, changes=4, count=12):
     """Shards under leases, while a machine goes and comes, the one that leads and another one: never two run one, and those that stay go on."""
     if not has_leases(bed):
         return
-    two, rows, stopped = leases.changes(bed.program, bed.programs, os.path.join(bed.folder, "shards"), changes, count, 100 * bed.round_trip)
-    never_two(bed, two, stopped)
-    for goes, paused, longest in rows:
-        word = "goes" if goes else "comes"
-        # where one goes, so many pause as had their lease by it or were moved: up to all
-        most = count if goes else leases.COME * count
-        bed.tally.timed("where a machine %s shards pause, where one comes others go on" % word, (not goes or 0 < paused) and paused <= most, (paused, count))
-        bed.tally.timed("where a machine %s none pauses for longer than 150 round trips" % word, longest <= leases.NOBODY * bed.round_trip / 20, longest)
+    for hurries in (False, True):
+        folder = os.path.join(bed.folder, "shards%d" % hurries)
+        two, rows, stopped = leases.changes(bed.program, bed.programs, folder, changes, count, 100 * bed.round_trip, hurries=hurries)
+        never_two(bed, two, stopped)
+        for row in rows:
+            word = "goes" if row.goes else "comes"
+            # where the one before doesn't vote yet leases of the others end, too
+            if not hurries:
+                bed.tally.timed("where a machine %s shards that move pause, and others go on" % word, leases.only_those_that_move(row, count), row)
+            bed.tally.timed("where a machine %s none pauses for longer than 150 round trips" % word, row.longest <= leases.NOBODY * bed.round_trip / 20, row)
     took, two, stopped = leases.hung(bed.program, bed.programs, os.path.join(bed.folder, "hung"), count, 100 * bed.round_trip)
     bed.tally.timed("where the process of leases hangs others have the shards", took <= leases.NOBODY * bed.round_trip / 20 + leases.MORE, took)
     never_two(bed, two, stopped)
@@ -206,9 +209,17 @@ def locked(bed):
     cluster = leases.Cluster(bed.program, bed.programs, os.path.join(bed.folder, "locked"), key=bed.key("cd"), lines=bed.lines, lease_ms=100 * bed.round_trip)
     agents = cluster.agents
     bed.started.append(agents)
+    notices = Notices(agents.folder)
+    cluster.environment[0], begin = dict(NOTIFY_SOCKET=notices.path), time.monotonic()
     for i in range(3):
         cluster.restart(i)
+    check("systemd is told that it is ready", notices.comes("READY=1"))
+    timed("no sooner than its machine votes", time.monotonic() - begin > bed.round_trip / 10, time.monotonic() - begin)
     agents.one_group()
+    # at their first start they agree on how many vote; who began grants nothing for as long as a lease lasts, whether somebody asked for one meanwhile or not
+    time.sleep(bed.round_trip / 20)
+    took = agents.until(lambda: agents.ctl(0, "lock", "first", "--wait", "--", "true").returncode == 0)
+    timed("and then the first lock is had at once", took < bed.round_trip / 20, took)
     path = os.path.join(bed.folder, "count")
     open(path, "w").write("0")
     script = "n=$(cat %s); sleep 0.05; echo $((n + 1)) > %s; echo $DUMGEROK_EPOCH" % (path, path)

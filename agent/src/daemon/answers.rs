@@ -11,7 +11,11 @@ use log::{error, info, warn};
 use serde::Serialize;
 use std::net::SocketAddr;
 use std::path::Path;
-use std::time::Instant;
+use std::time::{Duration, Instant};
+
+/// Under leases an agent is ready once its machine votes: who restarts one machine after another waits for that, and more than half vote at any time. That isn't
+/// waited for longer than this, for systemd waits for a minute.
+const LONGEST_START: Duration = Duration::from_secs(30);
 
 /// A job, as `jobs` has it.
 #[derive(Serialize)]
@@ -254,7 +258,8 @@ impl Daemon {
             self.view.is_ready = true;
             // that in which its configuration was read, and what its file holds looked at
             give_back_memory();
-            self.notify.ready();
+            let votes = Duration::from_millis(self.config.lease_ms).min(LONGEST_START);
+            self.notify.ready_at(Instant::now() + votes);
         } else {
             let why = tell_unmounted(&self.config.file, closing);
             self.notify.status(format!("the file can't be mounted: {why}"));

@@ -380,6 +380,8 @@ impl Leases {
         match line {
             LeaseLine::Process { count } => {
                 info!("leases: process {count}");
+                // who begins grants nothing for a while, from when it is first told the time
+                self.due = Some(BootTime::now());
                 let (told, orders) = self.claims.begin_anew();
                 self.tell(orders);
                 return told.into_iter().map(|told| TellsOfLease::Client(told, true)).collect();

@@ -250,8 +250,9 @@ impl Daemon {
             self.node.end(PATIENCE_AT_END)?;
             // what it did meanwhile is told to those who asked for it
             self.hear();
-            self.leases.iter_mut().for_each(Leases::end);
+            // the others wait for this word alone
             self.say_goodbye();
+            self.leases.iter_mut().for_each(Leases::end);
             info!("ended by a signal");
             return Ok(Some(0));
         }
@@ -342,6 +343,7 @@ impl Daemon {
         if let Some(ms) = self.clock.tick(now) {
             self.node.ask(Asker::Tick, Lane::Local, format!("tick {ms}"));
         }
+        self.notify.tell_ready(now);
         if self.view.is_ready && self.view.is_alive(now) {
             self.notify.lives(now);
         }
@@ -367,7 +369,7 @@ impl Daemon {
         let wait = |next: Option<Instant>| next.map_or(Duration::MAX, |next| next.saturating_duration_since(now));
         let of_clients = wait(self.clients.next_beat()).min(wait(self.hand.next_due()));
         let leases = self.leases.as_ref().map_or(Duration::MAX, |leases| leases.sleep(now));
-        let leases = leases.min(self.announcing.sleep(now)).min(self.looking.sleep(now));
+        let leases = leases.min(self.announcing.sleep(now)).min(self.looking.sleep(now)).min(self.notify.sleep(now));
         self.clock.sleep(now).min(until).min(self.pace.sleep(now)).min(majority).min(of_clients).min(leases)
     }
 

@@ -265,6 +265,10 @@ impl Follow<'_> {
 
     fn take_answer(&mut self, line: Value, asked: BootTime) -> Result<(), Failure> {
         if line["ok"] == false {
+            // a lease that is given back while the agent gives it up itself, since this process was stopped
+            if line["error"] == "Unclaimed" {
+                return Ok(());
+            }
             let why = line["why"].as_str().or(line["error"].as_str()).unwrap_or("?");
             return Err(Failure::Refused(why.to_string()));
         }
@@ -334,5 +338,12 @@ mod tests {
         assert_eq!(held, Held { epoch: 256, until: at(1000) });
         assert_eq!(Held::told(Some(held), 384, at(2000)), Held { epoch: 256, until: at(2000) });
         assert_eq!(Held::told(None, 384, at(2000)).epoch, 384);
+    }
+
+    #[test]
+    fn a_lease_that_the_agent_gave_up_itself_needs_no_giving_back() {
+        let mut follow = Follow::start(Path::new("/no/agent"), LOOK, false).unwrap();
+        let mut answered = |error: &str| follow.take_answer(json!({"ok": false, "error": error}), BootTime::now()).is_ok();
+        assert!(answered("Unclaimed") && !answered("Full") && !answered("NoLeases"));
     }
 }
