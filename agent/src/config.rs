@@ -45,6 +45,9 @@ pub struct Config {
     pub http: Option<SocketAddr>,
     #[serde(default)]
     pub http_anywhere: bool,
+    /// Whether the record is served there, too, with what jobs hold.
+    #[serde(default)]
+    pub http_record: bool,
     /// Whose members may ask for what changes the machine for all its clients, beside root and the agent's user; else whoever may use the socket.
     pub admin_group: Option<String>,
     /// What a round trip between nodes takes at most, in milliseconds.
@@ -155,6 +158,7 @@ impl Config {
             ("id", self.has_machine(usize::from(self.id)), format!("is a place of `nodes` that has a machine, and {} has none", self.id)),
             ("cluster", is_name(&self.cluster), "is a name of 1 to 64 bytes, without control characters".to_string()),
             ("http", self.http.map_or(true, |at| self.is_served(at)), "is an address of the loopback with a port; with `http_anywhere = true` another one, too".to_string()),
+            ("http_record", !self.http_record || (self.http.is_some() && self.record.is_some()), "goes with `http` and `record`".to_string()),
             ("round_trip_ms", (1..=60_000).contains(&self.round_trip_ms), "is a number from 1 to 60000".to_string()),
             ("lease_ms", self.lease_ms == 0 || (100..=60_000).contains(&self.lease_ms), "is 0, or a number from 100 to 60000".to_string()),
             ("tags", are_tags(&self.tags), format!("is a table of texts, {MAX_TAGS} bytes in all, without control characters")),
@@ -360,6 +364,8 @@ mod tests {
             ("lease_file = \"/f/\"\n", "lease_file: is the path of a file"),
             ("http = \"10.0.0.1:80\"\n", "http: is an address of the loopback"),
             ("http = \"127.0.0.1:0\"\n", "http: is an address of the loopback with a port"),
+            ("http_record = true\nhttp = \"127.0.0.1:80\"\n", "http_record: goes with `http` and `record`"),
+            ("http_record = true\nrecord = \"r\"\n", "http_record: goes with `http` and `record`"),
             ("record = \"\"\n", "record: is the path of a file"),
             ("record = \"/var/lib/records/\"\n", "record: is the path of a file"),
             ("socket = \"/run/..\"\n", "socket: is the path of a file"),

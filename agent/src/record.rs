@@ -171,14 +171,14 @@ fn go_on(path: &Path, head: &str) -> io::Result<Option<(File, u64)>> {
     Ok(Some((file, whole)))
 }
 
-fn part_of(path: &Path, part: u64) -> PathBuf {
+pub(crate) fn part_of(path: &Path, part: u64) -> PathBuf {
     let mut name = path.as_os_str().to_owned();
     name.push(format!(".{part}"));
     name.into()
 }
 
 /// The numbers of the parts that are there.
-fn parts(path: &Path) -> io::Result<Vec<u64>> {
+pub(crate) fn parts(path: &Path) -> io::Result<Vec<u64>> {
     let folder = path.parent().filter(|folder| !folder.as_os_str().is_empty()).unwrap_or_else(|| Path::new("."));
     let name = path.file_name().unwrap_or_default().to_string_lossy().into_owned() + ".";
     let mut parts = Vec::new();

@@ -239,9 +239,10 @@ pub enum Command {
     /// Has the records of all nodes judged: whether a cluster can have done what stands there
     ///
     /// With --follow they are judged again as they grow, with the parts that come, until an entry can't have been: then that is said, and the status is 1.
+    /// Entries that repeat are forgotten.
     #[command(after_help = "Example: dumgerokctl judge node*/record.*")]
     Judge {
-        /// The files of the records of all nodes, in any order
+        /// The files of the records of all nodes, in any order; with --follow agents, too, that serve theirs: http://HOST:PORT
         #[arg(required = true)]
         files: Vec<PathBuf>,
         /// The proved program
@@ -256,10 +257,10 @@ pub enum Command {
         /// Writes numbers for Prometheus to this file
         #[arg(long, value_name = "FILE", requires = "follow")]
         metrics: Option<PathBuf>,
-        /// A message may be missing for so long in its sender's record
+        /// A message may be missing for so long in its sender's record, while all agents answer
         #[arg(long, value_name = "SECONDS", value_parser = seconds, default_value = "1", requires = "follow")]
         patience: Duration,
-        /// Ends with status 1 where entries take more megabytes
+        /// Ends with status 1 where the entries that are kept take more megabytes
         #[arg(long, value_name = "MB", default_value_t = 1000, requires = "follow")]
         most: usize,
     },

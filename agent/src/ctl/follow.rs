@@ -5,10 +5,12 @@ use super::commands::print;
 use super::program::{culprit, told_otherwise, unread};
 use super::Failure;
 use crate::judge::{Following, Reached, RecordError, Turn};
+use crate::say::say;
+use std::cell::Cell;
 use std::collections::HashMap;
 use std::io::{self, Write};
 use std::path::{Path, PathBuf};
-use std::process::{Command, ExitStatus, Stdio};
+use std::process::{Command, Stdio};
 use std::thread;
 use std::time::{Duration, Instant, SystemTime};
 
@@ -34,7 +36,7 @@ pub struct Follower<'a> {
 /// What is known by now.
 #[derive(Default)]
 struct Known {
-    /// Of each node the entry that waits first, and since when.
+    /// Of each node the number of the entry that waits first, and since when.
     waits: HashMap<usize, (usize, Instant)>,
     /// How long the last judgement took, and when it was.
     took: Duration,
@@ -72,7 +74,7 @@ impl Follower<'_> {
             if is_begun && (is_new || known.is_behind || !known.waits.is_empty()) {
                 let begun = Instant::now();
                 let (culprit, untrue) = match self.judged(&following, &mut known)? {
-                    None => self.untrue(&following, &mut known)?.map_or((None, None), |(node, entry, why)| (Some((node, entry)), Some(why))),
+                    None => self.untrue(&mut following, &mut known)?.map_or((None, None), |(node, entry, why)| (Some((node, entry)), Some(why))),
                     culprit => (culprit, None),
                 };
                 (known.took, known.judged) = (begun.elapsed(), Some(SystemTime::now()));
@@ -87,7 +89,9 @@ impl Follower<'_> {
             if following.bytes() > self.most.saturating_mul(MEGABYTE) {
                 return Err(Failure::NotDone(format!("the entries are more than {} MB: follow records that begin anew", self.most)));
             }
-            thread::sleep(PAUSE.max(known.took));
+            if !following.has_more() {
+                thread::sleep(PAUSE.max(known.took));
+            }
         }
     }
 
@@ -103,34 +107,44 @@ impl Follower<'_> {
         }
         let mut taken = vec![0; following.entries().len()];
         words.filter_map(|word| word.parse::<usize>().ok()).for_each(|node| taken[node] += 1);
-        let waiting = following.entries().into_iter().zip(taken).enumerate().filter(|(_, (entries, taken))| taken < entries);
-        Ok(known.waited(waiting.map(|(node, (_, taken))| (node, taken)), !following.is_waiting(), self.patience))
+        let waiting = following.entries().into_iter().zip(&taken).enumerate().filter(|(_, (entries, taken))| *taken < entries);
+        let firsts = waiting.map(|(node, (_, taken))| (node, following.number(node, *taken)));
+        let longest = known.waited(firsts, !following.is_waiting(), self.patience.max(following.least_patience()));
+        Ok(longest.map(|(node, _)| (node, taken[node])))
     }
 
-    /// The first entry at which its node told otherwise than it stands, where it is time to look.
-    fn untrue(&self, following: &Following, known: &mut Known) -> Result<Option<(usize, usize, String)>, Failure> {
+    /// The first entry at which its node told otherwise than it stands, where it is time to look. Where there is none, what nothing rests on any more is forgotten.
+    fn untrue(&self, following: &mut Following, known: &mut Known) -> Result<Option<(usize, usize, String)>, Failure> {
         let begun = Instant::now();
-        known.is_behind = known.compares_from.map_or(false, |from| begun < from);
+        known.is_behind = !following.has_more() && known.compares_from.map_or(false, |from| begun < from);
         if known.is_behind {
             return Ok(None);
         }
         let named = |why: io::Error| Failure::Usage(format!("{}: {why}", self.program.display()));
-        let differs = |reached: &mut [Reached], turn: &Turn| following.differs(reached, turn);
-        let found = told_otherwise(self.program, following.entries().len(), |input| following.write(input), differs).map_err(named);
+        let taken: Vec<Cell<usize>> = following.entries().iter().map(|_| Cell::new(0)).collect();
+        let differs = |reached: &mut [Reached], turn: &Turn| {
+            taken.get(turn.node).into_iter().for_each(|count| count.set(count.get() + 1));
+            following.differs(reached, turn)
+        };
+        let found = told_otherwise(self.program, taken.len(), following.writer(), differs).map_err(named)?;
         known.compares_from = Some(Instant::now() + LEAST_REST.max(RESTS * begun.elapsed()));
-        found
+        if found.is_none() {
+            following.forget(&taken.into_iter().map(Cell::into_inner).collect::<Vec<_>>());
+        }
+        Ok(found)
     }
 
-    /// What the program prints of the entries so far, and how it ends.
-    fn asked(&self, following: &Following, words: &[&str], errors: Stdio) -> Result<(String, ExitStatus), Failure> {
+    /// What the program prints of the entries so far, and says on standard error.
+    fn asked(&self, following: &Following, words: &[&str], errors: Stdio) -> Result<(String, String), Failure> {
         let named = |why: io::Error| Failure::Usage(format!("{}: {why}", self.program.display()));
         let mut child = Command::new(self.program).args(words).stdin(Stdio::piped()).stdout(Stdio::piped()).stderr(errors).spawn().map_err(named)?;
         if let Some(input) = child.stdin.take() {
             // where it doesn't read to the end its status says why
-            let _unread = following.write(&mut io::BufWriter::new(input));
+            let _unread = following.writer()(&mut io::BufWriter::new(input));
         }
         let done = child.wait_with_output().map_err(named)?;
-        Ok((String::from_utf8_lossy(&done.stdout).into_owned(), done.status))
+        let text = |bytes: &[u8]| String::from_utf8_lossy(bytes).into_owned();
+        Ok((text(&done.stdout), text(&done.stderr)))
     }
 
     /// A line says what its node can't have said.
@@ -143,12 +157,13 @@ impl Follower<'_> {
 
     fn alarmed(&self, following: &Following, node: usize, entry: usize, untrue: Option<String>) -> Result<(), Failure> {
         let place = following.place(node, entry).map_or_else(String::new, |(path, line)| format!(", which ends in {}, line {line}", path.display()));
-        print(&format!("alarm: look first at node {node}, entry {entry}{place}\n"))?;
+        print(&format!("alarm: look first at node {node}, entry {}{place}\n", following.number(node, entry)))?;
         if let Some(why) = untrue {
             return Err(Failure::NotDone(why));
         }
         // and why, on standard error
-        self.asked(following, &["trace"], Stdio::inherit())?;
+        let (_, why) = self.asked(following, &["trace"], Stdio::piped())?;
+        say(numbered(&why, |node, entry| following.number(node, entry)));
         Err(Failure::Program { status: 1, why: None })
     }
 
@@ -164,13 +179,28 @@ impl Follower<'_> {
     }
 }
 
+/// What the program says of entries, with their numbers among all that there were: `.. node N, entry K ..` or `node N: entry K ..`.
+fn numbered(said: &str, number: impl Fn(usize, usize) -> usize) -> String {
+    let mut words: Vec<String> = said.trim_end().split(' ').map(str::to_string).collect();
+    for at in 0..words.len().saturating_sub(3) {
+        let is_entry = words[at].ends_with("node") && words[at + 2] == "entry";
+        let digits = words[at + 3].chars().take_while(char::is_ascii_digit).count();
+        if let (true, Ok(node), Ok(entry)) = (is_entry, words[at + 1].trim_end_matches([',', ':']).parse(), words[at + 3][..digits].parse()) {
+            words[at + 3] = format!("{}{}", number(node, entry), &words[at + 3][digits..]);
+        }
+    }
+    words.join(" ")
+}
+
 /// The numbers, as Prometheus reads them.
 fn metrics(following: &Following, known: &Known) -> String {
     let judged = known.judged.and_then(|time| time.duration_since(SystemTime::UNIX_EPOCH).ok()).unwrap_or_default();
     let rows = [
         ("alarm", "1 where something can't have been", f64::from(u8::from(known.is_alarmed))),
-        ("entries", "Entries read", following.entries().iter().sum::<usize>() as f64),
-        ("entry_bytes", "What they take", following.bytes() as f64),
+        ("entries", "Entries read", (following.entries().iter().sum::<usize>() + following.forgotten()) as f64),
+        ("forgotten_entries", "Of these, entries on which nothing rests any more", following.forgotten() as f64),
+        ("entry_bytes", "What the others take", following.bytes() as f64),
+        ("unheard_agents", "Agents that don't answer", following.unheard() as f64),
         ("absent_nodes", "Nodes whose records don't begin yet", following.absent().len() as f64),
         ("waiting_nodes", "Nodes of which an entry waits for a message", known.waits.len() as f64),
         ("last_seconds", "How long the last judgement took", known.took.as_secs_f64()),
@@ -185,6 +215,14 @@ fn metrics(following: &Following, known: &Known) -> String {
 #[cfg(test)]
 mod tests {
     use super::*;
+
+    #[test]
+    fn entries_are_named_by_their_numbers_among_all() {
+        let said = "invite: no order takes all entries: look first at node 1, entry 0\nnode 0: entry 1 waits for 01020100000101\nnode 1: entry 0 (deliver) can't be\n";
+        let whole = "invite: no order takes all entries: look first at node 1, entry 10\nnode 0: entry 1 waits for 01020100000101\nnode 1: entry 10 (deliver) can't be";
+        assert_eq!(numbered(said, |node, entry| 10 * node + entry), whole);
+        assert_eq!(numbered("invite: no memory\n", |_, _| 0), "invite: no memory");
+    }
 
     #[test]
     fn no_time_passes_while_lines_wait_to_be_entries() {

@@ -37,6 +37,7 @@ pub fn trace_of(files: &[PathBuf], has_times: bool) -> Result<judge::Trace, Fail
 pub fn unread(why: RecordError) -> Failure {
     match why {
         RecordError::Untrue { .. } => Failure::NotDone(why.to_string()),
+        RecordError::Away { host, why } => Failure::NoAgent(io::Error::new(why.kind(), format!("http://{host}: {why}"))),
         why => Failure::Usage(why.to_string()),
     }
 }

@@ -28,7 +28,7 @@ use crate::clock::Clock;
 use crate::config::Config;
 use crate::fill::Fill;
 use crate::forward::{self, read_keys, About, Inbox, Introductions, Key, Keys, Ledger, Outbox, OwnNumbers, Seal, Submission, Token as AgentToken};
-use crate::http::Server;
+use crate::http::{Records, Server};
 use crate::metrics::Metrics;
 use crate::net::{Backlog, Cipher, Link, News, Pace, Peers};
 use crate::node::{Answer, Lane, NodeProcess};
@@ -483,9 +483,11 @@ fn cipher_of(config: &Config) -> anyhow::Result<Cipher> {
 fn http_of(config: &Config, waker: &Arc<Waker>) -> anyhow::Result<Option<Server>> {
     let start = |at: SocketAddr| {
         if !at.ip().is_loopback() {
-            warn!("HTTP at {at}: whoever reaches it may read names, addresses, groups and counts");
+            let record = if config.http_record { ", and in the record what jobs hold" } else { "" };
+            warn!("HTTP at {at}: whoever reaches it may read names, addresses, groups and counts{record}");
         }
-        Server::start(at, config.page_hosts(), Arc::clone(waker)).with_context(|| format!("HTTP at {at}"))
+        let records = config.record.clone().filter(|_| config.http_record).map(Records::new);
+        Server::start(at, config.page_hosts(), records, Arc::clone(waker)).with_context(|| format!("HTTP at {at}"))
     };
     config.http.map(start).transpose()
 }

@@ -60,9 +60,9 @@ impl Daemon {
                 let (content_type, body) = ("text/plain; version=0.0.4", self.metrics.text(&self.view, &self.peers, now));
                 // what it is made in is as large as all that the agent has else
                 give_back_memory();
-                Response { status: 200, content_type, body }
+                Response::page(content_type, body)
             }
-            "/" => Response { status: 200, content_type: "text/html; charset=utf-8", body: PAGE.to_string() },
+            "/" => Response::page("text/html; charset=utf-8", PAGE.to_string()),
             _ => Response::text(404, "no such page"),
         }
     }

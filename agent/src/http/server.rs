@@ -2,6 +2,7 @@
 //! head, for so long at most, and ends the connection behind the answer: so however many come, they take no more than a few threads, and none while nobody
 //! asks.
 
+use super::records::Records;
 use super::request::{read_head, Head, Hosts};
 use log::warn;
 use mio::Waker;
@@ -18,16 +19,20 @@ pub const THREADS: usize = 8;
 /// So long a request may take to come, and its answer to be taken.
 const PATIENCE: Duration = Duration::from_secs(2);
 
+/// The header that says which part of a record follows the one that was asked for.
+pub const NEXT_PART: &str = "Record-Next";
+
 #[derive(Clone, Debug)]
 pub struct Response {
     pub status: u16,
-    pub content_type: &'static str,
-    pub body: String,
+    content_type: &'static str,
+    pub body: Vec<u8>,
+    pub next_part: Option<u64>,
 }
 
 impl Response {
     pub fn text(status: u16, body: &str) -> Response {
-        Response { status, content_type: "text/plain; charset=utf-8", body: format!("{body}\n") }
+        Response { status, ..Response::page("text/plain; charset=utf-8", format!("{body}\n")) }
     }
 
     /// A probe's answer.
@@ -40,7 +45,16 @@ impl Response {
     }
 
     pub fn json(body: String) -> Response {
-        Response { status: 200, content_type: "application/json", body }
+        Response::page("application/json", body)
+    }
+
+    pub fn page(content_type: &'static str, body: String) -> Response {
+        Response { status: 200, content_type, body: body.into_bytes(), next_part: None }
+    }
+
+    /// Bytes of a part of a record, and the number of the next one, where that is there.
+    pub fn piece(body: Vec<u8>, next_part: Option<u64>) -> Response {
+        Response { status: 200, content_type: "text/plain; charset=utf-8", body, next_part }
     }
 
     /// What stands before its body.
@@ -54,6 +68,7 @@ impl Response {
             _ => "Bad Request",
         };
         let csp = "default-src 'none'; style-src 'unsafe-inline'; script-src 'unsafe-inline'; connect-src 'self'";
+        let next = self.next_part.map(|part| format!("{NEXT_PART}: {part}"));
         let head = [
             format!("HTTP/1.1 {} {reason}", self.status),
             format!("Content-Type: {}", self.content_type),
@@ -63,7 +78,7 @@ impl Response {
             "Allow: GET, HEAD".to_string(),
             "Connection: close".to_string(),
         ];
-        head.join("\r\n") + "\r\n\r\n"
+        head.into_iter().chain(next).collect::<Vec<_>>().join("\r\n") + "\r\n\r\n"
     }
 }
 
@@ -85,10 +100,11 @@ pub struct Server {
 }
 
 impl Server {
-    pub fn start(at: SocketAddr, hosts: Hosts, waker: Arc<Waker>) -> io::Result<Server> {
+    /// With a record that is served, too, where there is one to be.
+    pub fn start(at: SocketAddr, hosts: Hosts, records: Option<Records>, waker: Arc<Waker>) -> io::Result<Server> {
         let listener = TcpListener::bind(at)?;
         let (to, from) = sync_channel(THREADS);
-        let desk = Arc::new(Desk { hosts, to, waker });
+        let desk = Arc::new(Desk { hosts, records, to, waker });
         thread::Builder::new().spawn(move || serve(&listener, &desk))?;
         Ok(Server { from })
     }
@@ -102,6 +118,7 @@ impl Server {
 /// What each request needs.
 struct Desk {
     hosts: Hosts,
+    records: Option<Records>,
     to: SyncSender<Page>,
     waker: Arc<Waker>,
 }
@@ -143,7 +160,7 @@ fn accepted(listener: &TcpListener) -> io::Result<TcpStream> {
 fn serve_one(stream: &TcpStream, desk: &Desk) -> io::Result<()> {
     let until = Instant::now() + PATIENCE;
     let (response, is_head) = match read_head(&mut Timed { stream, until }, &desk.hosts)? {
-        Head::Get { path, is_head } => (response_to(path, desk), is_head),
+        Head::Get { path, is_head } => (desk.records.as_ref().and_then(|records| records.response_to(&path)).unwrap_or_else(|| response_to(path, desk)), is_head),
         Head::Other => (Response::text(405, "GET and HEAD alone"), false),
         Head::Elsewhere => (Response::text(421, desk.hosts.advice()), false),
         Head::Unreadable => (Response::text(400, "this is no request"), false),
@@ -152,7 +169,7 @@ fn serve_one(stream: &TcpStream, desk: &Desk) -> io::Result<()> {
     let mut out = Timed { stream, until };
     out.write_all(response.head().as_bytes())?;
     if !is_head {
-        out.write_all(response.body.as_bytes())?;
+        out.write_all(&response.body)?;
     }
     stream.shutdown(Shutdown::Write)
 }

@@ -1,112 +1,49 @@
-//! Records that grow: what their agents append is read as it comes. The entries are kept, and not the records.
+//! Records that grow: what their agents append is read as it comes. The entries are kept, and not the records; and of the entries those that are still needed.
 
+use super::growing::Growing;
 use super::history::{Detail, History, Place};
 use super::message::Begin;
 use super::records::{in_order, Head};
+use super::remote::{is_agent, Remote};
+use super::source::{first_line, Files, Source};
 use super::told::{Reached, Turn};
-use super::{kept_at, write_histories, RecordError};
-use std::fs::File;
-use std::io::{self, BufRead, BufReader, Seek, SeekFrom, Write};
+use super::{write_histories, RecordError};
+use std::io::{self, Write};
 use std::path::{Path, PathBuf};
 use std::sync::Arc;
+use std::time::Duration;
 
-/// The record of a node, as far as it was read.
-struct Growing {
-    node: usize,
-    /// Its parts; the last is the one that grows, or one before the next that its agent began.
-    paths: Vec<PathBuf>,
-    /// The part that is read, so much of it as was read in whole lines, and their number.
-    part: usize,
-    offset: u64,
-    line: u32,
-    /// What its file kept when it began; none before it began.
-    begin: Option<Begin>,
+/// A record of which so many bytes of entries aren't settled yet is read on once others are.
+const MAX_UNSETTLED: usize = 8_000_000;
+
+/// What somebody named: a file of a record, or an agent that serves it.
+enum Named {
+    File(PathBuf),
+    Agent(Remote),
 }
 
-impl Growing {
-    fn of(node: usize, parts: Vec<(Head, PathBuf)>) -> Growing {
-        let paths = parts.into_iter().map(|(_, path)| path).collect();
-        Growing { node, paths, part: 0, offset: 0, line: 0, begin: None }
-    }
-
-    /// Reads the whole lines that are new, and gives them on with where they stand.
-    fn read(&mut self, heard: &mut impl FnMut(Place, &str) -> Result<(), RecordError>) -> Result<bool, RecordError> {
-        let mut is_new = false;
-        loop {
-            // where the next part is there nothing comes to this one any more
-            let next = self.paths.get(self.part + 1).cloned().or_else(|| next_of(&self.paths[self.part]));
-            is_new |= self.read_part(heard)?;
-            match next {
-                Some(next) => self.begin_part(next),
-                None => return Ok(is_new),
-            }
+impl Named {
+    fn of(path: &Path) -> Result<(Head, Named), RecordError> {
+        if let Some(url) = path.to_str().filter(|word| is_agent(word)) {
+            return Remote::begin(url).map(|(head, remote)| (head, Named::Agent(remote)));
         }
-    }
-
-    fn begin_part(&mut self, path: PathBuf) {
-        if self.paths.len() == self.part + 1 {
-            self.paths.push(path);
-        }
-        (self.part, self.offset, self.line) = (self.part + 1, 0, 0);
-    }
-
-    fn read_part(&mut self, heard: &mut impl FnMut(Place, &str) -> Result<(), RecordError>) -> Result<bool, RecordError> {
-        let path = self.paths[self.part].clone();
-        let unreadable = |why| RecordError::Unreadable { path: path.clone(), why };
-        let begun = self.offset;
-        let mut file = File::open(&path).map_err(unreadable)?;
-        file.seek(SeekFrom::Start(self.offset)).map_err(unreadable)?;
-        let (mut lines, mut bytes) = (BufReader::new(file), Vec::new());
-        // a line without its line feed isn't whole: it is read again, since an agent that begins anew cuts it off
-        while lines.read_until(b'\n', &mut bytes).map_err(unreadable)? > 0 && bytes.ends_with(b"\n") {
-            self.offset += bytes.len() as u64;
-            self.line += 1;
-            let text = String::from_utf8_lossy(&bytes);
-            if self.line > 1 {
-                heard((u32::try_from(self.part).unwrap_or(u32::MAX), self.line), text.trim_end_matches('\n'))?;
-            }
-            bytes.clear();
-        }
-        Ok(self.offset > begun)
-    }
-
-    /// Looks how it began, if it has; whether that is new.
-    fn look_for_begin(&mut self) -> Result<bool, RecordError> {
-        if self.begin.is_some() {
-            return Ok(false);
-        }
-        let path = self.paths[0].clone();
-        let unreadable = |why| RecordError::Unreadable { path: path.clone(), why };
-        let mut lines = BufReader::new(File::open(&path).map_err(unreadable)?).split(b'\n').skip(1);
-        let is_keeps = |line: &io::Result<Vec<u8>>| line.as_ref().map_or(true, |line| line.starts_with(b"keeps "));
-        let text = |line: io::Result<Vec<u8>>| line.map(|line| String::from_utf8_lossy(&line).into_owned()).map_err(unreadable);
-        match lines.next().map(text).transpose()? {
-            Some(line) if !line.is_empty() && !"start".starts_with(&line) && !line.starts_with("start") => {
-                return Err(RecordError::NoBegin { node: self.node, what: "the node ran already" });
-            }
-            _ => {}
-        }
-        // what stands there last may be half a line: then the record has nothing of the answer's end, and it is looked at again
-        let keeps = lines.find(is_keeps).map(text).transpose()?.filter(|_| lines.next().is_some());
-        self.begin = keeps.map(|line| kept_at(self.node, &line)).transpose()?;
-        Ok(self.begin.is_some())
+        let line = first_line(path).map_err(|why| RecordError::Unreadable { path: path.to_path_buf(), why })?;
+        let head = Head::read(&line).ok_or_else(|| RecordError::NoRecord(path.to_path_buf()))?;
+        Ok((head, Named::File(path.to_path_buf())))
     }
 }
 
-/// The part behind one, where its agent began it: `record.1` is followed by `record.2`.
-fn next_of(path: &Path) -> Option<PathBuf> {
-    let name = path.file_name()?.to_str()?;
-    let (stem, part) = name.rsplit_once('.')?;
-    let next = path.with_file_name(format!("{stem}.{}", part.parse::<u64>().ok()?.checked_add(1)?));
-    let head = first_line(&next).ok()?;
-    Head::read(&head).map(|_| next)
-}
-
-/// The first line of a file, where it is whole; else an empty one.
-fn first_line(path: &Path) -> io::Result<String> {
-    let mut line = String::new();
-    BufReader::new(File::open(path)?).read_line(&mut line)?;
-    Ok(line.strip_suffix('\n').unwrap_or_default().to_string())
+/// What the record of a node is read from; none where nothing was named.
+fn source_of(node: usize, named: Vec<(Head, Named)>) -> Result<Option<Source>, RecordError> {
+    let (mut paths, count) = (Vec::new(), named.len());
+    for (head, one) in named {
+        match one {
+            Named::File(path) => paths.push(path),
+            Named::Agent(remote) if count == 1 => return Ok(Some(Source::Agent(remote))),
+            Named::Agent(_) => return Err(RecordError::Twice { node, part: head.part }),
+        }
+    }
+    Ok(Some(paths).filter(|paths| !paths.is_empty()).map(|paths| Source::Files(Files::new(paths))))
 }
 
 /// The records of a cluster that goes on.
@@ -117,16 +54,12 @@ pub struct Following {
 }
 
 impl Following {
-    /// Begins to follow the files of all nodes, in any order. Parts that come later are found beside them.
+    /// Begins to follow the files of all nodes, in any order, and their agents. Parts that come later are found beside them.
     pub fn of(paths: &[PathBuf]) -> Result<Following, RecordError> {
-        let mut files = Vec::new();
-        for path in paths {
-            let line = first_line(path).map_err(|why| RecordError::Unreadable { path: path.clone(), why })?;
-            files.push((Head::read(&line).ok_or_else(|| RecordError::NoRecord(path.clone()))?, path.clone()));
-        }
-        let parts = in_order(files, |file| &file.0)?;
-        let record = |(node, parts): (usize, Vec<(Head, PathBuf)>)| if parts.is_empty() { None } else { Some(Growing::of(node, parts)) };
-        Ok(Following { records: parts.into_iter().enumerate().map(record).collect(), histories: Vec::new() })
+        let named = paths.iter().map(|path| Named::of(path)).collect::<Result<Vec<_>, _>>()?;
+        let records = in_order(named, |named| &named.0)?.into_iter().enumerate();
+        let growing = |(node, named)| source_of(node, named).map(|source| source.map(|source| Growing::new(node, source)));
+        Ok(Following { records: records.map(growing).collect::<Result<_, _>>()?, histories: Vec::new() })
     }
 
     /// Reads what was appended; whether there was anything.
@@ -138,14 +71,20 @@ impl Following {
             }
             self.begin_all();
         }
+        let passes_over = self.passes_over();
         for (record, history) in self.records.iter_mut().zip(&mut self.histories) {
-            if let Some(record) = record {
+            if let Some(record) = record.as_mut().filter(|_| !passes_over || history.unsettled() < MAX_UNSETTLED) {
                 let node = record.node;
-                let read = record.read(&mut |place, line| heard(node, history, place, line));
-                is_new |= read.map_err(|why| why.in_one_of(&record.paths))?;
+                is_new |= record.read(|place, line| heard(node, history, place, line))?;
             }
         }
         Ok(is_new)
+    }
+
+    /// Whether those are passed over of which much waits: where there is more to read of others, on whom they wait.
+    fn passes_over(&self) -> bool {
+        let mut all = self.records.iter().zip(&self.histories);
+        all.any(|(record, history)| record.as_ref().map_or(false, |record| record.has_more) && history.unsettled() < MAX_UNSETTLED)
     }
 
     /// Once all nodes have begun, their messages can be read: by what each began with.
@@ -171,9 +110,25 @@ impl Following {
         self.histories.iter().map(|history| history.places().len()).collect()
     }
 
-    /// Whether of some node it isn't known yet what became of it at a kill: what it sent since is no entry before that.
+    /// Whether of some node more may stand in its record than became entries: as what it sent since a kill, of which it isn't known yet what became of it, or while
+    /// its agent doesn't answer.
     pub fn is_waiting(&self) -> bool {
-        self.histories.iter().any(History::is_waiting)
+        self.histories.iter().any(History::is_waiting) || self.records.iter().flatten().any(Growing::is_behind)
+    }
+
+    /// Whether there is more in the records than was read at once.
+    pub fn has_more(&self) -> bool {
+        self.records.iter().flatten().any(|record| record.has_more)
+    }
+
+    /// So long a message has to be missing at least: all that was said before it came is read by then.
+    pub fn least_patience(&self) -> Duration {
+        self.records.iter().flatten().map(Growing::lag).max().unwrap_or_default()
+    }
+
+    /// How many agents don't answer.
+    pub fn unheard(&self) -> usize {
+        self.records.iter().flatten().filter(|record| record.is_unheard).count()
     }
 
     /// How many bytes the trace has, with the lines that wait.
@@ -181,11 +136,29 @@ impl Following {
         self.histories.iter().map(History::bytes).sum()
     }
 
-    /// The trace as JSON, without an order.
-    pub fn write(&self, out: &mut impl Write) -> io::Result<()> {
-        write_histories(out, self.histories.iter().map(History::entries))?;
-        write!(out, "}}")?;
-        out.flush()
+    /// Of the entries that were taken and compared, so many of each node, those are forgotten on which nothing rests that may come.
+    pub fn forget(&mut self, taken: &[usize]) {
+        self.histories.iter_mut().zip(taken).for_each(|(history, taken)| history.forget(*taken));
+    }
+
+    /// The number of a node's entry among all that there were.
+    pub fn number(&self, node: usize, entry: usize) -> usize {
+        self.histories.get(node).map_or(entry, |history| history.number(entry))
+    }
+
+    /// How many entries were forgotten.
+    pub fn forgotten(&self) -> usize {
+        self.histories.iter().map(History::forgotten).sum()
+    }
+
+    /// What writes the trace as JSON, without an order: another thread may do that.
+    pub fn writer<W: Write>(&self) -> impl FnOnce(&mut W) -> io::Result<()> + Send + '_ {
+        let histories = &self.histories;
+        move |out| {
+            write_histories(out, histories.iter().map(History::entries))?;
+            write!(out, "}}")?;
+            out.flush()
+        }
     }
 
     /// The file and the line of an entry, from 1.
@@ -209,7 +182,7 @@ mod tests {
 
     fn trace(following: &Following) -> serde_json::Value {
         let mut bytes = Vec::new();
-        following.write(&mut bytes).unwrap();
+        following.writer()(&mut bytes).unwrap();
         serde_json::from_slice(&bytes).unwrap()
     }
 

@@ -2,10 +2,13 @@
 
 mod doubt;
 mod follow;
+mod growing;
 mod history;
 mod message;
 mod order;
 mod records;
+mod remote;
+mod source;
 mod told;
 
 pub use follow::Following;

@@ -32,6 +32,12 @@ pub enum RecordError {
     NoState { node: usize, keeps: String },
     #[error("the record of node {node}: {line:?} can't be read")]
     Line { node: usize, line: String },
+    #[error("http://{host}: {why}")]
+    Away { host: String, why: io::Error },
+    #[error("http://{host} serves no record: it wants `record` and `http_record`")]
+    Unserved { host: String },
+    #[error("{}: it was deleted before it was read", path.display())]
+    Deleted { path: PathBuf },
     #[error("no run: in {}, line {}, node {node} told {why}", path.display(), place.1)]
     Untrue { node: usize, place: Place, path: PathBuf, why: String },
 }

@@ -117,6 +117,24 @@ impl Told {
         push(&mut self.hands, entry, hand);
     }
 
+    /// Of the entries from a place on those are gone that don't stay. What was told since one of them was told since the next.
+    pub fn renumber(&mut self, base: usize, stays: &[bool]) {
+        let mut left = vec![0];
+        stays.iter().for_each(|stays| left.push(left[left.len() - 1] + u32::from(*stays)));
+        let base = u32::try_from(base).unwrap_or(u32::MAX);
+        let number = |entry: &mut u32| {
+            if let Some(place) = entry.checked_sub(base) {
+                *entry = base + left.get(place as usize).or(left.last()).copied().unwrap_or(0);
+            }
+        };
+        self.groups.iter_mut().map(|(entry, _)| entry).chain(self.hands.iter_mut().map(|(entry, _)| entry)).for_each(number);
+    }
+
+    /// Whether all that its node has in hand is known by what was told.
+    pub fn is_hand_known(&self) -> bool {
+        self.is_hand_known
+    }
+
     /// The first that was told otherwise than a turn's line says: `turn NODE INDEX PHASE GROUP COORDINATOR MEMBERS HAND`, or `.. Down`.
     pub fn differs(&self, reached: &mut Reached, turn: &Turn) -> Option<String> {
         let group = at(&self.groups, &mut reached.groups, turn.entry);

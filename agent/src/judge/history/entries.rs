@@ -47,8 +47,10 @@ impl History {
         if self.detail == Detail::Times {
             self.untold.push(self.entries.len());
         }
-        self.entries.push_str(&Value::Object(entry).to_string());
+        let text = Value::Object(entry).to_string();
+        self.entries.push_str(&text);
         if self.detail == Detail::Entries {
+            self.kept.put(text.len(), messages.iter().map(|digits| Message::of(digits)).collect());
             return;
         }
         let turn = self.turns.len();

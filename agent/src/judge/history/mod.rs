@@ -1,6 +1,8 @@
 //! What one node did, as the entries of a trace. A record is read line by line, whether it is whole or grows.
 
+mod effect;
 mod entries;
+mod forget;
 mod recovery;
 #[cfg(test)]
 mod tests;
@@ -11,6 +13,8 @@ use super::order::{Message, Turn};
 use super::told::{Said, Told};
 use super::{NodeRecord, RecordError};
 use crate::node::{Closing, Group, GroupNumber, Phase};
+use effect::effect_of;
+use forget::Kept;
 use recovery::{Recovery, Waiting};
 use std::collections::{BTreeSet, HashMap, VecDeque};
 use std::path::PathBuf;
@@ -88,6 +92,8 @@ pub struct History {
     doubts: Vec<String>,
     waiting: Option<Waiting>,
     told: Told,
+    /// Where only entries are made: which of them have to be kept.
+    kept: Kept,
 }
 
 impl History {
@@ -116,6 +122,7 @@ impl History {
             doubts: Vec::new(),
             waiting: None,
             told: Told::new(own),
+            kept: Kept::default(),
         }
     }
 
@@ -141,9 +148,10 @@ impl History {
         self.waiting.is_some()
     }
 
-    /// How many bytes the entries and the lines that wait have.
+    /// How many bytes the entries take, the messages that they sent and the lines that wait.
     pub fn bytes(&self) -> usize {
-        self.entries.len() + self.waiting.iter().flat_map(|waiting| &waiting.lines).map(|(_, line)| line.len()).sum::<usize>()
+        let (per_entry, per_message) = (std::mem::size_of::<(Place, u32)>(), 2 * std::mem::size_of::<Message>());
+        self.entries.len() + per_entry * self.places.len() + per_message * self.kept.messages() + self.waiting.iter().flat_map(|waiting| &waiting.lines).map(|(_, line)| line.len()).sum::<usize>()
     }
 
     /// No line comes any more: what waits for one has to go without.
@@ -287,6 +295,9 @@ impl History {
         let fields = self.fields_of(event.name, request).ok_or(Wrong::Unreadable)?;
         let ends = ended_by(self.own, request).filter(|id| self.pending.contains(id));
         self.put(event.name, request, &sent, fields);
+        if self.detail == Detail::Entries {
+            self.kept.means(effect_of(event.name, request, &event.lines, self.told.is_hand_known(), self.begins.len() > 1));
+        }
         self.follow(event.lines.iter().copied()).ok_or(Wrong::Unreadable)?;
         self.hears(&Said { name: event.name, request, lines: &event.lines, ends }).map_err(Wrong::Untrue)?;
         self.told.after(self.places.len() - 1);

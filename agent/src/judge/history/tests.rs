@@ -1,6 +1,7 @@
 //! Records line by line, and what they come to.
 
 use super::*;
+use crate::judge::{Reached, Turn as ToldTurn};
 use serde_json::{json, Value};
 
 fn values(entries: &str) -> Vec<Value> {
@@ -191,4 +192,91 @@ fn a_failed_device_leaves_its_event_in_doubt() {
     assert_eq!(entries(&lines), [r#"{"do":"crash","sent":[]}"#, r#"{"do":"recover","kept":false,"sent":[]}"#]);
     let kept = lines.replace("keeps 102 5 0", "keeps 102 6 1");
     assert_eq!(entries(&kept)[2], r#"{"do":"submit","payload":"","queue":3,"sent":[]}"#);
+}
+
+/// A leader that checks and finds nobody, and is asked by a member, so many times.
+fn steady(times: usize) -> String {
+    let mut lines = START.to_string();
+    for (turn, number) in (0..times).zip((2..).step_by(4)) {
+        lines += &format!("> tick {turn}0\nfired check\nsend 1 010100010000\nok {number}\n> deliver 01020100000100\nok {}\n", number + 1);
+        lines += &format!("> deliver 010301000009000000000000000001\nsend 1 01040001000a00000000000000000101\nok {}\n> tick {turn}5\nfired merge\nok {}\n", number + 2, number + 3);
+    }
+    lines
+}
+
+/// Two nodes, of which the first begins with count 101.
+fn of_two(lines: &str) -> History {
+    let mut history = History::new(0, Arc::new([Begin { count: 100, id: 5 }, Begin::default()]), Detail::Entries);
+    (2..).zip(lines.lines()).try_for_each(|(number, line)| history.reads((0, number), line)).unwrap();
+    history
+}
+
+fn done(history: &History) -> Vec<String> {
+    values(history.entries()).iter().map(|entry| entry["do"].as_str().unwrap().to_string()).collect()
+}
+
+#[test]
+fn what_repeats_is_forgotten_once_it_was_judged() {
+    let mut history = of_two(&steady(3));
+    history.forget(3);
+    assert_eq!((done(&history).len(), history.forgotten()), (11, 1), "the answer of nobody leaves it as it is");
+    for _ in 0..2 {
+        history.forget(11);
+        // the last check was the same as the first: it sent the same, and behind it the node stands as behind that
+        assert_eq!((done(&history), history.forgotten()), (["check", "deliver", "merge"].map(str::to_string).to_vec(), 9));
+        assert_eq!([0, 1, 2, 3].map(|entry| history.number(entry)), [0, 2, 11, 12]);
+    }
+    assert_eq!(history.places(), [(0, 10), (0, 15), (0, 42)]);
+    assert!(history.bytes() < of_two(&steady(3)).bytes() / 2);
+}
+
+#[test]
+fn in_steps_the_same_is_forgotten_as_at_once() {
+    let check = |number: u8| format!("> tick {number}\nfired check\nsend 1 010100010000\nok {number}\n");
+    let lines = format!("{}> submit 3 -\nsend 1 0109\nok 14 id 5\n{}> tick 16\nfired merge\nok 16\n{}", steady(3), check(15), check(17));
+    let whole = || of_two(&lines);
+    let count = whole().places().len();
+    let at_once = |history: &mut History| history.forget(usize::MAX);
+    let mut kept = whole();
+    at_once(&mut kept);
+    assert_eq!(done(&kept), ["check", "deliver", "merge", "submit", "check"], "behind what changes its jobs all is new");
+    for first in 0..count {
+        for second in 0..count {
+            let mut history = whole();
+            [first, second].iter().for_each(|taken| history.forget(*taken));
+            at_once(&mut history);
+            assert_eq!((history.entries(), history.places()), (kept.entries(), kept.places()), "{first} {second}");
+        }
+    }
+}
+
+#[test]
+fn what_sends_something_new_or_changes_a_group_stays() {
+    for (lines, stays) in [
+        ("> deliver 010301000009000000000000000002\nsend 1 01040001000a00000000000000000201\nok 14\n", true),
+        ("> deliver 010301000009000000000000000001\nsend 1 01040001000a00000000000000000101\nok 14\n", false),
+        ("> deliver 01020100000101\nok 14\n", true),
+        ("> deliver 01020100000100\nok 14\n", false),
+        ("> deliver 010601000009000000000000000001\nok 14\n", true),
+        ("> recover\ngroup Normal 0 0:102 0\nok 14\n", true),
+    ] {
+        let mut history = of_two(&format!("{}{lines}", steady(3)));
+        history.forget(usize::MAX);
+        assert_eq!(done(&history).len(), 3 + usize::from(stays), "{lines}");
+    }
+}
+
+#[test]
+fn turns_are_compared_behind_what_was_forgotten() {
+    let group = "> recover\ngroup Normal 0 0:102 0\nok 14\n> tick 99\nfired check\nsend 1 010100010000\nok 15\n";
+    let mut history = of_two(&format!("{}{group}", steady(3)));
+    history.forget(12);
+    let differs = |lines: &[&str]| {
+        let mut reached = Reached::default();
+        lines.iter().map(|line| history.said().differs(&mut reached, &ToldTurn::read(line).unwrap()).is_some()).collect::<Vec<_>>()
+    };
+    let before = ["turn 0 0 Normal 0:1 0 0 0", "turn 0 1 Normal 0:1 0 0 0", "turn 0 2 Normal 0:1 0 0 0"];
+    let behind = |group: &'static str| [before.as_slice(), &[group, group]].concat();
+    assert_eq!(differs(&behind("turn 0 3 Normal 0:2 0 0 0")), [false; 5]);
+    assert_eq!(differs(&behind("turn 0 3 Normal 0:1 0 0 0")), [false, false, false, true, true]);
 }
