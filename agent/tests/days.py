@@ -233,9 +233,15 @@ def spoiled(texts, ends, chance, pattern, new):
     return [numbered(text[:place.start()] + turned + text[place.end():]) if one == own else text for one, text in enumerate(texts)]
 
 
-def place_named(said):
-    found = re.search(r"(\d)\.record\.1, line (\d+)", said)
-    return found and (found[1], found[2])
+def named(said):
+    """The node and its entry where an entry can't be; where something was told otherwise the record and the line. None where all that is left waits."""
+    found = re.search(r"look first at node (\d), entry (\d+)\nnode", said) or re.search(r"in the answer that ends in \S*(\d)\.record\.1, line (\d+)", said)
+    return found and found.groups()
+
+
+def named_by_alarm(said, name, is_told):
+    found = re.search(r"alarm: look first at node (\d), entry (\d+), which ends in \S*(\d)\.record\.1, line (\d+)", said)
+    return found and (found.groups()[2:] if is_told else found.groups()[:2]) == name
 
 
 def compared(bed, day, ways, share=0.6):
@@ -261,8 +267,8 @@ def compared(bed, day, ways, share=0.6):
         is_run = done.returncode == 0
         wrong += not is_run
         check("%s: what is forgotten changes no verdict" % name, (said is None) == is_run and (is_run or "alarm" in said), (done, said))
-        if not is_run and ("look first at" in done.stderr or "in the answer" in done.stderr):
-            check("%s: the same place is named" % name, said and place_named(said) == place_named(done.stderr), (done.stderr, said))
+        if named(done.stderr):
+            check("%s: the same is named" % name, said and named_by_alarm(said, named(done.stderr), "in the answer" in done.stderr), (done.stderr, said))
     check("most of these are no runs", wrong > len(ways) / 2, wrong)
 
 
