@@ -11,6 +11,8 @@ HEAD = "# dumgerok record 1 node %d of %d part 1 cluster days\n"
 MINUTE, HOUR = 60_000, 3_600_000
 # An alarm, or that there is none, is waited for so many seconds.
 LONG = 300
+# Where so long nothing is new all was read.
+QUIET = 8
 
 
 class Recorded(pacing.Node):
@@ -233,9 +235,15 @@ def spoiled(texts, ends, chance, pattern, new):
     return [numbered(text[:place.start()] + turned + text[place.end():]) if one == own else text for one, text in enumerate(texts)]
 
 
-def place_named(said):
-    found = re.search(r"(\d)\.record\.1, line (\d+)", said)
-    return found and (found[1], found[2])
+def named(said):
+    """The node and its entry where an entry can't be; where something was told otherwise the record and the line. None where all that is left waits."""
+    found = re.search(r"look first at node (\d), entry (\d+)\nnode", said) or re.search(r"in the answer that ends in \S*(\d)\.record\.1, line (\d+)", said)
+    return found and found.groups()
+
+
+def named_by_alarm(said, name, is_told):
+    found = re.search(r"alarm: look first at node (\d), entry (\d+), which ends in \S*(\d)\.record\.1, line (\d+)", said)
+    return found and (found.groups()[2:] if is_told else found.groups()[:2]) == name
 
 
 def compared(bed, day, ways, share=0.6):
@@ -261,26 +269,25 @@ def compared(bed, day, ways, share=0.6):
         is_run = done.returncode == 0
         wrong += not is_run
         check("%s: what is forgotten changes no verdict" % name, (said is None) == is_run and (is_run or "alarm" in said), (done, said))
-        if not is_run and ("look first at" in done.stderr or "in the answer" in done.stderr):
-            check("%s: the same place is named" % name, said and place_named(said) == place_named(done.stderr), (done.stderr, said))
+        if named(done.stderr):
+            check("%s: the same is named" % name, said and named_by_alarm(said, named(done.stderr), "in the answer" in done.stderr), (done.stderr, said))
     check("most of these are no runs", wrong > len(ways) / 2, wrong)
 
 
 def followed_on(bed, day, share=0.6):
     """The records as they are: no alarm, and of the second part, too, most is forgotten."""
     check, copied = bed.tally.check, Copied(os.path.join(day.folder, "right"), day.texts(), day.split(share))
-    entries = sum(len(re.findall(r"^> (?!tick)|^fired ", text, re.M)) for text in copied.texts)
     process = follow(bed, copied.paths, "--metrics", copied.metrics)
     first = until(lambda: (number(copied.metrics, "forgotten_entries") or 0) > 0)
     copied.go_on()
-    before, most = number(copied.metrics, "forgotten_entries"), 0
-    # what is in it now, and the program that it asks
-    end = time.monotonic() + LONG
-    while time.monotonic() < end and process.poll() is None and (number(copied.metrics, "forgotten_entries") == before or number(copied.metrics, "entries") < 0.95 * entries):
+    before, most, since = 0, 0, time.monotonic()
+    # until nothing more comes: what is in it, and in the program that it asks
+    while process.poll() is None and time.monotonic() < since + QUIET:
         most = max(most, memory(process.pid))
+        before, since = (before, since) if number(copied.metrics, "entries") == before else (number(copied.metrics, "entries"), time.monotonic())
         time.sleep(0.02)
-    time.sleep(4)
     check("a day as it should be is followed without an alarm", process.poll() is None, process.poll() is not None and process.communicate())
+    check("and to its end", number(copied.metrics, "waiting_nodes") == 0, open(copied.metrics).read())
     left = copied.entries_left()
     check("what repeats is forgotten", first and left < 0.5 * number(copied.metrics, "entries"), open(copied.metrics).read())
     bed.tally.note("of %d entries %d are left with %d bytes; at most %d kB" % (number(copied.metrics, "entries"), left, number(copied.metrics, "entry_bytes"), most))

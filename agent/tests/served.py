@@ -1,5 +1,5 @@
 """Records that agents serve over HTTP, and `dumgerokctl judge --follow` of them: agents that go and come back, and nodes that go wrong."""
-import concurrent.futures, os, re, sys, time
+import concurrent.futures, os, re, shlex, sys, time
 
 from cluster import page
 from followed import ended, follow, number
@@ -16,7 +16,7 @@ def gone_wrong(bed, agents, i, way):
     """The program of an agent whose node goes wrong so, once the file is there that is named behind it."""
     path, file = os.path.join(agents.folder, "%d.wrong" % i), os.path.join(agents.folder, "%d.now" % i)
     with open(path, "w") as script:
-        script.write("#!/bin/sh\nexec %s %s/wrong_node.py %s %s '%s' \"$@\"\n" % (sys.executable, HERE, bed.program, file, way))
+        script.write("#!/bin/sh\nexec %s \"$@\"\n" % shlex.join([sys.executable, os.path.join(HERE, "wrong_node.py"), bed.program, file, way]))
     os.chmod(path, 0o755)
     return path, file
 
