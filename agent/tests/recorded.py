@@ -36,7 +36,7 @@ class Load:
             lines = [dict(do="submit", queue=chance.randrange(16), priority=chance.choice((0, 0, 9)), text="%08x" % chance.randrange(1 << 32)) for _ in range(AT_ONCE)]
             link.sendall(b"".join(json.dumps(line).encode() + b"\n" for line in lines))
             self.kept += sum(json.loads(reader.readline())["ok"] for _ in lines)
-            time.sleep(0.05)
+            time.sleep(0.005)
 
     def work(self, link, reader):
         link.sendall(b'{"do":"take","wait":true}\n' * 8)
@@ -139,9 +139,9 @@ def short(done):
 
 def recorded(bed):
     """One machine alone, whose record nobody else's has to fit, and three."""
-    for count, borne in ((1, is_run), (3, is_borne)):
+    for count, kills, borne in ((1, 9, is_run), (3, 15, is_borne)):
         chance, agents = random.Random(bed.seed + count), bed.agents("recorded%d" % count, count=count, slots=2048)
-        kept = killed(agents, chance, 9)
+        kept = killed(agents, chance, kills)
         name = "%d machine%s" % (count, "s" * (count > 1))
         judged(bed, agents, "%s killed under load" % name)
         texts = records(agents)
