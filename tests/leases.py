@@ -14,8 +14,9 @@ sys.dont_write_bytecode = True
 from lease_cluster import IN_BOUND, KEEPS, TRIP, Cluster, file_of_leases
 
 LEASE = KEEPS * 1000
-# Where a holder is gone another one holds the lease behind so many round trips: its voters keep their grants for 100. One whose machine is stopped and goes on may have renewed it last.
-REPLACED, STOPPED = 103, 115
+# Where a holder is gone another one holds the lease behind so many round trips: its voters keep their grants for 100. Where its whole machine is stopped, of three that all
+# want it, the two that are left may refuse each other first, and then rest for 16 at most.
+REPLACED, STOPPED = 103, 120
 SIDE_BY_SIDE, IN_TURN = 25, 4
 RUNS_OF_A_SET = SIDE_BY_SIDE * IN_TURN
 SETS_AT_A_TIME = 5
