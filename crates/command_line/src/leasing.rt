@@ -49,7 +49,7 @@ pub(crate) fn list_of(
     machines: u8,
     sealing: &Option<Sealing>,
 ) -> Result<u64, AllocError>
-    // Promise: Machines take no lease messages of another list: its number is how many they are, or, under keys, a hash of that and of their cluster's name.
+    // Promise: The number of a list of machines is how many they are, or, under keys, a hash of that and of their cluster's name.
     // Refuses: list_of_any_cluster.
     ensures { IfOk result (λ list. list ≡ list_of machines sealing.now) }
 {
@@ -78,8 +78,8 @@ pub fn serve_leases<P: AsPath, R: Read, W: Write>(
     input: &mut R,
     output: &mut W,
 ) -> Status
-    // Promise: `lease` reads its input to the end, or until the device fails, and writes the number of its process, which no other process of its file
-    // has, and then just the answers of its session to what it read, by the terms of the command line, with its messages sealed under the keys of the
+    // Promise: `lease` reads its input to the end, or until the device fails, and writes the number of its process, one above what some file kept,
+    // and then just the answers of its session to what it read, by the terms of the command line, with its messages sealed under the keys of the
     // cluster's name and number of machines where keys are given, and nowhere else. Where the file isn't served, nothing is read or written.
     // Also: lease_session::serve_leases.
     // Refuses: lease_keys_not_used, process_of_the_one_before.
