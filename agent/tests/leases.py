@@ -77,6 +77,12 @@ class Cluster:
         self.leads.environment = self.environment[i]
         self.leads.start(i)
 
+    def again(self):
+        """`lock` ends with its lock: who wants it again asks again."""
+        for i, client in enumerate(self.leads.processes):
+            if client and client.poll() is not None:
+                self.lead(i)
+
     def restart(self, i):
         self.agents.start(i, **self.environment[i])
 
@@ -165,7 +171,10 @@ def one_fault(cluster, kind):
 
 def faults(cluster, kind, count):
     """So many faults of a kind: for how long two led, for how long nobody did each time, and whether epochs rise."""
-    nobody = [one_fault(cluster, kind) for _ in range(count)]
+    nobody = []
+    for _ in range(count):
+        cluster.again()
+        nobody.append(one_fault(cluster, kind))
     return overlap(cluster.leads.paths), nobody, rise(cluster.leads.paths)
 
 
@@ -346,6 +355,7 @@ def main():
     words.add_argument("program")
     words.add_argument("--faults", type=int, default=50, metavar="N")
     words.add_argument("--only", nargs="*", default=KINDS + ["clocks at their bounds", "a clock out of them", "shards", "hurried"])
+    words.add_argument("--lock", action="store_true", help="faults befall who has a lock by `dumgerokctl lock --wait`, and not who leads")
     words.add_argument("--shards", type=int, default=SHARDS)
     words.add_argument("--lease-ms", type=int, default=LEASE_MS, help="with round trips of a hundredth; all bounds scale with it")
     words.add_argument("--jobs", type=int, default=2, help="so many kinds at a time")
@@ -353,7 +363,7 @@ def main():
     given = words.parse_args()
     program, programs = os.path.abspath(given.program), os.path.abspath(programs_of(os.path.join(HERE, "../target/release")))
     folder, passed, failed = tempfile.mkdtemp(prefix="dumgerok-leases-"), 0, 0
-    most = NOBODY * given.lease_ms / LEASE_MS + MORE
+    most, led = NOBODY * given.lease_ms / LEASE_MS + MORE, ("lock", "x", "--wait") if given.lock else ("lead",)
 
     def play(at, kind):
         place = os.path.join(folder, str(at))
@@ -363,8 +373,8 @@ def main():
             if kind in ("shards", "hurried"):
                 return changes(program, programs, place, 2 * given.faults, given.shards, given.lease_ms, given.trace, kind == "hurried")
             if kind == "clocks at their bounds":
-                return many(program, programs, place, "cut off", given.faults, (SLOW, FAST, RIGHT), lease_ms=given.lease_ms)
-            return many(program, programs, place, kind, given.faults, lease_ms=given.lease_ms)
+                return many(program, programs, place, "cut off", given.faults, (SLOW, FAST, RIGHT), led, given.lease_ms)
+            return many(program, programs, place, kind, given.faults, words=led, lease_ms=given.lease_ms)
         except Exception:
             traceback.print_exc(limit=-3)
             return None
