@@ -8,7 +8,7 @@ use Rattle.trace_console.specs.declared.files.TraceFile.{TraceFile}
 use Rattle.trace_console.specs.declared.judging.Stage.{Stage}
 use Rattle.command_line.specs.Ends.{code_of}
 use Rattle.command_line.specs.Obeyed.{AreKeysOf, EndsByFile, EndsByRecords, ServesFor, names_of}
-use Rattle.command_line.specs.Served.{ServesSo, ServesTo}
+use Rattle.command_line.specs.Served.{BreaksOff, ServesSo, ServesTo}
 use Rattle.command_line.specs.declared.invocation.NodePlace.{NodePlace}
 use Rattle.command_line.specs.declared.invocation.Sealing.{Sealing}
 use Rattle.command_line.specs.declared.keys.Keys.{Keys}
@@ -27,18 +27,19 @@ records_end stage names old new files ending (Ok code) named prints is = inr (fi
 records_end stage names old new files ending (Err e) named prints is = tt
 
 -- where nothing was done, less is said of that
-pub untouched_so : (A B : Type 0) (To : ServingEnd → Type 0) (ended : Status) → (A → B) → ServesSo A To ended → ServesSo B To ended
-untouched_so A B To how.Done less so = so
-untouched_so A B To (how.Failed error) less so = tt
-untouched_so A B To (how.File fault) less so = ⊎_elim (λ a. inl (less a)) (λ b. inr b) so
-untouched_so A B To (how.Foreign owner) less so = less so
-untouched_so A B To (how.Device error) less so = ⊎_elim (λ a. inl (less a)) (λ b. inr b) so
-untouched_so A B To how.Key less so = less so
-untouched_so A B To (how.Spent fault) less so = so
-untouched_so A B To (how.Lost error) less so = ⊎_elim (λ a. inl (less a)) (λ b. inr b) so
+pub untouched_so : (A B Broken : Type 0) (To : ServingEnd → Type 0) (ended : Status) → (A → B) → ServesSo A Broken To ended → ServesSo B Broken To ended
+untouched_so A B Broken To how.Done less so = so
+untouched_so A B Broken To (how.Failed error) less so = ⊎_elim (λ a. inl (less a)) (λ b. inr b) so
+untouched_so A B Broken To (how.File fault) less so = ⊎_elim (λ a. inl (less a)) (λ b. inr b) so
+untouched_so A B Broken To (how.Foreign owner) less so = less so
+untouched_so A B Broken To (how.Device error) less so = ⊎_elim (λ a. inl (less a)) (λ b. inr b) so
+untouched_so A B Broken To how.Key less so = less so
+untouched_so A B Broken To (how.Spent fault) less so = so
+untouched_so A B Broken To (how.Lost error) less so = ⊎_elim (λ a. inl (less a)) (λ b. inr b) so
 
 pub node_ends : {E : Type 0} (place : NodePlace) (round_trip : ℕ) (sealing : Option Sealing) (life : List ℕ) (input rest before behind : Option (List ℕ)) (ended : Status) (keys : Option Keys) (result : Result ℕ E)
-    → AreKeysOf sealing life keys → ServesSo ((rest ≡ input) × (behind ≡ before)) (ServesTo keys place.id place.nodes (measured round_trip) input rest before behind) ended
+    → AreKeysOf sealing life keys → ServesSo ((rest ≡ input) × (behind ≡ before)) (BreaksOff keys place.id place.nodes (measured round_trip) input rest before behind)
+    (ServesTo keys place.id place.nodes (measured round_trip) input rest before behind) ended
     → IfOk result (λ (code : ℕ). code ≡ code_of ended) → IfOk result (ServesFor place round_trip sealing life input rest before behind)
 node_ends place round_trip sealing life input rest before behind ended keys (Ok code) are serves is = (ended, keys, is, are, serves)
 node_ends place round_trip sealing life input rest before behind ended keys (Err e) are serves is = tt

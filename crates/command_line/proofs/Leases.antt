@@ -12,7 +12,7 @@ use Rattle.lease_session.specs.declared.serving.LeaseEnd.TheVariants as end
 use Rattle.command_line.specs.Ends.{code_of}
 use Rattle.command_line.specs.LeaseServed.{AreTermsOf, IsLeaseSealUnder, IsNotBegun, LeaseServesSo, LeaseServesTo, start_by}
 use Rattle.command_line.specs.Obeyed.{AreKeysOf, LeasesFor}
-use Rattle.command_line.specs.Served.{IsStopped}
+use Rattle.command_line.specs.Served.{IsStopped, IsUnserved}
 use Rattle.command_line.specs.declared.invocation.NodePlace.{NodePlace}
 use Rattle.command_line.specs.declared.invocation.Sealing.{Sealing}
 use Rattle.command_line.specs.declared.keys.Keys.{Keys}
@@ -48,6 +48,16 @@ stopped_unbegun (status.Device error) is = tt
 stopped_unbegun status.Key is = tt
 stopped_unbegun (status.Spent fault) is = tt
 stopped_unbegun (status.Lost error) is = tt
+
+pub unserved_unbegun : (ended : Status) → IsUnserved ended → IsNotBegun ended
+unserved_unbegun status.Done is = absurd is
+unserved_unbegun (status.Failed error) is = tt
+unserved_unbegun (status.File fault) is = tt
+unserved_unbegun (status.Foreign owner) is = tt
+unserved_unbegun (status.Device error) is = tt
+unserved_unbegun status.Key is = tt
+unserved_unbegun (status.Spent fault) is = absurd is
+unserved_unbegun (status.Lost error) is = tt
 
 -- where nothing was done, less is said of that
 pub untouched_so : (A B : Type 0) (To : LeaseEnd → Type 0) (ended : Status) → (A → B) → LeaseServesSo A To ended → LeaseServesSo B To ended

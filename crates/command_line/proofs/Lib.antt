@@ -1,4 +1,6 @@
 mod Texts
+mod Parsed
 mod Stopped
 mod Endings
 mod Leases
+mod Made

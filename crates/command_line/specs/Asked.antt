@@ -19,7 +19,7 @@ use Rattle.command_line.specs.declared.invocation.NodePlace.{NodePlace}
 use Rattle.command_line.specs.declared.invocation.Making.{Making}
 use Rattle.command_line.specs.declared.invocation.Sealing.{Sealing}
 use Rattle.command_line.specs.declared.invocation.Batch.{Batch}
-use Rattle.command_line.specs.declared.invocation.Batch.TheVariants.{Answer, Show, Sim, Store, Trace, Record, Threads, Turns}
+use Rattle.command_line.specs.declared.invocation.Batch.TheVariants.{Answer, Show, Sim, Store, Trace, Record, Threads, Turns, Contradiction}
 use Rattle.command_line.specs.declared.invocation.Invocation.{Invocation}
 use Rattle.command_line.specs.declared.invocation.Invocation.TheVariants as invocation
 
@@ -49,6 +49,8 @@ pub data Asked : Type 0 where
   runs_threads : Bool → Asked
   -- the turns of a trace
   tells_turns : Asked
+  -- its entries that can't be by themselves
+  tells_contradiction : Asked
   -- with the file of its jobs, and the name of its cluster
   makes : List ℕ → Made → Option (List ℕ) → Option (List ℕ) → Asked
   -- the name of the cluster is said under a key and without one; its process has this life, or none
@@ -89,6 +91,7 @@ asked_batch (Trace stage) = traces (is_ongoing stage) []
 asked_batch Record = records
 asked_batch (Threads kind) = runs_threads (is_ordered kind)
 asked_batch Turns = tells_turns
+asked_batch Contradiction = tells_contradiction
 
 abbrev pub looks : Shown → List ℕ → Asked
 looks show.All path = inspects false path
@@ -239,9 +242,11 @@ abbrev pub node_of : Arguments → Option Asked
 node_of arguments = serves_by (arguments (codes "FILE")) (place_of arguments) (round_trip_of (arguments (codes "ROUND_TRIP_MS")))
     (keyed_by (arguments (codes "key")) (arguments (codes "cluster"))) (arguments (codes "cluster")) (life_of (arguments (codes "life")))
 
--- the turns of a trace, or the verdict on it
+-- the turns of a trace, its entries that can't be by themselves, or the verdict on it
 abbrev pub trace_of : Arguments → Lists → Asked
-trace_of arguments lists = if is_set (arguments (codes "turns")) then tells_turns else traces (is_set (arguments (codes "ongoing"))) (lists (codes "FILE"))
+trace_of arguments lists =
+    if is_set (arguments (codes "turns")) then tells_turns else if is_set (arguments (codes "core")) then tells_contradiction else
+    traces (is_set (arguments (codes "ongoing"))) (lists (codes "FILE"))
 
 -- what the command of a name asks for; nothing, where a number is out of its range
 abbrev pub asked_by : List ℕ → Arguments → Lists → Option Asked

@@ -1,5 +1,7 @@
 -- The secrets that a file of keys has.
-use Rattle.std.specs.Prelude.{ℕ, ◌==◌, List, [], ◌∷◌, length, if◌then◌else◌, option_map, Option, Some, None}
+use Rattle.std.specs.Prelude.{ℕ, ◌≡◌, ◌==◌, bit_and, List, [], ◌∷◌, length, if◌then◌else◌, option_map, Option, Some, None}
+use Rattle.std.specs.Fs.{IsFile, file_type, metadata_mode}
+use Rattle.std.specs.declared.fs.attrs.Metadata.{Metadata}
 use Rattle.line_words.specs.Lines.{bytes_of}
 use Rattle.command_line.specs.declared.keys.Secrets.{Secrets}
 
@@ -44,3 +46,7 @@ secrets_of (first ∷ []) = one_of (secret_in first)
 secrets_of (first ∷ behind ∷ []) = first_and first behind
 secrets_of (first ∷ second ∷ behind ∷ []) = second_and first second behind
 secrets_of (first ∷ second ∷ third ∷ fourth ∷ lines) = None
+
+-- a regular file whose mode gives nothing to the group and to others
+abbrev pub IsPrivate : Metadata → Type 0
+IsPrivate about = IsFile (file_type about) × (bit_and (metadata_mode about) 0o077 ≡ 0)

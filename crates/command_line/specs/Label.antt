@@ -1,9 +1,10 @@
 -- Whose a file is.
-use Rattle.std.specs.Prelude.{◌≡◌, ℕ, ◌+◌, ◌*◌, ◌==◌, ◌&&◌, ◌||◌, not, Bool, false, List, ◌∷◌, ◌++◌, bytes_eq, codes, get_or, if◌then◌else◌, replicate, slice_index_or, take, Option, Some, None}
+use Rattle.std.specs.Prelude.{◌≡◌, ◌≢◌, ◌↔◌, ◌⊎◌, ℕ, ◌+◌, ◌*◌, ◌==◌, ◌&&◌, ◌||◌, not, Bool, false, IsTrue, IfSome, List, ◌∷◌, ◌++◌, bytes_eq, codes, get_or, if◌then◌else◌, replicate, slice_index_or, take, Option, Some, None}
 use Rattle.sealed_msg.specs.Hmac.{hmac}
 use Rattle.file_disk.specs.Label.{IsOfANode, byte_of, mark_in, marked_label, slots_in}
 use Rattle.file_disk.specs.declared.stride.Stride.{Stride}
 use Rattle.file_disk.specs.declared.stride.Stride.TheVariants.{Packed, Spaced}
+use Rattle.command_line.specs.LeaseLabel.{lease_label}
 use Rattle.command_line.specs.declared.label.LabelOwner.{LabelOwner}
 use Rattle.command_line.specs.declared.label.LabelOwner.TheVariants as owner
 
@@ -64,3 +65,11 @@ judged (owner.Marked id nodes slots its) sectors mark =
     if sectors == 8 + 4 * slots then (if are_one its mark then owner.Marked id nodes slots its else owner.OtherCluster id nodes)
     else owner.OtherLength slots
 judged other sectors mark = other
+
+-- a label, or none, says that a file is this one's
+pub record SaysOf (label : Option (List ℕ)) (whose : LabelOwner) : Type 0 where
+  pub node : (id nodes : ℕ) → (whose ≡ owner.Node id nodes) ↔ ((label ≡ Some (label_of id nodes Packed)) ⊎ (label ≡ Some (label_of id nodes Spaced)))
+  pub marked : IfSome label (λ l. (whose ≡ owner.Marked (get_or l 9 0) (get_or l 10 0) (slots_in l) (mark_in l)) ↔ IsTrue (is_marked l))
+  pub leases : (machine : ℕ) → (whose ≡ owner.Leases machine) ↔ (label ≡ Some (lease_label machine))
+  pub unread : (version : ℕ) → (whose ≡ owner.Unread version) ↔ (version ≢ 1) × (version ≢ 2) × IsOfVersion label version
+  pub by_label : IsByLabel whose

@@ -2,6 +2,8 @@ pub mod Asked
 pub mod Ends
 pub mod Keys
 pub mod Label
+pub mod Labelled
+pub mod Mistakes
 pub mod Obeyed
 pub mod Performed
 pub mod Served

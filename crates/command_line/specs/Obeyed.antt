@@ -12,7 +12,7 @@ use Rattle.trace_console.specs.declared.judging.Stage.{Stage}
 use Rattle.command_line.specs.Ends.{code_of}
 use Rattle.command_line.specs.LeaseServed.{AreTermsOf, LeaseServesSo, LeaseServesTo}
 use Rattle.command_line.specs.Performed.{IsOutcomeOf}
-use Rattle.command_line.specs.Served.{ServesSo, ServesTo}
+use Rattle.command_line.specs.Served.{BreaksOff, ServesSo, ServesTo}
 use Rattle.command_line.specs.declared.invocation.Invocation.{Invocation}
 use Rattle.command_line.specs.declared.invocation.Invocation.TheVariants as invocation
 use Rattle.command_line.specs.declared.invocation.NodePlace.{NodePlace}
@@ -54,7 +54,8 @@ AreKeysOf (Some sealing) life (Some keys) = (keys.cluster.now ≡ string_bytes s
 abbrev pub ServesFor : NodePlace → ℕ → Option Sealing → List ℕ → Option (List ℕ) → Option (List ℕ) → Option (List ℕ) → Option (List ℕ) → ℕ → Type 0
 ServesFor place round_trip sealing life input rest before behind code =
     (status : Status) × (keys : Option Keys) × (code ≡ code_of status) × AreKeysOf sealing life keys
-    × ServesSo ((rest ≡ input) × (behind ≡ before)) (ServesTo keys place.id place.nodes (measured round_trip) input rest before behind) status
+    × ServesSo ((rest ≡ input) × (behind ≡ before)) (BreaksOff keys place.id place.nodes (measured round_trip) input rest before behind)
+    (ServesTo keys place.id place.nodes (measured round_trip) input rest before behind) status
 
 -- A process of leases was served as its command line says; without a round trip there are no terms, and nothing is read or written.
 abbrev pub LeasesFor : NodePlace → ℕ → Option Sealing → Option (List ℕ) → Option (List ℕ) → Option (List ℕ) → Option (List ℕ) → ℕ → Type 0

@@ -7,6 +7,7 @@ use Rattle.invite_console.specs.Show.{show_text}
 use Rattle.invite_console.specs.Sim.{IsSimPrintout}
 use Rattle.invite_console.specs.Reasons.{answer_flaw, schedule_flaw, show_flaw}
 use Rattle.store_console.specs.Session.{IsSession, IsSessionWhy, IsTold as IsSessionTold}
+use Rattle.trace_console.specs.Contradicting.{IsContradictionOf}
 use Rattle.trace_console.specs.Ongoing.{IsJudgedAt}
 use Rattle.trace_console.specs.Reported.{IsTold}
 use Rattle.invite_console.specs.Recording.{IsRecording}
@@ -14,7 +15,7 @@ use Rattle.threads_console.specs.Printed.{IsThreading}
 use Rattle.threads_console.specs.Reasons.{plans_flaw}
 use Rattle.trace_console.specs.Turning.{AreToldOf}
 use Rattle.command_line.specs.declared.invocation.Batch.{Batch}
-use Rattle.command_line.specs.declared.invocation.Batch.TheVariants.{Answer, Show, Sim, Store, Trace, Record, Threads, Turns}
+use Rattle.command_line.specs.declared.invocation.Batch.TheVariants.{Answer, Show, Sim, Store, Trace, Record, Threads, Turns, Contradiction}
 
 -- the printout is what the command prints for these bytes
 abbrev pub IsOutcomeOf : Batch → List ℕ → Printout → Type 0
@@ -26,6 +27,7 @@ IsOutcomeOf (Trace stage) = IsJudgedAt stage
 IsOutcomeOf Record = IsRecording
 IsOutcomeOf (Threads kind) = IsThreading kind
 IsOutcomeOf Turns = AreToldOf
+IsOutcomeOf Contradiction = IsContradictionOf
 
 -- this is what is wrong with the input, or why its entries are no run; what is wrong with a text that is no trace is printed, and not said again
 abbrev pub IsWhyOf : Batch → Option (List ℕ) → ExitKind → List ℕ → Type 0
@@ -37,6 +39,7 @@ IsWhyOf (Trace stage) = IsTold
 IsWhyOf Record = IsWhy schedule_flaw
 IsWhyOf (Threads kind) = IsWhy plans_flaw
 IsWhyOf Turns = IsTold
+IsWhyOf Contradiction = IsTold
 
 -- what standard error says of the requests of a store belongs to what was printed
 abbrev pub IsSaidOf : Batch → Option (List ℕ) → Option (List ℕ) → Option (List ℕ) → ExitKind → List ℕ → Type 0

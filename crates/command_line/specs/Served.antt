@@ -6,7 +6,7 @@ use Rattle.file_disk.specs.File.{FileState, state_of}
 use Rattle.file_disk.specs.declared.disk.FileDisk.{FileDisk}
 use Rattle.pace.specs.declared.timer_settings.TimerSettings.{TimerSettings}
 use Rattle.node_session.specs.Seals.{Seals, new_seals}
-use Rattle.node_server.specs.Served.{IsServedTo, begun}
+use Rattle.node_server.specs.Served.{IsBrokenOff, IsServedTo, begun}
 use Rattle.node_server.specs.declared.serving.ServingEnd.{ServingEnd}
 use Rattle.node_server.specs.declared.serving.ServingEnd.TheVariants as end
 use Rattle.command_line.specs.Keys.{secrets_of}
@@ -35,17 +35,22 @@ abbrev pub ServesTo : Option Keys → ℕ → ℕ → TimerSettings → Option (
 ServesTo keys id nodes setting input rest before behind how =
     (seal : Option Seals) × (disk : FileState) × (left : FileState) × IsSealUnder keys nodes seal × IsServedTo state_of (begun id nodes setting seal disk) input rest before behind left how
 
--- By how it ended: the input was read to its end and all of it answered; or the device failed, and all was answered that was read; or the file was lost, and
--- of the command behind which that was found nothing was written; or nothing was read or written.
-abbrev pub ServesSo : Type 0 → (ServingEnd → Type 0) → Status → Type 0
-ServesSo Untouched To status.Done = To end.Input
-ServesSo Untouched To (status.Failed error) = Unit {0}
-ServesSo Untouched To (status.File fault) = Untouched ⊎ To end.Device
-ServesSo Untouched To (status.Foreign owner) = Untouched
-ServesSo Untouched To (status.Device error) = Untouched ⊎ To end.Device
-ServesSo Untouched To status.Key = Untouched
-ServesSo Untouched To (status.Spent fault) = ⊥
-ServesSo Untouched To (status.Lost error) = Untouched ⊎ (To end.Device ⊎ To (end.Lost error))
+-- It was served until an error broke it off: of what was read a front was fed, and of the answers to that a front was written.
+abbrev pub BreaksOff : Option Keys → ℕ → ℕ → TimerSettings → Option (List ℕ) → Option (List ℕ) → Option (List ℕ) → Option (List ℕ) → Type 0
+BreaksOff keys id nodes setting input rest before behind =
+    (seal : Option Seals) × (disk : FileState) × IsSealUnder keys nodes seal × IsBrokenOff state_of (begun id nodes setting seal disk) input rest before behind
+
+-- By how it ended: the input was read to its end and all of it answered; or an error broke it off; or the device failed, and all was answered that was read;
+-- or the file was lost, and of the command behind which that was found nothing was written; or nothing was read or written.
+abbrev pub ServesSo : Type 0 → Type 0 → (ServingEnd → Type 0) → Status → Type 0
+ServesSo Untouched Broken To status.Done = To end.Input
+ServesSo Untouched Broken To (status.Failed error) = Untouched ⊎ Broken
+ServesSo Untouched Broken To (status.File fault) = Untouched ⊎ To end.Device
+ServesSo Untouched Broken To (status.Foreign owner) = Untouched
+ServesSo Untouched Broken To (status.Device error) = Untouched ⊎ To end.Device
+ServesSo Untouched Broken To status.Key = Untouched
+ServesSo Untouched Broken To (status.Spent fault) = ⊥
+ServesSo Untouched Broken To (status.Lost error) = Untouched ⊎ (To end.Device ⊎ To (end.Lost error))
 
 -- how a node ends that isn't served
 abbrev pub IsUnserved : Status → Type 0

@@ -75,13 +75,16 @@ fn sim_details(words: &ArgMatches<'_>) -> Details
     }
 }
 
-/// The turns of the run of standard input, or the verdict on the run of the files that are named, or of standard input where none is.
+/// The turns of the run of standard input, its entries that can't be by themselves, or the verdict on the run of the files that are named, or of standard input where none is.
 fn trace(alloc: Global, words: &ArgMatches<'_>) -> Result<Option<Invocation>, AllocError>
     ensures { IfOk result (λ invocation. option_map asked invocation
         ≡ Some (trace_of (λ id. first_value (found_of words.now) id) (λ id. values_of (found_of words.now) id))) }
 {
     if is_set(words, "turns") {
         return Ok(Some(Invocation::Batch(Batch::Turns)));
+    }
+    if is_set(words, "core") {
+        return Ok(Some(Invocation::Batch(Batch::Contradiction)));
     }
     let stage = stage(words);
     let files = files(alloc, words)?;
@@ -378,7 +381,7 @@ pub(crate) fn place(words: &ArgMatches<'_>) -> Option<NodePlace>
 }
 
 /// Whether an option without a value was given.
-fn is_set(words: &ArgMatches<'_>, option: &str) -> bool
+pub(crate) fn is_set(words: &ArgMatches<'_>, option: &str) -> bool
     ensures { result ≡ is_set (first_value (found_of words.now) option.now) }
 {
     match words.get_str(option) {
@@ -388,7 +391,7 @@ fn is_set(words: &ArgMatches<'_>, option: &str) -> bool
 }
 
 /// Whether a word is this name.
-fn is(word: &str, name: &str) -> bool
+pub(crate) fn is(word: &str, name: &str) -> bool
     ensures { result ≡ bytes_eq word.now name.now }
 {
     word.as_bytes() == name.as_bytes()

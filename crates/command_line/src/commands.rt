@@ -210,6 +210,12 @@ const TURNS: Argument = Argument {
     help: "Prints the turns in the order that stands beside the trace, if they can come so, and how the node of each stands then",
 };
 
+const CORE: Argument = Argument {
+    name: "core",
+    kind: ArgumentKind::Without(&["FILE", "ongoing", "turns"]),
+    help: "Prints the last entries of a node up to one that can't be, whatever the others did, and how it stood before them",
+};
+
 /// The commands in the order of the help.
 const COMMANDS: [Described; 12] = [
     Described {
@@ -280,7 +286,7 @@ const COMMANDS: [Described; 12] = [
         name: "trace",
         about: "Reads a trace, and prints an order in which its entries can have come, or where none goes on",
         more: "A trace is the nodes' histories as JSON. It is read from standard input, or from files that have some of the nodes each, in their order (docs/SIMULATION.md).\n\nExit status: 0 it is a run, or one that may go on; 1 it is none, or no trace, reading or writing failed, or there was no memory; 2 the command line can't be read, or asks for help.\n\nExample: echo '{\"nodes\":1,\"histories\":[[{\"do\":\"check\",\"sent\":[]}]]}' | invite trace",
-        arguments: &[JUDGED, ONGOING, TURNS],
+        arguments: &[JUDGED, ONGOING, TURNS, CORE],
     },
     Described {
         name: "record",

@@ -52,6 +52,8 @@ pub enum Batch {
     Threads(TraceKind),
     /// Of a trace.
     Turns,
+    /// Of a trace, the entries that can't be by themselves.
+    Contradiction,
 }
 
 /// What a file is made for.

@@ -1,8 +1,8 @@
 // The keys of a node's messages, as a file has them.
-ghost use Rattle.std.specs.Prelude.{◌≡◌, IfOk, IfSome, option_map};
+ghost use Rattle.std.specs.Prelude.{◌≡◌, ◌↔◌, IfOk, IfSome, IsTrue, None, Ok, option_map};
 ghost use Rattle.line_words.specs.Lines.{lines_of};
 ghost use Rattle.sealed_msg.specs.Cluster.{cluster_key};
-ghost use Rattle.command_line.specs.Keys.{first_and, one_of, pair_of, secret_in, secrets_of, two_of};
+ghost use Rattle.command_line.specs.Keys.{IsPrivate, first_and, one_of, pair_of, secret_in, secrets_of, two_of};
 ghost use Rattle.lease_session.specs.Key.{lease_key};
 ghost use Rattle.command_line.specs.LeaseServed.{IsLeaseSealBy, IsLeaseSealOf};
 ghost use Rattle.command_line.specs.Served.{AreSpelled, IsSealBy, seals_by};
@@ -12,7 +12,7 @@ use line_words::{bytes, cut_line};
 use node_session::Seal;
 use sealed_msg::{Key, cluster_key};
 use std::alloc::{AllocError, Global};
-use std::fs::{File, Files};
+use std::fs::{File, Files, Metadata};
 use std::io;
 use std::io::Read;
 use std::os::unix::fs::PermissionsExt;
@@ -143,11 +143,30 @@ fn read_secrets(
 {
     let mut file = File::open(rt, path)?;
     let about = file.metadata()?;
-    if !about.is_file() || about.permissions().mode() & 0o077 != 0 {
+    secrets_of(alloc, &about, &mut file)
+}
+
+/// The secrets of a file of which this is known. None where it isn't one of keys, or others may read it.
+fn secrets_of(alloc: Global, about: &Metadata, file: &mut File) -> io::Result<Option<Secrets>>
+    // Promise: The secrets of a key file are taken where it is a regular one that is open to nobody but its owner, and no others.
+    // Also: open, is_private.
+    // Refuses: key_file_open_to_the_group, key_of_a_pipe_taken.
+    ensures private { IfOk result (λ secrets. IfSome secrets (λ them. IsPrivate about.now)) }
+    ensures open { (IsPrivate about.now → ⊥) → result ≡ Ok None }
+    ensures spelled { IfOk result (λ secrets. IfSome secrets (λ them. AreSpelled (pair_of them))) }
+{
+    if !is_private(about) {
         return Ok(None);
     }
-    let text = read_text(alloc, &mut file)?;
+    let text = read_text(alloc, file)?;
     Ok(secrets_in(alloc, &text)?)
+}
+
+/// Whether it is a regular file that is open to nobody but its owner.
+fn is_private(about: &Metadata) -> bool
+    ensures { IsTrue result ↔ IsPrivate about.now }
+{
+    about.is_file() && about.permissions().mode() & 0o077 == 0
 }
 
 /// Reads a file that may be one of keys; of a longer one no more than tells that.

@@ -21,7 +21,9 @@ impl<D: SectorDisk> EpochFile<D> {
     }
 
     /// The disk alone, as it is.
-    pub(crate) fn into_disk(self) -> D {
+    pub(crate) fn into_disk(self) -> D
+        ensures { result ≡ self.file.disk }
+    {
         let EpochFile { file } = self;
         file.into_disk()
     }

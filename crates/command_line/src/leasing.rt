@@ -1,14 +1,15 @@
 // A process of leases that is served over its file.
-ghost use Rattle.std.specs.Prelude.{◌≡◌, IfErr, IfOk};
+ghost use Rattle.std.specs.Prelude.{◌≡◌, ◌≤◌, IfErr, IfOk};
+ghost use Rattle.command_line.specs.Labelled.{AreOwnLeases};
 ghost use Rattle.command_line.specs.LeaseServed.{IsLeaseSealUnder, IsNotBegun, LeaseServesSo, LeaseServesTo, list_of};
 
 use crate::invocation::Sealing;
 use crate::keys::{Keys, read_lease_seal};
-use crate::label::{LabelOwner, owner_of};
-use crate::lease_label::{lease_label, machine_of};
+use crate::labelled::LabelledFile;
+use crate::lease_label::lease_label;
 use crate::lease_store::EpochFile;
 use crate::status::{Status, stopped};
-use file_disk::{FileDisk, LABEL, OpenFault, Stride};
+use file_disk::{FileDisk, OpenFault, Stride};
 use group_task::NodeId;
 use lease_file::{Begun, LeaseFault, LeaseFile, SECTORS, format};
 use lease_machine::LeaseTerms;
@@ -89,7 +90,11 @@ pub fn serve_leases<P: AsPath, R: Read, W: Write>(
         Ok(seal) => seal,
         Err(status) => return status,
     };
-    let mut file = match opened_leases(rt, path, terms.machine()) {
+    let opened = match opened_leases(rt, path, terms.machine()) {
+        Ok(opened) => opened,
+        Err(status) => return status,
+    };
+    let mut file = match mounted(opened) {
         Ok(file) => file,
         Err(status) => return status,
     };
@@ -137,37 +142,28 @@ fn lease_seal_of(
     }
 }
 
-/// The file of a machine's leases, locked and mounted.
+/// The file of that machine's leases, locked.
+#[tactic(auto, using(crate::proofs::Leases::unserved_unbegun))]
 fn opened_leases<P: AsPath>(
     rt: &impl Files<File = File>,
     path: P,
     machine: NodeId,
-) -> Result<LeaseFile<FileDisk>, Status>
+) -> Result<LabelledFile, Status>
+    ensures own { IfOk result (λ file. AreOwnLeases file machine) }
+    ensures unbegun { IfErr result IsNotBegun }
+{
+    LabelledFile::open(rt, path)?.of_leases(machine)
+}
+
+/// What a file of leases keeps.
+#[tactic(auto, using(crate::proofs::Leases::stopped_unbegun))]
+fn mounted(file: LabelledFile) -> Result<LeaseFile<FileDisk>, Status>
+    requires on_disk { 8 ≤ file.disk.sectors }
     ensures { IfErr result IsNotBegun }
 {
-    let disk = match FileDisk::open_labelled(rt, path) {
-        Ok(disk) => disk,
-        Err(fault) => return Err(Status::File(fault)),
-    };
-    match disk.label() {
-        Ok(label) if machine_of(label) == Some(machine.number()) => {}
-        Ok(label) => return Err(Status::Foreign(lease_owner(label))),
-        Err(error) => return Err(Status::Device(Some(error))),
-    }
-    if disk.sectors() < SECTORS {
-        return Err(Status::Foreign(LabelOwner::NoLeases));
-    }
-    match LeaseFile::mount(disk) {
+    match LeaseFile::mount(file.into_disk()) {
         Ok(file) => Ok(file),
         Err(refused) if refused.fault == LeaseFault::Device => Err(stopped(refused.disk.why())),
         Err(refused) => Err(Status::Spent(refused.fault)),
-    }
-}
-
-/// Whose a file is that is none of this machine's leases.
-fn lease_owner(label: Option<[u8; LABEL]>) -> LabelOwner {
-    match owner_of(label) {
-        LabelOwner::Nobody => LabelOwner::NoLeases,
-        owner => owner,
     }
 }

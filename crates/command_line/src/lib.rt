@@ -11,12 +11,14 @@ mod commands;
 mod invocation;
 mod keys;
 mod label;
+mod labelled;
 mod lease_label;
 mod lease_store;
 mod leasing;
 mod making;
 mod mistake;
 mod obeying;
+mod parsing;
 mod performing;
 mod reading;
 mod readying;
@@ -27,9 +29,8 @@ mod watching;
 
 use commands::command;
 use console_text::Sink;
-use invocation::Invocation;
-use mistake::mistake_in;
 use obeying::carry_out;
+use parsing::read_words;
 use reasons::{Reason, explain};
 use status::UNREADABLE;
 use std::fs::File;
@@ -65,7 +66,8 @@ fn obey<T: Threads + Wait + Sync>(rt: &HostRuntime, threads: &T) -> io::Result<u
     let Some(words) = words(rt)? else {
         return Ok(UNREADABLE);
     };
-    match invocation_of(rt, words.as_slice())? {
+    let command = command(rt.alloc())?;
+    match read_words(rt.alloc(), command, words.as_slice(), &mut rt.stdout())? {
         Ok(invocation) => carry_out(
             rt,
             threads,
@@ -97,53 +99,4 @@ fn words(rt: &HostRuntime) -> io::Result<Option<Vec<String>>> {
         }
         Err(error) => Err(error),
     }
-}
-
-/// Reads the command line. Where it asks for no work, prints what is wrong with it, the help or the version, and answers the exit status.
-fn invocation_of(rt: &HostRuntime, words: &[String]) -> io::Result<Result<Invocation, u8>> {
-    let alloc = rt.alloc();
-    match command(alloc)?.try_get_matches_from(words) {
-        Ok(matches) => {
-            let Some((name, words)) = matches.subcommand() else {
-                return Ok(Err(UNREADABLE));
-            };
-            let invocation = asking::invocation(alloc, name, words)?;
-            if invocation.is_none() {
-                let mistake = mistake_in(name, words);
-                println!(rt; "error: {mistake}\n\nFor more information, try '--help'.")?;
-            }
-            Ok(invocation.ok_or(UNREADABLE))
-        }
-        Err(error) => unread(rt, words, error),
-    }
-}
-
-/// Prints what `clap` found in place of a command, and answers the exit status.
-fn unread(
-    rt: &HostRuntime,
-    words: &[String],
-    error: clap::Error,
-) -> io::Result<Result<Invocation, u8>> {
-    if error.kind() == clap::error::ErrorKind::OutOfMemory {
-        return Err(io::Error::from(ErrorKind::OutOfMemory));
-    }
-    let is_version = error.kind() == clap::error::ErrorKind::DisplayVersion;
-    let is_mistake = error.use_stderr();
-    rt.print(error)?;
-    if is_mistake {
-        hint(rt, words)?;
-    }
-    Ok(Err(if is_version { 0 } else { UNREADABLE }))
-}
-
-/// Where a file was named for a command that reads standard input, says so.
-fn hint(rt: &HostRuntime, words: &[String]) -> io::Result<()> {
-    if words.len() < 3 {
-        return Ok(());
-    }
-    let name = words[1].as_str();
-    if matches!(name, "show" | "sim" | "record" | "threads") {
-        println!(rt; "\n{name} reads standard input, as in: invite {name} < FILE")?;
-    }
-    Ok(())
 }

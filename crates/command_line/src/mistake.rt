@@ -1,4 +1,8 @@
-use crate::asking::{machine, place, round_trip, stride};
+ghost use Rattle.std.specs.Prelude.{◌≡◌};
+ghost use Rattle.clap.specs.Words.{first_value, found_of};
+ghost use Rattle.command_line.specs.Mistakes.{mistake_by, mistake_in_format, mistake_in_leases};
+
+use crate::asking::{is, is_set, machine, place, round_trip, stride};
 use crate::invocation::MOST_ROUND_TRIP;
 use clap::ArgMatches;
 use disk_sector::{LEAST_SLOTS, MOST_SLOTS};
@@ -22,12 +26,14 @@ pub enum Mistake {
 }
 
 /// What is wrong with the arguments of the command of this name, where it asks for nothing.
-pub fn mistake_in(name: &str, words: &ArgMatches<'_>) -> Mistake {
-    if words.get_str("lease") == Some("true") {
+pub fn mistake_in(name: &str, words: &ArgMatches<'_>) -> Mistake
+    ensures { result ≡ mistake_by name.now (λ id. first_value (found_of words.now) id) }
+{
+    if is_set(words, "lease") {
         mistake_in_leases(words)
     } else if place(words).is_none() {
         Mistake::Place
-    } else if name.as_bytes() == "format".as_bytes() {
+    } else if is(name, "format") {
         mistake_in_format(words)
     } else if round_trip(words).is_none() {
         Mistake::RoundTrip
@@ -36,7 +42,9 @@ pub fn mistake_in(name: &str, words: &ArgMatches<'_>) -> Mistake {
     }
 }
 
-fn mistake_in_leases(words: &ArgMatches<'_>) -> Mistake {
+fn mistake_in_leases(words: &ArgMatches<'_>) -> Mistake
+    ensures { result ≡ mistake_in_leases (λ id. first_value (found_of words.now) id) }
+{
     if machine(words).is_none() {
         Mistake::Machine
     } else {
@@ -44,7 +52,9 @@ fn mistake_in_leases(words: &ArgMatches<'_>) -> Mistake {
     }
 }
 
-fn mistake_in_format(words: &ArgMatches<'_>) -> Mistake {
+fn mistake_in_format(words: &ArgMatches<'_>) -> Mistake
+    ensures { result ≡ mistake_in_format (λ id. first_value (found_of words.now) id) }
+{
     let slots = match words.get_str("SLOTS") {
         Some(word) => number(word.as_bytes()),
         None => None,
@@ -62,6 +72,11 @@ fn mistake_in_format(words: &ArgMatches<'_>) -> Mistake {
 
 /// What a person reads of it.
 impl Display for Mistake {
+    ghost use Rattle.std.specs.Prelude.{Some};
+    ghost use Rattle.command_line.specs.Mistakes.{mistake_text};
+
+    ghost output = { λ mistake. Some (mistake_text mistake) };
+
     fn fmt<W: fmt::Write>(&self, f: &mut Formatter<W>) -> fmt::Result {
         match self {
             Mistake::Place => write!(

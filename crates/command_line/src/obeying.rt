@@ -1,5 +1,5 @@
 // What the command line asks for, carried out over the streams of the process.
-ghost use Rattle.std.specs.Prelude.{◌≡◌, ◌≤◌, ◌+◌, ◌⊎◌, length, map, string_bytes, IfOk, IfErr, IfSome};
+ghost use Rattle.std.specs.Prelude.{◌≡◌, ◌≤◌, ◌+◌, ◌⊎◌, [], None, length, map, string_bytes, IfOk, IfErr, IfSome};
 ghost use Rattle.console_text.specs.Ends.{status_of};
 ghost use Rattle.store_console.specs.Printed.{IsShown};
 ghost use Rattle.store_console.specs.Salvaged.{IsSalvagePrintout};
@@ -56,16 +56,10 @@ pub(crate) fn carry_out<T: Threads + Wait + Sync, R: Read, W: Write, E: Write>(
         Invocation::Batch(batch) => {
             Ok(print_batch(rt, threads, alloc, batch, input, output, errors))
         }
-        Invocation::Format(path, making, jobs, cluster) => format(
-            rt,
-            alloc,
-            path.as_str(),
-            making,
-            jobs,
-            cluster,
-            input,
-            errors,
-        ),
+        Invocation::Format(path, making, jobs, cluster) => {
+            let path = path.as_str();
+            format(rt, alloc, path, making, jobs, cluster, input, errors)
+        }
         Invocation::Node(path, place, round_trip, sealing, cluster, life) => node(
             rt,
             alloc,
@@ -329,25 +323,33 @@ fn format<R: Read, E: Write>(
 ) -> io::Result<u8>
     ensures { IfOk result (λ code. EndsAs code ⊎ (code ≡ 1)) }
 {
-    let jobs = match jobs {
-        None => store_console::no_jobs(alloc, making.first),
-        Some(lines) => match listed(rt, alloc, lines.as_str(), making, input, errors)? {
-            Ok(jobs) => jobs,
-            Err(status) => return Ok(status),
-        },
+    let jobs = match jobs_for(rt, alloc, making, jobs, input, errors)? {
+        Ok(jobs) => jobs,
+        Err(status) => return Ok(status),
     };
-    let place = making.place;
-    let status = format_file(
-        rt,
-        path,
-        making.slots,
-        place.id,
-        place.nodes,
-        making.stride,
-        mark_of(cluster),
-        &jobs,
-    );
+    let status = format_file(rt, path, making, mark_of(cluster), &jobs);
     tell_made(rt, path, status, errors)
+}
+
+/// The jobs that a file is made with: none, or those of the lines of another file. Where they can't be read, says why, and gives the exit
+/// status.
+fn jobs_for<R: Read, E: Write>(
+    rt: &impl Files<File = File>,
+    alloc: Global,
+    making: &Making,
+    jobs: &Option<String>,
+    input: &mut R,
+    errors: &mut E,
+) -> io::Result<Result<JobTable, u8>>
+    ensures first { IfOk result (λ jobs. IfOk jobs (λ table. table.next ≡ making.now.first)) }
+    ensures fits { IfOk result (λ jobs. IfOk jobs (λ table. length table.pending + 2 ≤ making.now.slots)) }
+    ensures none { jobs.now ≡ None → IfOk result (λ jobs. IfOk jobs (λ table. table.pending ≡ [])) }
+    ensures status { IfOk result (λ jobs. IfErr jobs (λ code. EndsAs code ⊎ (code ≡ 1))) }
+{
+    match jobs {
+        None => Ok(Ok(store_console::no_jobs(alloc, making.first))),
+        Some(lines) => listed(rt, alloc, lines.as_str(), making, input, errors),
+    }
 }
 
 /// Where a file wasn't made, says why to `errors`, and whose the one is that is there. Answers the exit status.
@@ -378,7 +380,8 @@ fn listed<R: Read, E: Write>(
     input: &mut R,
     errors: &mut E,
 ) -> io::Result<Result<JobTable, u8>>
-    ensures jobs { IfOk result (λ jobs. IfOk jobs (λ table. length table.pending + 2 ≤ making.now.slots)) }
+    ensures first { IfOk result (λ jobs. IfOk jobs (λ table. table.next ≡ making.now.first)) }
+    ensures fits { IfOk result (λ jobs. IfOk jobs (λ table. length table.pending + 2 ≤ making.now.slots)) }
     ensures status { IfOk result (λ jobs. IfErr jobs (λ code. EndsAs code ⊎ (code ≡ 1))) }
 {
     let read = if path == "-" {

@@ -44,6 +44,7 @@ pub fn perform<T: Threads + Wait + Sync, R: Read, W: Write>(
         Batch::Record => invite_console::record(alloc, input, output),
         Batch::Threads(kind) => { threads_console::threads(threads, alloc, *kind, input, output) }
         Batch::Turns => trace_console::turns(alloc, input, output),
+        Batch::Contradiction => trace_console::contradiction(alloc, input, output),
     };
     let status = ended.ending.status();
     Performed { ended, status }

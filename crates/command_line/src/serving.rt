@@ -2,19 +2,19 @@
 ghost use Rattle.std.specs.Prelude.{◌≡◌, ◌<◌, ◌≤◌, IfOk, IfErr};
 ghost use Rattle.group_task.specs.declared.node.TheConstants.{NODES};
 ghost use Rattle.pace.specs.Timers.{measured};
-ghost use Rattle.command_line.specs.Served.{IsSealUnder, IsUnserved, ServesSo, ServesTo};
+ghost use Rattle.command_line.specs.Labelled.{IsOwnFile};
+ghost use Rattle.command_line.specs.Served.{BreaksOff, IsSealUnder, IsUnserved, ServesSo, ServesTo};
 
 use crate::keys::{Keys, read_seal};
-use crate::label::{LabelOwner, is_own, judged, owner_of};
+use crate::labelled::LabelledFile;
 use crate::readying::{Readied, ready_file};
 use crate::status::{Status, stopped};
 use crate::watching::Watched;
-use file_disk::{FileDisk, MARK};
+use file_disk::MARK;
 use group_task::NodeId;
 use node_server::{ServingEnd, serve_node};
 use node_session::Seal;
 use pace::TimerSettings;
-use sector_disk::SectorDisk;
 use std::alloc::Global;
 use std::fs::{File, Files};
 use std::io::{ErrorKind, Read, Write};
@@ -44,18 +44,22 @@ pub fn serve_file<P: AsPath, R: Read, W: Write, E: Write>(
     // cluster's name and number of nodes where keys are given, and nowhere else. Where the file isn't served, nothing is read or written.
     // Also: node_server::serve_node.
     // Refuses: node_server::answers_not_written, node_server::line_fed_twice, node_server::nothing_sealed_under_a_key, keys_not_used, round_trip_ignored.
-    ensures { ServesSo ((input.new ≡ input.old) × (output.new ≡ output.old)) (ServesTo keys.entry id nodes (measured round_trip) (R.remaining input.old) (R.remaining input.new) (W.contents output.old) (W.contents output.new)) result }
+    // Promise: Where an error ends `node`, nothing was read or written, or a front of the answers to a front of what was read.
+    // Also: node_server::serve_node.
+    // Refuses: node_server::written_behind_a_failed_write, node_server::error_told_in_the_answers.
+    ensures { ServesSo ((input.new ≡ input.old) × (output.new ≡ output.old)) (BreaksOff keys.entry id nodes (measured round_trip) (R.remaining input.old) (R.remaining input.new) (W.contents output.old) (W.contents output.new))
+        (ServesTo keys.entry id nodes (measured round_trip) (R.remaining input.old) (R.remaining input.new) (W.contents output.old) (W.contents output.new)) result }
 {
     let seal = match seal_of(rt, alloc, keys, nodes) {
         Ok(seal) => seal,
         Err(status) => return status,
     };
-    let disk = match opened_own(rt, &path, id, nodes, mark) {
-        Ok(disk) => disk,
+    let file = match opened_own(rt, &path, id, nodes, mark) {
+        Ok(file) => file,
         Err(status) => return status,
     };
     let setting = TimerSettings::measured(round_trip);
-    let Readied { disk, skipped } = match ready_file(alloc, id, nodes, disk, setting) {
+    let Readied { disk, skipped } = match ready_file(alloc, id, nodes, file.into_disk(), setting) {
         Ok(readied) => readied,
         Err(status) => return status,
     };
@@ -84,24 +88,11 @@ fn opened_own<P: AsPath>(
     id: NodeId,
     nodes: u8,
     mark: [u8; MARK],
-) -> Result<FileDisk, Status>
-    ensures sectors { IfOk result (λ disk. 24 ≤ disk.sectors) }
+) -> Result<LabelledFile, Status>
+    ensures own { IfOk result (λ file. IsOwnFile file id nodes mark) }
     ensures unserved { IfErr result IsUnserved }
 {
-    let disk = match FileDisk::open_labelled(rt, path) {
-        Ok(disk) => disk,
-        Err(fault) => return Err(Status::File(fault)),
-    };
-    let sectors = disk.sectors();
-    match disk.label() {
-        Ok(label) if is_own(label, id, nodes, disk.stride(), sectors, mark) => {}
-        Ok(label) => return Err(Status::Foreign(judged(owner_of(label), sectors, mark))),
-        Err(error) => return Err(Status::Device(Some(error))),
-    }
-    if sectors < 24 {
-        return Err(Status::Foreign(LabelOwner::Nobody));
-    }
-    Ok(disk)
+    LabelledFile::open(rt, path)?.of_node(id, nodes, mark)
 }
 
 /// Says that a number of this node was skipped.

@@ -1,6 +1,7 @@
 //! A message as the slot of a ring holds it.
 
-ghost use Rattle.std.specs.Prelude.{◌≡◌, ◌≤◌, ◌+◌, true, vec_len, IfSome, IfNone};
+ghost use Rattle.std.specs.Prelude.{◌≡◌, ◌≤◌, ◌+◌, true, vec_len, IfSome, IfNone, None};
+ghost use Rattle.wire_msg.specs.Kinds.{short_of};
 ghost use Rattle.link_ring.specs.Carried.{carried, IsWhole};
 
 use group_task::NodeId;
@@ -72,7 +73,7 @@ impl Spares {
     #[inline]
     pub(crate) fn pack(&mut self, message: &Message) -> Option<Carried>
         ensures packed { IfSome result (λ held. (carried held ≡ message.now) × IsWhole held) }
-        ensures none { IfNone result (vec_len self.old.boxes ≡ 0) }
+        ensures none { IfNone result ((vec_len self.old.boxes ≡ 0) × (short_of message.now.body ≡ None)) }
         ensures left { vec_len self.old.boxes ≤ vec_len self.new.boxes + 1 }
     {
         let (sender, receiver) = (message.sender(), message.receiver());

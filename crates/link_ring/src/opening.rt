@@ -1,5 +1,5 @@
 ghost use Rattle.std.specs.Prelude.{◌≡◌, IfOk};
-ghost use Rattle.link_ring.specs.Sides.{unused};
+ghost use Rattle.link_ring.specs.Sides.{unused, unused_put, Ring};
 
 use crate::put_end::PutEnd;
 use crate::take_end::TakeEnd;
@@ -16,12 +16,12 @@ pub fn link(
     receiver: NodeId,
     capacity: usize,
 ) -> Result<(PutEnd, TakeEnd), AllocError>
-    // Promise: A link begins with nothing put and nothing taken; both ends answer its two nodes, and contracts see how many slots
-    // its ring has.
+    // Promise: A link begins with nothing put and nothing taken, and both its ends have one ring; both answer its two nodes, and contracts
+    // see how many slots its ring has.
     // Also: PutEnd::sender, PutEnd::receiver, TakeEnd::sender, TakeEnd::receiver.
-    // Refuses: link_of_fewer_slots, link_turned_round, receiver_for_sender_of_puts, sender_for_receiver_of_puts,
+    // Refuses: two_rings, link_of_fewer_slots, link_turned_round, receiver_for_sender_of_puts, sender_for_receiver_of_puts,
     // receiver_for_sender_of_takes, sender_for_receiver_of_takes.
-    ensures { IfOk result (λ ends. (ends.0 ≡ unused sender receiver capacity) × (ends.1 ≡ unused sender receiver capacity)) }
+    ensures { IfOk result (λ ends. (ring : Ring) × (ends.0 ≡ unused_put ring sender receiver capacity) × (ends.1 ≡ unused ring sender receiver capacity)) }
 {
     let (producer, consumer) = RingBuffer::new(alloc, capacity)?;
     let put_end = PutEnd::new(alloc, sender, receiver, producer);

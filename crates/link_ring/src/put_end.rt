@@ -1,6 +1,6 @@
 ghost use Rattle.std.specs.Prelude.{◌≡◌, ◌<◌, ◌≤◌, ◌+◌, ◌++◌, [], length, max, false, true, IfSome, IfNone, IsNone, IsTrue, OnOk, OnErr};
 ghost use Rattle.rtrb.specs.Ring.{sent, known_free, producer_capacity};
-ghost use Rattle.link_ring.specs.Sides.{unused, with_message, with_room};
+ghost use Rattle.link_ring.specs.Sides.{unused_put, with_room, HandedBack, PutNext};
 
 use crate::carried::Spares;
 use crate::link_log::LinkLog;
@@ -28,7 +28,7 @@ impl Model for PutEnd {
 
     ghost Value = { Side };
 
-    ghost view = { λ a. record { sender = a.sender; receiver = a.receiver; capacity = producer_capacity a.producer; messages = a.put.messages; room = a.put.room; seen = [] } };
+    ghost view = { λ a. record { sender = a.sender; receiver = a.receiver; capacity = producer_capacity a.producer; messages = a.put.messages; room = a.put.room; seen = []; ring = a.producer.end.names.1; free = known_free a.producer } };
 
     // a slot that no message went through is known to be free, and a box is spare for it where there is room for a message
     ghost invariant = { λ a. (sent a.producer ≡ a.put.messages) × (producer_capacity a.producer ≤ known_free a.producer + length a.put.messages) × (min a.put.room (producer_capacity a.producer - length a.put.messages) ≤ vec_len a.spares.boxes) };
@@ -43,7 +43,7 @@ impl PutEnd {
         producer: Producer<Slot>,
     ) -> PutEnd
         requires slots { (sent producer ≡ []) × (known_free producer ≡ producer_capacity producer) }
-        ensures { result ≡ unused sender receiver (producer_capacity producer) }
+        ensures { result ≡ unused_put producer.end.names.1 sender receiver (producer_capacity producer) }
     {
         PutEnd {
             sender,
@@ -104,11 +104,12 @@ impl PutEnd {
     pub fn put(&mut self, message: Message) -> Option<Message>
         requires { 0 < self.old.room }
         // Promise: A put that answers none adds its message behind all that was put; one that hands a message back hands back that
-        // very message, and changes nothing.
+        // very message, and changes nothing. It is handed back only where the end sees no free slot, or no box for a long one.
         // Also: full, PutEnd::offer.
-        // Refuses: loss_told_as_put, offer_not_listed, long_body_left_out, answer_turned_round, lost_offer_answered_as_put.
-        ensures put { IfNone result (self.new ≡ with_message self.old message) }
-        ensures full { IfSome result (λ back. (back ≡ message) × (self.new ≡ self.old)) }
+        // Refuses: full_once_its_capacity_went_through, loss_told_as_put, offer_not_listed, long_body_left_out, answer_turned_round,
+        // lost_offer_answered_as_put.
+        ensures put { IfNone result (PutNext message self.old self.new) }
+        ensures full { IfSome result (λ back. (back ≡ message) × HandedBack message self.old self.new) }
         // Promise: No put is handed back before as many messages went through the end as the ring has slots.
         // Also: PutEnd::offer.
         // Refuses: put_dropped, no_box_for_a_long_body.
@@ -123,8 +124,8 @@ impl PutEnd {
     /// Puts a message on the link, or answers false where the ring is full. The message is only looked at.
     pub fn offer(&mut self, message: &Message) -> bool
         requires { 0 < self.old.room }
-        ensures put { result ≡ true → self.new ≡ with_message self.old message.now }
-        ensures full { result ≡ false → self.new ≡ self.old }
+        ensures put { result ≡ true → PutNext message.now self.old self.new }
+        ensures full { result ≡ false → HandedBack message.now self.old self.new }
         ensures first { length self.old.messages < self.old.capacity → IsTrue result }
     {
         if self.producer.is_full() {

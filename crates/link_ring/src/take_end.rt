@@ -27,7 +27,7 @@ impl Model for TakeEnd {
 
     ghost Value = { Side };
 
-    ghost view = { λ a. record { sender = a.sender; receiver = a.receiver; capacity = consumer_capacity a.consumer; messages = a.taken.messages; room = a.taken.room; seen = known_items a.consumer } };
+    ghost view = { λ a. record { sender = a.sender; receiver = a.receiver; capacity = consumer_capacity a.consumer; messages = a.taken.messages; room = a.taken.room; seen = known_items a.consumer; ring = a.consumer.end.names.1; free = 0 } };
 
     ghost invariant = { λ a. received a.consumer ≡ a.taken.messages };
 }
@@ -41,7 +41,7 @@ impl TakeEnd {
         consumer: Consumer<Slot>,
     ) -> TakeEnd
         requires { (received consumer ≡ []) × (known_items consumer ≡ []) }
-        ensures { result ≡ unused sender receiver (consumer_capacity consumer) }
+        ensures { result ≡ unused consumer.end.names.1 sender receiver (consumer_capacity consumer) }
     {
         TakeEnd {
             sender,
@@ -127,7 +127,7 @@ impl TakeEnd {
 #[inline]
 fn pop(consumer: &mut Consumer<Slot>, place: &mut Option<Message>)
     requires none { place.old ≡ None }
-    ensures slots { consumer_capacity consumer.new ≡ consumer_capacity consumer.old }
+    ensures ring { (consumer_capacity consumer.new ≡ consumer_capacity consumer.old) × (consumer.new.end.names ≡ consumer.old.end.names) }
     ensures taken { IfSome place.new (λ m. received consumer.new ≡ received consumer.old ++ m ∷ []) }
     ensures first { IfSome place.new (λ m. IsPrefix (known_items consumer.old) (m ∷ known_items consumer.new)) }
     ensures left { IfNone place.new (received consumer.new ≡ received consumer.old) }
@@ -143,7 +143,7 @@ fn pop(consumer: &mut Consumer<Slot>, place: &mut Option<Message>)
 #[inline(never)]
 fn pop_seen(consumer: &mut Consumer<Slot>, place: &mut Option<Message>)
     requires seen { 0 < length (known_items consumer.old) }
-    ensures slots { consumer_capacity consumer.new ≡ consumer_capacity consumer.old }
+    ensures ring { (consumer_capacity consumer.new ≡ consumer_capacity consumer.old) × (consumer.new.end.names ≡ consumer.old.end.names) }
     ensures taken { IfSome place.new (λ m. (received consumer.new ≡ received consumer.old ++ m ∷ []) × (known_items consumer.old ≡ m ∷ known_items consumer.new)) }
     ensures some { IsSome place.new }
 {

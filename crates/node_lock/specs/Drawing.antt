@@ -1,8 +1,18 @@
 -- The numbers that the turns of all nodes draw, in the order in which they are drawn.
 use Rattle.std.specs.Prelude.{ℕ, ◌≡◌, ◌+◌, ◌%◌, ◌^◌, ◌<◌, ◌==◌, nat_lt, ⊤, if◌then◌else◌, List, [], ◌∷◌, ◌++◌}
 use Rattle.std.specs.List.{AllByRecursion}
+use Rattle.atomic_table.specs.Seated.{TableId}
 use Rattle.atomic_table.specs.Table.{Me, State, Step}
 use Rattle.node_lock.specs.declared.turn_numbers.Drawn.{Drawn}
+
+-- a counter, as proofs tell it from any other one: by its table
+abbrev pub Counter : Type 0
+Counter = TableId
+
+-- the numbers of a node: the counter that it draws from, and those that it drew, the last of them first
+pub record Numbers : Type 0 where
+  pub counter : Counter
+  pub drawn : List ℕ
 
 -- each of the numbers is below the one before it, and the first below the bound
 abbrev pub IsFalling : ℕ → List ℕ → Type 0
@@ -39,6 +49,11 @@ pub record Draws (old : List ℕ) (number : ℕ) (new : List ℕ) : Type 0 where
   pub drawn : new ≡ count ∷ old
   pub falling : IsFalling count old
   pub is_count : count < 2 ^ 32 → number ≡ count
+
+-- a number was drawn, of the same counter
+pub record DrawsNext (old : Numbers) (number : ℕ) (new : Numbers) : Type 0 where
+  pub counter : new.counter ≡ old.counter
+  pub draws : Draws old.drawn number new.drawn
 
 -- a turn was given the number that it drew, behind those of the turns before
 pub record IsGiven (drawn new_drawn numbers new_numbers : List ℕ) : Type 0 where

@@ -18,12 +18,12 @@ use Rattle.node_lock.specs.Doing.{HasSectors, TurnDid}
 use Rattle.node_lock.specs.Planned.{Planned, plan_len, turns_of}
 use Rattle.node_lock.specs.Sending.{PutsSome, addressed_to, SameSides, IsFirst, Brings}
 use Rattle.node_lock.specs.declared.turn_log.Loss.{Loss}
-use Rattle.node_lock.specs.Drawing.{HaveNumbers}
+use Rattle.node_lock.specs.Drawing.{Counter, HaveNumbers}
 use Rattle.node_lock.specs.Lost.{HasLost}
 use Rattle.node_lock.specs.Wearing.{AreaWithin, HasFailed, NoneWorn}
 use Rattle.node_lock.specs.History.{Turn, IsReplay, FollowsPlans, PlanStep, entries_of, polled, from_link, listed}
 
--- the node and its disk, the ends of its links, the plans and the turns that were taken of them, what came of these, which messages they lost and which numbers they have and drew; a
+-- the node and its disk, the ends of its links, the plans and the turns that were taken of them, what came of these, which messages they lost and which numbers they have and drew, of which counter; a
 -- message that was taken from a link and not yet handed to the node; and for how many more turns, messages and events there is room
 pub record HeldView : Type 0 where
   pub node : Node Memory
@@ -35,6 +35,7 @@ pub record HeldView : Type 0 where
   pub history : List Turn
   pub lost : List Loss
   pub numbers : List ℕ
+  pub counter : Counter
   pub drawn : List ℕ
   pub waiting : Option Envelope
   pub room : ℕ
@@ -147,9 +148,11 @@ pub record Turned (by : Worker) (answer : Result Bool TurnFault) (old new : Held
   pub memory : answer ≡ Err NoMemory → Unserved old new
 
 -- and so it did to what the lock then held, of which all holds that is true of a locked node, before the turn and after it
-pub record TurnedSome (by : Worker) (answer : Result Bool TurnFault) : Type 0 where
+pub record TurnedSome (by : Worker) (Lets : ℕ → Type 0) (answer : Result Bool TurnFault) : Type 0 where
   pub old : HeldView
   pub new : HeldView
   pub was : HeldInvariant old
   pub is : HeldInvariant new
+  -- the gate let the worker take the turn that was taken
+  pub asked : answer ≡ Ok true → Lets (turns_of old.turns by)
   pub turned : Turned by answer old new

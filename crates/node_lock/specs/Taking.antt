@@ -28,7 +28,7 @@ abbrev pub site : Node Memory → List Side → List Turn → List Loss → List
 site node puts turns lost numbers drawn = record { node = node; puts = puts; turns = turns; lost = lost; numbers = numbers; drawn = drawn }
 
 abbrev pub site_of : Standing → Site
-site_of s = site s.node s.puts.items s.history.turns s.history.lost s.history.numbers s.numbers
+site_of s = site s.node s.puts.items s.history.turns s.history.lost s.history.numbers s.numbers.drawn
 
 -- the node stands for a state, and its links are to the others
 abbrev pub IsReady : Standing → Type 0

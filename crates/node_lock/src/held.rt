@@ -58,7 +58,7 @@ impl Model for Held {
 
     ghost Value = { HeldView };
 
-    ghost view = { λ h. record { node = h.site.node; run = h.run; puts = h.site.puts.items; takes = h.takes.items; plans = h.plans; turns = h.turns; history = h.site.history.turns; lost = h.site.history.lost; numbers = h.site.history.numbers; drawn = h.site.numbers; waiting = h.waiting; room = h.site.history.room; sends = h.site.history.sends; events = h.site.history.events } };
+    ghost view = { λ h. record { node = h.site.node; run = h.run; puts = h.site.puts.items; takes = h.takes.items; plans = h.plans; turns = h.turns; history = h.site.history.turns; lost = h.site.history.lost; numbers = h.site.history.numbers; counter = h.site.numbers.counter; drawn = h.site.numbers.drawn; waiting = h.waiting; room = h.site.history.room; sends = h.site.history.sends; events = h.site.history.events } };
 
     // Promise: The history is one of a node that has just opened, and the node stands for the state that it replays to; of a node
     // that is Down each disk image does, with or without the command in doubt.
@@ -75,7 +75,7 @@ impl Model for Held {
     // Promise: A history has at most 65,536 turns.
     // Also: limits.
     // Refuses: limit_off_by_one.
-    ghost invariant = { λ h. HeldInvariant (record { node = h.site.node; run = h.run; puts = h.site.puts.items; takes = h.takes.items; plans = h.plans; turns = h.turns; history = h.site.history.turns; lost = h.site.history.lost; numbers = h.site.history.numbers; drawn = h.site.numbers; waiting = h.waiting; room = h.site.history.room; sends = h.site.history.sends; events = h.site.history.events }) };
+    ghost invariant = { λ h. HeldInvariant (record { node = h.site.node; run = h.run; puts = h.site.puts.items; takes = h.takes.items; plans = h.plans; turns = h.turns; history = h.site.history.turns; lost = h.site.history.lost; numbers = h.site.history.numbers; counter = h.site.numbers.counter; drawn = h.site.numbers.drawn; waiting = h.waiting; room = h.site.history.room; sends = h.site.history.sends; events = h.site.history.events }) };
 }
 
 /// What is left of a node when its workers have ended.
@@ -107,9 +107,9 @@ impl Held {
         requires intake { (i d : ℕ) → i < length plans.intake → IsPolled run (slice_index_or plans.intake i d) }
         requires takes { vec_len takes + 1 ≡ run.nodes }
         requires take_ends { (k : ℕ) (d : _) → k < vec_len takes → ((slice_index_or takes.items k d).receiver ≡ run.node) × ((slice_index_or takes.items k d).messages ≡ []) × IsOther run.node k (slice_index_or takes.items k d).sender }
-        requires none_drawn { numbers ≡ [] }
+        requires none_drawn { numbers.drawn ≡ [] }
         requires ends { (k : ℕ) (d : _) → k < vec_len puts → ((slice_index_or puts.items k d).sender ≡ run.node) × ((slice_index_or puts.items k d).capacity ≡ run.capacity) × ((slice_index_or puts.items k d).messages ≡ []) × IsOther run.node k (slice_index_or puts.items k d).receiver }
-        ensures { IfOk result (λ h. (h.run ≡ run) × (h.plans ≡ plans) × (h.turns ≡ no_turns) × (h.history ≡ []) × (h.lost ≡ []) × (h.waiting ≡ None)) }
+        ensures { IfOk result (λ h. (h.run ≡ run) × (h.plans ≡ plans) × (h.turns ≡ no_turns) × (h.history ≡ []) × (h.lost ≡ []) × (h.waiting ≡ None) × (h.counter ≡ numbers.counter)) }
     {
         let node = DurableNode::open(alloc, run.node, run.nodes, run.slots)?;
         let turns = plans.turns().min(MOST_ENTRIES);

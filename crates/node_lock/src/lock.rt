@@ -1,5 +1,5 @@
 // The lock round a node.
-ghost use Rattle.std.specs.Prelude.{◌≡◌, ◌↔◌, ◌≤◌, ℕ, Bool, IsTrue, true, false, length, Ok, Err};
+ghost use Rattle.std.specs.Prelude.{◌≡◌, ◌↔◌, ◌≤◌, ⊤, ℕ, Bool, IsTrue, true, false, length, Ok, Err};
 ghost use Rattle.node_lock.specs.HeldView.{HeldInvariant, Takes, Turned, TurnedSome, Unserved};
 ghost use Rattle.node_lock.specs.History.{Turn};
 ghost use Rattle.node_lock.specs.Planned.{plan_len, turns_of};
@@ -22,6 +22,7 @@ fn turn_kept<G: Gate>(
 ) -> Result<bool, TurnFault>
     ensures shut { result ≡ Err GateShut → IsTrue (G.may_shut node worker) }
     ensures turned { Turned worker result held.old held.new }
+    ensures asked { result ≡ Ok true → G.lets node worker (turns_of held.old.turns worker) }
     ensures was { HeldInvariant held.old }
     ensures is { HeldInvariant held.new }
 {
@@ -41,6 +42,7 @@ fn turn_held<G: Gate>(
     ensures used_up { result ≡ Ok false ↔ (plan_len held.old.plans worker ≤ turns_of held.old.turns worker) }
     ensures unchanged { result ≡ Ok false → held.new ≡ held.old }
     ensures taken { result ≡ Ok true → (t : Turn) × Takes held.old worker t held.new }
+    ensures asked { result ≡ Ok true → G.lets node worker (turns_of held.old.turns worker) }
     ensures shut { result ≡ Err GateShut → (held.new ≡ held.old) × IsTrue (G.may_shut node worker) }
     ensures full { result ≡ Err HistoryFull → (MOST_ENTRIES ≤ length held.old.history) × (held.new ≡ held.old) }
     ensures memory { result ≡ Err NoMemory → Unserved held.old held.new }
@@ -63,13 +65,17 @@ pub trait Gate: Sync {
     /// For which worker of which node the gate may shut: any, unless a gate says less.
     ghost may_shut: { ℕ → Who → Bool } = { λ _ _. true };
 
+    /// What is so where the gate lets a worker of a node take the turn of this number: nothing, unless a gate says more.
+    ghost lets: { ℕ → Who → ℕ → Type 0 } = { λ _ _ _. ⊤ };
+
     /// Called once by each worker, with no lock held. False shuts the gate.
     fn reach(&self, node: NodeId, worker: Worker) -> bool
         ensures { result ≡ false → IsTrue (may_shut node worker) };
 
     /// Called before each turn, with the node's lock held. False shuts the gate.
     fn pass(&self, node: NodeId, worker: Worker, index: u64) -> bool
-        ensures { result ≡ false → IsTrue (may_shut node worker) };
+        ensures shut { result ≡ false → IsTrue (may_shut node worker) }
+        ensures lets { result ≡ true → lets node worker index };
 }
 
 /// Why a worker stopped.
@@ -120,10 +126,10 @@ impl NodeLock {
         // Refuses: shut_by_an_open_gate.
         ensures shut { result ≡ Err GateShut → IsTrue (G.may_shut self.now.node worker) }
         // Promise: A worker's turn under the lock does what `Held::next` says, and where the gate refuses it nothing: some state
-        // was there of which the turn made what was answered.
+        // was there of which the turn made what was answered. A turn is taken only where the gate lets the worker take this one.
         // Also: turn_held.
-        // Refuses: turn_said_and_not_taken, full_answered_as_shut.
-        ensures turned { TurnedSome worker result }
+        // Refuses: turn_said_and_not_taken, full_answered_as_shut, gate_never_asked, pass_asked_of_another_turn.
+        ensures turned { TurnedSome worker (G.lets self.now.node worker) result }
     {
         let mut guard = self.held.lock(rt);
         turn_kept(&mut *guard, self.node, worker, gate)

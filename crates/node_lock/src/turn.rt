@@ -147,7 +147,7 @@ fn rest(
 ) -> Result<(), HeldFault>
     ensures taken { OnOk result (history.new.turns ≡ history.old.turns ++ turn_of worker index (record { what = what_quiet Rested; sent = [] }) ∷ []) }
     ensures lost { history.new.lost ≡ history.old.lost }
-    ensures number { OnOk result (IsGiven numbers.old numbers.new history.old.numbers history.new.numbers) }
+    ensures number { OnOk result (IsGiven numbers.old.drawn numbers.new.drawn history.old.numbers history.new.numbers) }
     ensures memory { IfErr result (λ fault. (fault ≡ NoMemory) × (history.new.turns ≡ history.old.turns) × (history.new.numbers ≡ history.old.numbers) × (numbers.new ≡ numbers.old)) }
 {
     if history.reserve_quiet().is_err() {

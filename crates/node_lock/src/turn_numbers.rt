@@ -1,7 +1,7 @@
 //! Numbers for the turns of all nodes of a run.
 
 ghost use Rattle.std.specs.Prelude.{◌≡◌, [], IfOk};
-ghost use Rattle.node_lock.specs.Drawing.{Draws};
+ghost use Rattle.node_lock.specs.Drawing.{DrawsNext};
 
 use atomic_table::{Play, Seat, Split, Table, TableRule};
 use std::alloc::{AllocError, Global};
@@ -56,19 +56,20 @@ pub struct TurnNumbers {
 }
 
 impl Model for TurnNumbers {
-    ghost use Rattle.std.specs.Prelude.{◌≡◌, ℕ, List};
+    ghost use Rattle.std.specs.Prelude.{◌≡◌};
     ghost use Rattle.std.specs.Arc.{arc_value};
+    ghost use Rattle.node_lock.specs.Drawing.{Numbers};
 
-    ghost Value = { List ℕ };
+    ghost Value = { Numbers };
 
-    ghost view = { λ a. a.seat.me.0.numbers };
+    ghost view = { λ a. record { counter = a.seat.table_id; drawn = a.seat.me.0.numbers } };
 
     ghost invariant = { λ a. ((arc_value a.table).shared.table_id.words ≡ 1) × (a.seat.table_id ≡ (arc_value a.table).shared.table_id) };
 }
 
 impl TurnNumbers {
     pub fn new(alloc: Global) -> Result<TurnNumbers, AllocError>
-        ensures { IfOk result (λ numbers. numbers ≡ []) }
+        ensures { IfOk result (λ numbers. numbers.drawn ≡ []) }
     {
         let (table, seat) = Table::of_words(alloc, &[0], &())?;
         let table = Arc::new(alloc, table)?;
@@ -77,7 +78,7 @@ impl TurnNumbers {
 
     /// The same numbers for one more node.
     pub fn try_clone(&mut self) -> Result<TurnNumbers, AllocError>
-        ensures none { IfOk result (λ numbers. numbers ≡ []) }
+        ensures none { IfOk result (λ numbers. (numbers.drawn ≡ []) × (numbers.counter ≡ self.old.counter)) }
         ensures same { self.new ≡ self.old }
     {
         let table = Arc::try_clone(&self.table)?;
@@ -89,7 +90,7 @@ impl TurnNumbers {
     pub(crate) fn draw(&mut self) -> u32
         // Promise: Of all nodes of a run, each number from 0 on is drawn by one turn, and none is left out; those of a node rise.
         // Refuses: one_number_for_all, numbers_skipped.
-        ensures { Draws self.old result self.new }
+        ensures { DrawsNext self.old result self.new }
     {
         let count = self.table.shared.fetch_add::<Next>(&mut self.seat, 0, 1);
         (count % (1 << 32)) as u32

@@ -1,53 +1,12 @@
 -- What is fed and written, piece by piece.
-use Rattle.std.proofs.Common.{◌≡◌, ℕ, List, [], ◌++◌, Option, Some, None, refl, sym, ap, ◌∙◌, append_assoc, append-nil, subst, true, false, inl, inr}
+use Rattle.std.proofs.Common.{◌≡◌, ℕ, List, [], ◌++◌, Option, None, refl, sym, ap, ◌∙◌, append_assoc, append-nil, subst, true, inl, inr}
 use Rattle.std.specs.Io.KnownBytes.{Appends, Consumes, Keeps}
 use Rattle.std.specs.declared.io.Error.{Error}
 use Rattle.sector_disk.specs.Disk.{DiskState}
 use Rattle.node_session.specs.Serving.{Progress, Fed, AnyClearing, AnyCutting}
 use Rattle.node_server.specs.declared.serving.ServingEnd.TheVariants as end
-use Rattle.node_server.specs.Served.{IsAnswered, IsAnsweredUpTo, IsLineEnd, IsLost, IsServed}
-
-pub appends_none : (a : Option (List ℕ)) → Appends a a []
-appends_none None = tt
-appends_none (Some xs) = sym (append-nil xs)
-
-pub appends_more : (a b c : Option (List ℕ)) (x y : List ℕ) → Appends a b x → Appends b c y → Appends a c (x ++ y)
-appends_more None b c x y first second = tt
-appends_more (Some xs) None c x y first second = absurd first
-appends_more (Some xs) (Some ys) None x y first second = absurd second
-appends_more (Some xs) (Some ys) (Some zs) x y first second = second ∙ ap (λ l. l ++ y) first ∙ append_assoc xs x y
-
-pub consumes_none : (a : Option (List ℕ)) → Consumes a a []
-consumes_none None = tt
-consumes_none (Some xs) = refl
-
-pub consumes_more : (a b c : Option (List ℕ)) (x y : List ℕ) → Consumes a b x → Consumes b c y → Consumes a c (x ++ y)
-consumes_more None b c x y first second = tt
-consumes_more (Some xs) None c x y first second = absurd first
-consumes_more (Some xs) (Some ys) None x y first second = absurd second
-consumes_more (Some xs) (Some ys) (Some zs) x y first second = first ∙ ap (λ l. x ++ l) second ∙ sym (append_assoc x y zs)
-
-pub keeps_same : (a : Option (List ℕ)) → Keeps a a
-keeps_same None = tt
-keeps_same (Some xs) = refl
-
-keeps_on : (a b c : Option (List ℕ)) (x : List ℕ) → Appends a b x → Keeps b c → Appends a c x
-keeps_on None b c x first second = tt
-keeps_on (Some xs) None c x first second = absurd first
-keeps_on (Some xs) (Some ys) None x first second = absurd second
-keeps_on (Some xs) (Some ys) (Some zs) x first second = second ∙ first
-
-keeps_more : (a b c : Option (List ℕ)) → Keeps a b → Keeps b c → Keeps a c
-keeps_more None b c first second = tt
-keeps_more (Some xs) None c first second = absurd first
-keeps_more (Some xs) (Some ys) None first second = absurd second
-keeps_more (Some xs) (Some ys) (Some zs) first second = second ∙ first
-
-keeps_appends : (a b c : Option (List ℕ)) (x : List ℕ) → Keeps a b → Appends b c x → Appends a c x
-keeps_appends None b c x first second = tt
-keeps_appends (Some xs) None c x first second = absurd first
-keeps_appends (Some xs) (Some ys) None x first second = absurd second
-keeps_appends (Some xs) (Some ys) (Some zs) x first second = second ∙ ap (λ l. l ++ x) first
+use Rattle.node_server.proofs.Bytes.{appends_more, appends_none, consumes_keeps, consumes_more, consumes_none, keeps_more, keeps_on, keeps_same}
+use Rattle.node_server.specs.Served.{AppendsFront, IsAnswered, IsAnsweredUpTo, IsBroken, IsBrokenOff, IsLineBroken, IsLineEnd, IsLost, IsServed}
 
 -- The front of a piece was fed, and this was written of the answers. What is fed further is fed behind it.
 pub record GoesOn {Disk : Type 0} (disks : Disk → DiskState) (old now : Progress Disk) (piece left : List ℕ) (before here : Option (List ℕ)) : Type 0 where
@@ -125,6 +84,33 @@ lost_behind disks old now new piece left line rest before here next goes cut fed
   answered = up_to_keeps disks old now goes.front before here next goes.so keeps;
   fed = fed;
 }
+
+-- it was broken off, and nothing more was written
+pub broken_before : {Disk : Type 0} (disks : Disk → DiskState) (old now : Progress Disk) (piece left : List ℕ) (before here next : Option (List ℕ))
+    → GoesOn disks old now piece left before here → Keeps here next → IsBroken disks old piece before next
+broken_before disks old now piece left before here next goes keeps =
+    record { mid = now; front = goes.front; rest = left; cut = goes.cut; answered = up_to_keeps disks old now goes.front before here next goes.so keeps }
+
+-- or a front of the answers behind a line
+pub broken_in : {Disk : Type 0} (disks : Disk → DiskState) (old now mid : Progress Disk) (piece left line rest : List ℕ) (before here next : Option (List ℕ))
+    → GoesOn disks old now piece left before here → left ≡ line ++ rest → Fed disks now line mid → AppendsFront mid.text here next → IsBroken disks old piece before next
+broken_in {Disk} disks old now mid piece left line rest before here next goes cut fed out = record {
+  mid = record mid { text = out.rest };
+  front = goes.front ++ line;
+  rest = rest;
+  cut = goes.cut ∙ (ap (λ (l : List ℕ). goes.front ++ l) cut ∙ sym (append_assoc goes.front line rest));
+  answered = inl (record {
+    text = goes.text ++ out.front;
+    fed = subst (λ (t : List ℕ). Fed disks old (goes.front ++ line) (record mid { text = t }))
+        (ap (λ (t : List ℕ). goes.text ++ t) out.cut ∙ sym (append_assoc goes.text out.front out.rest)) (goes.on line mid fed);
+    printed = appends_more before here next goes.text out.front goes.printed out.printed;
+  });
+}
+
+pub broken_on : {Disk : Type 0} (disks : Disk → DiskState) (old now : Progress Disk) (piece left line rest : List ℕ) (before here next : Option (List ℕ))
+    → GoesOn disks old now piece left before here → left ≡ line ++ rest → IsLineBroken disks now line here next → IsBroken disks old piece before next
+broken_on disks old now piece left line rest before here next goes cut (inl keeps) = broken_before disks old now piece left before here next goes keeps
+broken_on disks old now piece left line rest before here next goes cut (inr out) = broken_in disks old now out.0 piece left line rest before here next goes cut out.1 out.2
 
 -- ---- the whole input
 
@@ -222,3 +208,44 @@ pub ends_with_loss : {Disk : Type 0} (disks : Disk → DiskState) → AnyClearin
     → IsSoFar disks old now input here before shown → now.text ≡ [] → Consumes here rest piece → IsLost disks now new piece shown behind → IsServed disks old new input rest before behind (end.Lost error)
 ends_with_loss disks clearing old now new piece input here rest before shown behind error so clear read lost =
     ends_lost disks clearing old now new piece input here rest before shown behind error so clear read lost lost.answered
+
+-- broken off between two pieces
+pub off_between : {Disk : Type 0} (disks : Disk → DiskState) (old now : Progress Disk) (input here rest before shown : Option (List ℕ))
+    → IsSoFar disks old now input here before shown → Keeps here rest → IsBrokenOff disks old input rest before shown
+off_between disks old now input here rest before shown so keeps = record {
+  bytes = so.bytes;
+  read = consumes_keeps input here rest so.bytes so.read keeps;
+  broken = record { mid = now; front = so.bytes; rest = []; cut = sym (append-nil so.bytes); answered = inl so.answered };
+}
+
+off_in : {Disk : Type 0} (disks : Disk → DiskState) → AnyClearing disks → (old now : Progress Disk) (piece : List ℕ) (input here rest before shown behind : Option (List ℕ))
+    → IsSoFar disks old now input here before shown → now.text ≡ [] → Consumes here rest piece → (broken : IsBroken disks now piece shown behind) → IsAnsweredUpTo disks now broken.mid broken.front shown behind
+    → IsBrokenOff disks old input rest before behind
+off_in disks clearing old now piece input here rest before shown behind so clear read broken (inl a) = record {
+  bytes = so.bytes ++ piece;
+  read = consumes_more input here rest so.bytes piece so.read read;
+  broken = record {
+    mid = broken.mid;
+    front = so.bytes ++ broken.front;
+    rest = broken.rest;
+    cut = ap (λ (l : List ℕ). so.bytes ++ l) broken.cut ∙ sym (append_assoc so.bytes broken.front broken.rest);
+    answered = inl (answered_more disks clearing old now broken.mid so.bytes broken.front before shown behind so.answered clear a);
+  };
+}
+off_in disks clearing old now piece input here rest before shown behind so clear read broken (inr a) = record {
+  bytes = so.bytes ++ piece;
+  read = consumes_more input here rest so.bytes piece so.read read;
+  broken = record {
+    mid = now;
+    front = so.bytes;
+    rest = piece;
+    cut = refl;
+    answered = inl (record { text = so.answered.text; fed = so.answered.fed; printed = keeps_on before shown behind so.answered.text so.answered.printed a.2 });
+  };
+}
+
+-- or within one
+pub off_within : {Disk : Type 0} (disks : Disk → DiskState) → AnyClearing disks → (old now : Progress Disk) (piece : List ℕ) (input here rest before shown behind : Option (List ℕ))
+    → IsSoFar disks old now input here before shown → now.text ≡ [] → Consumes here rest piece → IsBroken disks now piece shown behind → IsBrokenOff disks old input rest before behind
+off_within disks clearing old now piece input here rest before shown behind so clear read broken =
+    off_in disks clearing old now piece input here rest before shown behind so clear read broken broken.answered

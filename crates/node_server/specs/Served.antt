@@ -23,6 +23,13 @@ pub record IsAnswered {Disk : Type 0} (disks : Disk → DiskState) (old new : Pr
 abbrev pub IsAnsweredUpTo : {Disk : Type 0} → (Disk → DiskState) → Progress Disk → Progress Disk → List ℕ → Option (List ℕ) → Option (List ℕ) → Type 0
 IsAnsweredUpTo disks old new bytes before behind = IsAnswered disks old new bytes before behind ⊎ ((new ≡ old) × (bytes ≡ []) × Keeps before behind)
 
+-- A front of a text was written.
+pub record AppendsFront (text : List ℕ) (before behind : Option (List ℕ)) : Type 0 where
+  pub front : List ℕ
+  pub rest : List ℕ
+  pub cut : text ≡ front ++ rest
+  pub printed : Appends before behind front
+
 -- ---- a line
 
 -- It was fed: nothing was written, or all that the session had. Where the disk was lost nothing was.
@@ -30,6 +37,10 @@ abbrev pub IsLineEnd : {Disk : Type 0} → (Disk → DiskState) → Progress Dis
 IsLineEnd {Disk} disks old new line before behind None =
     (Fed disks old line new × Keeps before behind) ⊎ ((mid : Progress Disk) × Fed disks old line mid × (new ≡ record mid { text = [] }) × Appends before behind mid.text)
 IsLineEnd disks old new line before behind (Some error) = Fed disks old line new × Keeps before behind
+
+-- It was broken off: nothing was written, or a front of all that the session had behind the line.
+abbrev pub IsLineBroken : {Disk : Type 0} → (Disk → DiskState) → Progress Disk → List ℕ → Option (List ℕ) → Option (List ℕ) → Type 0
+IsLineBroken {Disk} disks old line before behind = Keeps before behind ⊎ ((mid : Progress Disk) × Fed disks old line mid × AppendsFront mid.text before behind)
 
 -- ---- a piece
 
@@ -47,6 +58,14 @@ pub record IsLost {Disk : Type 0} (disks : Disk → DiskState) (old new : Progre
 abbrev pub IsPieceEnd : {Disk : Type 0} → (Disk → DiskState) → Progress Disk → Progress Disk → List ℕ → Option (List ℕ) → Option (List ℕ) → Option Error → Type 0
 IsPieceEnd disks old new piece before behind None = IsAnswered disks old new piece before behind × (new.text ≡ [])
 IsPieceEnd disks old new piece before behind (Some error) = IsLost disks old new piece before behind
+
+-- It was broken off: a front of it was fed, and the answers to that were written but for what `mid` has of them.
+pub record IsBroken {Disk : Type 0} (disks : Disk → DiskState) (old : Progress Disk) (piece : List ℕ) (before behind : Option (List ℕ)) : Type 0 where
+  pub mid : Progress Disk
+  pub front : List ℕ
+  pub rest : List ℕ
+  pub cut : piece ≡ front ++ rest
+  pub answered : IsAnsweredUpTo disks old mid front before behind
 
 -- ---- the whole input
 
@@ -71,3 +90,9 @@ pub record IsServedTo {Disk : Type 0} (disks : Disk → DiskState) (old : Progre
   pub last : Progress Disk
   pub served : IsServed disks old last input rest before behind end
   pub disk : last.node.disk ≡ Some left
+
+-- It was broken off by an error: of what was read a front was fed, and of the answers to that a front was written.
+pub record IsBrokenOff {Disk : Type 0} (disks : Disk → DiskState) (old : Progress Disk) (input rest before behind : Option (List ℕ)) : Type 0 where
+  pub bytes : List ℕ
+  pub read : Consumes input rest bytes
+  pub broken : IsBroken disks old bytes before behind

@@ -4,6 +4,7 @@
 
 mod formatting;
 mod serving;
+mod writing;
 
 pub use formatting::format_node;
 pub use serving::{DiskWatch, ServingEnd, serve_node};

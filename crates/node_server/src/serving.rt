@@ -1,11 +1,12 @@
 // The loop between the streams of a node and its session.
-ghost use Rattle.std.specs.Prelude.{◌≡◌, ◌<◌, ◌≤◌, [], false, IfOk, OnOk};
+ghost use Rattle.std.specs.Prelude.{◌≡◌, ◌<◌, ◌≤◌, [], false, IfOk, OnErr, OnOk};
 ghost use Rattle.std.specs.Io.KnownBytes.{Appends};
 ghost use Rattle.group_task.specs.declared.node.TheConstants.{NODES};
 ghost use Rattle.job_journal.specs.Journal.{IsSound};
 ghost use Rattle.node_store.specs.Store.{slots_for};
-ghost use Rattle.node_server.specs.Served.{begun, IsLineEnd, IsPieceEnd, IsServed, IsServedTo};
+ghost use Rattle.node_server.specs.Served.{begun, AppendsFront, IsBroken, IsBrokenOff, IsLineBroken, IsLineEnd, IsPieceEnd, IsServed, IsServedTo};
 
+use crate::writing::write_whole;
 use group_task::NodeId;
 use memchr::memchr;
 use node_session::{Seal, Session, any_clearing, any_cutting, any_taking, at_once_is_fed};
@@ -59,7 +60,11 @@ pub fn serve_node<D: SectorDisk + Drop, R: Read, W: Write>(
     // is. Where the disk is lost, of the command behind which that was found nothing is written, and nothing behind it is fed.
     // Also: serve, answer, answer_line, write_out.
     // Refuses: answers_not_written, line_fed_twice, line_passed_over, nothing_sealed_under_a_key, serving_ends_early, lost_command_acknowledged.
-    ensures { IfOk result.0 (λ end. IsServedTo D.state (begun id nodes setting seal disk) (R.remaining input.old) (R.remaining input.new) (W.contents output.old) (W.contents output.new) result.1 end) }
+    ensures served { IfOk result.0 (λ end. IsServedTo D.state (begun id nodes setting seal disk) (R.remaining input.old) (R.remaining input.new) (W.contents output.old) (W.contents output.new) result.1 end) }
+    // Promise: Where an error of the streams, of the clock or of memory ends it, what was written is a front of the answers to a front of what was read.
+    // Also: serve, answer, answer_line, write_out, write_whole.
+    // Refuses: written_behind_a_failed_write, error_told_in_the_answers.
+    ensures broken { OnErr result.0 (IsBrokenOff D.state (begun id nodes setting seal disk) (R.remaining input.old) (R.remaining input.new) (W.contents output.old) (W.contents output.new)) }
 {
     let mut session = Session::new(alloc, id, nodes, disk, setting, u64::from(id.number()));
     if let Some(seal) = seal {
@@ -80,7 +85,8 @@ fn serve<D: SectorDisk + Drop, R: Read, W: Write>(
     requires fresh { session.old.rest ≡ [] }
     requires going { session.old.stopped ≡ false }
     requires clear { session.old.text ≡ [] }
-    ensures { IfOk result (λ end. IsServed D.state session.old session.new (R.remaining input.old) (R.remaining input.new) (W.contents output.old) (W.contents output.new) end) }
+    ensures served { IfOk result (λ end. IsServed D.state session.old session.new (R.remaining input.old) (R.remaining input.new) (W.contents output.old) (W.contents output.new) end) }
+    ensures broken { OnErr result (IsBrokenOff D.state session.old (R.remaining input.old) (R.remaining input.new) (W.contents output.old) (W.contents output.new)) }
 {
     any_clearing::<D>();
     let mut piece = [0u8; PIECE];
@@ -107,7 +113,8 @@ fn answer<D: SectorDisk + Drop, W: Write>(
     piece: &[u8],
     output: &mut W,
 ) -> io::Result<Option<io::Error>>
-    ensures { IfOk result (λ loss. IsPieceEnd D.state session.old session.new piece.now (W.contents output.old) (W.contents output.new) loss) }
+    ensures ended { IfOk result (λ loss. IsPieceEnd D.state session.old session.new piece.now (W.contents output.old) (W.contents output.new) loss) }
+    ensures broken { OnErr result (IsBroken D.state session.old piece.now (W.contents output.old) (W.contents output.new)) }
 {
     any_cutting::<D>();
     any_clearing::<D>();
@@ -139,7 +146,8 @@ fn answer_line<D: SectorDisk + Drop, W: Write>(
     line: &[u8],
     output: &mut W,
 ) -> io::Result<Option<io::Error>>
-    ensures { IfOk result (λ loss. IsLineEnd D.state session.old session.new line.now (W.contents output.old) (W.contents output.new) loss) }
+    ensures ended { IfOk result (λ loss. IsLineEnd D.state session.old session.new line.now (W.contents output.old) (W.contents output.new) loss) }
+    ensures broken { OnErr result (IsLineBroken D.state session.old line.now (W.contents output.old) (W.contents output.new)) }
 {
     at_once_is_fed::<D>();
     any_taking::<D>();
@@ -170,8 +178,9 @@ fn loss_of(watch: &impl DiskWatch, keeps: Option<(u64, u64, u64)>) -> Option<io:
 fn write_out<D: SectorDisk, W: Write>(session: &mut Session<D>, output: &mut W) -> io::Result<()>
     ensures printed { OnOk result (Appends (W.contents output.old) (W.contents output.new) session.old.text) }
     ensures cleared { OnOk result (session.new ≡ record session.old { text = [] }) }
+    ensures broken { OnErr result (AppendsFront session.old.text (W.contents output.old) (W.contents output.new)) }
 {
-    output.write_all(session.text())?;
+    write_whole(output, session.text())?;
     output.flush()?;
     session.clear();
     Ok(())

@@ -198,18 +198,22 @@ BegunHistory =
     Follows self nodes (begun self mounted) (entries_in self nodes (begun self mounted) (first_turn (Goes what) turns due ∷ all)) ×
     (replay self nodes (begun self mounted) (entries_in self nodes (begun self mounted) (first_turn (Goes what) turns due ∷ all)) ≡ (after_lines self nodes a (line ∷ lines) (first_turn (Begins mounted what) turns due ∷ all)).state)
 
--- where no time was told yet and nothing was fed
-abbrev pub opened : {Disk : Type 0} → ℕ → ℕ → TimerSettings → Disk → Progress Disk
-opened id nodes setting disk = record {
+-- where no time was told yet and nothing was fed, and jitter is drawn by this seed
+abbrev pub opened_by : {Disk : Type 0} → ℕ → ℕ → ℕ → TimerSettings → Disk → Progress Disk
+opened_by seed id nodes setting disk = record {
   node = record { id = id; nodes = nodes; state = down id; disk = Some disk; kept = None; area = None; doubt = None; mounted = None };
   stopped = false;
   count = 0;
   text = [];
   rest = [];
   waits = none_waited setting.unit;
-  timers = new_timers setting id;
+  timers = new_timers setting id seed;
   seal = None;
 }
+
+-- the same where the seed is the node's number
+abbrev pub opened : {Disk : Type 0} → ℕ → ℕ → TimerSettings → Disk → Progress Disk
+opened id nodes setting disk = opened_by id id nodes setting disk
 
 -- over a disk of which nothing is known, a new session stands for any jobs and counter
 abbrev pub BeginsAnywhere : {Disk : Type 0} → (Disk → DiskState) → Type 0

@@ -6,7 +6,7 @@ use Rattle.pace.specs.declared.wait.Wait.{Wait}
 use Rattle.pace.specs.declared.deadline.Deadline.{Deadline}
 use Rattle.pace.specs.declared.snapshot.NodeSnapshot.{NodeSnapshot}
 use Rattle.pace.specs.Timers.{prompted_left, soon_left, wait_of}
-use Rattle.pace.specs.Policy.{Policy, Counts, Dispatches, HasCome, IsDue, IsWorkDue, MayFire, MovesDeadline, Runs, Sets, asked_at, event_at, passed, slowest_at}
+use Rattle.pace.specs.Policy.{Policy, Counts, Dispatches, HasCome, IsDue, IsWorkDue, MayFire, MovesDeadline, Runs, Sets, asked_at, event_at, passed, random_at, slowest_at}
 use Rattle.pace.specs.Retransmission.{Waits, has_come, sent_again}
 
 -- a deadline is set, where none ran
@@ -14,7 +14,7 @@ abbrev pub SetsDeadline : NodeSnapshot → Policy → Policy → Type 0
 SetsDeadline s old new = ((d : Deadline) → Runs old s d → ⊥) → (wait : Wait) → wait_of s ≡ Some wait
     → (d : Deadline) × (new.deadline ≡ Some d) × Sets old wait s.group d
     × (new.asked ≡ asked_at wait old) × (new.slowest ≡ slowest_at wait old) × (new.soon ≡ soon_left old.soon wait)
-    × (new.prompted ≡ prompted_left old.soon old.prompted wait)
+    × (new.prompted ≡ prompted_left old.soon old.prompted wait) × (new.random ≡ random_at wait old)
 
 -- all that is said of a tick that answered this
 pub record Ticks (s : NodeSnapshot) (old : Policy) (fired : Option Event) (new : Policy) : Type 0 where
@@ -30,6 +30,7 @@ pub record Ticks (s : NodeSnapshot) (old : Policy) (fired : Option Event) (new :
   pub checks : Counts fired old new
   pub dispatches : Dispatches fired s old new
   pub kept : new ≡ record old {
+    random = new.random;
     deadline = new.deadline;
     settled = new.settled;
     checks = new.checks;

@@ -36,8 +36,8 @@ pub record Timers : Type 0 where
   pub spent_in : Option Group
 
 -- no time was told yet
-abbrev pub new_timers : TimerSettings → ℕ → Timers
-new_timers setting id = record { policy = fresh setting id; looked_in = None; spent_in = None }
+abbrev pub new_timers : TimerSettings → ℕ → ℕ → Timers
+new_timers setting id seed = record { policy = fresh setting id seed; looked_in = None; spent_in = None }
 
 -- ---- what is told
 

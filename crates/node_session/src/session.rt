@@ -10,7 +10,7 @@ ghost use Rattle.node_session.specs.declared.asked.Asked.TheVariants as ask;
 ghost use Rattle.node_session.specs.declared.call_outcome.CallOutcome.TheVariants as end;
 ghost use Rattle.node_session.specs.Seals.{asked_under, life_of, sealed_behind, taken_under, written};
 ghost use Rattle.node_session.specs.Chains.{ComesAndEnds, IsAtOnce, IsToldBy, brought_up, is_failed};
-ghost use Rattle.node_session.specs.Serving.{opened, Calls, FedAtOnce, Replies, Serves, Turns};
+ghost use Rattle.node_session.specs.Serving.{opened_by, Calls, FedAtOnce, Replies, Serves, Turns};
 ghost use Rattle.node_session.specs.Timing.{lost_by, Fires, GivesUp, IsDueAt, IsSeen, IsToldNext, Nothing, Spends, Timely};
 ghost use Rattle.durable_node.specs.Faults.{answered};
 ghost use Rattle.durable_node.specs.Node.{Stands};
@@ -79,7 +79,9 @@ impl<D: SectorDisk> Session<D> {
         requires within { id < nodes }
         requires most { nodes ≤ NODES }
         requires sound { IsSound (slots_for (D.state disk).sectors) (D.state disk) }
-        ensures { result ≡ opened id nodes setting disk }
+        // Promise: The policy of a session's timers begins with the seed that it is given.
+        // Refuses: one_seed_for_all_sessions.
+        ensures { result ≡ opened_by seed id nodes setting disk }
     {
         Session {
             alloc,
@@ -167,7 +169,7 @@ impl<D: SectorDisk + Drop> Session<D> {
         // compaction: each refusal comes exactly where its rule says, `Device` only where the disk's count of failures rose or is the
         // greatest, and what is mounted is what the disk reads.
         // Also: Session::turn, Session::compact, stops_where_failed, device_where_failed, exhausted_where_none_left.
-        // Refuses: device_at_will, submit_refused_as_worn, recovery_answered_damaged, done_refused_as_worn, compaction_refused_at_will.
+        // Refuses: device_fault_at_will, submit_refused_as_worn, recovery_answered_damaged, done_refused_as_worn, compaction_refused_at_will.
         // Promise: A tick or a loss names each event that it makes; a recovery writes what is kept; a tick sends again what the
         // node sent and still waits for, once a round trip.
         // Refuses: node_words::fired_as_another, sent_again_without_end, pace::sent_again_at_once.

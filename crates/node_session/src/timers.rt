@@ -32,7 +32,7 @@ impl Model for Timers {
 impl Timers {
     /// No time was told yet. The seed and the node's identifier decide the jitter.
     pub(crate) fn new(setting: TimerSettings, id: NodeId, seed: u64) -> Timers
-        ensures { result ≡ new_timers setting id }
+        ensures { result ≡ new_timers setting id seed }
     {
         Timers {
             policy: TimerPolicy::new(setting, id, seed),

@@ -2,14 +2,16 @@
 use Rattle.std.proofs.Common.{◌≡◌, ◌≢◌, ℕ, ◌+◌, ◌<◌, ◌≤◌, List, [], ◌∷◌, ◌++◌, length, slice_index_or, refl, ap, sym, ◌∙◌, subst, inl, inr, arith, ◌*◌, ◌-◌, Some, slice_get}
 use Rattle.std.proofs.lemmas.Bool.{cases_eq, cases_lt}
 use Rattle.std.proofs.lemmas.List.{length-append, get_or_append_left, get_or_push}
+use Rattle.std.proofs.lemmas.List.Elements.{All-push}
 use Rattle.std.proofs.lemmas.Option.{slice_get_within, get_or_from_slice_get, same_Some}
-use Rattle.link_ring.specs.Sides.{Side, unused}
+use Rattle.link_ring.specs.Sides.{Ring, Side, unused, unused_put}
 use Rattle.link_ring.specs.declared.gathering.LinkEnd.{LinkEnd}
 use Rattle.histories.specs.Lists.{IsAmong}
-use Rattle.node_lock.specs.HeldView.{IsOther}
+use Rattle.node_lock.specs.Drawing.{Counter}
+use Rattle.node_lock.specs.HeldView.{HeldView, IsOther}
 use Rattle.node_threads.specs.Nodes.{NodeEnds, no_ends}
 use Rattle.node_threads.proofs.Places.{at_or_before, place_of, get_more, get_last}
-use Rattle.node_threads.specs.Wired.{AreBelow, PutsBelow, TakesBelow, AreUnlinked, AreWiredBelow, AddedEnds}
+use Rattle.node_threads.specs.Wired.{AreBelow, PutsBelow, TakesBelow, AreUnlinked, AreWiredBelow, AddedEnds, HaveCounter}
 use Rattle.node_threads.specs.Links.{IsLinkOf, IsPartOf, AreGathered, AreParts, StartsWith, GatheredMore, TookEnds}
 
 -- the links from the nodes below the sender are there, and those from the sender to the nodes below the receiver
@@ -50,21 +52,25 @@ each_pushed P xs x all last k d lt = elim (at_or_before k (length xs) (omega (ar
   | inr at ↦ rw (get_or_push xs x d k (sym at)) (subst (λ (n : ℕ). P n x) (sym at) last)
 ]
 
-puts_more : (capacity own bound : ℕ) (xs : List Side) → own ≢ bound → PutsBelow capacity own bound xs → PutsBelow capacity own (bound + 1) (xs ++ (unused own bound capacity) ∷ [])
-puts_more capacity own bound xs ne all =
-    let end = unused own bound capacity in
+puts_more : (ring : Ring) (capacity own bound : ℕ) (xs : List Side) → own ≢ bound → PutsBelow capacity own bound xs → PutsBelow capacity own (bound + 1) (xs ++ (unused_put ring own bound capacity) ∷ [])
+puts_more ring capacity own bound xs ne all =
+    let end = unused_put ring own bound capacity in
     record {
       len = one_more own bound (length xs) (length (xs ++ end ∷ [])) ne (length-append xs (end ∷ [])) all.len;
       each = each_pushed (λ k (e : Side). (e.sender ≡ own) × (e.capacity ≡ capacity) × (e.messages ≡ []) × IsOther own k e.receiver) xs end all.each (refl, refl, refl, next_other own bound (length xs) ne all.len);
     }
 
-takes_more : (capacity own bound : ℕ) (xs : List Side) → own ≢ bound → TakesBelow own bound xs → TakesBelow own (bound + 1) (xs ++ (unused bound own capacity) ∷ [])
-takes_more capacity own bound xs ne all =
-    let end = unused bound own capacity in
+takes_more : (ring : Ring) (capacity own bound : ℕ) (xs : List Side) → own ≢ bound → TakesBelow own bound xs → TakesBelow own (bound + 1) (xs ++ (unused ring bound own capacity) ∷ [])
+takes_more ring capacity own bound xs ne all =
+    let end = unused ring bound own capacity in
     record {
       len = one_more own bound (length xs) (length (xs ++ end ∷ [])) ne (length-append xs (end ∷ [])) all.len;
       each = each_pushed (λ k (e : Side). (e.receiver ≡ own) × (e.messages ≡ []) × IsOther own k e.sender) xs end all.each (refl, refl, next_other own bound (length xs) ne all.len);
     }
+
+-- one node more is held, which has the counter of the others
+pub counter_more : (counter : Counter) (old new : List HeldView) (h : HeldView) → new ≡ old ++ h ∷ [] → h.counter ≡ counter → HaveCounter counter old → HaveCounter counter new
+counter_more counter old new h is same all = subst (HaveCounter counter) (sym is) (All-push (λ (g : HeldView). g.counter ≡ counter) old h all same)
 
 -- ---- the ends of all nodes
 
@@ -134,20 +140,22 @@ takes_far s r n p t old new d far add = elim (cases_eq n s) [
   | inr away ↦ ap (λ (x : NodeEnds). x.takes) (add.others n d away far)
 ]
 
-pub links_more : (nodes capacity s r : ℕ) (old new : List NodeEnds) → r < nodes → r ≢ s → AddedEnds s r (unused s r capacity) (unused s r capacity) old new → IsWiring nodes capacity s r old → IsWiring nodes capacity s (r + 1) new
-links_more nodes capacity s r old new r_in ne add all =
-    let x = unused s r capacity in
+pub links_more : (ring : Ring) (nodes capacity s r : ℕ) (old new : List NodeEnds) → r < nodes → r ≢ s → AddedEnds s r (unused_put ring s r capacity) (unused ring s r capacity) old new
+    → IsWiring nodes capacity s r old → IsWiring nodes capacity s (r + 1) new
+links_more ring nodes capacity s r old new r_in ne add all =
+    let x = unused_put ring s r capacity in
+    let y = unused ring s r capacity in
     record {
       count = add.len ∙ all.count;
-      before = λ n f below. subst (PutsBelow capacity n nodes) (sym (puts_far s r n x x old new f (λ same. omega (arith, below, same)) add)) (all.before n f below);
-      puts = λ f. subst (PutsBelow capacity s (r + 1)) (sym (add.put f)) (puts_more capacity s r (slice_index_or old s f).puts (λ same. ne (sym same)) (all.puts f));
-      no_puts = λ n f above below. puts_far s r n x x old new f (λ same. omega (arith, above, same)) add ∙ all.no_puts n f above below;
+      before = λ n f below. subst (PutsBelow capacity n nodes) (sym (puts_far s r n x y old new f (λ same. omega (arith, below, same)) add)) (all.before n f below);
+      puts = λ f. subst (PutsBelow capacity s (r + 1)) (sym (add.put f)) (puts_more ring capacity s r (slice_index_or old s f).puts (λ same. ne (sym same)) (all.puts f));
+      no_puts = λ n f above below. puts_far s r n x y old new f (λ same. omega (arith, above, same)) add ∙ all.no_puts n f above below;
       linked = λ n f below. elim (at_or_before n r below) [
-        | inl before ↦ subst (TakesBelow n (s + 1)) (sym (takes_far s r n x x old new f (λ same. omega (arith, before, same)) add)) (all.linked n f before)
+        | inl before ↦ subst (TakesBelow n (s + 1)) (sym (takes_far s r n x y old new f (λ same. omega (arith, before, same)) add)) (all.linked n f before)
         | inr at ↦ subst (λ (m : ℕ). TakesBelow m (s + 1) (slice_index_or new m f).takes) (sym at)
-            (subst (TakesBelow r (s + 1)) (sym (add.take f)) (takes_more capacity r s (slice_index_or old r f).takes ne (all.unlinked r f (omega arith) r_in)))
+            (subst (TakesBelow r (s + 1)) (sym (add.take f)) (takes_more ring capacity r s (slice_index_or old r f).takes ne (all.unlinked r f (omega arith) r_in)))
       ];
-      unlinked = λ n f above below. subst (TakesBelow n s) (sym (takes_far s r n x x old new f (λ same. omega (arith, above, same)) add)) (all.unlinked n f (omega (arith, above)) below);
+      unlinked = λ n f above below. subst (TakesBelow n s) (sym (takes_far s r n x y old new f (λ same. omega (arith, above, same)) add)) (all.unlinked n f (omega (arith, above)) below);
     }
 
 -- ---- as the code has them
@@ -158,9 +166,11 @@ none_unlinked ends none = record { count = ap length none; each = λ n d lt. abs
 pub end_of : (n m k l : ℕ) → n ≤ m → m ≤ n → m ≡ k → l ≡ k → n ≡ l
 end_of n m k l below above is is' = omega (arith, below, above, is, is')
 
-pub linked_as : (nodes capacity s r : ℕ) (p t : Side) (old new : List NodeEnds) → r < nodes → r ≢ s → p ≡ unused s r capacity → t ≡ unused s r capacity → AddedEnds s r p t old new → IsWiring nodes capacity s r old → IsWiring nodes capacity s (r + 1) new
-linked_as nodes capacity s r p t old new within ne is is' add all =
-    links_more nodes capacity s r old new within ne (subst (λ (x : Side). AddedEnds s r (unused s r capacity) x old new) is' (subst (λ (x : Side). AddedEnds s r x t old new) is add)) all
+pub linked_as : (ring : Ring) (nodes capacity s r : ℕ) (p t : Side) (old new : List NodeEnds) → r < nodes → r ≢ s → p ≡ unused_put ring s r capacity → t ≡ unused ring s r capacity
+    → AddedEnds s r p t old new → IsWiring nodes capacity s r old → IsWiring nodes capacity s (r + 1) new
+linked_as ring nodes capacity s r p t old new within ne is is' add all =
+    links_more ring nodes capacity s r old new within ne
+    (subst (λ (x : Side). AddedEnds s r (unused_put ring s r capacity) x old new) is' (subst (λ (x : Side). AddedEnds s r x t old new) is add)) all
 
 -- the links from the sender to the nodes below the receiver were added
 pub record IsGathering (sender receiver : ℕ) (ends left : List NodeEnds) (links more : List LinkEnd) : Type 0 where

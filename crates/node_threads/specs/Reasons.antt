@@ -1,10 +1,15 @@
 -- Why a run wasn't gathered, by the plans and the gate.
-use Rattle.std.specs.Prelude.{◌≡◌, ℕ, ◌+◌, ◌<◌, ◌≤◌, ⊤, Bool, IsTrue, List, length, slice_get, Some}
+use Rattle.std.specs.Prelude.{◌≡◌, ◌==◌, if◌then◌else◌, ℕ, ◌+◌, ◌<◌, ◌≤◌, ⊤, Bool, IsTrue, List, length, slice_get, Some}
 use Rattle.node_lock.specs.declared.held.TheConstants.{MOST_ENTRIES}
 use Rattle.node_lock.specs.declared.worker.Worker.{Worker}
+use Rattle.node_lock.specs.declared.worker.Worker.TheVariants.{Intake, Clock, Operator}
 use Rattle.node_lock.specs.Planned.{Planned, plan_len}
 use Rattle.node_threads.specs.declared.fault.ThreadsFault.{ThreadsFault}
 use Rattle.node_threads.specs.declared.fault.ThreadsFault.TheVariants.{GateShut, Unfinished, NoMemory, Unpaired}
+
+-- the workers of a node, in their order
+abbrev pub worker_by : ℕ → Worker
+worker_by n = if n == 0 then Intake else (if n == 1 then Clock else Operator)
 
 -- how many turns a node's workers are to take in all
 abbrev pub planned : Planned → ℕ

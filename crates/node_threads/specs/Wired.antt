@@ -1,7 +1,8 @@
 -- The links before a run: an end of each, which nothing went through, at its node.
-use Rattle.std.specs.Prelude.{◌≡◌, ◌≢◌, ℕ, ◌+◌, ◌<◌, ◌≤◌, List, [], ◌∷◌, ◌++◌, length, slice_index_or}
+use Rattle.std.specs.Prelude.{◌≡◌, ◌≢◌, ℕ, ◌+◌, ◌<◌, ◌≤◌, List, [], ◌∷◌, ◌++◌, All, length, slice_index_or}
 use Rattle.link_ring.specs.Sides.{Side}
-use Rattle.node_lock.specs.HeldView.{IsOther}
+use Rattle.node_lock.specs.Drawing.{Counter}
+use Rattle.node_lock.specs.HeldView.{HeldView, IsOther}
 use Rattle.node_threads.specs.Nodes.{NodeEnds, no_ends}
 
 -- so many nodes other than this one have numbers below the bound
@@ -42,3 +43,13 @@ pub record AddedEnds (s r : ℕ) (p t : Side) (old new : List NodeEnds) : Type 0
   pub take : (d : NodeEnds) → (slice_index_or new r d).takes ≡ (slice_index_or old r d).takes ++ t ∷ []
   pub take_other : (d : NodeEnds) → (slice_index_or new r d).puts ≡ (slice_index_or old r d).puts
   pub others : (k : ℕ) (d : NodeEnds) → k ≢ s → k ≢ r → slice_index_or new k d ≡ slice_index_or old k d
+
+-- all nodes draw the numbers of their turns from this counter
+abbrev pub HaveCounter : Counter → List HeldView → Type 0
+HaveCounter counter held = All (λ (h : HeldView). h.counter ≡ counter) held
+
+-- so many nodes, which draw the numbers of their turns from one counter
+pub record AreHeld (nodes : ℕ) (held : List HeldView) : Type 0 where
+  pub count : length held ≡ nodes
+  pub counter : Counter
+  pub numbers : HaveCounter counter held

@@ -12,7 +12,7 @@ use crate::ended::{reason_of, take_all};
 use crate::fault::ThreadsFault;
 use crate::gathering::gather_links;
 use crate::size::RunSize;
-use crate::wiring::{lock_nodes, wire};
+use crate::wiring::{hold_nodes, lock_nodes, wire};
 use crate::workers::run_workers;
 use link_ring::LinkEnd;
 use node_lock::{Gate, Plans, TurnLog};
@@ -82,7 +82,8 @@ pub fn run_threads<R: Threads + Wait + Sync, G: Gate + Send>(
 {
     let no_memory = |_: AllocError| ThreadsFault::NoMemory;
     let ends = wire(alloc, size.nodes, size.capacity).map_err(no_memory)?;
-    let locks = lock_nodes(alloc, size, ends, plans).map_err(no_memory)?;
+    let held = hold_nodes(alloc, size, ends, plans).map_err(no_memory)?;
+    let locks = lock_nodes(alloc, held).map_err(no_memory)?;
     if let Some(stopped) = run_workers(rt, alloc, &locks, gate).map_err(no_memory)? {
         return Err(reason_of(size, locks, plans, stopped));
     }

@@ -3,7 +3,7 @@
 ghost use Rattle.std.specs.Prelude.{◌≡◌, ◌≢◌, ◌+◌, ◌≤◌, ◌<◌, IfOk, OnOk, length, vec_len};
 ghost use Rattle.group_task.specs.declared.node.TheConstants.{NODES};
 ghost use Rattle.node_threads.specs.Nodes.{PollOthers};
-ghost use Rattle.node_threads.specs.Wired.{AddedEnds, AreUnlinked, AreWired, AreWiredBelow};
+ghost use Rattle.node_threads.specs.Wired.{AddedEnds, AreHeld, AreUnlinked, AreWired, AreWiredBelow};
 
 use crate::ends::Ends;
 use crate::size::RunSize;
@@ -79,21 +79,23 @@ fn add_ends(
     ends[receiver].add_take(take)
 }
 
-/// A lock round each node, which has just opened, with its ends and its plans.
-pub(crate) fn lock_nodes(
+/// Each node, which has just opened, with its ends and its plans. All draw the numbers of their turns from one counter.
+pub(crate) fn hold_nodes(
     alloc: Global,
     size: RunSize,
     mut ends: Vec<Ends>,
     plans: &[Plans],
-) -> Result<Vec<NodeLock>, AllocError>
+) -> Result<Vec<Held>, AllocError>
     requires nodes { (length plans.now ≡ size.nodes) × (size.nodes ≤ NODES) }
     requires slots { (4 ≤ size.slots) × (size.slots ≤ 4096) }
     requires polls { PollOthers plans.now }
     requires wired { AreWired size.nodes size.capacity ends.items }
-    ensures { IfOk result (λ locks. vec_len locks ≡ length plans.now) }
+    // Promise: All nodes of a run draw the numbers of their turns from one counter.
+    // Refuses: each_node_has_its_own_numbers.
+    ensures { IfOk result (λ held. AreHeld (length plans.now) held.items) }
 {
     let mut numbers = TurnNumbers::new(alloc)?;
-    let mut locks = Vec::new(alloc);
+    let mut nodes = Vec::new(alloc);
     for node in 0..plans.len() {
         let mine = mem::replace(&mut ends[node], Ends::new(alloc));
         let run = size.run(NodeId::numbered(node as u8));
@@ -106,7 +108,21 @@ pub(crate) fn lock_nodes(
             plan,
             numbers.try_clone()?,
         )?;
-        locks.push(NodeLock::new(held))?;
+        nodes.push(held)?;
+    }
+    Ok(nodes)
+}
+
+/// A lock round each of these nodes.
+pub(crate) fn lock_nodes(alloc: Global, held: Vec<Held>) -> Result<Vec<NodeLock>, AllocError>
+    ensures { IfOk result (λ locks. vec_len locks ≡ vec_len held) }
+{
+    let count = held.len();
+    let mut locks = Vec::new(alloc);
+    let mut nodes = held.into_iter();
+    for _node in 0..count {
+        let node = nodes.next().ok_or(AllocError)?;
+        locks.push(NodeLock::new(node))?;
     }
     Ok(locks)
 }

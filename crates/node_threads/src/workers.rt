@@ -1,6 +1,7 @@
 //! The threads.
 
-ghost use Rattle.std.specs.Prelude.{◌≡◌, ◌<◌, ◌*◌, IsTrue, length};
+ghost use Rattle.std.specs.Prelude.{◌≡◌, ◌<◌, ◌*◌, ◌%◌, IfErr, IsTrue, length};
+ghost use Rattle.node_threads.specs.Reasons.{worker_by};
 ghost use Rattle.node_lock.specs.declared.lock.TurnFault.TheVariants.{GateShut};
 
 use group_task::NodeId;
@@ -24,7 +25,12 @@ pub(crate) struct Stopped<G: Gate> {
     ghost shut: { fault ≡ GateShut → IsTrue (G.may_shut node worker) },
 }
 
-fn worker_at(place: usize) -> Worker {
+fn worker_at(place: usize) -> Worker
+    // Promise: The workers of a node stand in this order: intake, clock, operator. A worker that stopped is told as itself.
+    // Also: work, unstarted.
+    // Refuses: operator_before_intake, another_worker_named.
+    ensures { result ≡ worker_by (place % 3) }
+{
     match place % WORKERS {
         0 => Worker::Intake,
         1 => Worker::Clock,
@@ -40,6 +46,7 @@ fn work<R: Wait, G: Gate + Send>(
     gate: &G,
 ) -> Result<(), Stopped<G>>
     requires { place < 3 * length locks.now }
+    ensures { IfErr result (λ stopped. stopped.worker ≡ worker_by (place % 3)) }
 {
     let worker = worker_at(place);
     let lock = &locks[place / WORKERS];
@@ -109,6 +116,7 @@ pub(crate) fn run_workers<R: Threads + Wait + Sync, G: Gate + Send>(
 /// A worker whose thread couldn't be made.
 fn unstarted<G: Gate + Send>(locks: &[NodeLock], place: usize) -> Stopped<G>
     requires { place < 3 * length locks.now }
+    ensures { result.worker ≡ worker_by (place % 3) }
 {
     Stopped {
         node: locks[place / WORKERS].node,

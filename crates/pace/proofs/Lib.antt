@@ -1,3 +1,4 @@
 mod Work
 mod Due
+mod Jitters
 mod Units

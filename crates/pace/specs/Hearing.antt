@@ -6,11 +6,11 @@ use Rattle.wire_msg.specs.declared.body.Body.TheVariants as says
 use Rattle.pace.specs.Retransmission.{is_check}
 use Rattle.pace.specs.Policy.{Policy, answer_came, asked_by, heard_from}
 
--- who looks for other coordinators, or says that it is one, is no member of the receiver's group
-abbrev pub leads_itself : Body → Bool
-leads_itself says.AreYouCoordinator = true
-leads_itself (says.Coordinator agreed) = agreed
-leads_itself body = false
+-- who looks for other coordinators, or says whether it is one, may be a member of any group
+abbrev pub is_of_any_group : Body → Bool
+is_of_any_group says.AreYouCoordinator = true
+is_of_any_group (says.Coordinator agreed) = true
+is_of_any_group body = false
 
 -- a node says whether the receiver is its member, or whether it leads a group: it was asked for that
 abbrev pub answer_by : Body → Policy → Policy
@@ -19,7 +19,7 @@ answer_by (says.Coordinator agreed) p = answer_came p
 answer_by body p = p
 
 abbrev pub heard_by : Envelope → Policy → Policy
-heard_by m p = if is_check m.body then asked_by m.sender p else (if leads_itself m.body then p else heard_from m.sender p)
+heard_by m p = if is_check m.body then asked_by m.sender p else (if is_of_any_group m.body then p else heard_from m.sender p)
 
 abbrev pub told_by : Envelope → Policy → Policy
 told_by m p = heard_by m (answer_by m.body p)

@@ -1,3 +1,4 @@
+pub mod Jitter
 pub mod Timers
 pub mod Snapshots
 pub mod Policy

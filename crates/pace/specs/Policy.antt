@@ -13,7 +13,9 @@ use Rattle.pace.specs.declared.wait.Wait.{Wait}
 use Rattle.pace.specs.declared.wait.Wait.TheVariants.{Merge}
 use Rattle.pace.specs.declared.deadline.Deadline.{Deadline}
 use Rattle.pace.specs.declared.snapshot.NodeSnapshot.{NodeSnapshot}
-use Rattle.pace.specs.Timers.{IsSet, answered, at_once, comes_soon, is_behind_question, is_check_wait, is_late, paced, wait_of, timer_of, first_pause, graced, is_led_by, lasts, lateness, later, longer_pause, put_off}
+use Rattle.rand_pcg.specs.Lcg.{Lcg}
+use Rattle.pace.specs.Jitter.{behind_word, drawn, seeded}
+use Rattle.pace.specs.Timers.{IsSet, answered, at_once, comes_soon, is_behind_question, is_check_wait, is_late, paced, wait_of, timer_of, first_pause, graced, is_led_by, jitter_of, lasts, lateness, later, longer_pause, put_off}
 
 -- the policy of a node: the time that was told last, how much of what comes isn't waited for, the deadline that is set, whether its group is settled
 -- (a check was made or heard of in it), how many checks were fired and how many of them before each node was last heard, the oldest job that was seen, how long work rests and for how long it has to before it is
@@ -21,6 +23,8 @@ use Rattle.pace.specs.Timers.{IsSet, answered, at_once, comes_soon, is_behind_qu
 pub record Policy : Type 0 where
   pub id : ℕ
   pub setting : TimerSettings
+  -- the generator of jitter
+  pub random : Lcg
   pub told : Option ℕ
   pub skip : ℕ
   pub deadline : Option Deadline
@@ -41,10 +45,11 @@ pub record Policy : Type 0 where
   -- whether another coordinator's check prompted the node to its next one
   pub prompted : Bool
 
-abbrev pub fresh : TimerSettings → ℕ → Policy
-fresh setting id = record {
+abbrev pub fresh : TimerSettings → ℕ → ℕ → Policy
+fresh setting id seed = record {
   id = id;
   setting = setting;
+  random = seeded seed id;
   told = None;
   skip = 0;
   deadline = None;
@@ -147,9 +152,21 @@ gives_up p = record p { soon = 2; prompted = true }
 abbrev pub without_asked : Policy → Policy
 without_asked p = record p { asked = None }
 
+-- by what the lengths of this wait are reckoned
+abbrev pub paced_at : Wait → Policy → TimerSettings
+paced_at wait p = paced p.setting p.round_trip p.settled wait
+
+-- the jitter of this wait: what the generator gives next
+abbrev pub jitter_at : Wait → Policy → ℕ
+jitter_at wait p = drawn (jitter_of (paced_at wait p) p.settled wait) p.random
+
+-- the generator once the deadline of this wait is set: what comes soon has no jitter, and nothing is drawn for it
+abbrev pub random_at : Wait → Policy → Lcg
+random_at wait p = if is_some (comes_soon p.soon p.prompted wait) then p.random else behind_word p.random
+
 -- the deadline of this wait is set
 abbrev pub Sets : Policy → Wait → Group → Deadline → Type 0
-Sets p wait group d = IsSet (comes_soon p.soon p.prompted wait) (paced p.setting p.round_trip p.settled wait) p.settled p.raise p.slowest wait group d
+Sets p wait group d = IsSet (comes_soon p.soon p.prompted wait) (paced_at wait p) p.settled p.raise p.slowest (jitter_at wait p) wait group d
 
 -- its times are numbers of 64 bits
 abbrev pub IsWithinDeadline : Option Deadline → Type 0
@@ -233,6 +250,8 @@ pub record MovesDeadline (s : NodeSnapshot) (old new : Policy) : Type 0 where
   -- how long it has been over the node itself was held up
   pub held_up : (d : Deadline) → IsOver old s d → new.slowest ≡ slowest_late (lateness old.setting old.raise s.merge_wait d) old
   pub asked : (d : Deadline) → Runs old s d → new.asked ≡ old.asked
+  -- nothing is drawn
+  pub random : (d : Deadline) → Runs old s d → new.random ≡ old.random
 
 -- each check is counted, and settles the group; nothing else does
 pub record Counts (fired : Option Event) (old new : Policy) : Type 0 where

@@ -182,16 +182,16 @@ abbrev pub least_at : Option Bool → TimerSettings → ℕ → ℕ
 least_at None s least = least
 least_at (Some second) s least = soon_length s second
 
--- the deadline of this wait in a group, none of which is over
-pub record IsSet (soon : Option Bool) (s : TimerSettings) (settled : Bool) (raise slowest : ℕ) (wait : Wait) (group : Group) (d : Deadline) : Type 0 where
+-- the deadline of this wait in a group, with so much jitter, none of which is over
+pub record IsSet (soon : Option Bool) (s : TimerSettings) (settled : Bool) (raise slowest jitter : ℕ) (wait : Wait) (group : Group) (d : Deadline) : Type 0 where
   pub its_wait : d.wait ≡ wait
   pub its_group : d.group ≡ group
   pub from_now : d.waited ≡ 0
   pub in_time : d.put_off ≡ false
   pub has_grace : d.had_grace ≡ false
   pub comes : d.soon ≡ is_some soon
-  pub least : least_at soon s (least_of s settled wait) + patience s wait raise slowest ≤ d.length
-  pub most : d.length ≤ least_at soon s (least_of s settled wait + jitter_of s settled wait) + patience s wait raise slowest
+  pub long : d.length ≡ least_at soon s (least_of s settled wait + jitter) + patience s wait raise slowest
+  pub most : jitter ≤ jitter_of s settled wait
 
 -- a raise is reckoned with up to so many round trips
 abbrev pub raise_of : TimerSettings → ℕ → ℕ

@@ -1,17 +1,17 @@
 // What a message says to the policy of timers.
 ghost use Rattle.std.specs.Prelude.{◌≡◌};
-ghost use Rattle.pace.specs.Hearing.{leads_itself, told_by};
+ghost use Rattle.pace.specs.Hearing.{is_of_any_group, told_by};
 
 use crate::timer_policy::TimerPolicy;
 use wire_msg::{Body, Message};
 
 impl TimerPolicy {
-    /// This message came. Its sender isn't silent, unless it leads a group of its own: then it looks for other coordinators, or says that it is
-    /// one, and is no member of this node's.
+    /// This message came. Its sender isn't silent, unless who is in any group says so: whether somebody coordinates is asked and answered by all,
+    /// and a member asks its coordinator besides.
     pub fn delivered(&mut self, message: &Message)
-        // Promise: A message by which its sender shows that it leads a group of its own ends no silence; any other does, and moves no deadline. Who
-        // looks for coordinators is heard to ask.
-        // Refuses: any_word_ends_silence, leader_kept_as_member.
+        // Promise: Whether somebody coordinates is asked and answered in any group, and ends no silence; any other message does, and moves no
+        // deadline. Who looks for coordinators is heard to ask.
+        // Refuses: any_word_ends_silence, leader_kept_as_member, stranger_kept_as_member.
         ensures { self.new ≡ told_by message.now self.old }
     {
         if matches!(message.body(), Body::Here(_, _) | Body::Coordinator(_)) {
@@ -19,19 +19,19 @@ impl TimerPolicy {
         }
         if let Body::AreYouCoordinator = message.body() {
             self.asked(message.sender());
-        } else if !leads_itself(message.body()) {
+        } else if !is_of_any_group(message.body()) {
             self.heard(message.sender());
         }
     }
 }
 
-/// Whether this shows that its sender leads a group of its own.
-fn leads_itself(body: &Body) -> bool
-    ensures { result ≡ leads_itself body.now }
+/// Whether this may be said by who is in any group.
+fn is_of_any_group(body: &Body) -> bool
+    ensures { result ≡ is_of_any_group body.now }
 {
     match body {
         Body::AreYouCoordinator => true,
-        Body::Coordinator(leads) => *leads,
+        Body::Coordinator(_) => true,
         _ => false,
     }
 }

@@ -2,11 +2,11 @@ ghost use Rattle.std.specs.Prelude.{◌≡◌, ◌≢◌, ◌↔◌, ◌<◌, �
 ghost use Rattle.node_core.specs.declared.event.Event.TheVariants as on;
 ghost use Rattle.node_core.specs.declared.timer.Timer.TheVariants as timer;
 ghost use Rattle.node_core.specs.declared.event.Event.{Event};
-ghost use Rattle.rand_pcg.specs.Pcg.{pcg32};
+ghost use Rattle.pace.specs.Jitter.{behind_word, drawn};
 ghost use Rattle.pace.specs.declared.deadline.Deadline.{Deadline};
 ghost use Rattle.pace.specs.declared.wait.Wait.{Wait};
-ghost use Rattle.pace.specs.Timers.{comes_soon, jitter_of, least_at, least_of, paced, patience, prompted_left, raise_of, soon_left, wait_of};
-ghost use Rattle.pace.specs.Policy.{aged, all_answered, answer_came, answer_took, slowest_at, slowest_late, asked_at, asked_by, fresh, gives_up, heard_from, in_new_group, is_silent, has_silent, event_at, looked_at, may_dispatch, passed, rests, since, spent, trip_with, without_asked, work_left, Runs, HasCome, IsDue, IsWorkDue, MayFire, Counts, Dispatches, MovesDeadline, Sets};
+ghost use Rattle.pace.specs.Timers.{comes_soon, jitter_of, least_at, least_of, patience, prompted_left, raise_of, soon_left, wait_of};
+ghost use Rattle.pace.specs.Policy.{aged, all_answered, answer_came, answer_took, slowest_at, slowest_late, asked_at, asked_by, fresh, gives_up, heard_from, in_new_group, is_silent, jitter_at, paced_at, random_at, has_silent, event_at, looked_at, may_dispatch, passed, rests, since, spent, trip_with, without_asked, work_left, Runs, HasCome, IsDue, IsWorkDue, MayFire, Counts, Dispatches, MovesDeadline, Sets};
 
 use crate::deadline::Deadline;
 use crate::snapshot::NodeSnapshot;
@@ -59,6 +59,7 @@ impl Model for TimerPolicy {
     ghost view = { λ a. record {
       id = a.id;
       setting = a.setting;
+      random = a.random;
       told = a.told;
       skip = a.skip;
       deadline = a.deadline;
@@ -79,8 +80,11 @@ impl Model for TimerPolicy {
 
 impl TimerPolicy {
     /// A policy with no deadline set. The seed and the node's identifier decide the jitter.
+    #[tactic(auto, unfolding(crate::specs::Jitter::seeded))]
     pub fn new(setting: TimerSettings, id: NodeId, seed: u64) -> TimerPolicy
-        ensures { result ≡ fresh setting id }
+        // Promise: Jitter is drawn from the Pcg32 of the seed, in the stream of the node's number: nodes of one seed draw other words.
+        // Refuses: one_stream_for_all, one_seed_for_all.
+        ensures { result ≡ fresh setting id seed }
     {
         TimerPolicy {
             id,
@@ -256,17 +260,17 @@ impl TimerPolicy {
         // Refuses: silence_of_a_stopped_process_counts, own_stall_blamed_on_others, grace_as_long_as_the_wait, own_hold_up_forgotten, fires_twice,
         // another_groups_deadline_taken.
         ensures moves { MovesDeadline snapshot.now self.old self.new }
-        // Promise: Where no deadline is set, one is, for its wait's length, at most its jitter more, and a raise more where others may be in one. Behind a
+        // Promise: Where no deadline is set, one is, for its wait's length, the jitter that is drawn more, and a raise more where others may be in one. Behind a
         // recovery that gives up a silent member the next check comes at once, and the one behind it two round trips later; each
         // check that was set soon is counted, and nothing else is. The merge behind these, and behind a check to which another one's prompted the
         // node, comes two round trips later, and waits for nobody's turn.
         // Also: recovers, stays, TimerPolicy::gave_up.
-        // Refuses: jitter_above_its_bound, raise_of_others_not_waited_for, no_check_comes_soon, every_check_comes_soon, prompted_merge_waits_for_its_turn,
+        // Refuses: jitter_left_out, generator_stands_still, jitter_above_its_bound, raise_of_others_not_waited_for, no_check_comes_soon, every_check_comes_soon, prompted_merge_waits_for_its_turn,
         // every_merge_comes_soon.
         ensures set { ((d : Deadline) → Runs self.old snapshot.now d → ⊥) → (wait : Wait) → wait_of snapshot.now ≡ Some wait
             → (d : Deadline) × (self.new.deadline ≡ Some d) × Sets self.old wait snapshot.now.group d
             × (self.new.asked ≡ asked_at wait self.old) × (self.new.slowest ≡ slowest_at wait self.old) × (self.new.soon ≡ soon_left self.old.soon wait)
-            × (self.new.prompted ≡ prompted_left self.old.soon self.old.prompted wait) }
+            × (self.new.prompted ≡ prompted_left self.old.soon self.old.prompted wait) × (self.new.random ≡ random_at wait self.old) }
         ensures recovers { result ≡ Some on.Recover → (self.new.soon ≡ 2) × (self.new.prompted ≡ true) }
         ensures stays { result ≢ Some on.Recover → (d : Deadline) → Runs self.old snapshot.now d → (self.new.soon ≡ self.old.soon) × (self.new.prompted ≡ self.old.prompted) }
         // Promise: Each check is counted and settles the group; behind a dispatch work rests anew, the longer the longer it did; where the oldest job is
@@ -276,6 +280,7 @@ impl TimerPolicy {
         ensures checks { Counts result self.old self.new }
         ensures dispatches { Dispatches result snapshot.now self.old self.new }
         ensures kept { self.new ≡ record self.old {
+          random = self.new.random;
           deadline = self.new.deadline;
           settled = self.new.settled;
           checks = self.new.checks;
@@ -469,6 +474,7 @@ impl TimerPolicy {
     fn set(&mut self, wait: Wait, group: GroupNo)
         ensures deadline { (d : Deadline) × (self.new.deadline ≡ Some d) × Sets self.old wait group d }
         ensures kept { self.new ≡ record self.old {
+          random = random_at wait self.old;
           deadline = self.new.deadline;
           soon = soon_left self.old.soon wait;
           asked = asked_at wait self.old;
@@ -503,11 +509,10 @@ impl TimerPolicy {
 
     /// How long this wait is to last.
     fn length(&mut self, wait: Wait) -> u64
-        ensures least { let s = paced self.old.setting self.old.round_trip self.old.settled wait
-            in least_at (comes_soon self.old.soon self.old.prompted wait) s (least_of s self.old.settled wait) + patience s wait self.old.raise self.old.slowest ≤ result }
-        ensures most { let s = paced self.old.setting self.old.round_trip self.old.settled wait
-            in result ≤ least_at (comes_soon self.old.soon self.old.prompted wait) s (least_of s self.old.settled wait + jitter_of s self.old.settled wait) + patience s wait self.old.raise self.old.slowest }
-        ensures kept { self.new ≡ self.old }
+        ensures value { let s = paced_at wait self.old
+            in result ≡ least_at (comes_soon self.old.soon self.old.prompted wait) s (least_of s self.old.settled wait + jitter_at wait self.old) + patience s wait self.old.raise self.old.slowest }
+        ensures jitter { jitter_at wait self.old ≤ jitter_of (paced_at wait self.old) self.old.settled wait }
+        ensures kept { self.new ≡ record self.old { random = random_at wait self.old } }
     {
         let soon = self.comes_soon(wait);
         let setting = self.setting.paced(self.round_trip, self.settled, wait);
@@ -577,13 +582,14 @@ impl TimerPolicy {
 }
 
 /// How much longer a wait lasts, up to so many milliseconds.
+#[tactic(auto, unfolding(crate::specs::Jitter::drawn, crate::specs::Jitter::behind_word))]
 fn drawn(random: &mut Pcg32, most: u32) -> u64
     // Promise: What is drawn as jitter is the generator's next word, modulo one more than the most that it may be, and the generator goes on by it.
     // Also: goes_on, fits.
     // Refuses: no_jitter, jitter_above_its_bound, same_word_drawn_again.
-    ensures value { result ≡ (pcg32 random.old).0 % (most + 1) }
+    ensures value { result ≡ drawn most random.old }
     ensures fits { result ≤ most }
-    ensures goes_on { random.new ≡ (pcg32 random.old).1 }
+    ensures goes_on { random.new ≡ behind_word random.old }
 {
     let range = u64::from(most) + 1;
     u64::from(random.next_word()) % range

@@ -27,6 +27,10 @@ IsBarBy (Ok label) (Some answered) = IsOfANode label × (answered ≡ reply.Fore
 IsBarBy (Err error) None = ⊥
 IsBarBy (Err error) (Some answered) = answered ≡ barred (fault_for error)
 
+-- what is no store's by its label is answered so
+abbrev pub Bars : Result (Option (List ℕ)) Error → Reply → Type 0
+Bars label answered = (bar : Reply) → IsBarBy label (Some bar) → answered ≡ bar
+
 -- the word for it beside the answers
 abbrev pub kind_text : OpenFault → List ℕ
 kind_text fault.Locked = codes "Locked"

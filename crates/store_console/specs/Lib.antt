@@ -1,6 +1,7 @@
 pub mod Requests
 pub mod Barring
 pub mod Replies
+pub mod Mounting
 pub mod Explained
 pub mod Session
 pub mod Unheard

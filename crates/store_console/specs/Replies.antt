@@ -86,13 +86,6 @@ IsMounted answered None = IsUnmounted answered
 
 -- ---- for the code
 
--- the file was opened, or wasn't, and then a store was mounted, or it is answered why not
-abbrev pub MountsOpened : Result FileState OpenFault → Result (StoreState FileState) Reply → Type 0
-MountsOpened (Err fault) (Ok store) = ⊥
-MountsOpened (Err fault) (Err answered) = answered ≡ barred fault
-MountsOpened (Ok disk) (Ok store) = IsFalse store.broken × (store.disk.failures ≡ disk.failures)
-MountsOpened (Ok disk) (Err answered) = IsUnmounted answered
-
 -- the device failed, with the words of the system where there are some
 abbrev pub HasFailed : Reply → Type 0
 HasFailed answered = (answered ≡ reply.Refused StoreFault.Device) ⊎ ((error : Error) × (answered ≡ reply.Barred (fault.Device error)))

@@ -2,17 +2,19 @@
 
 ghost use Rattle.std.specs.Prelude.{◌≡◌, IfOk};
 ghost use Rattle.store_console.specs.declared.request.Request.TheVariants as asked;
-ghost use Rattle.store_console.specs.Replies.{IsMounted, MountsOpened, Replies, RepliesOver, Settles, valued};
+ghost use Rattle.store_console.specs.Mounting.{MountsLabelled, MountsOpened, Takes};
+ghost use Rattle.store_console.specs.Replies.{IsMounted, Replies, RepliesOver, Settles, valued};
 
 use crate::barring::{bar_by, barred, failed};
 use crate::making::make;
 use crate::reply::Reply;
 use crate::request::Request;
-use file_disk::{FileDisk, OpenFault};
+use file_disk::{FileDisk, LABEL, OpenFault};
 use job_model::Work;
 use node_store::{MountFault, NodeStore, StoreFault};
 use std::alloc::{AllocError, Global};
 use std::fs::{File, Files};
+use std::io;
 use std::path::AsPath;
 
 /// Does what a request asks. Nothing but a mounting and a format asks for memory. Once the device has failed, nothing is mounted.
@@ -45,7 +47,7 @@ pub fn reply<P: AsPath>(
 }
 
 /// Mounts the file, in place of what was mounted.
-#[tactic(auto, using(crate::proofs::Barrings::mounts_fresh, crate::proofs::Barrings::mounts_not))]
+#[tactic(auto, using(crate::proofs::Barrings::mounts_taken))]
 fn mount<P: AsPath>(
     rt: &impl Files<File = File>,
     alloc: Global,
@@ -56,28 +58,60 @@ fn mount<P: AsPath>(
 {
     // what has the file locked is given up first
     *mounted = None;
-    match mount_opened(alloc, FileDisk::open(rt, path))? {
+    let mounting = mount_opened(alloc, FileDisk::open(rt, path))?;
+    Ok(take(mounted, mounting))
+}
+
+/// Takes what a mounting gave in place of what was mounted, and answers it.
+fn take(
+    mounted: &mut Option<NodeStore<FileDisk>>,
+    mounting: Result<NodeStore<FileDisk>, Reply>,
+) -> Reply
+    // Promise: Behind `mount` the requests are of the store as it was mounted, and of none where the mounting was refused, which is answered as it was.
+    // Refuses: mounting_compacts, refused_mounting_is_done.
+    ensures takes { Takes mounting result mounted.new }
+{
+    match mounting {
         Ok(store) => {
             *mounted = Some(store);
-            Ok(Reply::Done)
+            Reply::Done
         }
-        Err(refusal) => Ok(refusal),
+        Err(refusal) => {
+            *mounted = None;
+            refusal
+        }
     }
 }
 
 /// Mounts a file that was opened, or answers why there is none to mount.
-#[tactic(auto, using(crate::proofs::Barrings::settles_opened, crate::proofs::Barrings::bar_unmounted))]
 fn mount_opened(
     alloc: Global,
     opened: Result<FileDisk, OpenFault>,
 ) -> Result<Result<NodeStore<FileDisk>, Reply>, AllocError>
     ensures { IfOk result (λ mounting. MountsOpened opened mounting) }
 {
-    let disk = match opened {
-        Ok(disk) => disk,
-        Err(fault) => return Ok(Err(barred(fault))),
-    };
-    match bar_by(disk.label()) {
+    match opened {
+        Ok(disk) => {
+            let label = disk.label();
+            mount_labelled(alloc, disk, label)
+        }
+        Err(fault) => Ok(Err(barred(fault))),
+    }
+}
+
+/// Mounts a file with this label, or with none.
+#[tactic(auto, using(crate::proofs::Barrings::settles_labelled))]
+fn mount_labelled(
+    alloc: Global,
+    disk: FileDisk,
+    label: io::Result<Option<[u8; LABEL]>>,
+) -> Result<Result<NodeStore<FileDisk>, Reply>, AllocError>
+    // Promise: A file is mounted only where its label isn't that of a node's file, and then it is answered `TooSmall` exactly where it has fewer than 24
+    // sectors.
+    // Refuses: nodes_file_mounted, small_file_is_damaged.
+    ensures labelled { IfOk result (λ mounting. MountsLabelled disk label mounting) }
+{
+    match bar_by(label) {
         Some(bar) => Ok(Err(bar)),
         None => settled(NodeStore::mount(alloc, disk)),
     }

@@ -1,11 +1,12 @@
 //! The file of a store is made.
 
+ghost use Rattle.store_console.specs.Barring.{Bars};
 ghost use Rattle.store_console.specs.Replies.{Finishes, IsBarredBy, IsFormatted, IsFormattedBy};
 ghost use Rattle.std.specs.Prelude.{IfOk};
 
 use crate::barring::{bar_by, barred, failed};
 use crate::reply::Reply;
-use file_disk::{FileDisk, OpenFault, Stride, put_in_place};
+use file_disk::{FileDisk, LABEL, OpenFault, Stride, put_in_place};
 use node_store::{StoreFault, format};
 use std::alloc::{AllocError, Global};
 use std::fs::{File, Files};
@@ -34,7 +35,7 @@ pub fn make<P: AsPath>(
 }
 
 /// Makes the file over what was opened under its name, if anything is there.
-#[tactic(auto, using(crate::proofs::Barrings::barred_formatted, crate::proofs::Barrings::bar_formatted, crate::proofs::Barrings::is_barred))]
+#[tactic(auto, using(crate::proofs::Barrings::barred_formatted, crate::proofs::Barrings::is_barred))]
 fn make_over<P: AsPath>(
     rt: &impl Files<File = File>,
     alloc: Global,
@@ -46,14 +47,28 @@ fn make_over<P: AsPath>(
     ensures barred { IfOk result (λ reply. IsBarredBy opened reply) }
 {
     // it stays open, and so locked, until another file has its name
-    let old = match opened {
-        Ok(disk) => disk,
-        Err(OpenFault::NotFound(_)) => {
-            return Ok(finish(rt, path, FileDisk::create(rt, path, sectors)));
-        }
-        Err(fault) => return Ok(barred(fault)),
-    };
-    if let Some(bar) = bar_by(old.label()) {
+    match opened {
+        Ok(old) => replace_labelled(rt, alloc, path, sectors, old.label()),
+        Err(OpenFault::NotFound(_)) => Ok(finish(rt, path, FileDisk::create(rt, path, sectors))),
+        Err(fault) => Ok(barred(fault)),
+    }
+}
+
+/// Makes the file in place of an open one with this label, or with none.
+#[tactic(auto, using(crate::proofs::Barrings::bar_formatted, crate::proofs::Barrings::bars_so, crate::proofs::Barrings::bars_not, crate::proofs::Barrings::barred_formatted))]
+fn replace_labelled<P: AsPath>(
+    rt: &impl Files<File = File>,
+    alloc: Global,
+    path: &P,
+    sectors: u64,
+    label: io::Result<Option<[u8; LABEL]>>,
+) -> Result<Reply, AllocError>
+    ensures formatted { IfOk result IsFormatted }
+    // Promise: A format over a node's file is answered `Foreign`.
+    // Refuses: nodes_file_formatted.
+    ensures bars { IfOk result (λ reply. Bars label reply) }
+{
+    if let Some(bar) = bar_by(label) {
         return Ok(bar);
     }
     match names(rt, alloc, path) {

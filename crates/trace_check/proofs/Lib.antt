@@ -1,3 +1,4 @@
+mod Contradictions
 mod Furthest
 mod Followed
 mod Prefixes

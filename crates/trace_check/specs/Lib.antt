@@ -1,4 +1,5 @@
 pub mod Claims
+pub mod Contradictions
 pub mod Searches
 pub mod Followed
 pub mod Given

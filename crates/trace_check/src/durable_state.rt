@@ -38,9 +38,17 @@ impl DurableState {
         })
     }
 
+    /// The counter of groups.
+    pub(crate) fn counter(&self) -> u64
+        ensures { result ≡ self.now.counter }
+    {
+        self.counter
+    }
+
     /// The pending jobs.
     pub(crate) fn table(&self) -> &JobTable
-        ensures { result.now.pending ≡ self.now.pending }
+        ensures next { result.now.next ≡ self.now.next }
+        ensures pending { result.now.pending ≡ self.now.pending }
     {
         &self.table
     }

@@ -118,7 +118,7 @@ fn holdup_at(node_model: &mut NodeModel, entry: &EntryView<'_>) -> Result<Holdup
 }
 
 /// The node, brought through so many entries of its history.
-fn replayed(
+pub(crate) fn replayed(
     alloc: Global,
     trace: &Trace,
     node: NodeId,

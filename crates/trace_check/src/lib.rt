@@ -10,6 +10,7 @@
 #![tactic(auto)]
 
 mod checking;
+mod contradiction;
 mod durable_state;
 mod following;
 mod history;
@@ -26,12 +27,13 @@ mod stored;
 mod trace;
 
 pub use checking::{Examined, check, examine};
+pub use contradiction::{Contradiction, MOST_ENTRIES, contradiction_at};
 pub use following::is_order;
 pub use history::{EntryView, History, Sent, keep_messages};
 pub use kept::{PackedEvent, event_said, keep_event, read_event};
 pub use laws::{
-    holdups_hold, none_complete, none_goes_further, orders_are_bundles, turns_go_on,
-    verdicts_decide,
+    holdups_hold, leftovers_stop, none_complete, none_goes_further, orders_are_bundles,
+    turns_go_on, verdicts_decide,
 };
 pub use leftover::{Holdup, Leftover};
 pub use lent_action::{ActionRef, EventRef};

@@ -9,6 +9,7 @@ ghost use Rattle.histories.specs.NodeState.{opening, wants_at};
 ghost use Rattle.histories.specs.declared.history_event.HistoryEvent.TheVariants.{NoOp, Did, Faulted, Crashed, Recovered, MountFailed, RaiseFailed};
 ghost use Rattle.histories.specs.declared.history_event.NoOpKind.TheVariants.{Nothing};
 ghost use Rattle.histories.specs.Possible.{IsForNode, IsPossible};
+ghost use Rattle.trace_check.specs.Contradictions.{opened};
 ghost use Rattle.trace_check.specs.Leftovers.{IsRefused, IsSilent, WouldSend};
 ghost use Rattle.trace_check.specs.Twins.{Judged, Taken, Settled, WantsOf, came};
 ghost use Rattle.trace_check.specs.Kept.{EventStands, event_said};
@@ -21,7 +22,8 @@ use crate::history::{EntryView, KeptView, Sent};
 use crate::kept::{PackedAction, PackedEvent, read_event};
 use crate::trace::{RecoverFault, TraceAction};
 use group_task::NodeId;
-use node_core::{CoreFault, Event, NodeCore, Phase, Timer, Vector, Wanted, WantedRef};
+use job_model::JobTable;
+use node_core::{CoreFault, Event, GroupState, NodeCore, Phase, Timer, Vector, Wanted, WantedRef};
 use std::alloc::{AllocError, Global};
 use std::marker::Model;
 use std::mem;
@@ -96,6 +98,41 @@ impl NodeModel {
         ensures { state_of result.now ≡ self.now.node.state }
     {
         self.core.vector()
+    }
+
+    /// The count of the node's last new group.
+    pub fn counter(&self) -> u64
+        ensures { result ≡ self.now.node.durable.counter }
+    {
+        self.durable_state.counter()
+    }
+
+    /// The node's pending jobs.
+    pub fn table(&self) -> &JobTable
+        ensures next { result.now.next ≡ self.now.node.durable.next }
+        ensures pending { result.now.pending ≡ self.now.node.durable.pending }
+    {
+        self.durable_state.table()
+    }
+
+    /// The command that is in doubt.
+    pub fn doubt(&self) -> &Wanted
+        ensures { wanted_by result.now ≡ self.now.node.doubt }
+    {
+        &self.doubt
+    }
+
+    /// Whether the node stands as where it opens: alone in the group of its count, with no job in hand and nothing in doubt.
+    pub(crate) fn is_opened(&self) -> bool
+        ensures { IsTrue result ↔ (self.now.node ≡ opened self.now.id self.now.node.durable) }
+    {
+        let group_state = &self.core.vector().group_state;
+        let count = group_state.group.count();
+        if !matches!(self.doubt, Wanted::None) || self.in_hand() > 0 || count != self.counter() {
+            return false;
+        }
+        let opened = NodeCore::new(self.alloc, self.core.id(), self.nodes, count);
+        same_state(group_state, &opened.vector().group_state)
     }
 
     /// Takes an entry of the node's history, if it is possible here: whether a message that was delivered was sent is left
@@ -530,6 +567,21 @@ fn lent(wants: &Wanted) -> WantedRef<'_>
         Wanted::Put(work) => WantedRef::Put(work),
         Wanted::Done(id) => WantedRef::Done(*id),
     }
+}
+
+/// Whether two nodes know the same of their groups.
+fn same_state(one: &GroupState, other: &GroupState) -> bool
+    ensures { IsTrue result ↔ (one.now ≡ other.now) }
+{
+    one.phase == other.phase
+        && one.coordinator == other.coordinator
+        && one.group == other.group
+        && one.up == other.up
+        && one.task == other.task
+        && one.found == other.found
+        && one.unready == other.unready
+        && one.checking == other.checking
+        && one.probing == other.probing
 }
 
 /// Whether these are the same messages.

@@ -4,3 +4,4 @@ mod Wholes
 mod Joins
 mod Looks
 mod Stages
+mod Stopped

@@ -1,5 +1,7 @@
+pub mod Contradicting
 pub mod Files
 pub mod Judged
+pub mod NodeStates
 pub mod Ongoing
 pub mod Reported
 pub mod Stands

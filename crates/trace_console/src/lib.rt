@@ -6,14 +6,17 @@
 //! ```
 #![tactic(auto)]
 
+mod contradicting;
 mod files;
 mod judging;
+mod node_states;
 mod ongoing;
 mod reporting;
 mod turn;
 mod turning;
 mod walk;
 
+pub use contradicting::contradiction;
 pub use files::{TraceFile, trace_files};
 pub use judging::{Stage, trace};
 pub use turn::{Stand, Turn};

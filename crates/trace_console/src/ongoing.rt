@@ -31,7 +31,7 @@ fn left_printout(alloc: Global, taken: &[NodeId], left: &[Leftover]) -> Result<O
 }
 
 /// Of entries that are left the first that can't be, whatever others send.
-fn first_stopped(left: &[Leftover]) -> Option<&Leftover>
+pub(crate) fn first_stopped(left: &[Leftover]) -> Option<&Leftover>
     ensures { option_map (λ l. l.now) result ≡ first_stopped left.now }
 {
     for leftover in left {

@@ -3,6 +3,7 @@ use Rattle.std.specs.Prelude.{ℕ, ◌==◌, if◌then◌else◌, List, length, 
 use Rattle.hex.specs.Hex.{encode_lower}
 use Rattle.serde_json.specs.Data.{Data, boolean, number, unsigned, string, array, object, Members, no_members, member}
 use Rattle.serde_json.specs.View.{items_of}
+use Rattle.serde_json.specs.Written.{compact_text}
 use Rattle.wire_msg.specs.Envelope.{Envelope}
 use Rattle.wire_msg.specs.Spelling.{spelling}
 use Rattle.node_core.specs.declared.event.Event.{Event}
@@ -58,3 +59,7 @@ history_data h = array (items_of (map entry_data h))
 
 abbrev pub trace_data : List (List Claim) → Data
 trace_data hs = object (member (codes "histories") (array (items_of (map history_data hs))) (member (codes "nodes") (number (unsigned (length hs))) no_members))
+
+-- and its text
+abbrev pub text_of_trace : List (List Claim) → List ℕ
+text_of_trace hs = compact_text (trace_data hs)

@@ -29,6 +29,7 @@ pub fn write(alloc: Global, trace: &Trace) -> Result<Vec<u8>, WriteFault>
     // Refuses: kept_written_the_wrong_way, message_written_as_its_payload.
     ensures text { IfOk result (λ text. text.items ≡ compact_text (trace_data trace.now)) }
     // Promise: What is written is read back as the same trace.
+    // Also: write_text.
     ensures reads_back { IfOk result (λ text. trace_of text.items ≡ Ok trace.now) }
     // Promise: A trace is refused exactly where it has no node, or writes a recovery as an event.
     // Also: write_ordered.
@@ -42,7 +43,8 @@ pub fn write(alloc: Global, trace: &Trace) -> Result<Vec<u8>, WriteFault>
     Ok(text)
 }
 
-fn write_text(alloc: Global, trace: &Trace) -> Result<Vec<u8>, AllocError>
+/// The text of any trace. One that has no node, or a recovery as an event, isn't read back.
+pub fn write_text(alloc: Global, trace: &Trace) -> Result<Vec<u8>, AllocError>
     ensures text { IfOk result (λ text. text.items ≡ compact_text (trace_data trace.now)) }
     ensures reads_back { IfOk result (λ text. IsWritable trace.now → trace_of text.items ≡ Ok trace.now) }
 {

@@ -1,7 +1,6 @@
 //! Turns at locked nodes, in one thread.
 
 ghost use Rattle.std.specs.Prelude.{◌≡◌, ◌<◌, ◌-◌, [], ◌∷◌, IfOk, vec_len};
-ghost use Rattle.link_ring.specs.Sides.{unused};
 
 use group_task::NodeId;
 use histories::{HistoryEvent, NoOpKind};
@@ -52,9 +51,9 @@ fn paired(
     numbers: TurnNumbers,
 ) -> Result<Held, AllocError>
     requires within { node < 2 }
-    requires put { ends.0 ≡ unused node (1 - node) capacity }
-    requires take { ends.1 ≡ unused (1 - node) node capacity }
-    requires none_drawn { numbers ≡ [] }
+    requires put { (ends.0.sender ≡ node) × (ends.0.receiver ≡ 1 - node) × (ends.0.capacity ≡ capacity) × (ends.0.messages ≡ []) }
+    requires take { (ends.1.sender ≡ 1 - node) × (ends.1.receiver ≡ node) × (ends.1.messages ≡ []) }
+    requires none_drawn { numbers.drawn ≡ [] }
 {
     let run = Run {
         node: NodeId::numbered(node),

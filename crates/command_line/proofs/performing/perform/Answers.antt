@@ -2,7 +2,7 @@ use Rattle.std.proofs.Common.{rules, subst, sym}
 use Rattle.console_text.specs.Ends.{Prints}
 use Rattle.store_console.specs.Session.{IsSession, IsTold}
 use Rattle.command_line.specs.Performed.{IsOutcomeOf, IsSaidOf}
-use Rattle.command_line.proofs.performing.perform.Goals.{in-Answer, in-Show, in-Sim, in-Store, in-Trace, in-Record, in-Threads, in-Turns}
+use Rattle.command_line.proofs.performing.perform.Goals.{in-Answer, in-Show, in-Sim, in-Store, in-Trace, in-Record, in-Threads, in-Turns, in-Contradiction}
 use Rattle.command_line.proofs.performing.perform.Goals as goal
 
 pub returns-clause-prints : goal.returns-clause-prints
@@ -18,6 +18,7 @@ returns-clause-prints g c = elim c.match-batch.branch [
   | in-Record w ↦ search rules
   | in-Threads w ↦ search rules
   | in-Turns w ↦ search rules
+  | in-Contradiction w ↦ search rules
 ]
 
 pub returns-clause-said : goal.returns-clause-said
@@ -33,4 +34,5 @@ returns-clause-said g c = elim c.match-batch.branch [
   | in-Record w ↦ search rules
   | in-Threads w ↦ search rules
   | in-Turns w ↦ search rules
+  | in-Contradiction w ↦ search rules
 ]

@@ -1,10 +1,6 @@
-use Rattle.std.proofs.Common.{◌≡◌, ◌≤◌, ℕ, length, slice_index_or, vec_len}
-use Rattle.node_threads.specs.Nodes.{NodeEnds}
+use Rattle.std.proofs.Common.{◌≡◌, vec_len}
 use Rattle.node_threads.proofs.wiring.lock_nodes.Given as goal
 
--- the ends of the nodes that come are as they were
+-- a lock for each that was taken out
 abbrev pub invariant-loop-node : goal.invariant-loop-node
-invariant-loop-node l =
-    (vec_len l.locks ≡ l.node)
-    × (length l.ends.items ≡ length l.fn.ends.items)
-    × ((n : ℕ) (d : NodeEnds) → l.node ≤ n → slice_index_or l.ends.items n d ≡ slice_index_or l.fn.ends.items n d)
+invariant-loop-node l = vec_len l.locks ≡ l._node

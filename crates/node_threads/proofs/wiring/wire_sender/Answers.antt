@@ -1,5 +1,5 @@
 use Rattle.std.proofs.Common.{◌≡◌, ◌∙◌, refl, subst}
-use Rattle.link_ring.specs.Sides.{unused}
+use Rattle.link_ring.specs.Sides.{unused, unused_put}
 use Rattle.node_threads.proofs.Links.{IsWiring, linked_as, wires_past, ends_with, end_of}
 use Rattle.node_threads.proofs.wiring.wire_sender.Goals as goal
 use Rattle.node_threads.proofs.wiring.wire_sender.Goals.{then-receiver-sender+in_ok-put+in_ok-add_ends, else-receiver-sender}
@@ -12,8 +12,12 @@ loop-receiver-preserved c =
     let r = c.loop-receiver.receiver in
     elim c.if-receiver-sender.branch [
       | then-receiver-sender+in_ok-put+in_ok-add_ends w ↦
-          let ends_are : unused w.numbered.result w.numbered-then-receiver-sender.result capacity ≡ unused s r capacity = λ i. unused (w.numbered.ensures i) (w.numbered-then-receiver-sender.ensures i) capacity in
-          rw w.ends-is (linked_as nodes capacity s r w.in_ok-put.put w.in_ok-put.take c.loop-receiver.ends.items w.add_ends.new.ends.items c.loop-receiver-test.true w.if-receiver-sender.true (w.in_ok-put.ensures.0 ∙ ends_are) (w.in_ok-put.ensures.1 ∙ ends_are) w.in_ok-add_ends.ensures c.loop-receiver.invariant)
+          let ring = w.in_ok-put.ensures.0 in
+          let put_is : unused_put ring w.numbered.result w.numbered-then-receiver-sender.result capacity ≡ unused_put ring s r capacity =
+          λ i. unused_put ring (w.numbered.ensures i) (w.numbered-then-receiver-sender.ensures i) capacity in
+          let take_is : unused ring w.numbered.result w.numbered-then-receiver-sender.result capacity ≡ unused ring s r capacity =
+          λ i. unused ring (w.numbered.ensures i) (w.numbered-then-receiver-sender.ensures i) capacity in
+          rw w.ends-is (linked_as ring nodes capacity s r w.in_ok-put.put w.in_ok-put.take c.loop-receiver.ends.items w.add_ends.new.ends.items c.loop-receiver-test.true w.if-receiver-sender.true (w.in_ok-put.ensures.1 ∙ put_is) (w.in_ok-put.ensures.2 ∙ take_is) w.in_ok-add_ends.ensures c.loop-receiver.invariant)
       | else-receiver-sender w ↦ rw w.ends-is (wires_past nodes capacity s r c.loop-receiver.ends.items c.requires.within.0 w.if-receiver-sender.false c.loop-receiver.invariant)
     ]
 

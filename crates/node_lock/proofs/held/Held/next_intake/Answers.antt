@@ -42,7 +42,7 @@ returns-clause-taken c =
     let arrived = c.fetch.new.waiting in
     let did = c.in_ok-receive.ensures.taken in
     let gives = gives_in _ (asked_by arrived) (turn_of Intake h.turns.intake did.0) _ c.self.invariant did.1.did in
-    let v : HeldView = record { node = h.site.node; run = h.run; puts = h.site.puts.items; takes = h.takes.items; plans = h.plans; turns = h.turns; history = h.site.history.turns; lost = h.site.history.lost; numbers = h.site.history.numbers; drawn = h.site.numbers; waiting = h.waiting; room = h.site.history.room; sends = h.site.history.sends; events = h.site.history.events } in
+    let v : HeldView = record { node = h.site.node; run = h.run; puts = h.site.puts.items; takes = h.takes.items; plans = h.plans; turns = h.turns; history = h.site.history.turns; lost = h.site.history.lost; numbers = h.site.history.numbers; counter = h.site.numbers.counter; drawn = h.site.numbers.drawn; waiting = h.waiting; room = h.site.history.room; sends = h.site.history.sends; events = h.site.history.events } in
     let polls : Polls v Intake (turn_of Intake h.turns.intake did.0) = (arrived, brought_polled arrived did.0.what gives, finds v c.fetch.new.takes.items c.place_of-place.result c.index-intake-index.result arrived c.place_of-place.ensures read.1 c.fetch.ensures.none c.in_ok-fetch.ensures.empty c.fetch.ensures.some) in
     rw (← c.self.view_is) (refl, takes_next _ _ Intake (asked_by arrived) did.0 c.self.invariant (((c.index-intake-index.result, read.0), (arrived, refl)), did.1, refl) polls)
 

@@ -6,5 +6,6 @@ returns-clause-turned g c = record {
   new = c.turn_kept.new.held;
   was = c.turn_kept.ensures.was;
   is = c.turn_kept.ensures.is;
+  asked = c.turn_kept.ensures.asked;
   turned = c.turn_kept.ensures.turned;
 }

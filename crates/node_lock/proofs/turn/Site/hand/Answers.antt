@@ -33,7 +33,7 @@ returns-clause-taken c =
         sent = sent_since c.in_ok-event_outcome.sent.items c.args.self.now.puts.items c.make_room.new.puts.items c.send_all.new.puts.items c.make_room.ensures.same (subst (λ (l : List Envelope). SentOn l c.make_room.new.puts.items c.send_all.new.puts.items) c.deref.ensures.value c.send_all.ensures.sent);
         turns = c.push.ensures.turns ∙ (λ i. (ap (λ (l : Log). l.turns) c.send_all.ensures.history ∙ c.make_room.ensures.turns) i ++ turn_of c.args.worker c.args.index (record { what = what; sent = c.deref-2.ensures.value i }) ∷ []);
         lost = noted_since (length old.history.turns) sent old.history.lost c.push.new.self.lost old.puts.items mid.puts.items c.send_all.new.puts.items c.make_room.ensures.same noted;
-        number = record { number = c.draw-number.result; draws = c.draw-number.ensures; given = c.push.ensures.numbers ∙ ap (λ (ns : List ℕ). ns ++ c.draw-number.result ∷ []) (ap (λ (l : Log). l.numbers) c.send_all.ensures.history ∙ c.make_room.ensures.numbers) };
+        number = record { number = c.draw-number.result; draws = c.draw-number.ensures.draws; given = c.push.ensures.numbers ∙ ap (λ (ns : List ℕ). ns ++ c.draw-number.result ∷ []) (ap (λ (l : Log). l.numbers) c.send_all.ensures.history ∙ c.make_room.ensures.numbers) };
         area = rw c.reuse.ensures c.in_ok-event_outcome.ensures.area;
       },
     )

@@ -31,7 +31,7 @@ returns-in-Crash-clause-taken c =
         sent = nothing_sent _;
         turns = c.push_quiet.ensures.turns ∙ ap (λ (ts : List Turn). ts ++ turn_of Operator c.args.index (record { what = Crashed; sent = [] }) ∷ []) c.reserve_quiet.ensures.turns;
         lost = none_noted _ _ _ _ (c.push_quiet.ensures.lost ∙ c.reserve_quiet.ensures.lost);
-        number = record { number = c.draw-number.result; draws = c.draw-number.ensures; given = c.push_quiet.ensures.numbers ∙ ap (λ (ns : List ℕ). ns ++ c.draw-number.result ∷ []) c.reserve_quiet.ensures.numbers };
+        number = record { number = c.draw-number.result; draws = c.draw-number.ensures.draws; given = c.push_quiet.ensures.numbers ∙ ap (λ (ns : List ℕ). ns ++ c.draw-number.result ∷ []) c.reserve_quiet.ensures.numbers };
         area = crashed_area _ _ c.crash.ensures.there c.crash.ensures.number;
       },
     )
