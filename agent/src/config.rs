@@ -332,6 +332,7 @@ fn host_and_port(setting: &'static str, node: &str) -> Result<(), ConfigError> {
 #[cfg(test)]
 mod tests {
     use super::*;
+    use crate::chance::{Chance, TURNS};
 
     const WHOLE: &str =
         "cluster = \"prod\" # a name\nid = 1\nnodes = [\n  \"a:1\",\n  \"[::1]:2\", # two\n]\nfile = \"/f#1\"\n";
@@ -453,5 +454,23 @@ mod tests {
         assert!(config.nodes_of(&other).is_err());
         let longer = Config::parse(&WHOLE.replace("# two\n", "# two\n  \"d:1\",\n")).unwrap();
         assert!(config.nodes_of(&longer).is_err() && longer.nodes_of(&config).unwrap()[2] == EMPTY);
+    }
+
+    #[test]
+    fn whatever_a_file_holds_is_read_or_refused() {
+        let more = "listen = \"0.0.0.0:1\"\nhttp = \"127.0.0.1:7080\"\nlease_ms = 2000\nlog = \"debug\"\n[tags]\nrack = \"7\"\n";
+        let (mut chance, mut taken, right) = (Chance::of(13), 0, format!("{WHOLE}{more}"));
+        assert!(Config::parse(&right).is_ok());
+        for _ in 0..TURNS {
+            match Config::parse(&chance.odd_text(&[&right], 300)) {
+                Ok(config) => {
+                    taken += 1;
+                    assert!(config.nodes.len() <= 128 && !config.listens_at().is_empty() && config.machines() > 0);
+                    assert!(config.with_places(128).unwrap().nodes.len() == 128);
+                }
+                Err(why) => assert!(!why.to_string().is_empty()),
+            }
+        }
+        assert!(taken > 100, "{taken}");
     }
 }

@@ -56,6 +56,8 @@ pub fn kind_of(message: &[u8]) -> &'static str {
 const DURABLE: &str =
     "What the node made durable: group (2 or 3 syncs), put or done of a job (2 syncs). Compactions come on top.";
 
+/// Those that are cloned count the same.
+#[derive(Clone)]
 pub struct Metrics {
     registry: Registry,
     pub messages_in: IntCounterVec,

@@ -65,6 +65,7 @@ fn stride_of(label: &[u8]) -> Option<u64> {
 #[cfg(test)]
 mod tests {
     use super::*;
+    use crate::chance::{Chance, TURNS};
 
     #[test]
     fn slots_are_read_off_the_length_and_the_label() {
@@ -98,6 +99,18 @@ mod tests {
         let own = path.clone();
         std::thread::spawn(move || to.send((slots(&own), places(&own))));
         assert_eq!(from.recv_timeout(std::time::Duration::from_secs(60)), Ok((None, None)));
+        std::fs::remove_file(&path).unwrap();
+    }
+
+    #[test]
+    fn whatever_a_file_holds_has_a_number_of_places_or_none() {
+        let path = std::env::temp_dir().join(format!("dumgerok-odd-label-{}", std::process::id()));
+        let right = [vec![0; 24 * 512], HEADS[0].to_vec(), vec![0, 3, 0, 0, 0, 0, 0]].concat();
+        let mut chance = Chance::of(18);
+        for _ in 0..TURNS / 10 {
+            std::fs::write(&path, chance.odd(&[&right], 600)).unwrap();
+            assert!(places(&path).map_or(true, |places| places <= 255) && slots(&path).map_or(true, |slots| slots < 100));
+        }
         std::fs::remove_file(&path).unwrap();
     }
 }

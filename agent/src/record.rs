@@ -194,6 +194,7 @@ pub(crate) fn parts(path: &Path) -> io::Result<Vec<u64>> {
 #[cfg(test)]
 mod tests {
     use super::*;
+    use crate::chance::{Chance, TURNS};
 
     const TEXT: &str =
         "cluster = \"c\"\nid = 1\nnodes = [\"a:1\", \"b:1\"]\nfile = \"f\"\nrecord_mb = 1\nrecord_files = 2\n";
@@ -284,6 +285,26 @@ mod tests {
         record.end().unwrap();
         let text = fs::read_to_string(folder.join("record.1")).unwrap();
         assert_eq!(text, "# dumgerok record 1 node 1 of 2 part 1 cluster c\nstart\noff\n");
+        fs::remove_dir_all(&folder).unwrap();
+    }
+
+    #[test]
+    fn it_goes_on_in_whatever_file_is_there() {
+        let (folder, config, mut chance) = (folder("odd"), crate::config::Config::parse(TEXT).unwrap(), Chance::of(15));
+        let path = folder.join("record");
+        for _ in 0..TURNS / 10 {
+            let right = format!("{}\n> tick 1\nok 1\n> tick 2\nok", head("node 1 of 2", 1, "c"));
+            let odd = chance.odd(&[&right], 100);
+            fs::write(part_of(&path, 1), &odd).unwrap();
+            let mut record = Record::open(&path, &config).unwrap();
+            let part = record.part;
+            record.take(["behind it"]).and_then(|()| record.flush()).unwrap();
+            drop(record);
+            let whole = odd.iter().rposition(|byte| *byte == b'\n').map_or(0, |end| end + 1);
+            let begun = if part == 1 { odd[..whole].to_vec() } else { format!("{}\n", head("node 1 of 2", 2, "c")).into_bytes() };
+            assert_eq!(fs::read(part_of(&path, part)).unwrap(), [&begun[..], b"behind it\n"].concat());
+            (1..=part).for_each(|part| drop(fs::remove_file(part_of(&path, part))));
+        }
         fs::remove_dir_all(&folder).unwrap();
     }
 }

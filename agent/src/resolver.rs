@@ -15,6 +15,16 @@ pub struct Found {
     pub addresses: Vec<SocketAddr>,
 }
 
+/// Where names are looked up, one at a time.
+pub trait Names {
+    fn is_busy(&self) -> bool;
+
+    fn look_up(&mut self, at: usize, name: String);
+
+    /// What was found since.
+    fn found(&mut self) -> Option<Found>;
+}
+
 /// One name is looked up at a time. The thread begins with the first one: an agent of whom all addresses are spelled out has none.
 pub struct Resolver {
     waker: Arc<Waker>,
@@ -43,13 +53,15 @@ impl Resolver {
         })?;
         Ok(to)
     }
+}
 
-    pub fn is_busy(&self) -> bool {
+impl Names for Resolver {
+    fn is_busy(&self) -> bool {
         self.is_busy
     }
 
     /// Where there is no thread for it the next turn of the name tries again.
-    pub fn look_up(&mut self, at: usize, name: String) {
+    fn look_up(&mut self, at: usize, name: String) {
         if self.to.is_none() {
             match self.begin() {
                 Ok(to) => self.to = Some(to),
@@ -59,7 +71,7 @@ impl Resolver {
         self.is_busy = self.to.as_ref().map_or(false, |to| to.try_send((at, name)).is_ok());
     }
 
-    pub fn found(&mut self) -> Option<Found> {
+    fn found(&mut self) -> Option<Found> {
         let found = self.from.try_recv().ok()?;
         self.is_busy = false;
         Some(found)

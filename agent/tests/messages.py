@@ -174,7 +174,7 @@ def helps(agents, check):
             continue
         text = agents.ctl(0, command, "--help").stdout
         check("%s has an example" % command, re.search(r"Examples?: .*dumgerokctl %s" % command, text), text)
-        asks = command not in ("format", "judge", "draw", "completions", "key", "inspect", "export")
+        asks = command not in ("format", "judge", "why", "draw", "completions", "key", "inspect", "export")
         check("%s is offered --socket where it asks an agent" % command, ("--socket" in text) == asks, text)
         check("%s is offered --json where it prints it" % command, ("--json" in text) == (asks or command in ("inspect", "export")), text)
 

@@ -3,10 +3,7 @@
 #![forbid(unsafe_code)]
 
 use clap::Parser;
-use dumgerok_agent::ctl::{become_guard, run, Arguments};
-use dumgerok_agent::keeper::become_keeper;
-use dumgerok_agent::own_session::become_command;
-use dumgerok_agent::say::say;
+use dumgerok_agent::{become_command, become_guard, become_keeper, run, say, Arguments};
 use std::process::ExitCode;
 
 fn main() -> ExitCode {

@@ -4,16 +4,9 @@
 
 use anyhow::Context;
 use dumgerok_agent::command_line::{self, Words};
-use dumgerok_agent::config::{Config, LogLevel};
-use dumgerok_agent::daemon::{Beginning, Daemon};
-use dumgerok_agent::forward::KeyError;
-use dumgerok_agent::log_lines::LogLines;
-use dumgerok_agent::names;
-use dumgerok_agent::node_file::{drop_cache, places};
-use dumgerok_agent::own_session::become_command;
-use dumgerok_agent::say::say;
-use dumgerok_agent::share_memory;
-use dumgerok_agent::verify::{verified, Verdict};
+use dumgerok_agent::{
+    become_command, drop_cache, names, places, say, share_memory, verified, Beginning, Config, Daemon, KeyError, LogLevel, LogLines, Verdict,
+};
 use log::{error, info, LevelFilter};
 use rustix::fs::fstat;
 use rustix::process::geteuid;

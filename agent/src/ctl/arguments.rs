@@ -251,6 +251,9 @@ pub enum Command {
         /// Prints the trace, and has nothing judged
         #[arg(long, conflicts_with = "follow")]
         trace: bool,
+        /// Says in words why the records are no run
+        #[arg(long, conflicts_with_all = ["follow", "trace"])]
+        why: bool,
         /// Goes on as the records grow
         #[arg(long)]
         follow: bool,
@@ -263,6 +266,18 @@ pub enum Command {
         /// Ends with status 1 where the entries that are kept take more megabytes
         #[arg(long, value_name = "MB", default_value_t = 1000, requires = "follow")]
         most: usize,
+    },
+    /// Says in words why the entries of a trace are no run
+    ///
+    /// Of an entry that can't be: what its node says that it sent beside what it would have sent. Of each that waits: what it waits for in turn, in one line for all
+    /// that wait for the same in the end. The status is that of `invite trace`.
+    #[command(after_help = "Example: dumgerokctl why trace.json")]
+    Why {
+        /// The file of the trace; else standard input
+        file: Option<PathBuf>,
+        /// The proved program
+        #[arg(long, value_name = "PATH", default_value = "/usr/lib/dumgerok/invite")]
+        program: PathBuf,
     },
     /// Draws the run of a trace: a row for each node, a mark for each entry, an arrow for each message that came
     ///

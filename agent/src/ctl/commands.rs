@@ -70,7 +70,12 @@ pub fn run(arguments: Arguments) -> Result<(), Failure> {
         Command::Judge { files, program, follow: true, metrics, patience, most, .. } => {
             Follower { program, metrics: metrics.as_deref(), patience: *patience, most: *most }.follow(files)
         }
-        Command::Judge { files, program, .. } => program::judge(files, program),
+        Command::Judge { files, program, why, .. } => program::judge(files, program, *why),
+        Command::Why { file, program } => {
+            let (text, status) = program::explained(file.as_deref(), program)?;
+            print(&text)?;
+            Failure::of_status(status)
+        }
         Command::Draw { file, to, program } => {
             let (text, status) = program::drawn(file.as_deref(), *to, program)?;
             print(&text)?;

@@ -19,7 +19,7 @@ mod table;
 mod values;
 mod worker;
 
-pub use arguments::{Arguments, Command};
+pub use arguments::Arguments;
 pub use commands::run;
 pub use guarded::become_guard;
 pub(crate) use interrupts::Interrupts;

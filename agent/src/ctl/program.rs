@@ -5,10 +5,11 @@ use super::commands::print;
 use super::Failure;
 use crate::config::Config;
 use crate::draw::{draw, DrawError, Form};
-use crate::judge::{self, Reached, RecordError, Turn};
+use crate::judge::{self, Reached, RecordError, Turn, Why};
 use crate::say::say;
+use std::collections::HashMap;
 use std::fs;
-use std::io::{self, BufRead, BufReader, Read};
+use std::io::{self, BufRead, BufReader, Read, Write};
 use std::path::{Path, PathBuf};
 use std::process::{ChildStdin, Command, ExitStatus, Output, Stdio};
 
@@ -44,10 +45,11 @@ pub fn unread(why: RecordError) -> Failure {
 
 /// Lets `invite trace` judge the records of all nodes. Where they are no run it says where the entry stands that can't have been; and where all that is left of
 /// them waits for messages that nobody sent, as where a record lost its end, that.
-pub fn judge(files: &[PathBuf], program: &Path) -> Result<(), Failure> {
+/// With `why` the program's own words stand in ours.
+pub fn judge(files: &[PathBuf], program: &Path, why: bool) -> Result<(), Failure> {
     let trace = trace_of(files, false)?;
     let named = |why| Failure::Usage(format!("{}: {why}", program.display()));
-    let done = judged(program, &[], &trace, Stdio::inherit()).map_err(named)?;
+    let done = judged(program, &[], &trace, if why { Stdio::piped() } else { Stdio::inherit() }).map_err(named)?;
     let verdict = String::from_utf8_lossy(&done.stdout);
     if done.status.success() {
         let differs = |reached: &mut [Reached], turn: &Turn| trace.differs(reached, turn);
@@ -59,6 +61,12 @@ pub fn judge(files: &[PathBuf], program: &Path) -> Result<(), Failure> {
         }
     }
     print(&verdict)?;
+    if why {
+        let mut text = Vec::new();
+        trace.write(&mut text).map_err(named)?;
+        let place = |node, entry| trace.place(node, entry).map_or_else(String::new, |(path, line)| format!(" ({}, line {line})", path.display()));
+        print(&why_of(program, &text, &done, place)?)?;
+    }
     if let Some((path, line)) = culprit(&verdict).and_then(|(node, entry)| trace.place(node, entry)) {
         say(format_args!("dumgerokctl: that entry ends in {}, line {line}", path.display()));
     }
@@ -116,17 +124,58 @@ pub fn culprit(verdict: &str) -> Option<(usize, usize)> {
     }
 }
 
-/// The run of a trace, drawn, and how the program ended that read it.
-pub fn drawn(file: Option<&Path>, form: Form, program: &Path) -> Result<(String, ExitStatus), Failure> {
-    let text = match file {
+/// All of a file, or of standard input.
+fn text_of(file: Option<&Path>) -> Result<Vec<u8>, Failure> {
+    match file {
         Some(path) => fs::read(path).map_err(|why| Failure::Usage(format!("{}: {why}", path.display()))),
         None => {
             let mut text = Vec::new();
             let read = io::stdin().lock().read_to_end(&mut text);
             read.map(|_| text).map_err(|why| Failure::Usage(format!("standard input can't be read: {why}")))
         }
-    }?;
-    draw(program, &text, form).map_err(|why| match why {
+    }
+}
+
+/// What the program prints for a text on its standard input, and says on standard error.
+fn asked(program: &Path, word: &str, text: &[u8]) -> io::Result<Output> {
+    let mut child = Command::new(program).arg(word).stdin(Stdio::piped()).stdout(Stdio::piped()).stderr(Stdio::piped()).spawn()?;
+    let input = child.stdin.take();
+    std::thread::scope(|scope| {
+        // where it doesn't read to the end its status says why
+        scope.spawn(move || input.map(|mut input| input.write_all(text)));
+        child.wait_with_output()
+    })
+}
+
+/// Why a trace of which the program said this is no run, in words; what the program said, where no entry is left.
+fn why_of(program: &Path, trace: &[u8], done: &Output, place: impl Fn(usize, usize) -> String) -> Result<String, Failure> {
+    let named = |why| Failure::Usage(format!("{}: {why}", program.display()));
+    let said = String::from_utf8_lossy(&done.stderr);
+    let read = Why::of(trace, &said).map_err(|why| Failure::NotDone(format!("the program read this trace, and it can't be read here: {why}")))?;
+    let why = match read {
+        Some(why) => why,
+        None => return Ok(said.into_owned()),
+    };
+    let messages = why.messages();
+    let lines: String = messages.iter().map(|digits| format!("{digits}\n")).collect();
+    let shown = asked(program, "show", lines.as_bytes()).map_err(named)?;
+    let shown = String::from_utf8_lossy(&shown.stdout);
+    let words: HashMap<&str, &str> = messages.iter().map(String::as_str).zip(shown.lines()).collect();
+    Ok(why.text(|digits| words.get(digits).unwrap_or(&digits).to_string(), place))
+}
+
+/// The verdict on a trace and why it is no run, in words, and how the program ended that read it.
+pub fn explained(file: Option<&Path>, program: &Path) -> Result<(String, ExitStatus), Failure> {
+    let text = text_of(file)?;
+    let done = asked(program, "trace", &text).map_err(|why| Failure::Usage(format!("{}: {why}", program.display())))?;
+    let verdict = String::from_utf8_lossy(&done.stdout).into_owned();
+    let why = why_of(program, &text, &done, |_, _| String::new())?;
+    Ok((verdict + &why, done.status))
+}
+
+/// The run of a trace, drawn, and how the program ended that read it.
+pub fn drawn(file: Option<&Path>, form: Form, program: &Path) -> Result<(String, ExitStatus), Failure> {
+    draw(program, &text_of(file)?, form).map_err(|why| match why {
         DrawError::Program(why) => Failure::Usage(format!("{}: {why}", program.display())),
         why => Failure::NotDone(why.to_string()),
     })

@@ -1,7 +1,7 @@
 //! Requests that change the machine for all its clients, or take a job from another one: who asked stands in the log, and where the configuration names a
 //! group of those who may, all others are refused.
 
-use super::Daemon;
+use super::core::{Core, Ports};
 use crate::protocol::{Reply, Request};
 use crate::service::ClientId;
 use log::{info, warn};
@@ -18,7 +18,7 @@ pub(super) fn what_is_changed(request: &Request) -> Option<&'static str> {
     }
 }
 
-impl Daemon {
+impl<P: Ports> Core<P> {
     /// The refusal, where this client may not ask for it.
     pub(super) fn refuses(&self, client: ClientId, what: &str) -> Option<Reply> {
         let peer = self.clients.peer(client);

@@ -1,6 +1,6 @@
 //! What agents tell each other for operators and services, as well as it goes: the tags of their machines, and events. Nothing rests on them.
 
-use super::Daemon;
+use super::core::{Core, Ports};
 use crate::forward::{Token, What};
 use crate::protocol::Reply;
 use std::collections::{BTreeMap, VecDeque};
@@ -55,7 +55,7 @@ impl Announcing {
     }
 }
 
-impl Daemon {
+impl<P: Ports> Core<P> {
     /// Tells the others what is due of tags and events.
     pub(super) fn announce(&mut self, now: Instant) {
         let (told, is_told) = (self.announcing.told, self.announcing.is_told);

@@ -1,12 +1,12 @@
 //! What the node answers.
 
-use super::{Asker, Daemon, Origin, FILE_DAMAGED, FILE_IS_COPY, NO_MEMORY};
+use super::core::{Core, Ports};
+use super::{Asker, Origin, FILE_DAMAGED, FILE_IS_COPY, NO_MEMORY};
 use crate::forward::{Given, Numbers, Outcome};
 use crate::metrics::{kind_of, ANSWERS};
 use crate::node::{Answer, Closing, Group, Job, JobKey, Line, Refusal};
-use crate::protocol::Reply;
-use crate::service::{Given as GivenJob, Hand};
-use crate::system_calls::give_back_memory;
+use crate::protocol::{Reply, Tag};
+use crate::service::{ClientId, Given as GivenJob, Hand};
 use log::{error, info, warn};
 use serde::Serialize;
 use std::net::SocketAddr;
@@ -38,9 +38,8 @@ impl Row {
     }
 }
 
-impl Daemon {
-    pub(super) fn take_answer(&mut self, answer: Answer<Asker>) {
-        let now = Instant::now();
+impl<P: Ports> Core<P> {
+    pub(super) fn take_answer(&mut self, answer: Answer<Asker>, now: Instant) {
         self.view.answered = now;
         for line in &answer.lines {
             self.take_line(line, now);
@@ -159,7 +158,7 @@ impl Daemon {
 
     fn close(&mut self, answer: Answer<Asker>, now: Instant) {
         match answer.asker {
-            Asker::Start => self.started(&answer.closing),
+            Asker::Start => self.started(&answer.closing, now),
             Asker::Tick => self.clock.ticked(due_of(&answer.lines), now),
             Asker::Datagram { sender, from, kind } if is_of_earlier(&answer) => {
                 self.delivered((sender, from), kind, &Closing::Refused(Refusal::Stale), now);
@@ -174,13 +173,7 @@ impl Daemon {
                 self.settled(key, &answer.closing, now);
                 self.reply_to_agent(from, token, outcome_of(&answer.closing), now);
             }
-            Asker::Finish { client, tag, key } => {
-                if has_left_hand(&answer.closing) {
-                    let holder = self.hand.finish(key);
-                    self.stop_other(key, holder, client);
-                }
-                self.clients.answer(client, &reply_of(&answer.closing).tagged(&tag));
-            }
+            Asker::Finish { client, tag, key } => self.finished((client, tag), key, &answer.closing),
             Asker::Compact { client, tag, since } => {
                 if let Closing::Ok(_) = answer.closing {
                     self.metrics.compactions.inc();
@@ -199,6 +192,19 @@ impl Daemon {
                 self.count_jobs(&answer.lines);
             }
         }
+    }
+
+    /// The node answered that a client is done with a job.
+    fn finished(&mut self, (client, tag): (ClientId, Tag), key: JobKey, closing: &Closing) {
+        // it left before the node read that, and may come back
+        if *closing == Closing::Refused(Refusal::UnknownJob) && self.hand.end_parted(key, client, Some(&tag)) {
+            return;
+        }
+        if has_left_hand(closing) {
+            let holder = self.hand.finish(key);
+            self.stop_other(key, holder, client);
+        }
+        self.clients.answer(client, &reply_of(closing).tagged(&tag));
     }
 
     fn delivered(&mut self, (sender, from): (u8, Origin), kind: &str, closing: &Closing, now: Instant) {
@@ -250,16 +256,16 @@ impl Daemon {
         }
     }
 
-    fn started(&mut self, closing: &Closing) {
+    fn started(&mut self, closing: &Closing, now: Instant) {
         if self.unusable.is_some() {
             return;
         }
         if let Closing::Ok(_) = closing {
             self.view.is_ready = true;
             // that in which its configuration was read, and what its file holds looked at
-            give_back_memory();
+            self.ports.give_back_memory();
             let votes = Duration::from_millis(self.config.lease_ms).min(LONGEST_START);
-            self.notify.ready_at(Instant::now() + votes);
+            self.notify.ready_at(now + votes);
         } else {
             let why = tell_unmounted(&self.config.file, closing);
             self.notify.status(format!("the file can't be mounted: {why}"));

@@ -1,10 +1,11 @@
 //! What comes over the network, and what goes out.
 
-use super::{Asker, Daemon, Origin};
+use super::core::{Core, Ports};
+use super::{Asker, Origin};
 use crate::config::Config;
 use crate::forward::{is_of_agents, is_relayed, marked, About, Datagram, Seal};
 use crate::metrics::{kind_of, ANSWERS, OF_LEADING, QUESTIONS};
-use crate::net::{is_encrypted, GroupBytes, Leaves, MAX_DATAGRAM};
+use crate::net::{is_encrypted, GroupBytes, Leaves, Network, MAX_DATAGRAM};
 use crate::node::Lane;
 use log::{info, warn};
 use std::io::ErrorKind;
@@ -33,7 +34,7 @@ fn group_of(message: &[u8]) -> Option<GroupBytes> {
     message.get(HEAD_OF_BODY..)?.get(..9)?.try_into().ok()
 }
 
-impl Daemon {
+impl<P: Ports> Core<P> {
     /// Gives the node what waits for it, and takes what came since off the socket, which may hold little.
     pub(super) fn receive(&mut self, now: Instant) {
         if !self.view.is_alive(now) {
@@ -179,6 +180,7 @@ impl Daemon {
         if ANSWERS.contains(&kind) && self.clock.is_nothing_due(now) {
             self.ask(Asker::Time, format!("tick {}", self.clock.node_ms(now)));
         }
+        self.holding.came(sender_of(message), kind, now);
         let asker = Asker::Datagram { sender: sender_of(message), from, kind };
         self.ask(asker, format!("deliver {}", hex::encode(message)));
     }
@@ -202,6 +204,10 @@ impl Daemon {
             // what it asks is asked again
             self.metrics.dropped.with_label_values(&["Unmet"]).inc();
             return self.greet(to, now);
+        }
+        if kind == "AreYouCoordinator" {
+            let is_member = self.view.is_coordinator() && self.view.group.members.contains(&to);
+            self.holding.asked(to, is_member);
         }
         let group = if kind == "Work" { group_of(&message) } else { None };
         let message = if self.config.key.is_some() { message } else { marked(&message, self.introductions.mark()) };

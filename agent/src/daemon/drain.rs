@@ -1,7 +1,7 @@
 //! A machine that is drained: new jobs are kept elsewhere, and what its node keeps is worked on. A node keeps new jobs as long as it leads, so it gives up its
 //! lead, and the questions and invitations by which it would lead again are lost. It goes on as a member, invited by another one.
 
-use super::Daemon;
+use super::core::{Core, Ports};
 use crate::forward::What;
 use log::info;
 use std::collections::BTreeMap;
@@ -23,7 +23,7 @@ impl Drain {
     }
 }
 
-impl Daemon {
+impl<P: Ports> Core<P> {
     /// The machine is drained from now on, or not any more.
     pub(super) fn drain(&mut self, on: bool, now: Instant) {
         if on != self.draining.is_some() {

@@ -1,8 +1,10 @@
 //! Submissions on their way between agents.
 
 use super::datagrams::Waiting;
-use super::{Asker, Daemon, Origin, FILE_IS_COPY};
+use super::core::{Core, Ports};
+use super::{Asker, Origin, FILE_IS_COPY};
 use crate::forward::{is_of_another_version, of_leases, unmarked, About, Client, Datagram, Due, Given, News, Outcome, Submission, Told, Token, Turn, Verdict, What};
+use crate::net::Network;
 use crate::node::{JobKey, Lane, Refusal};
 use crate::protocol::Reply;
 use log::{info, warn};
@@ -16,7 +18,7 @@ fn line_of(job: &Submission) -> String {
     }
 }
 
-impl Daemon {
+impl<P: Ports> Core<P> {
     /// A local client submits a job.
     pub(super) fn submit(&mut self, client: Client, job: Submission, now: Instant) {
         match self.outbox.add(client.clone(), job, now) {
@@ -41,7 +43,7 @@ impl Daemon {
             let other = self.in_place_of_own(now).map(|coordinator| Given::Elsewhere { coordinator });
             return self.tried(serial, other.unwrap_or(Given::Refused(Refusal::Draining)), now);
         }
-        match key.map_or(Turn::Keep, |key| self.turn(key, now)) {
+        match key.map_or(Turn::Keep, |key| self.turn_of(key, now)) {
             Turn::Keep => {
                 if let Some(text) = self.outbox.asks_own(serial).map(line_of) {
                     self.ask(Asker::Submission { serial, key }, text);
@@ -281,8 +283,8 @@ impl Daemon {
     }
 
     /// Tells the other agents that the node ended: twice, for a datagram may be lost.
-    pub(super) fn say_goodbye(&mut self) {
-        let (now, token, others) = (Instant::now(), self.outbox.token(), self.others().into_iter());
+    pub(super) fn say_goodbye(&mut self, now: Instant) {
+        let (token, others) = (self.outbox.token(), self.others().into_iter());
         let is_copy = self.unusable == Some(FILE_IS_COPY);
         let farewells: Vec<_> = others.filter_map(|to| self.outbox.goodbye(to, is_copy).map(|what| (to, what))).collect();
         for (to, what) in farewells.iter().chain(&farewells) {
@@ -331,7 +333,7 @@ impl Daemon {
             let refused = Outcome::Refused { error: Refusal::Draining };
             return self.send_to_agent(from, token, What::Reply(refused), now);
         }
-        match job.key.map_or(Turn::Keep, |key| self.turn(key, now)) {
+        match job.key.map_or(Turn::Keep, |key| self.turn_of(key, now)) {
             Turn::Keep => {
                 self.inbox.asked(token);
                 self.metrics.forwarded.with_label_values(&["taken"]).inc();

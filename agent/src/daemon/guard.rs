@@ -12,7 +12,7 @@ use std::thread;
 use std::time::Duration;
 
 /// The paths are looked at so often.
-const PAUSE: Duration = Duration::from_secs(1);
+const PAUSE: Duration = Duration::from_secs(2);
 
 /// What no file is known by.
 const NOBODY: (u64, u64) = (0, 0);

@@ -1,7 +1,7 @@
 //! Submissions under a key, between the agents: before the own node is asked to keep one the others are asked whether they know it, and once it is kept they are
 //! told.
 
-use super::Daemon;
+use super::core::{Core, Ports};
 use crate::forward::{Key, Knows, Submission, Token, Turn, What};
 use crate::node::{Closing, JobKey};
 use std::time::Instant;
@@ -9,9 +9,9 @@ use std::time::Instant;
 /// So many submissions are held at a time.
 const MAX_HELD: usize = 1024;
 
-impl Daemon {
+impl<P: Ports> Core<P> {
     /// What is to be done with a submission under this key that the own node would be asked to keep.
-    pub(super) fn turn(&mut self, key: Key, now: Instant) -> Turn {
+    pub(super) fn turn_of(&mut self, key: Key, now: Instant) -> Turn {
         let heard: Vec<u8> = self.others().into_iter().filter(|node| self.peers.is_there(*node, now)).collect();
         let turn = self.keys.turn(key, &heard, now);
         if !matches!(turn, Turn::AskOthers(_)) {

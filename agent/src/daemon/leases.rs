@@ -1,21 +1,18 @@
 //! The process of leases beside the node, and those who ask for leases here.
 
 use super::voters::Count;
-use super::{Daemon, Origin, PATIENCE_AT_END};
+use super::core::{Core, Ports};
+use super::{Origin, PATIENCE_AT_END};
 use crate::boot_time::BootTime;
 use crate::config::Config;
 use crate::forward::{of_leases, Token as AgentToken, What};
-use crate::lease::{Claims, LeaseLine, LeaseProcess, Order, Refusal, Silence, Told};
+use crate::lease::{Claims, LeaseLine, LeasePort, Order, Refusal, Silence, Told};
 use crate::protocol::Reply;
 use crate::service::ClientId;
 use log::{debug, error, info, warn};
-use mio::{Registry, Token};
 use serde::Serialize;
 use std::collections::BTreeSet;
 use std::time::{Duration, Instant};
-
-pub(super) const LEASE_INPUT: Token = Token(6);
-pub(super) const LEASE_OUTPUT: Token = Token(7);
 
 /// A process of leases that ended is started again so much later, twice as long after each further end, and anew after one that ran for the longest pause. One
 /// that begins grants nothing for `lease_ms` anyway, and where it ends at once that costs no more than a sync of its file in the longest pause.
@@ -36,8 +33,8 @@ pub(super) struct Row {
     left_ms: u64,
 }
 
-pub(super) struct Leases {
-    process: Option<LeaseProcess>,
+pub(super) struct Leases<P: Ports> {
+    process: Option<P::Lease>,
     claims: Claims,
     /// When the process wants to be told the time.
     due: Option<BootTime>,
@@ -52,9 +49,9 @@ pub(super) struct Leases {
     pub(super) silence: Silence,
 }
 
-impl Leases {
+impl<P: Ports> Leases<P> {
     /// Those of a configuration that has leases.
-    pub(super) fn of(config: &Config, now: Instant) -> Option<Leases> {
+    pub(super) fn of(config: &Config, now: Instant) -> Option<Leases<P>> {
         (config.lease_ms > 0).then(|| Leases {
             process: None,
             claims: Claims::default(),
@@ -69,11 +66,11 @@ impl Leases {
     }
 
     pub(super) fn wake(&mut self) {
-        self.process.iter_mut().for_each(LeaseProcess::wake);
+        self.process.iter_mut().for_each(LeasePort::wake);
     }
 
     pub(super) fn flush(&mut self) {
-        self.process.iter_mut().for_each(LeaseProcess::flush);
+        self.process.iter_mut().for_each(LeasePort::flush);
     }
 
     /// How many leases this machine has.
@@ -84,7 +81,7 @@ impl Leases {
 
     /// Whether the process has its file and goes on.
     pub(super) fn is_up(&self) -> bool {
-        self.process.as_ref().map_or(false, LeaseProcess::is_ready)
+        self.process.as_ref().map_or(false, LeasePort::is_ready)
     }
 
     /// Whether the process answers nothing: its leases end, and shards go to other machines.
@@ -117,10 +114,10 @@ impl Leases {
         next.map_or(Duration::MAX, |next| next.since(BootTime::now())).min(again).min(of_voters)
     }
 
-    fn start(&mut self, config: &Config, voters: u8, registry: &Registry, now: Instant) {
+    fn start(&mut self, config: &Config, voters: u8, ports: &P, now: Instant) {
         self.start = now;
         let (file, program) = (config.lease_file(), config.program.display());
-        let made = file.exists().then(|| LeaseProcess::start(config, voters, registry, LEASE_INPUT, LEASE_OUTPUT));
+        let made = file.exists().then(|| ports.start_lease(config, voters));
         let why = match made {
             Some(Ok(process)) => return self.process = Some(process),
             Some(Err(why)) => format!("{program} can't be run: {why}"),
@@ -182,7 +179,7 @@ impl Leases {
     }
 }
 
-impl Daemon {
+impl<P: Ports> Core<P> {
     /// All that may be to be done for leases.
     pub(super) fn keep_leases(&mut self, now: Instant) {
         self.keep_voters(now);
@@ -192,7 +189,7 @@ impl Daemon {
             None => return,
         };
         if let Some(voters) = leases.count_of_voters.now().filter(|_| leases.process.is_none() && now >= leases.start) {
-            leases.start(&self.config, voters, self.poll.registry(), now);
+            leases.start(&self.config, voters, &self.ports, now);
         }
         let (mut lines, mut goes_on) = (Vec::new(), true);
         if let Some(process) = leases.process.as_mut().filter(|process| process.is_readable()) {
@@ -231,7 +228,7 @@ impl Daemon {
             LeaseLine::Held { name, client: number, .. } if self.is_silent(&name, number, now) => self.leave(name, number),
             line => {
                 if let Some(leases) = &mut self.leases {
-                    let told = leases.take(line);
+                    let told = leases.take(line, now);
                     told.into_iter().for_each(|told| self.tell_of_lease(told));
                 }
             }
@@ -374,9 +371,9 @@ enum TellsOfLease {
     Refused { client: ClientId, name: String, why: String },
 }
 
-impl Leases {
+impl<P: Ports> Leases<P> {
     /// What is to be told of a line of the process.
-    fn take(&mut self, line: LeaseLine) -> Vec<TellsOfLease> {
+    fn take(&mut self, line: LeaseLine, now: Instant) -> Vec<TellsOfLease> {
         match line {
             LeaseLine::Process { count } => {
                 info!("leases: process {count}");
@@ -398,7 +395,7 @@ impl Leases {
             LeaseLine::RefusedClaim { why, name, client } if why == "Waiting" => {
                 // an earlier process may have granted for longer than this one does
                 self.again.push((name, client));
-                self.again_at = Instant::now() + CLAIM_PAUSE;
+                self.again_at = now + CLAIM_PAUSE;
             }
             LeaseLine::RefusedClaim { why, name, client } => {
                 warn!("lease {name}: refused: {why}");

@@ -5,7 +5,7 @@ use std::time::{Duration, Instant};
 const WINDOW: Duration = Duration::from_millis(100);
 
 /// So many looks in each window at most: where the node is busy all the time they take one part in a hundred of a processor.
-const MOST: u32 = 8;
+const MOST: u32 = 4;
 
 pub struct Looks {
     since: Instant,
@@ -32,12 +32,12 @@ mod tests {
     use super::*;
 
     #[test]
-    fn eight_are_taken_in_a_tenth_of_a_second() {
+    fn four_are_taken_in_a_tenth_of_a_second() {
         let now = Instant::now();
         let mut looks = Looks::new(now);
         let taken = |looks: &mut Looks, ms: u64| looks.take(now + Duration::from_millis(ms));
-        assert_eq!((0..20).filter(|ms| taken(&mut looks, *ms)).count(), 8);
+        assert_eq!((0..20).filter(|ms| taken(&mut looks, *ms)).count(), 4);
         assert!(!taken(&mut looks, 99));
-        assert_eq!((100..120).filter(|ms| taken(&mut looks, *ms)).count(), 8);
+        assert_eq!((100..120).filter(|ms| taken(&mut looks, *ms)).count(), 4);
     }
 }

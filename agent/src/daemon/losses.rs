@@ -1,6 +1,7 @@
 //! Nodes that end or give up their lead: the own one goes on without them.
 
-use super::{Asker, Daemon};
+use super::core::{Core, Ports};
+use super::Asker;
 use std::time::{Duration, Instant};
 
 /// When the node is to look for others that lead.
@@ -13,7 +14,7 @@ impl Looking {
     }
 }
 
-impl Daemon {
+impl<P: Ports> Core<P> {
     /// Has the node make a group without another one. A member whose coordinator that was asks it first, and by the second word leaves.
     pub(super) fn lose(&mut self, node: u8, now: Instant) {
         if self.is_next(node, now) {

@@ -4,10 +4,12 @@ mod admin;
 mod announcing;
 mod answers;
 mod asker;
+mod core;
 mod datagrams;
 mod drain;
 mod forwarding;
 mod guard;
+mod holding;
 mod keyed;
 mod leases;
 mod looks;
@@ -17,43 +19,40 @@ mod pages;
 mod relaying;
 mod requests;
 mod signals;
+#[cfg(test)]
+mod simulation;
 mod voters;
 
-use announcing::Announcing;
+use self::core::{Core, Parts, Ports};
 use answers::NOT_IN_HAND;
 pub use asker::{Asker, Origin};
 pub use signals::Beginning;
 
-use crate::clock::Clock;
 use crate::config::Config;
-use crate::fill::Fill;
-use crate::forward::{self, read_keys, About, Inbox, Introductions, Key, Keys, Ledger, Outbox, OwnNumbers, Seal, Submission, Token as AgentToken};
+use crate::forward::{self, read_keys, Seal};
 use crate::http::{Records, Server};
+use crate::lease::LeaseProcess;
 use crate::metrics::Metrics;
-use crate::net::{Backlog, Cipher, Link, News, Pace, Peers};
-use crate::node::{Answer, Lane, NodeProcess};
+use crate::net::{Cipher, Link, Network, News};
+use crate::node::{Exchange, Lane, NodeProcess};
 use crate::node_file;
 use crate::notify::Notify;
 use crate::protocol::Reply;
 use crate::record::Record;
-use crate::resolver::Resolver;
-use crate::service::{is_left, Changes, ClientId, Clients, Hand};
-use crate::view::{Majority, View};
+use crate::resolver::{Names, Resolver};
+use crate::service::{is_left, ClientId, Hand, SocketDoor};
+use crate::system_calls::give_back_memory;
+use crate::view::Majority;
 use anyhow::Context;
-use datagrams::Waiting;
-use drain::Drain;
 use guard::Guard;
-use leases::{Leases, LEASE_INPUT, LEASE_OUTPUT};
+use leases::Leases;
 use log::{debug, error, info, warn};
 use looks::Looks;
-use losses::Looking;
 use mio::event::Event;
 use mio::{Events, Poll, Registry, Token, Waker};
-use opening::Opening;
-use pages::PendingJobs;
 use signals::Signals;
-use std::collections::{BTreeMap, BTreeSet, HashMap};
-use std::io::ErrorKind;
+use std::collections::BTreeSet;
+use std::io::{self, ErrorKind};
 use std::net::SocketAddr;
 use std::ops::RangeInclusive;
 use std::os::unix::process::ExitStatusExt;
@@ -69,6 +68,8 @@ const LINK: Token = Token(2);
 const LISTENER: Token = Token(3);
 const SIGNALS: Token = Token(4);
 const WAKER: Token = Token(5);
+const LEASE_INPUT: Token = Token(6);
+const LEASE_OUTPUT: Token = Token(7);
 /// Tokens from this one on are clients'.
 const FIRST_CLIENT: usize = 16;
 
@@ -89,76 +90,45 @@ const FILE_IS_COPY: u8 = 9;
 const PATIENCE_AT_END: Duration = Duration::from_millis(700);
 
 /// For so long an answer of the node is looked for without a sleep.
-const LONGEST_LOOK: Duration = Duration::from_micros(150);
+const LONGEST_LOOK: Duration = Duration::from_micros(250);
+
+/// The sockets, threads and processes of the core.
+struct Sockets {
+    registry: Registry,
+}
+
+impl Ports for Sockets {
+    type Network = Link;
+    type Door = SocketDoor;
+    type Names = Resolver;
+    type Pages = Server;
+    type Lease = LeaseProcess;
+
+    fn start_lease(&self, config: &Config, voters: u8) -> io::Result<LeaseProcess> {
+        LeaseProcess::start(config, voters, &self.registry, LEASE_INPUT, LEASE_OUTPUT)
+    }
+
+    fn give_back_memory(&self) {
+        give_back_memory();
+    }
+}
 
 pub struct Daemon {
-    config: Config,
-    path: PathBuf,
+    core: Core<Sockets>,
     poll: Poll,
-    node: NodeProcess<Asker>,
-    /// Under a key, the lives of the others that the node was told.
-    lives: Vec<Option<u64>>,
-    /// None where the configuration has none.
-    leases: Option<Leases>,
+    node: NodeProcess,
     guard: Guard,
     socket_guard: Guard,
     /// Whether the socket couldn't be made again.
     is_socket_gone: bool,
-    /// The status to end with, where the node's file is none to go on with.
-    unusable: Option<u8>,
     looks: Looks,
-    clock: Clock,
-    link: Link,
-    /// By what datagrams are encrypted on their way.
-    cipher: Cipher,
-    backlog: Backlog<Waiting>,
-    pace: Pace,
-    peers: Peers,
-    resolver: Resolver,
-    clients: Clients,
-    /// The group whose members may ask for what changes the machine for all: its name and number.
-    admin: Option<(String, u32)>,
-    hand: Hand,
-    changes: Changes,
-    seal: Seal,
-    inbox: Inbox,
-    outbox: Outbox,
-    keys: Keys,
-    /// Submissions of other agents under keys that others are asked about.
-    held: HashMap<Key, (u8, AgentToken, Submission)>,
-    /// What the agents of all nodes said that these gave, and the own node's numbers.
-    ledger: Ledger,
-    numbers: OwnNumbers,
-    /// Of which cluster this agent is, and the others.
-    introductions: Introductions,
-    /// None once the node was asked to begin.
-    opening: Option<Opening>,
-    view: View,
-    fill: Fill,
-    metrics: Metrics,
-    notify: Notify,
     signals: Signals,
-    http: Option<Server>,
-    pending_jobs: PendingJobs,
-    /// Whether the node is to be recorded, by the configuration or since somebody asked.
-    wants_record: bool,
-    /// Since its machine is drained, when the others were told last to make a group without it.
-    draining: Option<Drain>,
-    /// When the node is to look for others in place of one that led it.
-    looking: Looking,
-    /// When others said last that they are drained.
-    drained: BTreeMap<u8, Instant>,
-    /// Tags and events that the others are told.
-    announcing: Announcing,
-    /// Listings of jobs that the node is asked for.
-    listings: usize,
 }
 
 impl Daemon {
     /// Starts the node of a configuration that was read at this path.
     pub fn start(config: Config, path: PathBuf) -> anyhow::Result<Daemon> {
-        let (now, begin, poll, nodes) = (Instant::now(), SystemTime::now(), Poll::new()?, config.nodes.len());
-        let round_trip = Duration::from_millis(config.round_trip_ms);
+        let (now, begin, poll) = (Instant::now(), SystemTime::now(), Poll::new()?);
         let (registry, life) = (poll.registry(), forward::new_life()?);
         let signals = Signals::register(registry, SIGNALS)?;
         let waker = Arc::new(Waker::new(registry, WAKER)?);
@@ -168,67 +138,41 @@ impl Daemon {
         // of two agents that begin at the same time one has the port, and the other one leaves its socket alone
         let link = Link::bind(config.listens_at(), registry, LINK)
             .map_err(|why| anyhow::anyhow!("datagrams can't be received at {}: {why}{}", config.listens_at(), hint(&config, &why)))?;
-        let clients = Clients::listen(&config.socket, registry, LISTENER, FIRST_CLIENT).with_context(socket)?;
+        let door = SocketDoor::open(&config.socket, registry, LISTENER).with_context(socket)?;
         let http = http_of(&config, &waker)?;
         let [guard, socket_guard] = Guard::start([&config.file, &config.socket], Arc::clone(&waker))?;
-        Ok(Daemon {
-            guard,
-            socket_guard,
-            node: node_of(&config, life, registry, begin)?,
-            lives: vec![None; nodes],
-            leases: Leases::of(&config, now),
-            clock: Clock::new(config.round_trip_ms, now),
-            peers: Peers::new(config.id, &config.nodes, link.is_ipv6(), round_trip),
-            link,
-            cipher: cipher_of(&config)?,
-            backlog: Backlog::new(nodes),
-            pace: Pace::new(nodes, config.key.is_some(), round_trip, now),
-            resolver: Resolver::new(waker),
-            clients,
-            admin: config.admin()?,
-            hand: Hand::default(),
-            changes: Changes::new(life),
-            wants_record: config.record.is_some(),
-            inbox: Inbox::new(life, nodes),
-            outbox: Outbox::new(life, nodes, round_trip),
-            keys: Keys::new(round_trip),
-            held: HashMap::new(),
-            ledger: Ledger::new(nodes),
-            introductions: Introductions::new(config.id, About::new(&config.cluster, &config.nodes)),
-            numbers: OwnNumbers::new(life, nodes),
-            opening: Some(Opening::new(round_trip, now)),
-            view: View::new(&config, now),
-            fill: Fill::of(node_file::slots(&config.file)),
-            metrics: Metrics::new(&config.cluster, &seal.fingerprints)?,
-            notify: Notify::of_environment()?,
-            seal,
-            signals,
-            http,
-            pending_jobs: PendingJobs::default(),
-            listings: 0,
-            announcing: Announcing::default(),
-            draining: None,
-            looking: Looking::default(),
-            drained: BTreeMap::new(),
-            unusable: None,
-            is_socket_gone: false,
-            looks: Looks::new(now),
-            poll,
-            config,
+        let (process, node) = node_of(&config, life, registry, begin)?;
+        let parts = Parts {
+            ports: Sockets { registry: registry.try_clone()? },
             path,
-        })
+            life,
+            node,
+            slots: node_file::slots(&config.file),
+            is_ipv6: link.is_ipv6(),
+            link,
+            door,
+            resolver: Resolver::new(waker),
+            http,
+            cipher: cipher_of(&config)?,
+            metrics: Metrics::new(&config.cluster, &seal.fingerprints)?,
+            seal,
+            notify: Notify::of_environment()?,
+            config,
+        };
+        let core = Core::new(parts, now)?;
+        Ok(Daemon { core, poll, node: process, guard, socket_guard, is_socket_gone: false, looks: Looks::new(now), signals })
     }
 
     /// Runs until the node ends or a signal ends it; the status to exit with.
     pub fn run(mut self, beginning: &Beginning) -> anyhow::Result<u8> {
         beginning.is_over();
         let mut events = Events::with_capacity(256);
-        self.tag_own(Instant::now());
-        self.warn_of_addresses();
-        self.warn_of_network();
+        self.core.begin(Instant::now());
         loop {
-            self.node.flush();
-            self.leases.iter_mut().for_each(Leases::flush);
+            if self.core.lets_go(Instant::now()) {
+                self.node.flush(&mut self.core.node);
+            }
+            self.core.leases.iter_mut().for_each(Leases::flush);
             self.wait(&mut events)?;
             for event in &events {
                 self.wake(event);
@@ -246,35 +190,35 @@ impl Daemon {
         let ending = if goes_on { None } else { Some(self.node.end(PATIENCE_AT_END)?) };
         // a signal to all processes of the agent ends its node, too
         if self.signals.take_end() {
-            self.notify.stopping();
+            self.core.notify.stopping();
             self.node.end(PATIENCE_AT_END)?;
             // what it did meanwhile is told to those who asked for it
             self.hear();
             // the others wait for this word alone
-            self.say_goodbye();
-            self.leases.iter_mut().for_each(Leases::end);
+            self.core.say_goodbye(Instant::now());
+            self.core.leases.iter_mut().for_each(Leases::end);
             info!("ended by a signal");
             return Ok(Some(0));
         }
         if let Some(status) = ending {
-            self.say_goodbye();
+            self.core.say_goodbye(Instant::now());
             return Ok(Some(ended(status)));
         }
         if self.guard.is_gone() {
-            error!("{}: it was removed, or another file has its name", self.config.file.display());
-            self.unusable = Some(FILE_GONE);
+            error!("{}: it was removed, or another file has its name", self.core.config.file.display());
+            self.core.unusable = Some(FILE_GONE);
         }
-        if self.unusable.is_some() {
+        if self.core.unusable.is_some() {
             self.node.end(PATIENCE_AT_END)?;
-            self.say_goodbye();
+            self.core.say_goodbye(Instant::now());
         }
-        Ok(self.unusable)
+        Ok(self.core.unusable)
     }
 
     /// Waits until something comes or is to be done. An answer of the node comes soon, so for a moment it is looked for without a sleep.
     fn wait(&mut self, events: &mut Events) -> anyhow::Result<()> {
-        let (begin, sleep) = (Instant::now(), self.sleep(Instant::now()));
-        if !sleep.is_zero() && self.node.is_asked() && self.looks.take(begin) {
+        let (begin, sleep) = (Instant::now(), self.core.sleep(self.node.is_readable(), Instant::now()));
+        if !sleep.is_zero() && self.core.node.is_asked() && self.looks.take(begin) {
             while begin.elapsed() < LONGEST_LOOK {
                 poll(&mut self.poll, events, Duration::ZERO)?;
                 if !events.is_empty() {
@@ -290,34 +234,52 @@ impl Daemon {
         match event.token() {
             NODE_INPUT | WAKER => {}
             LEASE_INPUT => {}
-            LEASE_OUTPUT => self.leases.iter_mut().for_each(Leases::wake),
+            LEASE_OUTPUT => self.core.leases.iter_mut().for_each(Leases::wake),
             NODE_OUTPUT => self.node.wake(),
-            LINK => self.link.wake(),
-            LISTENER => self.clients.wake_listener(),
+            LINK => self.core.link.wake(),
+            LISTENER => self.core.clients.wake_listener(),
             SIGNALS => self.signals.read(),
-            Token(client) => self.clients.wake(client, event.is_write_closed()),
+            Token(client) => self.core.clients.wake(client, event.is_write_closed()),
         }
     }
 
     /// Reads what the node answered, and answers whether it goes on.
     fn hear(&mut self) -> bool {
-        let mut answers: Vec<Answer<Asker>> = Vec::new();
-        let goes_on = self.node.read_answers(&mut answers);
-        for answer in answers {
-            // a node that isn't to go on acknowledges nothing
-            if self.unusable.is_none() {
-                self.take_answer(answer);
-            }
-        }
+        let mut answers = Vec::new();
+        let goes_on = self.node.read_answers(&mut self.core.node, &mut answers);
+        self.core.heard(answers, Instant::now());
         goes_on
     }
 
-    /// All that may be to be done, each kind by a bounded number at a time.
     fn work(&mut self, now: Instant) {
         if self.signals.take_reload() {
-            self.reload(now);
+            self.core.reload(now);
         }
         self.keep_socket();
+        self.core.turn(now);
+    }
+
+    /// Makes the socket again where it was removed: else no client would find the agent until its next start.
+    fn keep_socket(&mut self) {
+        if !self.socket_guard.is_gone() {
+            return;
+        }
+        let path = self.core.config.socket.display();
+        let made = self.core.clients.listen_again();
+        let is_gone = made.is_err();
+        match made {
+            Ok(()) => warn!("socket {path}: it was removed, and is made again"),
+            Err(why) if !self.is_socket_gone => error!("socket {path}: it was removed, and can't be made again: {why}"),
+            Err(_) => {}
+        }
+        self.is_socket_gone = is_gone;
+        self.socket_guard.again();
+    }
+}
+
+impl<P: Ports> Core<P> {
+    /// All that may be to be done, each kind by a bounded number at a time.
+    fn turn(&mut self, now: Instant) {
         if self.opening.is_some() {
             return self.open(now);
         }
@@ -340,7 +302,8 @@ impl Daemon {
         }
         self.beat(now);
         self.keep_leases(now);
-        if let Some(ms) = self.clock.tick(now) {
+        let ms = if self.holding.holds(now) { None } else { self.clock.tick(now) };
+        if let Some(ms) = ms {
             self.node.ask(Asker::Tick, Lane::Local, format!("tick {ms}"));
         }
         self.notify.tell_ready(now);
@@ -349,12 +312,12 @@ impl Daemon {
         }
     }
 
-    /// How long to wait for something to come. Where the node has no room its answer is waited for.
-    fn sleep(&self, now: Instant) -> Duration {
+    /// How long to wait for something to come, where answers of the node wait or don't. Where the node has no room its answer is waited for.
+    fn sleep(&self, is_node_readable: bool, now: Instant) -> Duration {
         if let Some(opening) = &self.opening {
             return if self.link.is_readable() { Duration::ZERO } else { opening.sleep(now) };
         }
-        let is_behind = self.node.is_readable() || self.link.is_readable() || self.clients.has_more_to_take();
+        let is_behind = is_node_readable || self.link.is_readable() || self.clients.has_more_to_take();
         if is_behind || self.clients.have_input(self.takes_requests(now)) {
             return Duration::ZERO;
         }
@@ -370,37 +333,24 @@ impl Daemon {
         let of_clients = wait(self.clients.next_beat()).min(wait(self.hand.next_due()));
         let leases = self.leases.as_ref().map_or(Duration::MAX, |leases| leases.sleep(now));
         let leases = leases.min(self.announcing.sleep(now)).min(self.looking.sleep(now)).min(self.notify.sleep(now));
-        self.clock.sleep(now).min(until).min(self.pace.sleep(now)).min(majority).min(of_clients).min(leases)
+        let clock = self.holding.left(now).unwrap_or_else(|| self.clock.sleep(now));
+        clock.min(until).min(self.pace.sleep(now)).min(majority).min(of_clients).min(leases)
     }
 
     /// Takes clients that came; those that work on a job, or have a lease, aren't ended for them.
     fn accept(&mut self, now: Instant) {
         let (hand, leases) = (&self.hand, &self.leases);
-        self.clients.accept(self.poll.registry(), now, || busy(hand, leases));
+        self.clients.accept(now, || busy(hand, leases));
     }
 
     /// Asks the node something else than the time.
     fn ask(&mut self, asker: Asker, text: String) {
+        if !matches!(asker, Asker::Datagram { .. } | Asker::Time) {
+            self.holding.end();
+        }
         self.clock.asked();
         let lane = asker.lane();
         self.node.ask(asker, lane, text);
-    }
-
-    /// Makes the socket again where it was removed: else no client would find the agent until its next start.
-    fn keep_socket(&mut self) {
-        if !self.socket_guard.is_gone() {
-            return;
-        }
-        let path = self.config.socket.display();
-        let made = self.clients.listen_again(self.poll.registry(), LISTENER);
-        let is_gone = made.is_err();
-        match made {
-            Ok(()) => warn!("socket {path}: it was removed, and is made again"),
-            Err(why) if !self.is_socket_gone => error!("socket {path}: it was removed, and can't be made again: {why}"),
-            Err(_) => {}
-        }
-        self.is_socket_gone = is_gone;
-        self.socket_guard.again();
     }
 
     fn look_up(&mut self, now: Instant) {
@@ -423,7 +373,7 @@ impl Daemon {
 }
 
 /// The clients that work on a job, or ask for a lease or have one.
-fn busy(hand: &Hand, leases: &Option<Leases>) -> BTreeSet<ClientId> {
+fn busy<P: Ports>(hand: &Hand, leases: &Option<Leases<P>>) -> BTreeSet<ClientId> {
     hand.holders().into_iter().chain(leases.iter().flat_map(Leases::clients)).collect()
 }
 
@@ -493,13 +443,14 @@ fn http_of(config: &Config, waker: &Arc<Waker>) -> anyhow::Result<Option<Server>
 }
 
 /// The node, and its record where the configuration has one.
-fn node_of(config: &Config, life: u64, registry: &Registry, begin: SystemTime) -> anyhow::Result<NodeProcess<Asker>> {
-    let mut node = NodeProcess::start(config, life, registry, NODE_INPUT, NODE_OUTPUT)
+fn node_of(config: &Config, life: u64, registry: &Registry, begin: SystemTime) -> anyhow::Result<(NodeProcess, Exchange<Asker>)> {
+    let mut node = Exchange::new(config.id);
+    let process = NodeProcess::start(config, life, registry, NODE_INPUT, NODE_OUTPUT)
         .with_context(|| format!("program {}", config.program.display()))?;
     if let Some(path) = &config.record {
         node.begin_record(Record::open(path, config).with_context(|| format!("record {}", path.display()))?);
         let since = begin.duration_since(UNIX_EPOCH).unwrap_or_default();
         node.write_down(&format!("start {}", since.as_millis()));
     }
-    Ok(node)
+    Ok((process, node))
 }

@@ -1,7 +1,8 @@
 //! Before the node is asked anything the other agents are asked what it gave before. Until they answered, or their time is over, nothing is taken that would
 //! have to be acknowledged.
 
-use super::{Asker, Daemon};
+use super::core::{Core, Ports};
+use super::Asker;
 use std::time::{Duration, Instant};
 
 /// They are waited for for so many round trips, and asked again each round trip.
@@ -27,7 +28,7 @@ impl Opening {
     }
 }
 
-impl Daemon {
+impl<P: Ports> Core<P> {
     /// Goes on with the opening, and asks the node to begin where that is over.
     pub(super) fn open(&mut self, now: Instant) {
         let (until, is_due) = match &mut self.opening {

@@ -2,11 +2,12 @@
 
 use super::requests::MAX_LISTINGS;
 use super::leases::Leases;
-use super::{Asker, Daemon};
-use crate::http::{Page, Response, PAGE, THREADS};
+use super::core::{Core, Ports};
+use super::Asker;
+use crate::http::{Page, Pages, Response, PAGE, THREADS};
+use crate::net::Network;
 use crate::node::{Lane, Line};
 use crate::protocol::QUEUES;
-use crate::system_calls::give_back_memory;
 use serde_json::json;
 use std::time::{Duration, Instant};
 
@@ -20,7 +21,7 @@ pub(super) struct PendingJobs {
     asked: Option<Instant>,
 }
 
-impl Daemon {
+impl<P: Ports> Core<P> {
     pub(super) fn serve_pages(&mut self, now: Instant) {
         // one that is asked for meanwhile wakes the loop again
         for _ in 0..THREADS {
@@ -59,7 +60,7 @@ impl Daemon {
                 self.link.drops().into_iter().for_each(|drops| self.metrics.count_kernel_drops(drops));
                 let (content_type, body) = ("text/plain; version=0.0.4", self.metrics.text(&self.view, &self.peers, now));
                 // what it is made in is as large as all that the agent has else
-                give_back_memory();
+                self.ports.give_back_memory();
                 Response::page(content_type, body)
             }
             "/" => Response::page("text/html; charset=utf-8", PAGE.to_string()),

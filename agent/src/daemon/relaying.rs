@@ -1,11 +1,12 @@
 //! Datagrams that are carried on for others, and those that another agent carried on to this one.
 
-use super::{Daemon, Origin};
+use super::core::{Core, Ports};
+use super::Origin;
 use crate::forward::{is_relayed, Leg, Relayed};
 use log::{info, warn};
 use std::time::Instant;
 
-impl Daemon {
+impl<P: Ports> Core<P> {
     /// Sends what is for a machine, encrypted already, to another one that is to carry it on.
     pub(super) fn send_through(&mut self, through: u8, to: u8, is_deaf: bool, datagram: &[u8], now: Instant) {
         let relayed = Relayed { leg: Leg::First, is_deaf, from: self.config.id, to, by: self.config.id, mark: self.introductions.mark(), inner: datagram };

@@ -2,7 +2,8 @@
 
 use super::admin::what_is_changed;
 use super::leases::Leases;
-use super::{busy, Asker, Daemon, NOT_IN_HAND};
+use super::core::{Core, Ports};
+use super::{busy, Asker, NOT_IN_HAND};
 use crate::forward::{Client, Submission};
 use crate::node::{JobKey, Lane};
 use crate::protocol::{key_of, named, payload_of, text_of, Envelope, Reply, Request, RequestError, Tag, Wanted};
@@ -39,7 +40,7 @@ fn key_of_job(origin: Option<u8>, id: Option<u64>) -> Result<Option<JobKey>, Req
     }
 }
 
-impl Daemon {
+impl<P: Ports> Core<P> {
     /// Takes requests of all clients in turn. What the node is to be asked waits until it has room, as long as it answers at all; all else is answered
     /// all the same.
     pub(super) fn obey(&mut self, now: Instant) {
@@ -50,7 +51,7 @@ impl Daemon {
                 self.clients.had_turn(client);
             }
             for _ in 0..share {
-                let line = match self.clients.next_line(client) {
+                let line = match self.clients.next_line(client, now) {
                     Some(line) => line,
                     None => break,
                 };

@@ -1,6 +1,6 @@
 //! Among how many machines the process of leases votes: it is started anew where that changes, one machine at a time.
 
-use super::Daemon;
+use super::core::{Core, Ports};
 use crate::config::Config;
 use crate::forward::{Token, What};
 use crate::lease::{Voters, Voting};
@@ -50,7 +50,7 @@ impl Count {
     }
 }
 
-impl Daemon {
+impl<P: Ports> Core<P> {
     /// Goes on with a change of the number, where there is one.
     pub(super) fn keep_voters(&mut self, now: Instant) {
         let wanted = self.peers.listed();

@@ -101,6 +101,7 @@ fn list(value: &Value) -> &[Value] {
 #[cfg(test)]
 mod tests {
     use super::*;
+    use crate::chance::{Chance, TURNS};
     use serde_json::json;
 
     #[test]
@@ -117,5 +118,18 @@ mod tests {
         assert_eq!((trace.histories[1][0].brought, trace.histories[1][1].brought), (Some(1), None));
         assert_eq!(trace.messages, ["0a", "0b"]);
         assert_eq!(trace.order, [(0, None), (1, Some(7)), (0, None)]);
+    }
+
+    #[test]
+    fn whatever_is_given_as_a_trace_is_read_or_refused() {
+        let right = r#"{"histories":[[{"do":"submit","queue":3,"sent":["01090100001600"]},{"do":"deliver","brought":"010102000000","sent":[],"at":7}],[]],"nodes":2,"order":[[0,0],[1,0]]}"#;
+        let mut chance = Chance::of(21);
+        for _ in 0..TURNS {
+            let odd = chance.odd(&[right], 200);
+            if let Ok(trace) = Trace::read(&odd) {
+                assert!(trace.histories.iter().map(Vec::len).sum::<usize>() + trace.messages.len() + trace.order.len() <= odd.len());
+            }
+        }
+        assert!(Trace::read("[".repeat(100_000).as_bytes()).is_err());
     }
 }

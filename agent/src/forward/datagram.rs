@@ -159,6 +159,7 @@ impl Datagram {
 #[cfg(test)]
 mod tests {
     use super::*;
+    use crate::chance::{Chance, TURNS};
     use crate::net::{LONGER, MAX_DATAGRAM};
 
     #[test]
@@ -227,5 +228,53 @@ mod tests {
             let bytes = [&HEAD, text.as_bytes()].concat();
             assert_eq!(Datagram::decode(&bytes, &Seal::default()).is_some(), is_read, "{payload}");
         }
+    }
+
+    fn any(chance: &mut Chance) -> Datagram {
+        let (life, number, byte) = (chance.next(), chance.next(), chance.next() as u8);
+        let (key, job) = (Key::of(&life.to_string()), JobKey { origin: byte, id: number });
+        let text = |chance: &mut Chance, most| String::from_utf8_lossy(&chance.bytes(most)).into_owned();
+        let payload: Vec<u8> = (0..chance.below(401)).map(|_| chance.next() as u8).collect();
+        let (numbers, about) = (Numbers { count: life, next: number }, About::new("c", &["a:1".to_string(), "-".to_string()]));
+        let submission = Submission { queue: byte, priority: byte, payload: Payload::of_bytes(&payload).unwrap(), key: chance.one_in(2).then_some(key) };
+        let what = match chance.below(14) {
+            0 => What::Submit { life, number, job: submission },
+            1 => What::Reply(Outcome::Kept { id: number, origin: chance.one_in(2).then_some(byte) }),
+            2 => What::Reply(Outcome::Refused { error: Refusal::Full }),
+            3 => What::Reply(Outcome::Stale { life, last: number, told: vec![Told { life, numbers }], about: Some(about) }),
+            4 => What::Hello { about: Some(about), news: Some(News { life, number, numbers }) },
+            5 => What::Leaving { life, number, is_copy: chance.one_in(2), stays: chance.one_in(2) },
+            6 => What::Keeps { life, number, key, job },
+            7 => What::Asks { key },
+            8 => What::Says { key, knows: chance.pick(&[Knows::Nothing, Knows::Busy, Knows::Kept(job)]) },
+            9 => What::Stranger { about },
+            10 => What::AsksVoting {},
+            11 => What::SaysVoting(Voting { now: byte, wanted: byte }),
+            12 => What::Tags { tags: [(text(chance, 60), text(chance, 60))].into_iter().collect() },
+            _ => What::Event { life, number, name: text(chance, 60), text: text(chance, 300) },
+        };
+        Datagram { from: byte, to: number as u8, token: Token { life, serial: number }, what }
+    }
+
+    #[test]
+    fn what_is_written_is_read_back_and_whatever_comes_is_read_or_refused() {
+        let (mut chance, seal, mut taken) = (Chance::of(6), Seal::default(), 0);
+        for _ in 0..TURNS {
+            let datagram = any(&mut chance);
+            let bytes = datagram.encode(&seal);
+            assert_eq!(Datagram::decode(&bytes, &seal), Some(datagram));
+            let odd = chance.odd(&[&bytes], 600);
+            is_of_another_version(&odd);
+            if let Some((mark, message)) = unmarked(&odd) {
+                assert_eq!(marked(message, mark), odd);
+            }
+            if let Some(read) = Datagram::decode(&odd, &seal) {
+                assert_eq!(Datagram::decode(&read.encode(&seal), &seal), Some(read));
+                taken += 1;
+            }
+        }
+        assert!(taken > 40, "{taken}");
+        let deep = [&HEAD[..], "[".repeat(MAX_DATAGRAM).as_bytes()].concat();
+        assert_eq!(Datagram::decode(&deep, &seal), None);
     }
 }

@@ -76,6 +76,7 @@ fn key_of(digits: &str) -> Result<[u8; 32], String> {
 #[cfg(test)]
 mod tests {
     use super::*;
+    use crate::chance::{Chance, TURNS};
     use std::fs::{self, Permissions};
 
     #[test]
@@ -113,5 +114,21 @@ mod tests {
         assert_eq!(read_keys(&path), Ok(vec![[10; 32]]));
         fs::remove_file(&path).unwrap();
         assert_eq!((told(Path::new("/dev/zero")), told(Path::new("/"))), (KeyError::NoFile.to_string(), KeyError::NoFile.to_string()));
+    }
+
+    #[test]
+    fn whatever_a_file_holds_is_read_as_keys_or_refused() {
+        let (mut chance, mut taken) = (Chance::of(14), 0);
+        for _ in 0..TURNS {
+            let keys: Vec<String> = (0..1 + chance.below(2)).map(|_| (0..8).map(|_| format!("{:08x}", chance.next() as u32)).collect()).collect();
+            let right = keys.join("\n") + "\n";
+            let odd = if chance.one_in(4) { right.clone() } else { chance.odd_text(&[&right], 200) };
+            if let Ok(read) = keys_of(&odd) {
+                let lines: Vec<String> = odd.lines().map(str::to_lowercase).collect();
+                assert_eq!(read.iter().map(hex::encode).collect::<Vec<_>>(), lines, "{odd}");
+                taken += 1;
+            }
+        }
+        assert!(taken > 100, "{taken}");
     }
 }

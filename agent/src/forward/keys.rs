@@ -8,7 +8,7 @@ use std::collections::{BTreeSet, HashMap, VecDeque};
 use std::time::{Duration, Instant};
 
 /// A job is remembered for so long, of so many keys: of more the oldest ones are forgotten.
-pub const MEMORY: Duration = Duration::from_secs(600);
+const MEMORY: Duration = Duration::from_secs(600);
 const MAX_REMEMBERED: usize = 16_384;
 
 /// Other agents are waited for for so many round trips; one that doesn't answer knows nothing of it.

@@ -3,6 +3,7 @@
 
 use super::outbox::{Client, Due, Given, Outbox};
 use super::{Inbox, Outcome, Submission, Token, Verdict, What};
+use crate::chance::Chance;
 use crate::node::{Payload, Refusal};
 use crate::protocol::Reply;
 use serde_json::Value;
@@ -15,22 +16,6 @@ const NODES: usize = 3;
 const OWN_LIFE: u64 = 1000;
 /// Agents begin anew until this millisecond.
 const LAST_START: u64 = 5000;
-
-/// Numbers by a seed (xorshift).
-struct Chance(u64);
-
-impl Chance {
-    fn below(&mut self, most: u64) -> u64 {
-        self.0 ^= self.0 << 13;
-        self.0 ^= self.0 >> 7;
-        self.0 ^= self.0 << 17;
-        self.0 % most
-    }
-
-    fn one_in(&mut self, count: u64) -> bool {
-        self.below(count) == 0
-    }
-}
 
 #[derive(Clone)]
 enum Event {
@@ -77,7 +62,7 @@ impl World {
     fn new(seed: u64, devices_fail: bool) -> World {
         let lives: Vec<u64> = (1..=NODES as u64).collect();
         let mut world = World {
-            chance: Chance(seed.wrapping_mul(0x9e37_79b9_7f4a_7c15) | 1),
+            chance: Chance::of(seed),
             begin: Instant::now(),
             now: 0,
             later: BTreeMap::new(),

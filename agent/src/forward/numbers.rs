@@ -92,11 +92,6 @@ impl OwnNumbers {
         self.now.next = self.now.next.max(id.saturating_add(1));
     }
 
-    /// The greatest count that the node gave.
-    pub fn count(&self) -> u64 {
-        self.now.count
-    }
-
     /// Another agent answered with what it was told.
     pub fn answered(&mut self, from: u8, told: &[Told]) {
         let own = told.iter().filter(|told| told.life == self.life).map(|told| told.numbers).max();

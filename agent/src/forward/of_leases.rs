@@ -41,6 +41,7 @@ pub fn sender(message: &[u8]) -> Option<u8> {
 #[cfg(test)]
 mod tests {
     use super::*;
+    use crate::chance::{Chance, TURNS};
 
     #[test]
     fn a_message_travels_behind_its_head() {
@@ -57,5 +58,21 @@ mod tests {
         let message = |kind: u8| (0..28).map(|at| if at == KIND { kind } else { at as u8 }).collect::<Vec<u8>>();
         assert_eq!([1, 2, 3, 4].map(|kind| sender(&message(kind))), [Some(2), Some(19), Some(19), Some(2)]);
         assert_eq!((sender(&[1]), sender(&message(2)[..19])), (None, None));
+    }
+
+    #[test]
+    fn what_is_taken_off_its_head_was_behind_it() {
+        let mut chance = Chance::of(8);
+        for _ in 0..TURNS {
+            let message = chance.bytes(60);
+            let mark = chance.one_in(2).then(|| chance.next().to_be_bytes());
+            let right = with_head(&message, mark);
+            assert_eq!(without_head(&right, mark.is_none()), Some((mark, &message[..])));
+            let (odd, has_key) = (chance.odd(&[&right], 60), chance.one_in(2));
+            if let Some((mark, message)) = without_head(&odd, has_key) {
+                assert_eq!(with_head(message, mark), odd);
+                sender(message);
+            }
+        }
     }
 }

@@ -243,9 +243,10 @@ impl Outbox {
         self.open.remove(&serial).map(|open| (open.client, reply))
     }
 
-    /// What is to be done now, one at a time. Where the own node has no room it can't be asked; a client whose patience ends is told so all the same.
+    /// What is to be done now, one at a time. Where the own node has no room it can't be asked, and where it was asked its answer is waited for, since it may keep
+    /// the job; a client whose patience ends is told so all the same.
     pub fn due(&mut self, now: Instant, has_room: bool) -> Option<Due> {
-        let is_due = |open: &Open| open.until <= now || (has_room && open.next <= now);
+        let is_due = |open: &Open| open.until <= now || (has_room && !open.asks_own && open.next <= now);
         let (serial, open) = self.open.iter_mut().find(|(_, open)| is_due(open))?;
         let serial = *serial;
         if open.until > now {
@@ -259,7 +260,7 @@ impl Outbox {
 
     /// When something is due next.
     pub fn next(&self, has_room: bool) -> Option<Instant> {
-        self.open.values().map(|open| if has_room { open.next.min(open.until) } else { open.until }).min()
+        self.open.values().map(|open| if has_room && !open.asks_own { open.next.min(open.until) } else { open.until }).min()
     }
 
     /// A client ended: nobody is to be answered, and what it submitted isn't tried again.
@@ -335,6 +336,10 @@ mod tests {
         let now = Instant::now();
         let (mut outbox, serial) = outbox(now);
         outbox.asks_own(serial).unwrap();
+        // another one's refusal has it tried again, but not at a node that may keep it
+        outbox.settle(serial, Given::Refused(Refusal::NotCoordinator), now);
+        assert!(outbox.due(now + MIN_PATIENCE / 2, true).is_none());
+        assert_eq!(outbox.next(true), Some(now + MIN_PATIENCE));
         let unknown = json!({"ok": false, "error": "NoAnswer", "may_be_kept": true});
         assert_eq!(told(outbox.due(now + MIN_PATIENCE, false)), unknown);
     }

@@ -55,6 +55,7 @@ impl Relayed<'_> {
 #[cfg(test)]
 mod tests {
     use super::*;
+    use crate::chance::{Chance, TURNS};
     use crate::net::{LONGER, MAX_DATAGRAM};
 
     /// It is longer by so much than what is carried.
@@ -78,5 +79,21 @@ mod tests {
             other[at] = byte;
             assert_eq!(Relayed::decode(&other), None, "{at}");
         }
+    }
+
+    #[test]
+    fn what_is_read_is_written_so() {
+        let (mut chance, mut taken) = (Chance::of(7), 0);
+        for _ in 0..TURNS {
+            let inner = chance.bytes(200);
+            let leg = chance.pick(&[Leg::First, Leg::Last]);
+            let right = Relayed { leg, is_deaf: chance.one_in(2), from: 3, to: 127, by: 3, mark: [7; MARK], inner: &inner }.encode();
+            let odd = chance.odd(&[&right], 200);
+            if let Some(relayed) = Relayed::decode(&odd) {
+                assert_eq!(relayed.encode(), odd);
+                taken += 1;
+            }
+        }
+        assert!(taken > 100, "{taken}");
     }
 }

@@ -69,6 +69,7 @@ fn keyed(key: &[u8]) -> Result<HmacSha256, KeyError> {
 #[cfg(test)]
 mod tests {
     use super::*;
+    use crate::chance::{Chance, TURNS};
     use crate::forward::key_file::keys_of;
 
     impl Seal {
@@ -111,5 +112,15 @@ mod tests {
         assert!(both.open(&two.seal(b"x".to_vec())).is_some());
         assert!(one.open(&both.seal(b"x".to_vec())).is_some());
         assert!(two.open(&both.seal(b"x".to_vec())).is_none());
+    }
+
+    #[test]
+    fn nothing_spoiled_is_opened() {
+        let (mut chance, seal) = (Chance::of(9), Seal::of(ONE, "prod", 3).unwrap());
+        for _ in 0..TURNS {
+            let sealed = seal.seal(chance.bytes(100));
+            let odd = chance.odd(&[&sealed], 100);
+            assert_eq!(seal.open(&odd).is_some(), odd == sealed);
+        }
     }
 }

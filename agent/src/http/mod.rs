@@ -6,7 +6,7 @@ mod server;
 
 pub use records::Records;
 pub use request::Hosts;
-pub use server::{Page, Response, Server, NEXT_PART, THREADS};
+pub use server::{Page, Pages, Response, Server, NEXT_PART, THREADS};
 
 /// The page that `/` shows: one file, which asks `/state` for all that it draws.
 pub const PAGE: &str = include_str!("page.html");

@@ -58,6 +58,7 @@ impl Records {
 #[cfg(test)]
 mod tests {
     use super::*;
+    use crate::chance::{Chance, TURNS};
     use std::fs;
 
     #[test]
@@ -79,6 +80,22 @@ mod tests {
             assert_eq!(asked(path).map(|(status, ..)| status), Some(404), "{path}");
         }
         assert!(["/", "/recorded", "/metrics"].iter().all(|path| asked(path).is_none()));
+        fs::remove_dir_all(&folder).unwrap();
+    }
+
+    #[test]
+    fn whatever_path_is_asked_for_no_other_file_is_read() {
+        let folder = std::env::temp_dir().join(format!("dumgerok-odd-paths-{}", std::process::id()));
+        fs::create_dir_all(&folder).unwrap();
+        fs::write(folder.join("record.2"), "of the record").unwrap();
+        fs::write(folder.join("secret"), "of somebody else").unwrap();
+        let (mut chance, records) = (Chance::of(12), Records::new(folder.join("record")));
+        for _ in 0..TURNS {
+            let path = chance.odd_text(&["/record", "/record/2/0", "/record/2/7", "/record/../secret/0"], 30);
+            let said = records.response_to(&path).map(|response| (response.status, String::from_utf8(response.body).unwrap()));
+            let is_right = |status: u16, text: &str| status != 200 || "of the record".ends_with(text) || text.starts_with('{');
+            assert!(said.as_ref().map_or(true, |(status, text)| is_right(*status, text)), "{path}: {said:?}");
+        }
         fs::remove_dir_all(&folder).unwrap();
     }
 }

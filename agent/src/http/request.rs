@@ -119,6 +119,7 @@ fn host_of(request: &Request) -> Option<String> {
 #[cfg(test)]
 mod tests {
     use super::*;
+    use crate::chance::{Chance, TURNS};
 
     #[test]
     fn heads() {
@@ -163,5 +164,35 @@ mod tests {
         }
         let head = read_head(&mut Slow(b"GET /metrics HTTP/1.1\r\nHost: [::1]\r\n\r\n"), &Hosts::Loopback).unwrap();
         assert_eq!(head, Head::Get { path: "/metrics".to_string(), is_head: false });
+    }
+
+    /// Gives what it has again and again, some bytes at a time.
+    struct Endless<'a>(&'a [u8], usize);
+
+    impl Read for Endless<'_> {
+        fn read(&mut self, bytes: &mut [u8]) -> io::Result<usize> {
+            let count = bytes.len().min(self.0.len());
+            bytes[..count].copy_from_slice(&self.0[..count]);
+            self.1 += count;
+            Ok(count)
+        }
+    }
+
+    #[test]
+    fn whatever_comes_is_read_or_refused_and_no_more_of_it_than_a_head() {
+        let right = ["GET /a?b=1 HTTP/1.1\r\nHost: localhost\r\n\r\n", "HEAD http://127.0.0.1:7080/x HTTP/1.0\r\n\r\n", "POST / HTTP/1.1\r\nHost: [::1]\r\nA: b\r\n\r\n"];
+        let hosts = [Hosts::Loopback, Hosts::Anywhere(vec!["node-0".to_string()])];
+        let mut chance = Chance::of(11);
+        for turn in 0..TURNS {
+            let odd = chance.odd(&right, 300);
+            if let Ok(Head::Get { path, .. }) = read_head(&mut &odd[..], &hosts[turn as usize % 2]) {
+                assert!(path.len() <= odd.len() && !path.contains(['?', ' ', '\n']), "{path}");
+            }
+        }
+        for piece in [&b"GET / HTTP/1.1\r\n"[..], b"a", b"\r\n", b"A: b\r\n", b"\0", b"GET /"] {
+            let mut endless = Endless(piece, 0);
+            assert_eq!(read_head(&mut endless, &hosts[0]).unwrap(), Head::Unreadable);
+            assert!(endless.1 <= MAX_BYTES + 1024, "{}", endless.1);
+        }
     }
 }

@@ -95,6 +95,12 @@ impl Page {
     }
 }
 
+/// Where pages are asked for.
+pub trait Pages {
+    /// The next page that is asked for.
+    fn next(&self) -> Option<Page>;
+}
+
 pub struct Server {
     from: Receiver<Page>,
 }
@@ -108,9 +114,10 @@ impl Server {
         thread::Builder::new().spawn(move || serve(&listener, &desk))?;
         Ok(Server { from })
     }
+}
 
-    /// The next page that is asked for.
-    pub fn next(&self) -> Option<Page> {
+impl Pages for Server {
+    fn next(&self) -> Option<Page> {
         self.from.try_recv().ok()
     }
 }

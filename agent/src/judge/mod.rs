@@ -10,10 +10,12 @@ mod records;
 mod remote;
 mod source;
 mod told;
+mod why;
 
 pub use follow::Following;
 pub use records::{read, NodeRecord, RecordError};
 pub use told::{Reached, Turn};
+pub use why::Why;
 
 use history::{Detail, History, Place};
 use message::Begin;
@@ -118,6 +120,7 @@ fn kept_at(node: usize, keeps: &str) -> Result<Begin, RecordError> {
 #[cfg(test)]
 mod tests {
     use super::*;
+    use crate::chance::{Chance, TURNS};
 
     fn written(trace: &Trace) -> serde_json::Value {
         let mut bytes = Vec::new();
@@ -154,5 +157,18 @@ mod tests {
         assert_eq!(said(""), begin("it has no start of the node"));
         let ended = "the record of node 0 can't be judged: it ends somewhere, and the node ran on";
         assert_eq!(said(&format!("{start}off\n{start}")), ended);
+    }
+
+    #[test]
+    fn whatever_a_record_holds_is_judged_or_refused() {
+        let begin = "start 1764000000000\n> recover\ngroup Normal 0 0:101 0\nkeeps 101 5 0\nok 1\n";
+        let right = format!("{begin}> submit 3 6869\ntake 0 5 3 6869\nok 2 id 5\n> tick 9\nfired check\nsend 1 010101000000\nok 3\n> deliver 010101010000\nok 4\n> finish 0 5\ngone 5\nok 5\nstart 2\n> recover\nkeeps 102 6 0\nok 1\n");
+        assert_eq!(said(&right), "2");
+        let (mut chance, mut taken) = (Chance::of(16), 0);
+        for _ in 0..TURNS {
+            taken += usize::from(said(&chance.odd_text(&[&right], 300)) == "2");
+            Turn::read(&chance.odd_text(&["turn 0 5 Election 0:1 0 0 9", "turn 0 3 Down"], 40));
+        }
+        assert!(taken > 50, "{taken}");
     }
 }

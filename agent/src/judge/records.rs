@@ -213,6 +213,7 @@ pub fn read(paths: &[PathBuf]) -> Result<Vec<NodeRecord>, RecordError> {
 #[cfg(test)]
 mod tests {
     use super::*;
+    use crate::chance::{Chance, TURNS};
     use std::fs;
 
     #[test]
@@ -256,5 +257,19 @@ mod tests {
         assert_eq!(said(&[&heard]), "the records are of 2 places, and none is of node 1, which others heard");
         assert_eq!(said(&[&first, &foreign]), "these are records of two clusters, \"a b\" and \"a\"");
         fs::remove_dir_all(&folder).unwrap();
+    }
+
+    #[test]
+    fn whatever_a_file_holds_is_read_or_refused() {
+        let mut chance = Chance::of(17);
+        for _ in 0..TURNS {
+            let odd = chance.odd(&["# dumgerok record 1 node 1 of 2 part 1 cluster c d\nstart\n> tick 1\nok"], 200);
+            if let Ok(part) = Part::of(Path::new("record.1"), odd) {
+                let Head { node, nodes, part: number, cluster } = &part.head;
+                let said = format!("# dumgerok record 1 node {node} of {nodes} part {number} cluster {cluster}");
+                assert_eq!(Head::read(&said), Some(part.head.clone()));
+                assert!(*nodes <= MAX_NODES && part.text.lines().count() <= part.text.text.len());
+            }
+        }
     }
 }

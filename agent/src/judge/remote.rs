@@ -196,6 +196,7 @@ fn answer_of(bytes: &[u8]) -> io::Result<Answer> {
 #[cfg(test)]
 mod tests {
     use super::*;
+    use crate::chance::{Chance, TURNS};
 
     #[test]
     fn only_a_whole_answer_is_one() {
@@ -204,5 +205,19 @@ mod tests {
         assert_eq!(read(text), Some((200, true, "ab\ncd".to_string())));
         assert_eq!(read(&text.replace("Record-Next: 3\r\n", "")), Some((200, false, "ab\ncd".to_string())));
         assert_eq!((read(&text[..text.len() - 1]), read(&text[..20]), read(&text.replace("content-length: 5\r\n", "")), read("")), (None, None, None, None));
+    }
+
+    #[test]
+    fn whatever_an_agent_answers_is_whole_or_none() {
+        let right = "HTTP/1.1 200 OK\r\ncontent-length: 5\r\nRecord-Next: 3\r\n\r\nab\ncd";
+        let (mut chance, mut taken) = (Chance::of(20), 0);
+        for _ in 0..TURNS {
+            let odd = chance.odd(&[right], 200);
+            if let Ok(answer) = answer_of(&odd) {
+                assert!(odd.ends_with(&answer.body));
+                taken += 1;
+            }
+        }
+        assert!(taken > 100, "{taken}");
     }
 }

@@ -47,6 +47,7 @@ impl LeaseLine {
 #[cfg(test)]
 mod tests {
     use super::*;
+    use crate::chance::{Chance, TURNS};
 
     #[test]
     fn lines() {
@@ -62,5 +63,33 @@ mod tests {
         for line in ["", "held lead 3 9", "held lead x 9 1800", "send 256 0a", "process", "next -1", "dance"] {
             assert_eq!(LeaseLine::read(line), None, "{line}");
         }
+    }
+
+    /// As the process says it.
+    fn said(line: &LeaseLine) -> String {
+        match line {
+            LeaseLine::Process { count } => format!("process {count}"),
+            LeaseLine::Send { to, hex } => format!("send {to} {hex}"),
+            LeaseLine::Held { name, client, epoch, until } => format!("held {name} {client} {epoch} {until}"),
+            LeaseLine::Lost { name, epoch } => format!("lost {name} {epoch}"),
+            LeaseLine::RefusedClaim { why, name, client } => format!("refused {why} {name} {client}"),
+            LeaseLine::Refused { why } => format!("refused {why}"),
+            LeaseLine::Next { at } => at.map_or("next".to_string(), |at| format!("next {at}")),
+        }
+    }
+
+    #[test]
+    fn what_is_read_is_said_so() {
+        let right = ["process 7", "send 2 0a", "held lead 3 9 1800", "lost lead 9", "refused Full a 4", "refused Time", "next", "next 18446744073709551615"];
+        assert!(right.iter().all(|text| LeaseLine::read(text).map(|line| said(&line)) == Some(text.to_string())));
+        let (mut chance, mut taken) = (Chance::of(4), 0);
+        for _ in 0..TURNS {
+            let odd = chance.odd_text(&right, 100);
+            if let Some(line) = LeaseLine::read(&odd) {
+                assert_eq!(LeaseLine::read(&said(&line)), Some(line), "{odd}");
+                taken += 1;
+            }
+        }
+        assert!(taken > 100, "{taken}");
     }
 }

@@ -10,7 +10,7 @@ mod voters;
 
 pub use claims::{Claims, Order, Refusal, Told};
 pub use line::LeaseLine;
-pub use process::LeaseProcess;
+pub use process::{LeasePort, LeaseProcess};
 pub use silence::Silence;
 pub use voters::{Voters, Voting};
 

@@ -29,6 +29,38 @@ const MAX_LINE: usize = 64 * 1024;
 /// So many bytes are read at a time.
 const MAX_AT_A_TIME: usize = 256 * 1024;
 
+/// A process of leases, as far as it is asked and heard.
+pub trait LeasePort {
+    /// Whether it has its file.
+    fn is_ready(&self) -> bool;
+
+    /// Whether a message of another machine would be taken now.
+    fn has_room(&self) -> bool;
+
+    /// Whether it answers nothing for so long that its leases end.
+    fn hangs(&self, now: Instant) -> bool;
+
+    /// Whether it has answered all that it was told.
+    fn is_quiet(&self) -> bool;
+
+    /// Tells it something, with the time of now.
+    fn say(&mut self, word: &str, rest: &str);
+
+    /// Writes what it takes now. One that is gone is noticed by what it says.
+    fn flush(&mut self);
+
+    /// Something came of it, or it ended.
+    fn wake(&mut self);
+
+    fn is_readable(&self) -> bool;
+
+    /// Reads some of what it said, and answers whether it goes on.
+    fn read_lines(&mut self, lines: &mut Vec<LeaseLine>) -> bool;
+
+    /// Ends it, where it hasn't ended in time by force.
+    fn end(&mut self, within: Duration) -> io::Result<Option<ExitStatus>>;
+}
+
 pub struct LeaseProcess {
     child: Child,
     input: Option<pipe::Sender>,
@@ -96,34 +128,57 @@ impl LeaseProcess {
         })
     }
 
-    pub fn is_ready(&self) -> bool {
+    fn wait_for_room(&mut self, waits: bool) {
+        if let (Some(input), true) = (self.input.as_mut(), waits != self.is_waiting_for_room) {
+            let done = match waits {
+                true => self.registry.register(input, self.input_token, Interest::WRITABLE),
+                false => self.registry.deregister(input),
+            };
+            self.is_waiting_for_room = if done.is_ok() { waits } else { self.is_waiting_for_room };
+        }
+    }
+
+    fn cut_lines(&mut self, lines: &mut Vec<LeaseLine>) {
+        let whole = self.unread.iter().rposition(|byte| *byte == b'\n').map_or(0, |at| at + 1);
+        let rest = self.unread.split_off(whole);
+        let unread = std::mem::replace(&mut self.unread, rest);
+        for text in String::from_utf8_lossy(&unread).lines() {
+            let line = LeaseLine::read(text);
+            match &line {
+                Some(LeaseLine::Process { .. }) => self.is_ready = true,
+                Some(LeaseLine::Next { .. }) => drop(self.unanswered.pop_front()),
+                Some(_) => {}
+                None => warn!("a line of the process of leases can't be read: {text:.60}"),
+            }
+            lines.extend(line);
+        }
+    }
+}
+
+impl LeasePort for LeaseProcess {
+    fn is_ready(&self) -> bool {
         self.is_ready
     }
 
-    /// Whether a message of another machine would be taken now.
-    pub fn has_room(&self) -> bool {
+    fn has_room(&self) -> bool {
         self.is_ready && self.unwritten.len() < ROOM && !is_behind(&self.unanswered, self.patience, Instant::now())
     }
 
-    /// Whether it answers nothing for so long that its leases end.
-    pub fn hangs(&self, now: Instant) -> bool {
+    fn hangs(&self, now: Instant) -> bool {
         is_hung(&self.unanswered, self.patience, now)
     }
 
-    /// Whether it has answered all that it was told.
-    pub fn is_quiet(&self) -> bool {
+    fn is_quiet(&self) -> bool {
         self.unanswered.is_empty()
     }
 
-    /// Tells it something, with the time of now.
-    pub fn say(&mut self, word: &str, rest: &str) {
+    fn say(&mut self, word: &str, rest: &str) {
         let gap = if rest.is_empty() { "" } else { " " };
         self.unwritten.extend_from_slice(format!("{word} {}{gap}{rest}\n", BootTime::now().ms()).as_bytes());
         self.unanswered.push_back(Instant::now());
     }
 
-    /// Writes what the pipe takes now. One that is gone is noticed at its output.
-    pub fn flush(&mut self) {
+    fn flush(&mut self) {
         while let (Some(input), false) = (self.input.as_mut(), self.unwritten.is_empty()) {
             match input.write(&self.unwritten) {
                 Ok(count) if count > 0 => drop(self.unwritten.drain(..count)),
@@ -135,27 +190,15 @@ impl LeaseProcess {
         self.wait_for_room(false);
     }
 
-    fn wait_for_room(&mut self, waits: bool) {
-        if let (Some(input), true) = (self.input.as_mut(), waits != self.is_waiting_for_room) {
-            let done = match waits {
-                true => self.registry.register(input, self.input_token, Interest::WRITABLE),
-                false => self.registry.deregister(input),
-            };
-            self.is_waiting_for_room = if done.is_ok() { waits } else { self.is_waiting_for_room };
-        }
-    }
-
-    /// Something came of it, or it ended.
-    pub fn wake(&mut self) {
+    fn wake(&mut self) {
         self.is_readable = true;
     }
 
-    pub fn is_readable(&self) -> bool {
+    fn is_readable(&self) -> bool {
         self.is_readable
     }
 
-    /// Reads some of what it wrote, and answers whether it goes on.
-    pub fn read_lines(&mut self, lines: &mut Vec<LeaseLine>) -> bool {
+    fn read_lines(&mut self, lines: &mut Vec<LeaseLine>) -> bool {
         let mut piece = [0; 16 * 1024];
         for _ in 0..MAX_AT_A_TIME / piece.len() {
             match self.output.read(&mut piece) {
@@ -176,24 +219,7 @@ impl LeaseProcess {
         true
     }
 
-    fn cut_lines(&mut self, lines: &mut Vec<LeaseLine>) {
-        let whole = self.unread.iter().rposition(|byte| *byte == b'\n').map_or(0, |at| at + 1);
-        let rest = self.unread.split_off(whole);
-        let unread = std::mem::replace(&mut self.unread, rest);
-        for text in String::from_utf8_lossy(&unread).lines() {
-            let line = LeaseLine::read(text);
-            match &line {
-                Some(LeaseLine::Process { .. }) => self.is_ready = true,
-                Some(LeaseLine::Next { .. }) => drop(self.unanswered.pop_front()),
-                Some(_) => {}
-                None => warn!("a line of the process of leases can't be read: {text:.60}"),
-            }
-            lines.extend(line);
-        }
-    }
-
-    /// Ends its input, by which it ends, and kills it where it hasn't ended in time.
-    pub fn end(&mut self, within: Duration) -> io::Result<Option<ExitStatus>> {
+    fn end(&mut self, within: Duration) -> io::Result<Option<ExitStatus>> {
         self.input = None;
         let until = Instant::now() + within;
         loop {

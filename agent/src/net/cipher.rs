@@ -128,6 +128,7 @@ fn keyed(key: &[u8]) -> HmacSha256 {
 #[cfg(test)]
 mod tests {
     use super::*;
+    use crate::chance::{Chance, TURNS};
 
     const ONE: [u8; 32] = [1; 32];
     const TWO: [u8; 32] = [2; 32];
@@ -185,5 +186,20 @@ mod tests {
         let mut none = Cipher::default();
         assert_eq!((none.encrypts(), none.encrypt(b"x").as_deref()), (false, Some(&b"x"[..])));
         assert_eq!(none.decrypt(&cipher(&[ONE]).encrypt(b"x").unwrap()), None);
+    }
+
+    #[test]
+    fn nothing_spoiled_is_decrypted_and_few_agents_are_remembered() {
+        let (mut chance, secret) = (Chance::of(10), [[9; 32]]);
+        let mut to = Cipher::begin(&secret, "prod", 3, 1).unwrap();
+        for _ in 0..TURNS / 3 {
+            let mut from = Cipher::begin(&secret, "prod", 3, 2).unwrap();
+            let clear = chance.bytes(100);
+            let right = from.encrypt(&clear).unwrap();
+            let odd = chance.odd(&[&right], 100);
+            assert_eq!(to.decrypt(&odd).is_some(), odd == right);
+            assert_eq!(to.decrypt(&right), Some((clear, 0)));
+            assert!(to.heard.len() <= MAX_KEYS);
+        }
     }
 }

@@ -18,6 +18,30 @@ const ROOM: usize = 4 * 1024 * 1024;
 /// So many errors at a time are passed over.
 const MAX_ERRORS: usize = 16;
 
+/// The network, as far as it is asked for datagrams.
+pub trait Network {
+    /// Whether datagrams may be waiting.
+    fn is_readable(&self) -> bool;
+
+    /// The next datagram that came, if any, and from where.
+    fn receive<'a>(&mut self, bytes: &'a mut [u8; MAX_DATAGRAM]) -> Option<(&'a [u8], SocketAddr)>;
+
+    /// Sends a datagram. One that doesn't leave is the same as one that is lost.
+    fn send(&self, bytes: &[u8], to: SocketAddr) -> io::Result<()>;
+
+    /// Whether it is at an address that this machine alone reaches.
+    fn is_loopback(&self) -> bool;
+
+    /// Whether its address isn't this machine's any more.
+    fn is_stranded(&self) -> bool;
+
+    /// How many datagrams the system dropped, since there was no room for them; None where it doesn't say so.
+    fn drops(&self) -> Option<u64>;
+
+    /// How many bytes it has room for, of those that were asked for: the system counts its upkeep, too, and gives twice what it permits.
+    fn room(&self) -> (usize, usize);
+}
+
 pub struct Link {
     socket: UdpSocket,
     /// Whether datagrams may be waiting.
@@ -40,28 +64,6 @@ impl Link {
         Err(last)
     }
 
-    /// Whether it is at an address that this machine alone reaches.
-    pub fn is_loopback(&self) -> bool {
-        self.socket.local_addr().map_or(false, |address| address.ip().is_loopback())
-    }
-
-    /// How many bytes it has room for, of those that were asked for: the system counts its upkeep, too, and gives twice what it permits.
-    pub fn room(&self) -> (usize, usize) {
-        (SockRef::from(&self.socket).recv_buffer_size().unwrap_or(0), 2 * ROOM)
-    }
-
-    /// How many datagrams the system dropped, since this socket had no room for them; None where it doesn't say so.
-    pub fn drops(&self) -> Option<u64> {
-        kernel::drops(self.socket.local_addr().ok()?)
-    }
-
-    /// Whether its address isn't this machine's any more.
-    pub fn is_stranded(&self) -> bool {
-        let own = self.socket.local_addr().map(|own| SocketAddr::new(own.ip(), 0));
-        let why = own.and_then(UdpSocket::bind).err();
-        why.map_or(false, |why| why.kind() == ErrorKind::AddrNotAvailable)
-    }
-
     /// Whether it reaches IPv6 addresses, and IPv4 ones by their mapped form.
     pub fn is_ipv6(&self) -> bool {
         self.socket.local_addr().map_or(false, |address| address.is_ipv6())
@@ -70,13 +72,14 @@ impl Link {
     pub fn wake(&mut self) {
         self.is_readable = true;
     }
+}
 
-    pub fn is_readable(&self) -> bool {
+impl Network for Link {
+    fn is_readable(&self) -> bool {
         self.is_readable
     }
 
-    /// The next datagram that came, if any, and from where.
-    pub fn receive<'a>(&mut self, bytes: &'a mut [u8; MAX_DATAGRAM]) -> Option<(&'a [u8], SocketAddr)> {
+    fn receive<'a>(&mut self, bytes: &'a mut [u8; MAX_DATAGRAM]) -> Option<(&'a [u8], SocketAddr)> {
         let tries = if self.is_readable { MAX_ERRORS } else { 0 };
         for _ in 0..tries {
             match self.socket.recv_from(bytes) {
@@ -90,9 +93,26 @@ impl Link {
         None
     }
 
-    /// Sends a datagram. One that doesn't leave is the same as one that is lost.
-    pub fn send(&self, bytes: &[u8], to: SocketAddr) -> io::Result<()> {
+    fn send(&self, bytes: &[u8], to: SocketAddr) -> io::Result<()> {
         self.socket.send_to(bytes, to).map(drop)
+    }
+
+    fn is_loopback(&self) -> bool {
+        self.socket.local_addr().map_or(false, |address| address.ip().is_loopback())
+    }
+
+    fn is_stranded(&self) -> bool {
+        let own = self.socket.local_addr().map(|own| SocketAddr::new(own.ip(), 0));
+        let why = own.and_then(UdpSocket::bind).err();
+        why.map_or(false, |why| why.kind() == ErrorKind::AddrNotAvailable)
+    }
+
+    fn drops(&self) -> Option<u64> {
+        kernel::drops(self.socket.local_addr().ok()?)
+    }
+
+    fn room(&self) -> (usize, usize) {
+        (SockRef::from(&self.socket).recv_buffer_size().unwrap_or(0), 2 * ROOM)
     }
 }
 

@@ -10,7 +10,7 @@ mod ways;
 
 pub use backlog::Backlog;
 pub use cipher::{is_encrypted, Cipher, LONGER};
-pub use link::{Link, MAX_DATAGRAM};
+pub use link::{Link, Network, MAX_DATAGRAM};
 pub use pace::{GroupBytes, Leaves, Pace};
 pub use peers::{News, Peer, Peers};
 pub use ways::{Sending, Ways};

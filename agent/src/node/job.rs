@@ -64,10 +64,6 @@ impl Payload {
     pub fn hex(&self) -> &str {
         &self.0
     }
-
-    pub fn bytes(&self) -> Vec<u8> {
-        hex::decode(&self.0).unwrap_or_default()
-    }
 }
 
 impl fmt::Display for Payload {

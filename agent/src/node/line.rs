@@ -68,6 +68,8 @@ impl Line {
 #[cfg(test)]
 mod tests {
     use super::*;
+    use crate::node::{GroupNumber, Phase};
+    use crate::chance::{Chance, TURNS};
     use crate::node::Payload;
 
     #[test]
@@ -83,6 +85,63 @@ mod tests {
         assert_eq!(read("next 1200"), Ok(Line::Next { ms: 1200 }));
         for bad in ["", "send 2", "send x 00", "take 2 7 3", "take 2 7 3 zz", "gone -1", "state Down"] {
             assert_eq!(read(bad), Err(LineError), "{bad}");
+        }
+    }
+
+    /// As the node says it.
+    fn said(line: &Line) -> String {
+        let job = |job: &Job| format!("{} {} {} {}", job.key.id, job.queue, job.payload, job.priority);
+        match line {
+            Line::Send { to, hex } => format!("send {to} {hex}"),
+            Line::Group(group) if !group.is_any() => "group Down".to_string(),
+            Line::Group(Group { phase, coordinator, number, members }) => {
+                let all: Vec<String> = members.iter().map(u8::to_string).collect();
+                format!("group {phase:?} {coordinator} {number} {}", if all.is_empty() { "-".to_string() } else { all.join(",") })
+            }
+            Line::Take(one) => format!("take {} {}", one.key.origin, job(one)),
+            Line::InHand(one) => format!("hand {} {}", one.key.origin, job(one)),
+            Line::Pending(one) => format!("pending {}", job(one)),
+            Line::Drop(key) => format!("drop {} {}", key.origin, key.id),
+            Line::Gone { id } => format!("gone {id}"),
+            Line::Keeps { count, next, pending } => format!("keeps {count} {next} {pending}"),
+            Line::Next { ms } => format!("next {ms}"),
+            Line::Fired(event) => format!("fired {event}"),
+        }
+    }
+
+    fn any(chance: &mut Chance) -> Line {
+        let (id, byte) = (chance.next(), chance.next() as u8);
+        let payload: Vec<u8> = (0..chance.below(401)).map(|_| chance.next() as u8).collect();
+        let origin = if chance.one_in(2) { 1 } else { byte };
+        let job = Job { key: JobKey { origin, id }, queue: byte % 16, payload: Payload::of_bytes(&payload).unwrap(), priority: byte };
+        let members = (0..byte % 9).collect();
+        let group = Group { phase: Phase::ALL[1 + usize::from(byte % 3)], coordinator: byte, number: GroupNumber { creator: byte, count: id }, members };
+        match chance.below(11) {
+            0 => Line::Send { to: byte, hex: hex::encode(payload) },
+            1 => Line::Group(group),
+            2 => Line::Group(Group::default()),
+            3 => Line::Take(job),
+            4 => Line::InHand(job),
+            5 => Line::Pending(Job { key: JobKey { origin: 1, id }, ..job }),
+            6 => Line::Drop(job.key),
+            7 => Line::Gone { id },
+            8 => Line::Keeps { count: id, next: id / 2, pending: id / 3 },
+            9 => Line::Next { ms: id },
+            _ => Line::Fired("Check".to_string()),
+        }
+    }
+
+    #[test]
+    fn what_is_said_is_read_back_and_what_is_read_is_said_so() {
+        let mut chance = Chance::of(3);
+        for _ in 0..TURNS {
+            let line = any(&mut chance);
+            let text = said(&line);
+            assert_eq!(Line::read(1, &text), Ok(line));
+            let odd = chance.odd_text(&[&text], 120);
+            if let Ok(read) = Line::read(1, &odd) {
+                assert_eq!(Line::read(1, &said(&read)), Ok(read), "{odd}");
+            }
         }
     }
 }

@@ -5,7 +5,7 @@ mod request;
 mod wanted;
 
 pub use reply::Reply;
-pub use request::{key_of, named, payload_of, text_of, Envelope, Request, RequestError, Tag, MAX_AFTER_MS};
+pub use request::{key_of, named, payload_of, text_of, Envelope, Request, RequestError, Tag};
 pub use wanted::{Wanted, QUEUES};
 
 /// The version of these lines. A request may name it; one that names another is refused.

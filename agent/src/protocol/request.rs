@@ -16,7 +16,7 @@ const MAX_KEY: usize = 200;
 const MAX_TEXT: usize = 400;
 
 /// A job that is given back waits for a day at most.
-pub const MAX_AFTER_MS: u64 = 86_400_000;
+const MAX_AFTER_MS: u64 = 86_400_000;
 
 #[derive(Clone, Debug, Deserialize, PartialEq, Eq)]
 #[serde(tag = "do", rename_all = "lowercase", deny_unknown_fields)]
@@ -227,6 +227,7 @@ pub fn payload_of(text: Option<String>, hex: Option<String>) -> Result<Payload, 
 #[cfg(test)]
 mod tests {
     use super::*;
+    use crate::chance::{Chance, TURNS};
 
     fn read(line: &str) -> Result<Request, RequestError> {
         Envelope::read(line.as_bytes()).request
@@ -288,5 +289,38 @@ mod tests {
         assert_eq!(said(Some(""), Some("")), "a payload is `text` or `hex`, and here are both");
         assert_eq!(said(None, None), "a payload is missing: `text` or `hex`");
         assert_eq!(payload_of(Some("hi".to_string()), None).unwrap().hex(), "6869");
+    }
+
+    #[test]
+    fn whatever_comes_as_a_request_is_read_or_refused() {
+        let right = [
+            r#"{"v":1,"do":"status","request":7}"#,
+            r#"{"do":"submit","queue":3,"priority":255,"text":"hi","key":"k","request":"a"}"#,
+            r#"{"do":"submit","queue":15,"hex":"6869"}"#,
+            r#"{"do":"take","queues":[0,15],"wait":true}"#,
+            r#"{"do":"finish","origin":1,"id":7,"ok":false,"after_ms":0,"aside":false,"force":true}"#,
+            r#"{"do":"watch","since":7,"every_ms":100}"#,
+            r#"{"do":"kick","queue":1}"#,
+            r#"{"do":"event","name":"n","text":"t"}"#,
+            r#"{"do":"jobs","skip":1,"limit":18446744073709551615}"#,
+        ];
+        assert!(right.iter().all(|line| read(line).is_ok()));
+        let (mut chance, mut taken) = (Chance::of(5), 0);
+        for _ in 0..TURNS {
+            let Envelope { tag, request } = Envelope::read(&chance.odd(&right, 200));
+            assert!(tag.map_or(true, |tag| tag.to_string().len() <= 6 * MAX_TAG + 2));
+            match request {
+                Ok(Request::Submit { queue, text, hex, .. }) => {
+                    let payload = payload_of(text, hex);
+                    assert!(queue < QUEUES && payload.map_or(true, |payload| payload.hex().len() <= 800));
+                    taken += 1;
+                }
+                Ok(_) => taken += 1,
+                Err(why) => assert!(!why.name().is_empty() && !why.to_string().is_empty()),
+            }
+        }
+        assert!(taken > 40, "{taken}");
+        let deep = "[".repeat(16 * 1024);
+        assert_eq!([&deep, &format!("{{\"do\":{deep}")].map(|line| read(line)), [Err(RequestError::NoObject), Err(RequestError::NoObject)]);
     }
 }

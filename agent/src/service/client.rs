@@ -1,8 +1,7 @@
 //! One client: what it wrote and wasn't read yet, and what it wasn't told yet.
 
-use super::{Beats, Peer};
-use mio::net::UnixStream;
-use std::io::{self, ErrorKind, Read, Write};
+use super::{Beats, Peer, Stream};
+use std::io::{self, ErrorKind};
 use std::time::Instant;
 
 /// So long a request may be.
@@ -11,8 +10,8 @@ const MAX_LINE: usize = 16 * 1024;
 /// A client that leaves more than so many bytes unread is cut off at the next line to it.
 const MAX_UNREAD: usize = 256 * 1024;
 
-pub struct Client {
-    stream: UnixStream,
+pub struct Client<S> {
+    stream: S,
     input: Vec<u8>,
     /// The end of its first line, and so many bytes have none.
     line_end: Option<usize>,
@@ -42,8 +41,8 @@ pub enum Next {
     Gone,
 }
 
-impl Client {
-    pub fn new(stream: UnixStream, now: Instant) -> Client {
+impl<S: Stream> Client<S> {
+    pub fn new(stream: S, now: Instant) -> Client<S> {
         Client {
             stream,
             input: Vec::new(),
@@ -61,12 +60,12 @@ impl Client {
         }
     }
 
-    pub fn stream(&mut self) -> &mut UnixStream {
+    pub fn stream(&mut self) -> &mut S {
         &mut self.stream
     }
 
     pub fn peer(&self) -> io::Result<Peer> {
-        Peer::of(&self.stream)
+        self.stream.peer()
     }
 
     /// Something came of it, it takes more, or it hung up.
@@ -82,13 +81,13 @@ impl Client {
     }
 
     /// Its next request.
-    pub fn next_line(&mut self) -> Next {
+    pub fn next_line(&mut self, now: Instant) -> Next {
         self.is_waiting = false;
         loop {
             if let Some(end) = self.line_end {
                 let rest = self.input.split_off(end + 1);
                 let line = std::mem::replace(&mut self.input, rest);
-                self.asked = Instant::now();
+                self.asked = now;
                 self.look_for_line(0);
                 return Next::Line(line);
             }
@@ -191,5 +190,76 @@ impl Client {
             self.output = Vec::new();
         }
         true
+    }
+}
+
+#[cfg(test)]
+mod tests {
+    use super::*;
+    use crate::chance::{Chance, TURNS};
+    use std::collections::VecDeque;
+    use std::io::{Read, Write};
+
+    /// What a client wrote, and what it was told.
+    struct Ends {
+        written: VecDeque<u8>,
+        told: Vec<u8>,
+        takes: usize,
+    }
+
+    impl Read for Ends {
+        fn read(&mut self, bytes: &mut [u8]) -> io::Result<usize> {
+            if self.written.is_empty() { Err(ErrorKind::WouldBlock.into()) } else { self.written.read(bytes) }
+        }
+    }
+
+    impl Write for Ends {
+        fn write(&mut self, bytes: &[u8]) -> io::Result<usize> {
+            let count = bytes.len().min(self.takes);
+            (self.takes, self.told) = (self.takes - count, [&self.told, &bytes[..count]].concat());
+            if count == 0 { Err(ErrorKind::WouldBlock.into()) } else { Ok(count) }
+        }
+
+        fn flush(&mut self) -> io::Result<()> {
+            Ok(())
+        }
+    }
+
+    impl Stream for Ends {
+        fn peer(&self) -> io::Result<Peer> {
+            Err(ErrorKind::Unsupported.into())
+        }
+    }
+
+    #[test]
+    fn lines_are_what_stands_between_two_ends_in_whatever_pieces_they_come() {
+        let (mut chance, now) = (Chance::of(19), Instant::now());
+        for _ in 0..TURNS / 10 {
+            let mut client = Client::new(Ends { written: VecDeque::new(), told: Vec::new(), takes: 0 }, now);
+            let (mut all, mut lines) = (Vec::new(), Vec::new());
+            for _ in 0..chance.below(30) {
+                let bytes = chance.odd(&["{\"do\":\"status\"}\n{\"do\"", ":\"members\"}\n\n"], 400);
+                all.extend_from_slice(&bytes);
+                client.stream().written.extend(bytes);
+                client.wake(false);
+                while let Next::Line(line) = client.next_line(now) {
+                    lines.push(line);
+                }
+            }
+            let whole = all.iter().rposition(|byte| *byte == b'\n').map_or(0, |end| end + 1);
+            assert_eq!(lines.concat(), all[..whole]);
+            assert!(lines.iter().all(|line| line.iter().filter(|byte| **byte == b'\n').count() == 1 && line.ends_with(b"\n")));
+        }
+    }
+
+    #[test]
+    fn a_line_without_an_end_and_what_is_not_read_are_not_held() {
+        let now = Instant::now();
+        let mut client = Client::new(Ends { written: VecDeque::from(vec![b'x'; 1 << 20]), told: Vec::new(), takes: 0 }, now);
+        assert!(matches!(client.next_line(now), Next::TooLong) && client.input.len() <= MAX_LINE + 4096);
+        let told = (0..10_000).take_while(|_| client.tell(&[b'y'; 1000])).count();
+        assert!(told > 200 && client.output.len() <= MAX_UNREAD + 2000, "{told}");
+        client.stream().takes = usize::MAX;
+        assert!(client.flush() && client.output.capacity() == 0);
     }
 }

@@ -1,20 +1,12 @@
 //! All clients.
 
 use super::client::{Client, Next};
-use super::{Beats, Peer};
+use super::{Beats, Door, Peer};
 use crate::protocol::{Reply, Tag, Wanted};
 use log::{debug, warn};
-use mio::net::{UnixListener, UnixStream};
-use mio::{Interest, Registry, Token};
-use rustix::fd::OwnedFd;
-use rustix::fs::{fchmod, Mode};
-use rustix::net::{bind_unix, listen, socket_with, AddressFamily, Protocol, SocketAddrUnix, SocketFlags, SocketType};
 use std::collections::{BTreeMap, BTreeSet, VecDeque};
-use std::fs::{self, Permissions};
 use std::io::{self, ErrorKind};
 use std::ops::Bound::{Excluded, Unbounded};
-use std::os::unix::fs::{FileTypeExt, MetadataExt, PermissionsExt};
-use std::path::{Path, PathBuf};
 use std::time::{Duration, Instant};
 
 /// So many are served at a time. For one more the connection of another that is idle ends, else its own.
@@ -25,10 +17,6 @@ const MAX_STAYING: usize = 240;
 
 /// So many requests to take a job may wait.
 const MAX_WAITING: usize = 1024;
-
-/// The owner and the group of the agent may come to its socket; so many that came may wait to be taken.
-const MODE: u32 = 0o660;
-const BACKLOG: i32 = 1024;
 
 /// So many that came are taken at a time.
 const MAX_AT_A_TIME: usize = 64;
@@ -45,18 +33,15 @@ pub struct Waiting {
     pub wanted: Wanted,
 }
 
-pub struct Clients {
-    path: PathBuf,
-    /// The device and the number of the socket at the path, by which it is known again.
-    own: (u64, u64),
-    listener: UnixListener,
+pub struct Clients<D: Door> {
+    door: D,
     /// Whether more clients may be waiting to be taken; not before this time where one couldn't be.
     has_more: bool,
     not_before: Option<Instant>,
     /// Tokens from this one on are clients'.
     first: ClientId,
     next: ClientId,
-    all: BTreeMap<ClientId, Client>,
+    all: BTreeMap<ClientId, Client<D::Stream>>,
     /// Who had its turn last.
     turn: ClientId,
     waiting: VecDeque<Waiting>,
@@ -65,14 +50,11 @@ pub struct Clients {
     pub cut_off: u64,
 }
 
-impl Clients {
-    /// Listens at a path, in place of a socket that an agent left there.
-    pub fn listen(path: &Path, registry: &Registry, token: Token, first: ClientId) -> io::Result<Clients> {
-        let (listener, own) = bound(path, registry, token)?;
-        Ok(Clients {
-            path: path.to_path_buf(),
-            own,
-            listener,
+impl<D: Door> Clients<D> {
+    /// Those that come in at a door.
+    pub fn at(door: D, first: ClientId) -> Clients<D> {
+        Clients {
+            door,
             has_more: true,
             not_before: None,
             first,
@@ -82,12 +64,12 @@ impl Clients {
             waiting: VecDeque::new(),
             gone: Vec::new(),
             cut_off: 0,
-        })
+        }
     }
 
     /// Listens at the path anew, where its socket was removed. Those that are served go on.
-    pub fn listen_again(&mut self, registry: &Registry, token: Token) -> io::Result<()> {
-        (self.listener, self.own) = bound(&self.path, registry, token)?;
+    pub fn listen_again(&mut self) -> io::Result<()> {
+        self.door.open_again()?;
         self.has_more = true;
         Ok(())
     }
@@ -112,18 +94,18 @@ impl Clients {
     }
 
     /// Takes those that came; `holders` are those that work on a job.
-    pub fn accept(&mut self, registry: &Registry, now: Instant, holders: impl Fn() -> BTreeSet<ClientId>) {
+    pub fn accept(&mut self, now: Instant, holders: impl Fn() -> BTreeSet<ClientId>) {
         if !self.has_more || self.not_before.map_or(false, |at| now < at) {
             return;
         }
         self.not_before = None;
         for _ in 0..MAX_AT_A_TIME {
-            match self.listener.accept() {
-                Ok((stream, _)) => {
+            match self.door.next() {
+                Ok(stream) => {
                     if self.all.len() >= MAX_CLIENTS {
                         self.end_one(&holders());
                     }
-                    self.add(Client::new(stream, now), registry);
+                    self.add(Client::new(stream, now));
                 }
                 Err(error) if error.kind() == ErrorKind::WouldBlock => {
                     self.has_more = false;
@@ -149,15 +131,14 @@ impl Clients {
         }
     }
 
-    fn add(&mut self, mut client: Client, registry: &Registry) {
+    fn add(&mut self, mut client: Client<D::Stream>) {
         if self.all.len() >= MAX_CLIENTS {
             client.tell(&Reply::refused("TooManyClients").line());
             return;
         }
         let id = self.next;
         self.next = if id == usize::MAX - 1 { self.first } else { id + 1 };
-        let interest = Interest::READABLE.add(Interest::WRITABLE);
-        if registry.register(client.stream(), Token(id), interest).is_ok() {
+        if self.door.admit(client.stream(), id).is_ok() {
             self.all.insert(id, client);
         }
     }
@@ -197,8 +178,8 @@ impl Clients {
         }
     }
 
-    pub fn next_line(&mut self, id: ClientId) -> Option<Vec<u8>> {
-        match self.all.get_mut(&id)?.next_line() {
+    pub fn next_line(&mut self, id: ClientId, now: Instant) -> Option<Vec<u8>> {
+        match self.all.get_mut(&id)?.next_line(now) {
             Next::Line(line) => return Some(line),
             Next::Nothing => return None,
             Next::TooLong => self.tell(id, &Reply::refused("TooLong")),
@@ -292,7 +273,7 @@ impl Clients {
 
     /// Those whose beat is due: they are to be told one now.
     pub fn take_beats(&mut self, now: Instant) -> Vec<ClientId> {
-        let is_due = |client: &mut Client| client.beats.as_mut().map_or(false, |beats| beats.take(now));
+        let is_due = |client: &mut Client<D::Stream>| client.beats.as_mut().map_or(false, |beats| beats.take(now));
         self.all.iter_mut().filter_map(|(id, client)| is_due(client).then_some(*id)).collect()
     }
 
@@ -344,81 +325,28 @@ impl Clients {
     }
 }
 
-impl Drop for Clients {
-    fn drop(&mut self) {
-        let is_own = identity(&self.path).map_or(false, |found| found == self.own);
-        if is_own {
-            if let Err(error) = fs::remove_file(&self.path) {
-                debug!("{}: {error}", self.path.display());
-            }
-        }
-    }
-}
-
-/// A socket at a path, and its identity, in place of one that an agent left there.
-fn bound(path: &Path, registry: &Registry, token: Token) -> io::Result<(UnixListener, (u64, u64))> {
-    if is_left(path)? {
-        fs::remove_file(path)?;
-    }
-    let mut listener = UnixListener::from_std(listening(path)?);
-    registry.register(&mut listener, token, Interest::READABLE)?;
-    Ok((listener, identity(path)?))
-}
-
-/// Who may come to a socket is set before it is bound, so that at no time others may; what the umask takes of that is given back.
-fn listening(path: &Path) -> io::Result<std::os::unix::net::UnixListener> {
-    let socket = socket_with(AddressFamily::UNIX, SocketType::STREAM, SocketFlags::CLOEXEC, Protocol::default())?;
-    fchmod(&socket, Mode::from_bits_truncate(MODE))?;
-    bind_unix(&socket, &SocketAddrUnix::new(path)?)?;
-    fs::set_permissions(path, Permissions::from_mode(MODE))?;
-    listen(&socket, BACKLOG)?;
-    let listener = std::os::unix::net::UnixListener::from(OwnedFd::from(socket));
-    listener.set_nonblocking(true)?;
-    Ok(listener)
-}
-
-fn identity(path: &Path) -> io::Result<(u64, u64)> {
-    fs::symlink_metadata(path).map(|found| (found.dev(), found.ino()))
-}
-
-/// Whether an agent that is gone left its socket at a path. An error where an agent listens there, and where anything else is there, as a node's file that
-/// was named by mistake.
-pub fn is_left(path: &Path) -> io::Result<bool> {
-    match fs::symlink_metadata(path) {
-        Ok(found) if found.file_type().is_socket() => {}
-        Ok(_) => return Err(io::Error::new(ErrorKind::AlreadyExists, "this is there, and is no socket")),
-        Err(error) if error.kind() == ErrorKind::NotFound => return Ok(false),
-        Err(error) => return Err(error),
-    }
-    match UnixStream::connect(path) {
-        Err(error) if error.kind() == ErrorKind::ConnectionRefused => Ok(true),
-        // where more wait to be taken than the system keeps somebody is there, too
-        Err(error) if error.kind() != ErrorKind::WouldBlock => Err(error),
-        _ => Err(io::Error::new(ErrorKind::AddrInUse, "another agent listens there")),
-    }
-}
-
 #[cfg(test)]
 mod tests {
+    use super::super::SocketDoor;
     use super::*;
-    use mio::Poll;
+    use mio::{Poll, Token};
 
     const FIRST: ClientId = 16;
 
     /// The clients at a socket, and the ends of so many that came.
-    fn clients(name: &str, count: usize) -> (Clients, Vec<std::os::unix::net::UnixStream>) {
+    fn clients(name: &str, count: usize) -> (Clients<SocketDoor>, Vec<std::os::unix::net::UnixStream>) {
         let path = std::env::temp_dir().join(format!("dumgerok-{name}-{}", std::process::id()));
         let poll = Poll::new().unwrap();
-        let mut clients = Clients::listen(&path, poll.registry(), Token(0), FIRST).unwrap();
+        let mut clients = Clients::at(SocketDoor::open(&path, poll.registry(), Token(0)).unwrap(), FIRST);
         let connect = |_| std::os::unix::net::UnixStream::connect(&path).unwrap();
         let links = (0..count).map(connect).collect();
         while clients.count() < count {
-            clients.accept(poll.registry(), Instant::now(), BTreeSet::new);
+            clients.accept(Instant::now(), BTreeSet::new);
         }
         (clients, links)
     }
 
-    fn wait(clients: &mut Clients, client: ClientId, queue: u8) {
+    fn wait(clients: &mut Clients<SocketDoor>, client: ClientId, queue: u8) {
         assert!(clients.wait(Waiting { client, tag: None, wanted: Wanted::of(&[queue]) }));
     }
 

@@ -3,13 +3,14 @@
 mod attempts;
 mod client;
 mod clients;
+mod door;
 mod hand;
 mod parted;
 mod peer;
 mod watch;
 
-pub use client::Client;
-pub use clients::{is_left, ClientId, Clients, Waiting};
-pub use hand::{Back, Given, Hand, Taken};
+pub use clients::{ClientId, Clients, Waiting};
+pub use door::{is_left, Door, SocketDoor, Stream};
+pub use hand::{Back, Given, Hand};
 pub use peer::Peer;
 pub use watch::{Beats, Changes};

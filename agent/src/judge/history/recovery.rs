@@ -111,9 +111,10 @@ impl History {
         let first = self.places.len();
         let mut recovered = first;
         if found.doubts.is_some() {
+            let others = self.put_finished(found, seen).ok_or_else(|| self.no_state(recovery))?;
             self.put_crash(found.groups);
             recovered = self.places.len();
-            self.put_doubts(found, seen).ok_or_else(|| self.no_state(recovery))?;
+            self.put_doubts(found, seen, others).ok_or_else(|| self.no_state(recovery))?;
         }
         (self.count, self.next, self.is_up) = (found.count, found.next, true);
         let lines: Vec<&str> = recovery.answer.iter().map(String::as_str).collect();
@@ -140,22 +141,29 @@ impl History {
         }
     }
 
-    /// The commands in doubt that counted stand behind the recovery, where the node is alone: what they made it send there is nothing, as nothing of it left the
-    /// machine.
-    fn put_doubts(&mut self, found: &Found, seen: &Seen) -> Option<()> {
-        let doubts = found.doubts();
-        let put = puts(&doubts, self.next..found.next, seen)?;
-        let ended = ends(self.own, &doubts, &self.pending, found.ended, seen)?;
+    /// Jobs of its own that the node finished unseen it had in hand when it ended, and it sends nothing for them: so these stand before that. Those that
+    /// others ended are left.
+    fn put_finished<'f>(&mut self, found: &'f Found, seen: &Seen) -> Option<Vec<(u64, &'f str)>> {
+        let ended = ends(self.own, &found.doubts(), &self.pending, found.ended, seen)?;
+        let (own, others): (Vec<_>, Vec<_>) = ended.into_iter().partition(|(_, request)| request.starts_with("finish "));
+        self.put_ends(own)?;
+        Some(others)
+    }
+
+    /// The other commands in doubt that counted stand behind the recovery, where the node is alone: what they made it send there is nothing, as nothing of it left
+    /// the machine.
+    fn put_doubts(&mut self, found: &Found, seen: &Seen, others: Vec<(u64, &str)>) -> Option<()> {
+        let put = puts(&found.doubts(), self.next..found.next, seen)?;
         for (id, request) in (self.next..).zip(put) {
             let fields = self.fields_of("submit", request)?;
             self.put("submit", request, &[], fields);
             self.pending.insert(id);
             self.told.keeps(id, request);
         }
-        // a job is ended by who has it in hand
-        if ended.iter().any(|(_, request)| request.starts_with("finish ")) {
-            self.put("dispatch", "", &[], Map::new());
-        }
+        self.put_ends(others)
+    }
+
+    fn put_ends(&mut self, ended: Vec<(u64, &str)>) -> Option<()> {
         for (id, request) in ended {
             let name = request.split(' ').next()?;
             let fields = self.fields_of(name, request)?;

@@ -116,10 +116,15 @@ fn ends_of_jobs_in_doubt_that_counted() {
     let done = "> deliver 010a010000080000000000000006\n";
     assert_eq!(ended(done, "102 8 2", "").unwrap(), ["deliver 010a010000080000000000000001"]);
     assert_eq!(ended(done, "102 8 3", "").unwrap(), [""; 0]);
-    assert_eq!(ended(&format!("{done}{done}> finish 0 5\n> finish 1 7\n"), "102 8 1", "").unwrap(), ["dispatch", "deliver 010a010000080000000000000001", "finish 0 0"]);
+    // what it finished itself was in hand before it ended; behind that it has none
+    for asked in ["{done}{done}> finish 0 5\n> finish 1 7\n", "> finish 0 5\n{done}"] {
+        let entries = killed(&kept(&asked.replace("{done}", done)), "102 8 1", "").unwrap();
+        assert_eq!(entries[3..], ["finish 0 0", "crash", "recover false", "deliver 010a010000080000000000000001"]);
+    }
     // one that is named later on was still pending
     let both = format!("{done}> finish 0 5\n> submit 1 -\n");
-    assert_eq!(ended(&both, "102 9 3", "> tick 9\nfired dispatch\ntake 0 6 4 -\ntake 0 7 5 -\ntake 0 8 1 -\nok 2\n").unwrap()[..3], ["submit 1 ", "dispatch", "finish 0 0"]);
+    let later = "> tick 9\nfired dispatch\ntake 0 6 4 -\ntake 0 7 5 -\ntake 0 8 1 -\nok 2\n";
+    assert_eq!(killed(&kept(&both), "102 9 3", later).unwrap()[3..7], ["finish 0 0", "crash", "recover false", "submit 1 "]);
     assert!(ended(done, "102 8 1", "").is_err() && ended("", "102 8 2", "").is_err(), "nobody ended two, or one");
 }
 
