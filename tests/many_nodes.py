@@ -1,7 +1,8 @@
 #!/usr/bin/env python3
-"""Clusters of 64 and 128 processes `invite node` on one machine, at the default round trip: how soon they are one group, and by how many messages.
+"""Clusters of 64 and 128 processes `invite node` on one machine, at the default round trip: how soon they are one group, and by how many messages. The same beside
+eight processes that are busy all the time.
 
-    many_nodes.py PROGRAM [NODES [STARTS]]
+    many_nodes.py PROGRAM [NODES [STARTS [LOOPS]]]
 
 Each node is a process over a file in memory, where that can be. This script carries their messages, each in 0.2 to 0.5 round trips, and tells a node the time behind
 what it is brought and where it asked to be told. They come up within 10 round trips. Once they are one group they rest for three seconds; then the coordinator dies,
@@ -10,8 +11,10 @@ import heapq, os, random, selectors, shutil, subprocess, sys, tempfile, time
 
 ROUND_TRIP, REST = 0.020, 3.0
 # A step takes so many seconds at most. Until they are one group a node sends so many messages for each node: a question and an answer in each of two checks are four,
-# and twice as many are allowed.
+# and twice as many are allowed. Beside busy processes answers come late, and are asked for again, as often as one waits.
 LONGEST, MOST_SENT = 60.0, 8
+# How soon so many nodes are one group, in seconds.
+SOON = {64: 5.0, 128: 10.0}
 
 
 class Node:
@@ -146,19 +149,32 @@ def try_one(program, folder, nodes, seed):
     return row
 
 
+def try_all(program, folder, nodes, starts, loops):
+    """How many of these starts were as they should be."""
+    good, busy = 0, [subprocess.Popen([sys.executable, "-c", "while True: pass"]) for _ in range(loops)]
+    try:
+        for seed in range(starts):
+            row = try_one(program, os.path.join(folder, f"{nodes}-{seed}"), nodes, seed)
+            is_so = None not in [row.get(name) for name in ("one group", "replaced", "back")] and row["one group"] <= SOON.get(nodes, LONGEST)
+            is_so = is_so and (loops > 0 or row["most"] <= MOST_SENT * nodes)
+            good += is_so
+            times = ", ".join(f"{name} {row[name]:.2f}" if row.get(name) is not None else f"{name} never" for name in ("one group", "replaced", "back"))
+            print(f"many_nodes.py: {'' if is_so else 'NOT SO: '}{nodes} nodes, {loops} busy loops: {times} s; until one group each node sent {row['sent']:.0f} messages, one {row['most']} at most; at rest {row.get('at rest', 0):.1f} a second", flush=True)
+    finally:
+        for process in busy:
+            process.kill()
+            process.wait()
+    return good
+
+
 def main():
     program = os.path.abspath(sys.argv[1])
     sizes = [int(sys.argv[2])] if sys.argv[2:] else [64, 128]
     starts = int(sys.argv[3]) if sys.argv[3:] else 3
-    passed = failed = 0
+    rows = [(nodes, loops) for nodes in sizes for loops in ([int(sys.argv[4])] if sys.argv[4:] else [0, 8])]
     with tempfile.TemporaryDirectory(dir="/dev/shm" if os.access("/dev/shm", os.W_OK) else None) as folder:
-        for nodes in sizes:
-            for seed in range(starts):
-                row = try_one(program, os.path.join(folder, f"{nodes}-{seed}"), nodes, seed)
-                good = None not in [row.get(name) for name in ("one group", "replaced", "back")] and row["most"] <= MOST_SENT * nodes
-                passed, failed = passed + good, failed + (not good)
-                times = ", ".join(f"{name} {row[name]:.2f}" if row.get(name) is not None else f"{name} never" for name in ("one group", "replaced", "back"))
-                print(f"many_nodes.py: {'' if good else 'NOT SO: '}{nodes} nodes: {times} s; until one group each node sent {row['sent']:.0f} messages, one {row['most']} at most; at rest {row.get('at rest', 0):.1f} a second", flush=True)
+        passed = sum(try_all(program, folder, nodes, starts, loops) for nodes, loops in rows)
+    failed = starts * len(rows) - passed
     print(f"{passed} passed, {failed} failed")
     return 0 if failed == 0 and passed > 0 else 1
 

@@ -42,6 +42,8 @@ JOINING = "recover;deliver 010500010009000000000000000002"
 HERE_YES, LOOKS = "deliver 01040001000a00000000000000000201", "deliver 010100010000"
 JOINED = JOINING + ";deliver 01070001000c000000000000000002020001"
 ACCEPTS, LOOKS_2, YES_2, NO_1 = "deliver 010601000009000000000000000002", "deliver 010102000000", "deliver 01020200000101", "deliver 01020100000100"
+# as a member of the group 0:2 asks its coordinator
+ASKS_1 = "deliver 010301000009000000000000000002"
 TIMERS = [
     (0, 3, "state", "dispatch", [(0, False), (1000, False), (2**64 - 1, False)]),
     # 5 round trips in a new group, and up to 3 more; it fires once. Then 37, and up to 4 more
@@ -99,7 +101,9 @@ TIMERS = [
     # each check is counted, and a member that was silent in three of them is given up at the end of the third; an answer that comes late lengthens the waits for others by at most 1 s
     (0, 2, IN_STEP, "check", [(0, False), (160, BY), (880, NONE), (1080, BY), (1680, NONE)]),
     (0, 2, IN_STEP, "recover", [(0, False), (1740, NONE), (2100, BY), (2100, False)]),
-    (0, 2, IN_STEP, "recover", [(0, False), (1600, NONE), (NO_1, None), (4600, NONE), (6000, BY)]),
+    (0, 2, IN_STEP, "recover", [(0, False), (1600, NONE), (NO_1, None), (ASKS_1, None), (4600, NONE), (6000, BY)]),
+    # whoever says that it doesn't coordinate may be in any group: that ends no silence
+    (0, 2, IN_STEP, "recover", [(0, False), (1600, NONE), (NO_1, None), (1740, NONE), (3100, BY)]),
     # a jump of an hour, and of 2^63 ms: what waits is due once
     (0, 1, "recover", "check", [(0, False), (3_600_000, True), (3_600_000, False), (3_600_399, False), (3_600_739, False), (3_600_820, True)]),
     (0, 1, "recover", "check", [(0, False), (2**63, True), (2**63, False), (2**63 + 399, False), (2**63 + 739, False), (2**63 + 820, True)]),
@@ -111,7 +115,8 @@ TIMERS = [
     (1, 2, JOINED, "coord", [(7, False), (5000, True), (9000, False), (9019, False), (9020, True)]),
     # what came meanwhile is read, and ends the silence
     (0, 2, IN_STEP, "recover", [(0, False), (1680, NONE), (2200, False), (9000, False), (9019, False), (9020, True)]),
-    (0, 2, IN_STEP, "recover", [(0, False), (1680, NONE), (2200, False), (9000, False), (NO_1, None), (9001, False), (9021, False), (9900, False)]),
+    (0, 2, IN_STEP, "recover", [(0, False), (1680, NONE), (2200, False), (9000, False), (ASKS_1, None), (9001, False), (9021, False), (9900, False)]),
+    (0, 2, IN_STEP, "recover", [(0, False), (1680, NONE), (2200, False), (9000, False), (NO_1, None), (9001, True)]),
     # the clock falls back by an hour, by some milliseconds, and to 0: waits go on from there
     (0, 2, INVITING, "accept", [(4_000_000, False), (4_000_060, False), (400_000, False), (400_039, False), (400_040, True), (400_040, False)]),
     (0, 2, INVITING, "accept", [(1000, False), (1050, False), (1049, False), (1098, False), (1099, True)]),

@@ -13,6 +13,9 @@ HERE = os.path.dirname(os.path.abspath(__file__))
 # how soon three nodes without a coordinator, or without a member, are one group of two, in ms: the round trip as set, the least time of a message, the median and the longest that are allowed
 REPLACED = [(20, 9, 900, 1300), (20, 0.1, 600, 950), (5, 2, 500, 700), (100, 45, 2500, 3500)]
 DROPPED = [(20, 9, 2500, 3200), (20, 0.1, 2300, 3000)]
+# for how many round trips a coordinator may list a node that is in another group; links that are dead meanwhile, from L, which led, M, its member, and T, the third
+LISTED = 250
+CUTS = [("from a coordinator to a member nothing comes", ["LM"]), ("from a member to its coordinator nothing comes", ["ML"]), ("between them nothing comes, and the third starts anew", ["LM", "ML"]), ("from and to a member nothing comes", ["LM", "ML", "MT", "TM"])]
 
 
 class Node:
@@ -223,6 +226,43 @@ def try_stalls(tried):
             bed.end()
 
 
+def lists_a_stranger(bed):
+    """Whether a coordinator lists a node that is in another group."""
+    groups = [node.group for node in bed.node]
+    leading = [group for own, group in enumerate(groups) if group and group[0] == "Normal" and int(group[1]) == own]
+    return any(groups[int(member)] is None or groups[int(member)][2] != group[2] for group in leading for member in group[3].split(","))
+
+
+def longest_listed(bed, until):
+    """For how long at a time a coordinator lists a node that is in another group, at most."""
+    longest, since = 0, None
+
+    def look():
+        nonlocal longest, since
+        since = (bed.now if since is None else since) if lists_a_stranger(bed) else None
+        longest = max(longest, bed.now - since if since is not None else 0)
+    bed.run(until, look)
+    return longest
+
+
+def try_cuts(tried):
+    """Links carry nothing, or one way alone: a member that left isn't listed on."""
+    for name, links in CUTS:
+        worst = []
+        for seed in range(5):
+            bed = tried.bed(3, 20, 9, seed=seed)
+            bed.start()
+            lead = dying(bed, bed.unit)
+            role = {lead: "L", (lead + 1) % 3: "M", (lead + 2) % 3: "T"}
+            bed.lost = lambda sender, receiver: role[sender] + role[receiver] in links
+            if "anew" in name:
+                bed.node[(lead + 2) % 3].kill()
+                bed.node[(lead + 2) % 3].start()
+            worst.append(longest_listed(bed, bed.now + 1500 * bed.unit))
+            bed.end()
+        tried.mark(max(worst) <= LISTED * 20, f"{name}: one that left is listed for {sorted(worst)} ms, {LISTED * 20} allowed")
+
+
 def try_storm(tried):
     """Twenty nodes whose answers take ten times as long as was said: they learn that, and become one group."""
     bed = tried.bed(20, 20, 200)
@@ -261,7 +301,7 @@ def table(tried, nodes, loss, seeds):
         print(f"pacing.py: {nodes} nodes, {loss} % lost: {what}: {statistics.median(found):.0f} in the median, {found[-1]} at most", flush=True)
 
 
-SCENES = {"replaced": try_replaced, "dropped": try_dropped, "lead": try_lead, "stalls": try_stalls, "storm": try_storm}
+SCENES = {"replaced": try_replaced, "dropped": try_dropped, "lead": try_lead, "stalls": try_stalls, "cuts": try_cuts, "storm": try_storm}
 
 
 def main():

@@ -7,7 +7,8 @@ message came; and of traces by chance, against that and a model of the nodes: ho
 The agent is built first (agent/build), unless $DUMGEROK_AGENT names the folder of its programs. Traces that are written here are drawn first, then those of
 picture_rows.py, to the byte. Without schedules, of all that stand in the folder schedules. Each is recorded, and the record is drawn as it is, without the numbers
 of its messages, without its order, with an order in which its entries can't be taken, and with an entry spoiled or an end lost (picture_orders.py). Last
-come what is written for tools of others (picture_exports.py) and pages in a browser (picture_pages.py). The last line counts the checks."""
+come what is written for tools of others (picture_exports.py), what `dumgerokctl why` says of these runs (whys.py) and pages in a browser (picture_pages.py). The last
+line counts the checks."""
 import glob, json, os, random, re, subprocess, sys
 from xml.etree import ElementTree
 
@@ -15,7 +16,7 @@ HERE = os.path.dirname(os.path.abspath(__file__))
 TOP = os.path.join(HERE, "..")
 sys.dont_write_bytecode = True
 sys.path.append(os.path.join(HERE, "hostile"))
-import picture_exports, picture_orders as orders, picture_pages, picture_rows, traces
+import picture_exports, picture_orders as orders, picture_pages, picture_rows, traces, whys
 from inputs import Inputs
 from turns import Watched, first_other
 
@@ -34,13 +35,17 @@ class Programs:
     """The program, and what draws by it."""
 
     def __init__(self, program, folder):
-        self.program, self.drawing = program, [os.path.join(folder, "dumgerokctl"), "draw", "--program", program]
+        self.program, self.control = program, os.path.join(folder, "dumgerokctl")
+        self.drawing = [self.control, "draw", "--program", program]
 
     def run(self, command, text):
         return subprocess.run([self.program, command], input=text, capture_output=True, text=True)
 
     def draw(self, text, *words):
         return subprocess.run([*self.drawing, *words], input=text, capture_output=True, text=True)
+
+    def why(self, text):
+        return subprocess.run([self.control, "why", "--program", self.program], input=text, capture_output=True, text=True)
 
 
 def agent():
@@ -276,6 +281,15 @@ def exported(programs, schedules):
             yield from ((f"{schedule}, {what}", problem) for what, problem in picture_exports.exports(programs, trace, Model(trace, *order_of(trace))))
 
 
+def explained(programs, schedules):
+    """What is said of the records of schedules, whole and spoiled."""
+    for schedule in schedules:
+        record = programs.run("record", open(schedule).read())
+        trace = json.loads(record.stdout) if record.returncode == 0 else {}
+        if "order" in trace:
+            yield from ((f"{schedule}, {what}", problem) for what, problem in whys.whys(programs, trace, order_of(trace)[0]))
+
+
 def main():
     program = os.path.abspath(sys.argv[1])
     schedules = list(map(os.path.abspath, sys.argv[2:]))
@@ -286,7 +300,7 @@ def main():
     os.chdir(TOP)
     passed = failed = 0
     schedules = schedules or sorted(glob.glob("schedules/*.txt"))
-    parts = [of_schedules(programs, schedules), to_the_byte(programs), by_chance(programs), exported(programs, schedules), picture_pages.pages(programs)]
+    parts = [of_schedules(programs, schedules), to_the_byte(programs), by_chance(programs), exported(programs, schedules), explained(programs, schedules), picture_pages.pages(programs)]
     for what, problem in (pair for part in parts for pair in part):
         passed, failed = passed + (not problem), failed + bool(problem)
         if problem:

@@ -136,4 +136,11 @@ done
 mark "$problem" 'a slot that was emptied'
 [ ! -e "$room/threads-again.json" ] || ordered again
 
+# What of spoiled ones can't be, whatever the other nodes did.
+if command -v python3 >/dev/null; then
+    problem=''
+    python3 tests/trace_cores.py "$program" --each 2 >"$room/cores" || problem=$(tail -n 5 "$room/cores")
+    mark "$problem" 'the cores of spoiled traces'
+fi
+
 tally

@@ -43,7 +43,7 @@ COMMANDS = [
     ("inspect", ["store_console::inspect"], "that it is this file which is opened"),
     ("export", ["store_console::inspect", "store_console::salvage"], "that it is this file which is opened"),
     ("node", ["node_session::Session::feed", "node_server::serve_node", "processes::processes_are_a_cluster", "processes::sessions_are_processes"],
-     "that it is this node's file, the look at its path, the life that skips a number, and the key file that was named; how much jitter timers have"),
+     "that the file's label is what was read of it, the look at its path, the life that skips a number, and the key file that was named"),
     ("format", ["node_server::format_node"], "what a file does; which line of jobs is bad"),
 ]
 # What is assumed beside the toolchain: in which words, where it is a premise, and what breaks it.
@@ -59,17 +59,19 @@ PREMISES = [
 SCRIPTS = [
     ("that a call succeeds while memory is left", "tests/hostile.sh"),
     ("how many calls of the device are made", "tests/syncs.py"),
-    ("where each byte lies in a file; locks, short and interrupted calls; that the path is looked at, and that a number is skipped", "tests/files.py"),
+    ("where each byte lies in a file; locks, short and interrupted calls; that the path is looked at, that a number is skipped, and that a mounting writes nothing", "tests/files.py"),
     ("that a sync reaches the system, and in which order", "tests/node.sh"),
     ("what a file keeps where a device fails or a process is killed at any moment", "tests/stops.py"),
-    ("the same, of the program `store`", "tests/store_faults.sh"),
+    ("the same, of the program `store`; that a new file takes an old one's name, and the old one isn't removed first", "tests/store_faults.sh"),
+    ("that its `format` formats, and that its `mount` finds what stands in the file", "tests/store_inputs.py"),
     ("that what was written before a failed write is written anew", "tests/failed_device.py"),
-    ("worked times of timers, and how much jitter they have", "tests/node_rows.py"),
+    ("worked times of timers", "tests/node_rows.py"),
     ("that a node writes the answers of its session, each once, and seals them", "tests/sealed.py"),
     ("lives of a process over one file", "tests/life.py"),
     ("usage texts, standard error, and the exit status", "tests/command_lines.sh"),
     ("that time and memory grow with the length of a trace", "tests/trace_growth.py"),
     ("threads that end", "tests/endless.py"),
+    ("which worker of a run in threads stopped first", "tests/trace_rows.py"),
     ("the agent", "agent/tests/run"),
 ]
 HEAD = """# What is trusted
