@@ -13,8 +13,8 @@ import glob, os, re, sys
 TOP = os.path.dirname(os.path.dirname(os.path.abspath(__file__)))
 PAGE = os.path.join(TOP, "docs", "PROMISES.md")
 # From what a user of a cluster takes down to bytes and texts.
-ORDER = """processes runs cluster_sim durable_node node_core histories node_store job_journal safe_cell slot_gate sector_disk disk_sector file_disk
-job_model group_task wire_msg sealed_msg message_list sim_net link_ring node_lock node_threads pace node_session node_server trace_check
+ORDER = """processes runs cluster_sim durable_node node_core histories node_store job_journal safe_cell slot_gate sector_disk disk_layout file_disk
+job_model group_task wire_msg sealed_msg message_list sim_net link_ring node_lock node_threads node_timers node_session node_server trace_check
 trace_text trace_console threads_console invite_console store_console console_text schedule line_words
 command_line""".split()
 KEYS = re.compile(r"\s*// (Promise|Also|Refuses): (.*)")

@@ -1,4 +1,4 @@
-use pace::TimerSettings;
+use node_timers::TimerSettings;
 
 /// A round trip, in milliseconds: that of a node by default.
 pub const UNIT: u16 = 20;

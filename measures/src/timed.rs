@@ -6,7 +6,7 @@ use crate::options::Options;
 use group_task::{GroupNo, Members, NodeId};
 use job_model::Work;
 use node_core::{Event, Phase};
-use pace::{NodeSnapshot, Retransmission, TimerPolicy};
+use node_timers::{NodeSnapshot, Retransmission, TimerPolicy};
 use std::alloc::Global;
 use std::collections::{BTreeMap, VecDeque};
 use wire_msg::Message;

@@ -27,8 +27,8 @@ use Rattle.cluster_sim.specs.Names.{node_named}
 use Rattle.cluster_sim.proofs.Answering.{untouched_areas}
 use Rattle.cluster_sim.proofs.Names.{step_named}
 use Rattle.runs.specs.Growth.{IsLeft}
-use Rattle.cluster_sim.specs.World.{AreasRise, AreasWithin, IsUntouched, WorldView, DeedOf, Performed, StandsFor, Shows, ReportsDeed}
-use Rattle.cluster_sim.specs.Cluster.{AreCounted, IsCluster, Reports, GoesOn, command_in, pending_room, cluster_with, report_in, moment_in, tried_as, tried_at, mounting_at, mounted_now, listed, with_deed}
+use Rattle.cluster_sim.specs.World.{AreasRise, AreasWithin, IsUntouched, WorldView, ActionOf, Performed, StandsFor, Shows, ReportsAction}
+use Rattle.cluster_sim.specs.Cluster.{AreCounted, IsCluster, Reports, GoesOn, command_in, pending_room, cluster_with, report_in, moment_in, tried_as, tried_at, mounting_at, mounted_now, listed, with_action}
 use Rattle.runs.specs.Numbered.{sent_under}
 use Rattle.cluster_sim.specs.declared.report.Moment.{Moment as KeptMoment}
 use Rattle.cluster_sim.specs.declared.report.Report.{Report as KeptReport}
@@ -78,25 +78,25 @@ record Moved (w w' : World) (n : ℕ) (was node : Node Memory) : Type 0 where
   stood : Stands state_of was s
   stands : Stands state_of node s'
 
-record Taken (w : World) (step : Step) (n : ℕ) (deed : ActReport) (node : Node Memory) (s : NodeState) : Type 0 where
+record Taken (w : World) (step : Step) (n : ℕ) (action : ActReport) (node : Node Memory) (s : NodeState) : Type 0 where
   number : ℕ
   what : HistoryEvent
   is : step ≡ Takes n number what
   possible : IsPossible n (length w.states) s what
-  reports : DeedOf n (length w.states) s what deed
+  reports : ActionOf n (length w.states) s what action
   mounted : node.mounted ≡ mounted_at s what
 
 -- no node takes the step, and nothing is reported
-record Quiet (w : World) (step : Step) (deed : ActReport) : Type 0 where
-  tried : deed.tried ≡ None
-  mounted : deed.mounted ≡ false
+record Quiet (w : World) (step : Step) (action : ActReport) : Type 0 where
+  tried : action.tried ≡ None
+  mounted : action.mounted ≡ false
   adds : (nodes : ℕ) → AddsNothing nodes w step
 
 -- the node that code names
 pub named_in : (old : WorldView) (w : World) (a : Act) (n count : ℕ) (net : Network) → StandsFor old w → count ≡ length old.nodes → net ≡ old.net → n ≡ node_named count net.sent a → n ≡ node_named (length w.states) w.net.sent a
 named_in old w a n count net stands many same named = named ∙ (λ i. node_named ((many ∙ stands.count) i) ((same ∙ stands.net) i).sent a)
 
-module _ (old new : WorldView) (w : World) (a : Act) (deed : ActReport) (n : ℕ) (was node : Node Memory) (stands : StandsFor old w) (p : Performed w a deed new) (named : n ≡ node_named (length w.states) w.net.sent a)
+module _ (old new : WorldView) (w : World) (a : Act) (action : ActReport) (n : ℕ) (was node : Node Memory) (stands : StandsFor old w) (p : Performed w a action new) (named : n ≡ node_named (length w.states) w.net.sent a)
     (at_was : slice_get old.nodes n ≡ Some was) (at : slice_get new.nodes n ≡ Some node) where
   moved : Moved w (world_after (length w.states) w p.acted.step) n was node
   moved =
@@ -107,14 +107,14 @@ module _ (old new : WorldView) (w : World) (a : Act) (deed : ActReport) (n : ℕ
       record { s = s.0; s' = s'.0; at_s = s.1; now = s'.1; stood = stands.each n was s.0 at_was s.1; stands = p.acted.stands.each n node s'.0 at s'.1 }
 
   -- it took the step, or nothing is reported
-  taken : Taken w p.acted.step n deed node moved.s ⊎ Quiet w p.acted.step deed
+  taken : Taken w p.acted.step n action node moved.s ⊎ Quiet w p.acted.step action
   taken = by_step p.acted.step p.acted.next.of_act p.acted.next.allowed p.acted.shows p.reports
     where
-      by_step : (step : Step) → IsStepOf (length w.states) w a step → IsAllowed (length w.states) w step → Shows w step new → ReportsDeed w step deed → Taken w step n deed node moved.s ⊎ Quiet w step deed
+      by_step : (step : Step) → IsStepOf (length w.states) w a step → IsAllowed (length w.states) w step → Shows w step new → ReportsAction w step action → Taken w step n action node moved.s ⊎ Quiet w step action
       by_step (Takes m number what) of may shows reports =
           let same : m ≡ n = step_named (length w.states) w a (Takes m number what) of ∙ sym named in
           let at_s : slice_get w.states m ≡ Some moved.s = subst (λ (k : ℕ). slice_get w.states k ≡ Some moved.s) (sym same) moved.at_s in
-          inl (subst (λ (k : ℕ). Taken w (Takes m number what) k deed node moved.s) same (record {
+          inl (subst (λ (k : ℕ). Taken w (Takes m number what) k action node moved.s) same (record {
             number = number;
             what = what;
             is = refl;
@@ -134,7 +134,7 @@ module _ (old new : WorldView) (w : World) (a : Act) (deed : ActReport) (n : ℕ
       omega (arith, room, grows, before, after, fits)
 
   pub jobs_fit : (report : Report) (room : ℕ) (d : Durable) → Reports (record { world = old; report = report }) w → (is_down was.state.phase ≡ true → old.slots ≤ room)
-      → deed.mounted ≡ true → node.mounted ≡ Some d → length d.pending ≤ room
+      → action.mounted ≡ true → node.mounted ≡ Some d → length d.pending ≤ room
   jobs_fit report room d reports fits mounts mounted = ⊎_elim
       (λ t.
       (let few = mounted_few (length old.nodes) old.slots w report reports.left n moved.s moved.at_s (length w.states) t.what t.possible d (sym t.mounted ∙ mounted) in
@@ -143,30 +143,30 @@ module _ (old new : WorldView) (w : World) (a : Act) (deed : ActReport) (n : ℕ
       (λ none. absurd (let bad : true ≡ false = sym mounts ∙ none.mounted in cc)) taken
 
   -- what the act adds is what is reported of it
-  pub step_reported : (r : Report) → StepReported (length w.states) w r a p.acted.step n deed node.mounted
+  pub step_reported : (r : Report) → StepReported (length w.states) w r a p.acted.step n action node.mounted
   step_reported r = ⊎_elim
-      (λ t. subst (λ (x : Step). StepReported (length w.states) w r a x n deed node.mounted) (sym t.is)
-      (takes_reported n (length w.states) t.number w r a t.what moved.s deed node.mounted moved.at_s (subst (λ (x : Step). IsStepOf (length w.states) w a x) t.is p.acted.next.of_act) t.reports t.mounted))
-      (λ none. quiet_reported (length w.states) w r a p.acted.step n deed node.mounted (none.adds (length w.states)) none.tried none.mounted) taken
+      (λ t. subst (λ (x : Step). StepReported (length w.states) w r a x n action node.mounted) (sym t.is)
+      (takes_reported n (length w.states) t.number w r a t.what moved.s action node.mounted moved.at_s (subst (λ (x : Step). IsStepOf (length w.states) w a x) t.is p.acted.next.of_act) t.reports t.mounted))
+      (λ none. quiet_reported (length w.states) w r a p.acted.step n action node.mounted (none.adds (length w.states)) none.tried none.mounted) taken
 
   -- the report with the act is the grown one
-  report_is : (r : Report) (before : ℕ) → before ≡ length (own_commands n r.commands) → with_deed new.net.sent n before a deed node r ≡ grown (length w.states) w a p.acted.step r
+  report_is : (r : Report) (before : ℕ) → before ≡ length (own_commands n r.commands) → with_action new.net.sent n before a action node r ≡ grown (length w.states) w a p.acted.step r
   report_is r before so_many =
       let nodes = length w.states in
       let step = p.acted.step in
       let t = (step_reported r).parts in
       let at_node : n ≡ node_of step = named ∙ sym (step_named nodes w a step p.acted.next.of_act) in
       let shown : node.state ≡ (node_in (world_after nodes w step).states n).state = moved.stands.state ∙ ap (λ (x : NodeState). x.state) (sym (node_there (world_after nodes w step).states n moved.s' moved.now)) in
-      let sent : sent_under new.net.sent deed.outcome ≡ step_sent nodes w step =
+      let sent : sent_under new.net.sent action.outcome ≡ step_sent nodes w step =
       (λ i. sent_under ((ap (λ (x : Network). x.sent) p.acted.stands.net ∙ sym (append-nil (world_after nodes w step).net.sent)) i) (p.acted.outcome_is i)) ∙ sym (step_numbered nodes w a step []) in
-      let moment : record { act = a; node = n; outcome = deed.outcome; sent = sent_under new.net.sent deed.outcome; state = node.state } ≡ moment_of nodes w a step =
+      let moment : record { act = a; node = n; outcome = action.outcome; sent = sent_under new.net.sent action.outcome; state = node.state } ≡ moment_of nodes w a step =
       (λ i. record { act = a; node = at_node i; outcome = p.acted.outcome_is i; sent = sent i; state = (shown ∙ ap (λ (k : ℕ). (node_in (world_after nodes w step).states k).state) at_node) i }) in
       λ i. record {
         opening = r.opening;
         moments = r.moments ++ moment i ∷ [];
         groups = r.groups ++ sym t.given i;
         commands = r.commands ++ sym t.tried i;
-        mounted = r.mounted ++ (ap (λ (k : ℕ). listed (mounting_at n k (mounted_now deed.mounted node.mounted))) so_many ∙ sym t.mountings) i;
+        mounted = r.mounted ++ (ap (λ (k : ℕ). listed (mounting_at n k (mounted_now action.mounted node.mounted))) so_many ∙ sym t.mountings) i;
       }
 
   -- as many nodes as before
@@ -174,7 +174,7 @@ module _ (old new : WorldView) (w : World) (a : Act) (deed : ActReport) (n : ℕ
   same_count = p.acted.stands.count ∙ step_length (length w.states) w p.acted.step ∙ sym stands.count
 
   module _ (kept kept' : KeptReport) (before : ℕ) (reports : Reports (cluster_with old kept) w) (same_slots : new.slots ≡ old.slots) (so_many : before ≡ length (own_commands n (cluster_with old kept).report.commands))
-      (is : report_in kept' new.net.sent ≡ with_deed new.net.sent n before a deed node (report_in kept new.net.sent)) where
+      (is : report_in kept' new.net.sent ≡ with_action new.net.sent n before a action node (report_in kept new.net.sent)) where
     -- the moments before it have the messages that they had
     same_before : report_in kept new.net.sent ≡ report_in kept old.net.sent
     same_before =
@@ -185,15 +185,15 @@ module _ (old new : WorldView) (w : World) (a : Act) (deed : ActReport) (n : ℕ
         ap (report_in kept) more ∙ sym (same_report kept (length old.nodes) old.slots w (step_sent nodes w p.acted.step) left) ∙ ap (report_in kept) (sym same_net)
 
     grows : report_in kept' new.net.sent ≡ grown (length w.states) w a p.acted.step (report_in kept old.net.sent)
-    grows = is ∙ ap (with_deed new.net.sent n before a deed node) same_before ∙ report_is (report_in kept old.net.sent) before so_many
+    grows = is ∙ ap (with_action new.net.sent n before a action node) same_before ∙ report_is (report_in kept old.net.sent) before so_many
 
-    pub goes_on : length (cluster_with old kept).report.moments + 3 < 2 ^ 64 → deed.outcome ≢ Refused (OfNode AreaExhausted) → GoesOn w a deed.outcome (cluster_with old kept) (cluster_with new kept')
-    goes_on short unworn =
+    pub goes_on : length (cluster_with old kept).report.moments + 3 < 2 ^ 64 → action.outcome ≢ Refused (OfNode AreaExhausted) → GoesOn w a action.outcome (cluster_with old kept) (cluster_with new kept')
+    goes_on short never_area_exhausted =
         let nodes = length w.states in
         let step = p.acted.step in
         let r = report_in kept old.net.sent in
         let left : IsLeft nodes new.slots w r = subst (λ (k : ℕ). IsLeft k new.slots w r) stands.count (subst (λ (k : ℕ). IsLeft (length old.nodes) k w r) (sym same_slots) reports.left) in
-        let grew = runs_grow nodes new.slots w r a step left p.acted.next (omega (arith, short)) (subst (λ (o : Outcome). o ≢ Refused (OfNode AreaExhausted)) p.acted.outcome_is unworn) in
+        let grew = runs_grow nodes new.slots w r a step left p.acted.next (omega (arith, short)) (subst (λ (o : Outcome). o ≢ Refused (OfNode AreaExhausted)) p.acted.outcome_is never_area_exhausted) in
         record {
           step = step;
           is_step = grew.0;
@@ -206,17 +206,17 @@ module _ (old new : WorldView) (w : World) (a : Act) (deed : ActReport) (n : ℕ
         }
 
     pub cluster_on : (counts counts' : List ℕ) → AreCounted (length old.nodes) (cluster_with old kept).report.commands counts → slice_get counts n ≡ Some before
-        → ((is_some_option deed.tried ≡ true) × (counts' ≡ slice_set counts n (before + 1))) ⊎ ((is_some_option deed.tried ≡ false) × (counts' ≡ counts))
-        → AreasRise old new deed.outcome → AreasWithin (length (cluster_with old kept).report.moments + 2) old.nodes → length (cluster_with old kept).report.moments + 3 < 2 ^ 64
+        → ((is_some_option action.tried ≡ true) × (counts' ≡ slice_set counts n (before + 1))) ⊎ ((is_some_option action.tried ≡ false) × (counts' ≡ counts))
+        → AreasRise old new action.outcome → AreasWithin (length (cluster_with old kept).report.moments + 2) old.nodes → length (cluster_with old kept).report.moments + 3 < 2 ^ 64
         → IsCluster (cluster_with new kept') counts'
     cluster_on counts counts' counted at_count either rises within short =
         let r = report_in kept old.net.sent in
         let whole = (step_reported r).whole in
-        let commands : (report_in kept' new.net.sent).commands ≡ r.commands ++ listed (tried_at n (tried_as (command_in a deed.tried) deed.acked)) = ap (λ (x : Report). x.commands) is in
+        let commands : (report_in kept' new.net.sent).commands ≡ r.commands ++ listed (tried_at n (tried_as (command_in a action.tried) action.acked)) = ap (λ (x : Report). x.commands) is in
         record {
           last = _;
           reports = (goes_on short ((rises (length r.moments + 2) within).1 (omega (arith, short)))).reports;
-          counted = rw (same_count, commands, whole.is) (counted_on (length old.nodes) n before r.commands counts counts' deed.tried deed.acked whole.command whole.which counted at_count either);
+          counted = rw (same_count, commands, whole.is) (counted_on (length old.nodes) n before r.commands counts counts' action.tried action.acked whole.command whole.which counted at_count either);
           areas = subst (λ (x : Report). AreasWithin (length x.moments + 2) new.nodes) (sym grows)
               (subst (λ (k : ℕ). AreasWithin k new.nodes) (omega (arith, length-append r.moments (moment_of (length w.states) w a p.acted.step ∷ []))) (rises (length r.moments + 2) within).0);
         }

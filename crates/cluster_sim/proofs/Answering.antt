@@ -92,20 +92,20 @@ area_free area free = by_room (area.used == area.slots)
     by_room false = refl
 
 -- where the area can be raised it isn't used up
-not_worn : (d : Durable) (area : Area) (wants : Option Command) → is_last area ≡ false → disk_refusal d area wants ≢ Some AreaExhausted
-not_worn d area None free is = absurd cc
-not_worn d area (Some Raise) free is = by_counter (d.counter == 2 ^ 64 - 1) is
+not_area_exhausted : (d : Durable) (area : Area) (wants : Option Command) → is_last area ≡ false → disk_refusal d area wants ≢ Some AreaExhausted
+not_area_exhausted d area None free is = absurd cc
+not_area_exhausted d area (Some Raise) free is = by_counter (d.counter == 2 ^ 64 - 1) is
   where
     by_counter : (b : Bool) → (if b then Some Exhausted else None) ≡ Some AreaExhausted → ⊥
     by_counter true is = absurd cc
     by_counter false is = absurd cc
-not_worn d area (Some (Put work)) free is = by_both (nat_le (2 ^ 64 - 1) d.next) (nat_lt area.slots (length d.pending + 3)) is
+not_area_exhausted d area (Some (Put work)) free is = by_both (nat_le (2 ^ 64 - 1) d.next) (nat_lt area.slots (length d.pending + 3)) is
   where
     by_both : (b c : Bool) → (if b then Some Exhausted else (if c then Some Full else area_refusal area)) ≡ Some AreaExhausted → ⊥
     by_both true c is = absurd cc
     by_both false true is = absurd cc
     by_both false false is = (let none = sym (area_free area free) ∙ is in absurd cc)
-not_worn d area (Some (JobDone id)) free is = (let none = sym (area_free area free) ∙ is in absurd cc)
+not_area_exhausted d area (Some (JobDone id)) free is = (let none = sym (area_free area free) ∙ is in absurd cc)
 
 -- ---- an event at a node that is up
 
@@ -191,11 +191,11 @@ answered_so old new event came first s has steps answers down_shows few stands d
 
 -- ---- an area that can be raised
 
--- nothing but an area that is used up is refused as worn
-worn_alone : (core : Option CoreFault) (disk : Option Refusal) (o : Outcome) → IsRefusedAs (first_of core disk) o → o ≡ outcome.Refused (OfNode AreaExhausted) → disk ≡ Some AreaExhausted
-worn_alone (Some fault) disk o is worn = (let both = sym is ∙ worn in absurd cc)
-worn_alone None None o is worn = absurd (is (OfNode AreaExhausted) worn)
-worn_alone None (Some why) o is worn = (let both = sym is ∙ worn in cc)
+-- nothing but an area that is used up is refused as area_exhausted
+area_exhausted_alone : (core : Option CoreFault) (disk : Option Refusal) (o : Outcome) → IsRefusedAs (first_of core disk) o → o ≡ outcome.Refused (OfNode AreaExhausted) → disk ≡ Some AreaExhausted
+area_exhausted_alone (Some fault) disk o is area_exhausted = (let both = sym is ∙ area_exhausted in absurd cc)
+area_exhausted_alone None None o is area_exhausted = absurd (is (OfNode AreaExhausted) area_exhausted)
+area_exhausted_alone None (Some why) o is area_exhausted = (let both = sym is ∙ area_exhausted in cc)
 
 -- the number that a node shows is within a bound of its disk's
 shown_within : (was : Memory) (number bound : ℕ) → AllNumbered number (state_of was) → AllWithin bound (state_of was) → number ≤ bound
@@ -213,38 +213,38 @@ pub record Shows (old : Node Memory) : Type 0 where
 
 module _ (old new : Node Memory) (event : Event) (came : StepReport) (first : ℕ) (s : NodeState) (disk : Memory) (at_disk : old.disk ≡ Some disk) (shows : Shows old) (stands : Stands state_of old s) where
   -- a node that is down refuses nothing so
-  worn_down : (slots : ℕ) (end : EventOutcome) → is_down old.state.phase ≡ true → Does slots old.id old.nodes s event came new.mounted (what_of event end) → came_outcome end first came ≡ outcome.Refused (OfNode AreaExhausted) → ⊥
-  worn_down slots (Refused AreaExhausted) is does worn =
+  area_exhausted_down : (slots : ℕ) (end : EventOutcome) → is_down old.state.phase ≡ true → Does slots old.id old.nodes s event came new.mounted (what_of event end) → came_outcome end first came ≡ outcome.Refused (OfNode AreaExhausted) → ⊥
+  area_exhausted_down slots (Refused AreaExhausted) is does area_exhausted =
       let fallen : s.state ≡ down old.id = sym stands.state ∙ shows.fallen is in
       let none = (at_down old.id old.nodes s event fallen does.possible.0 does.possible.1.0).wants in
       subst (λ (w : Option Command). IsAppended w) none does.possible.1.1.1
-  worn_down slots Done is does worn = cc
-  worn_down slots (Refused (Core f)) is does worn = absurd cc
-  worn_down slots (Refused Full) is does worn = absurd cc
-  worn_down slots (Refused Exhausted) is does worn = absurd cc
-  worn_down slots (Recovered kept) is does worn = cc
-  worn_down slots Faulted is does worn = cc
-  worn_down slots MountFailed is does worn = cc
-  worn_down slots (RaiseFailed kept) is does worn = cc
-  worn_down slots (RaiseRefused kept) is does worn = absurd cc
+  area_exhausted_down slots Done is does area_exhausted = cc
+  area_exhausted_down slots (Refused (Core f)) is does area_exhausted = absurd cc
+  area_exhausted_down slots (Refused Full) is does area_exhausted = absurd cc
+  area_exhausted_down slots (Refused Exhausted) is does area_exhausted = absurd cc
+  area_exhausted_down slots (Recovered kept) is does area_exhausted = cc
+  area_exhausted_down slots Faulted is does area_exhausted = cc
+  area_exhausted_down slots MountFailed is does area_exhausted = cc
+  area_exhausted_down slots (RaiseFailed kept) is does area_exhausted = cc
+  area_exhausted_down slots (RaiseRefused kept) is does area_exhausted = absurd cc
 
-  worn_up : (bound : ℕ) → is_down old.state.phase ≡ false → IsAnswered old event (came_outcome came.event_outcome first came) → AreaWithin bound old.disk → bound + 1 < 2 ^ 64 → came_outcome came.event_outcome first came ≡ outcome.Refused (OfNode AreaExhausted) → ⊥
-  worn_up bound is answered within more worn =
+  area_exhausted_up : (bound : ℕ) → is_down old.state.phase ≡ false → IsAnswered old event (came_outcome came.event_outcome first came) → AreaWithin bound old.disk → bound + 1 < 2 ^ 64 → came_outcome came.event_outcome first came ≡ outcome.Refused (OfNode AreaExhausted) → ⊥
+  area_exhausted_up bound is answered within more area_exhausted =
       let shown = shows.up is in
       let d = shown.0.0 in
       let area = shown.1.0 in
       let low = shown_within disk area.number bound (shows.number disk area at_disk shown.1.1) (within disk at_disk) in
-      not_worn d area (wants_of old.id d.pending event old.state) (can_rise area bound low more) (worn_alone _ _ _ (answered d area shown.0.1 shown.1.1) worn)
+      not_area_exhausted d area (wants_of old.id d.pending event old.state) (can_rise area bound low more) (area_exhausted_alone _ _ _ (answered d area shown.0.1 shown.1.1) area_exhausted)
 
   pub areas_so : Steps state_of old new event came → CountsOf state_of old.disk new.disk (answered (Ok came)) → IsAnswered old event (came_outcome came.event_outcome first came) → AreaRises old.disk new.disk (came_outcome came.event_outcome first came)
   areas_so steps counts answered bound within = (
     λ now at. counts.rises disk now at_disk at refl bound (within disk at_disk),
-    λ more worn. by_phase (is_down old.state.phase) refl more worn,
+    λ more area_exhausted. by_phase (is_down old.state.phase) refl more area_exhausted,
   )
     where
       by_phase : (b : Bool) → is_down old.state.phase ≡ b → bound + 1 < 2 ^ 64 → came_outcome came.event_outcome first came ≡ outcome.Refused (OfNode AreaExhausted) → ⊥
-      by_phase true is more worn = worn_down (slots_for (state_of disk).sectors) came.event_outcome is (steps disk s at_disk stands (λ _. refl)).0 worn
-      by_phase false is more worn = worn_up bound is answered within more worn
+      by_phase true is more area_exhausted = area_exhausted_down (slots_for (state_of disk).sectors) came.event_outcome is (steps disk s at_disk stands (λ _. refl)).0 area_exhausted
+      by_phase false is more area_exhausted = area_exhausted_up bound is answered within more area_exhausted
 
 -- ---- an event that comes to nothing
 
@@ -259,7 +259,7 @@ stuck_so old new event node.TooSmall disk at stuck s stands = absurd (stuck.stra
 
 -- ---- an act of the operator
 
--- where nothing is refused as worn, and the area stays
+-- where nothing is refused as area_exhausted, and the area stays
 pub area_stays : (old new : Option Memory) (o : Outcome) → o ≢ outcome.Refused (OfNode AreaExhausted) → ((bound : ℕ) → AreaWithin bound old → AreaWithin bound new) → AreaRises old new o
 area_stays old new o other stays bound within = (λ d at image number is cell. omega (arith, stays bound within d at image number is cell), λ _. other)
 
@@ -272,18 +272,18 @@ pub compacted_areas : {A : Type 0} (old new : Node Memory) (result : Result A No
     → ((d : Memory) (area : Area) → old.disk ≡ Some d → old.area ≡ Some area → AllNumbered area.number (state_of d)) → AreaRises old.disk new.disk o
 compacted_areas old new result o disk at_disk counts refused numbers bound within = (
   λ now at. counts.rises disk now at_disk at refl bound (within disk at_disk),
-  λ more worn. by_area old.area refl refused more worn,
+  λ more area_exhausted. by_area old.area refl refused more area_exhausted,
 )
   where
     by_last : (b : Bool) → b ≡ false → IsRefusedAs (if b then Some AreaExhausted else None) o → o ≡ outcome.Refused (OfNode AreaExhausted) → ⊥
-    by_last true free is worn = absurd cc
-    by_last false free is worn = is (OfNode AreaExhausted) worn
+    by_last true free is area_exhausted = absurd cc
+    by_last false free is area_exhausted = is (OfNode AreaExhausted) area_exhausted
 
     by_area : (area : Option Area) → old.area ≡ area → IsRefusedAs (compaction_refusal area) o → bound + 1 < 2 ^ 64 → o ≡ outcome.Refused (OfNode AreaExhausted) → ⊥
-    by_area None at is more worn = (let both = sym is ∙ worn in cc)
-    by_area (Some area) at is more worn =
+    by_area None at is more area_exhausted = (let both = sym is ∙ area_exhausted in cc)
+    by_area (Some area) at is more area_exhausted =
         let low = shown_within disk area.number bound (numbers disk area at_disk at) (within disk at_disk) in
-        by_last (is_last area) (can_rise area bound low more) is worn
+        by_last (is_last area) (can_rise area bound low more) is area_exhausted
 
 -- ---- the cluster
 

@@ -73,10 +73,10 @@ left_so old new last event came (inr forgot) id nodes counts steps =
 fate_is : (event : Event) (event_outcome : EventOutcome) → Some event_outcome ≡ fate_in (what_of event event_outcome)
 fate_is event event_outcome = grind arith
 
-pub comes_by : (event : Event) (old new : Node Memory) (net net' : Network) (came : StepReport) (deed : ActReport) → IsSome old.disk → Steps state_of old new event came
-    → deed.event_outcome ≡ Some came.event_outcome → deed.tried ≡ came.tried → deed.acked ≡ came.answer → deed.mounted ≡ is_mounting (what_of event came.event_outcome) → deed.outcome ≡ came_outcome came.event_outcome (length net.sent) came → net' ≡ after_all_sent net came.sent.items
-    → (slots : ℕ) (s : NodeState) (a : Act) → slots ≤ 4096 → IsOfSize slots old.disk → Stands state_of old s → Comes slots old.id old.nodes a (IsOf event) s deed new net net'
-comes_by event old new net net' came deed has steps event_outcome tried acked mounted outcome_is sent slots s a most size stands =
+pub comes_by : (event : Event) (old new : Node Memory) (net net' : Network) (came : StepReport) (action : ActReport) → IsSome old.disk → Steps state_of old new event came
+    → action.event_outcome ≡ Some came.event_outcome → action.tried ≡ came.tried → action.acked ≡ came.answer → action.mounted ≡ is_mounting (what_of event came.event_outcome) → action.outcome ≡ came_outcome came.event_outcome (length net.sent) came → net' ≡ after_all_sent net came.sent.items
+    → (slots : ℕ) (s : NodeState) (a : Act) → slots ≤ 4096 → IsOfSize slots old.disk → Stands state_of old s → Comes slots old.id old.nodes a (IsOf event) s action new net net'
+comes_by event old new net net' came action has steps event_outcome tried acked mounted outcome_is sent slots s a most size stands =
     let was = some_of old.disk has in
     let step = steps was.0 s was.1 stands (λ _. refl) in
     let does = step.0 in

@@ -13,7 +13,7 @@ use Rattle.histories.specs.Possible.{IsPossible}
 use Rattle.trace_check.specs.Claims.{Claim, MayCome, after_claim, brought_by}
 use Rattle.trace_check.specs.Traces.{claim}
 use Rattle.trace_check.specs.declared.order.Order.{Order}
-use Rattle.cluster_sim.specs.Traced.{deed_of, claim_of, trace_in, nodes_in, IsOrder, IsRecordOf, IsTraceOf}
+use Rattle.cluster_sim.specs.Traced.{action_of, claim_of, trace_in, nodes_in, IsOrder, IsRecordOf, IsTraceOf}
 use Rattle.histories.specs.Lists.{IsAmong, Each}
 use Rattle.histories.proofs.PublicLaws.{among_either, each_of}
 use Rattle.schedule.specs.declared.act.Act.{Act}
@@ -27,14 +27,14 @@ use Rattle.trace_check.proofs.PublicLaws.{turns, none_past}
 use Rattle.cluster_sim.proofs.Tracings.{entry_here, entry_elsewhere}
 
 written_so : (n nodes : ℕ) (s : NodeState) (what : HistoryEvent) → IsPossible n nodes s what
-    → let c = claim (deed_of what) (sent_at n nodes s what) in MayCome n nodes s c × (after_claim n nodes s c ≡ after n nodes s what)
+    → let c = claim (action_of what) (sent_at n nodes s what) in MayCome n nodes s c × (after_claim n nodes s c ≡ after n nodes s what)
 written_so n nodes s what may = grind arith
 
 -- what it says was brought is what was brought, where it wasn't refused
-brings : (what : HistoryEvent) → (brought_by (deed_of what) ≡ []) ⊎ (brought_by (deed_of what) ≡ brought (event_of what))
+brings : (what : HistoryEvent) → (brought_by (action_of what) ≡ []) ⊎ (brought_by (action_of what) ≡ brought (event_of what))
 brings what = grind arith
 
-brings_so : (P : List Envelope → Type 0) (what : HistoryEvent) → P [] → P (brought (event_of what)) → P (brought_by (deed_of what))
+brings_so : (P : List Envelope → Type 0) (what : HistoryEvent) → P [] → P (brought (event_of what)) → P (brought_by (action_of what))
 brings_so P what none is = elim (brings what) [ inl e ↦ subst P (sym e) none | inr e ↦ subst P (sym e) is ]
 
 next_of : {A : Type 0} (xs : List A) (i : ℕ) (x : A) (ys : List A) → drop i xs ≡ x ∷ ys → (slice_get xs i ≡ Some x) × (drop (suc i) xs ≡ ys)
@@ -63,7 +63,7 @@ takes nodes hs w past n number what left at rest may =
     let there = may.1 in
     let after_it = world_after nodes w (Takes n number what) in
     let es = sent_at n nodes (node_in w.states n) what in
-    let c = claim (deed_of what) es in
+    let c = claim (action_of what) es in
     let here = rest n ∙ ap (λ (xs : List Entry). map claim_of (xs ++ history_in n nodes after_it left)) (entry_here n nodes w number what) in
     let next = next_of (history hs n) (taken n past) c (map claim_of (history_in n nodes after_it left)) here in
     let written = written_so n nodes s what may.2 in

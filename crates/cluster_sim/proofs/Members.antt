@@ -18,7 +18,7 @@ use Rattle.runs.specs.Step.{Takes, Denies}
 use Rattle.runs.specs.Run.{IsBrought}
 use Rattle.runs.specs.Acts.{At, what_outcome}
 use Rattle.schedule.specs.declared.act.Act.{Act}
-use Rattle.cluster_sim.specs.World.{WorldView, IsMember, IsWorld, IsUntouched, IsUntouchedNode, StandsFor, IsSame, Comes, DeedOf, Makes, bare, IsCounted, FaultsAt}
+use Rattle.cluster_sim.specs.World.{WorldView, IsMember, IsWorld, IsUntouched, IsUntouchedNode, StandsFor, IsSame, Comes, ActionOf, Makes, bare, IsCounted, FaultsAt}
 use Rattle.cluster_sim.specs.declared.act_report.ActReport.{ActReport}
 use Rattle.runs.proofs.PublicLaws.{at_place, get_set_same, get_set_other, node_there}
 use Rattle.histories.proofs.PublicLaws.{eq_nat}
@@ -77,7 +77,7 @@ pub takes : {E : Type 0} (slots n number : ℕ) (a : Act) (P : NodeState → His
     → ((s : NodeState) (what : HistoryEvent) → P s what → IsBrought w number (brought (event_of what)) × AreAddressed n (brought (event_of what)))
     → ((s : NodeState) → Stands state_of old s → IfOk result (λ (d : ActReport). Comes slots old.id old.nodes a (P s) s d new net net'))
     → IfOk result (λ (d : ActReport). Makes a (λ step. At (nat_lt n (length w.states)) n number (P (node_in w.states n)) step) w d (record { slots = slots; nodes = slice_set nodes n new; net = net' }))
-takes slots n number a P nodes old new net net' (Ok deed) w cluster at stands brings comes =
+takes slots n number a P nodes old new net net' (Ok action) w cluster at stands brings comes =
     let within : n < length w.states = subst (λ (k : ℕ). n < k) stands.count (slice_get_within nodes n old at) in
     let count = length w.states in
     let member = cluster.members n old at in
@@ -85,8 +85,8 @@ takes slots n number a P nodes old new net net' (Ok deed) w cluster at stands br
     let was = here.0 in
     let was_at = here.1 in
     let it : node_in w.states n ≡ was = node_there w.states n was was_at in
-    let came : Comes slots n count a (P was) was deed new net net' =
-    subst₂ (λ (k l : ℕ). Comes slots k l a (P was) was deed new net net') member.id_is (member.nodes_is ∙ stands.count) (comes was (stands.each n old was at was_at)) in
+    let came : Comes slots n count a (P was) was action new net net' =
+    subst₂ (λ (k l : ℕ). Comes slots k l a (P was) was action new net net') member.id_is (member.nodes_is ∙ stands.count) (comes was (stands.each n old was at was_at)) in
     record {
       step = Takes n number came.what;
       is = subst (λ (b : Bool). At b n number (P (node_in w.states n)) (Takes n number came.what)) (sym (true_within n count within)) (came.what, refl, subst (λ (x : NodeState). P x came.what) (sym it) came.is);
@@ -95,7 +95,7 @@ takes slots n number a P nodes old new net net' (Ok deed) w cluster at stands br
       outcome_is = came.outcome_is ∙ (λ i. what_outcome n count (length (stands.net i).sent) (sym it i) came.what a);
       shows = λ node s at_n was_n. ap (λ (x : Node Memory). x.mounted) (sym (is_some new node (sym (get_set_same nodes n old new at) ∙ at_n))) ∙ came.mounted
           ∙ ap (λ (x : NodeState). mounted_at x came.what) (is_some was s (sym was_at ∙ was_n));
-      reports = λ s at_s. subst (λ (x : NodeState). DeedOf n count x came.what deed) (is_some was s (sym was_at ∙ at_s)) came.reports;
+      reports = λ s at_s. subst (λ (x : NodeState). ActionOf n count x came.what action) (is_some was s (sym was_at ∙ at_s)) came.reports;
       stands = rw it (moves slots n nodes old new net net' _ w was (after n count was came.what) at stands was_at came.stands
           (came.sent ∙ ap (λ (before : Network). after_all_sent before (sent_at n count was came.what)) stands.net));
     }

@@ -32,7 +32,7 @@ use Rattle.runs.proofs.PublicLaws.{Brings, groups_by, with_node, taken_there, lo
 use Rattle.histories.specs.Kept.{Mounting}
 use Rattle.runs.specs.Reporting.{Report, own_commands, tries, commands_at, mountings_at}
 use Rattle.runs.specs.declared.attempt_at.AttemptAt.{AttemptAt}
-use Rattle.cluster_sim.specs.World.{DeedOf, is_mounting}
+use Rattle.cluster_sim.specs.World.{ActionOf, is_mounting}
 use Rattle.cluster_sim.specs.Cluster.{command_in, work_in, tried_as, tried_at, mounting_at, mounted_now, given_in, listed}
 
 -- these commands, mountings and groups of a node are the ones that are reported, and a new count is no smaller than 1
@@ -99,14 +99,14 @@ act_whole n nodes number w (act.Compact m) what s of = compaction_whole n nodes 
 act_whole n nodes number w _ what s of = event_whole n nodes s _ what (taken_there _ _ 0 (IsOf _) n number what of).1
 
 -- what a step adds to a report is what its node n says
-pub record StepReported (nodes : ℕ) (w : World) (r : Report) (a : Act) (step : Step) (n : ℕ) (deed : ActReport) (mounting : Option Durable) : Type 0 where
-  pub whole : IsWhole a deed.tried
-  pub parts : PartsReported n (length (own_commands n r.commands)) (commands_at nodes w step) (mountings_at w r.commands step) (groups_by (commands_at nodes w step)) (command_in a deed.tried) deed.acked deed.mounted mounting
+pub record StepReported (nodes : ℕ) (w : World) (r : Report) (a : Act) (step : Step) (n : ℕ) (action : ActReport) (mounting : Option Durable) : Type 0 where
+  pub whole : IsWhole a action.tried
+  pub parts : PartsReported n (length (own_commands n r.commands)) (commands_at nodes w step) (mountings_at w r.commands step) (groups_by (commands_at nodes w step)) (command_in a action.tried) action.acked action.mounted mounting
 
-pub takes_reported : (n nodes number : ℕ) (w : World) (r : Report) (a : Act) (what : HistoryEvent) (s : NodeState) (deed : ActReport) (mounting : Option Durable) → slice_get w.states n ≡ Some s
-    → IsStepOf nodes w a (Takes n number what) → DeedOf n nodes s what deed → mounting ≡ mounted_at s what → StepReported nodes w r a (Takes n number what) n deed mounting
-takes_reported n nodes number w r a what s deed mounting at of reports is =
-    let command : command_in a deed.tried ≡ command_at n nodes s what = ap (λ (t : Option CommandKind). command_in a t) reports.tried ∙ act_whole n nodes number w a what s of in
+pub takes_reported : (n nodes number : ℕ) (w : World) (r : Report) (a : Act) (what : HistoryEvent) (s : NodeState) (action : ActReport) (mounting : Option Durable) → slice_get w.states n ≡ Some s
+    → IsStepOf nodes w a (Takes n number what) → ActionOf n nodes s what action → mounting ≡ mounted_at s what → StepReported nodes w r a (Takes n number what) n action mounting
+takes_reported n nodes number w r a what s action mounting at of reports is =
+    let command : command_in a action.tried ≡ command_at n nodes s what = ap (λ (t : Option CommandKind). command_in a t) reports.tried ∙ act_whole n nodes number w a what s of in
     record {
       whole = record { command = command_at n nodes s what; which = reports.tried; is = command };
       parts = rw (at, command, reports.acked, reports.mounted, is) (what_parts n nodes (length (own_commands n r.commands)) s what);
@@ -117,9 +117,9 @@ pub record AddsNothing (nodes : ℕ) (w : World) (step : Step) : Type 0 where
   pub commands : commands_at nodes w step ≡ []
   pub mountings : (before : List AttemptAt) → mountings_at w before step ≡ []
 
-pub quiet_reported : (nodes : ℕ) (w : World) (r : Report) (a : Act) (step : Step) (n : ℕ) (deed : ActReport) (mounting : Option Durable) → AddsNothing nodes w step → deed.tried ≡ None → deed.mounted ≡ false
-    → StepReported nodes w r a step n deed mounting
-quiet_reported nodes w r a step n deed mounting adds none unmounted = record {
+pub quiet_reported : (nodes : ℕ) (w : World) (r : Report) (a : Act) (step : Step) (n : ℕ) (action : ActReport) (mounting : Option Durable) → AddsNothing nodes w step → action.tried ≡ None → action.mounted ≡ false
+    → StepReported nodes w r a step n action mounting
+quiet_reported nodes w r a step n action mounting adds none unmounted = record {
   whole = record { command = None; which = none; is = ap (λ (t : Option CommandKind). command_in a t) none };
   parts = rw (adds.commands, adds.mountings, none, unmounted) (record { tried = refl; mountings = refl; given = refl; raises = λ k raise is. absurd (let bad = raise in cc) });
 }

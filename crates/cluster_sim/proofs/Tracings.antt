@@ -21,18 +21,18 @@ use Rattle.histories.specs.declared.history_event.HistoryEvent.TheVariants.{Did,
 use Rattle.histories.specs.declared.history_event.NoOpKind.TheVariants as resting
 use Rattle.histories.specs.HistoryEvent.{event_of, Entry}
 use Rattle.histories.specs.After.{sent_at}
-use Rattle.cluster_sim.specs.Deeds.{ActedAs, deed_by, IsNoted, IsStepped}
-use Rattle.cluster_sim.specs.Traced.{AreActed, AreTurns, deed_of, claim_of, trace_in, nodes_in, messages_in, message_if, IsNext as IsNextTurn, IsRecordOf, IsSoFar, HasWorld}
+use Rattle.cluster_sim.specs.Actions.{ActedAs, action_by, IsNoted, IsStepped}
+use Rattle.cluster_sim.specs.Traced.{AreActed, AreTurns, action_of, claim_of, trace_in, nodes_in, messages_in, message_if, IsNext as IsNextTurn, IsRecordOf, IsSoFar, HasWorld}
 use Rattle.runs.specs.Growth.{IsNext}
 use Rattle.trace_check.specs.declared.order.Order.{Order}
 use Rattle.trace_check.specs.declared.trace.TraceAction.{TraceAction}
-use Rattle.trace_check.specs.Claims.{Claim, brought_by as deed_brought}
+use Rattle.trace_check.specs.Claims.{Claim, brought_by as action_brought}
 use Rattle.runs.proofs.PublicLaws.{Brings, acts_go_on, step_length, length_openings, at_place, how_many}
 use Rattle.runs.specs.declared.outcome.Outcome.{Outcome}
 use Rattle.cluster_sim.specs.Acting.{IsActed}
 use Rattle.cluster_sim.specs.Names.{node_named}
 use Rattle.cluster_sim.specs.Operated.{Operates}
-use Rattle.cluster_sim.specs.World.{AreUnarmed, FaultsAt, ReportsDeed, WorldView, StandsFor, armed_by, fate_in}
+use Rattle.cluster_sim.specs.World.{AreUnarmed, FaultsAt, ReportsAction, WorldView, StandsFor, armed_by, fate_in}
 use Rattle.cluster_sim.specs.declared.act_report.ActReport.{ActReport as Told}
 use Rattle.histories.specs.declared.event_outcome.EventOutcome.{EventOutcome}
 use Rattle.node_core.specs.declared.event.Event.{Event as CoreEvent}
@@ -123,7 +123,7 @@ pub entry_elsewhere : (n m nodes : ℕ) (w : World) (number : ℕ) (what : Histo
 entry_elsewhere n m nodes w number what other = rw (ne_eqb n m (λ is. other (sym is))) refl
 
 -- what was told stands in the trace as what came
-told_event : (event : CoreEvent) (what : HistoryEvent) (f : Option EventOutcome) (o : Outcome) → event_of what ≡ Some event → f ≡ fate_in what → deed_of what ≡ deed_by f (Event event) o
+told_event : (event : CoreEvent) (what : HistoryEvent) (f : Option EventOutcome) (o : Outcome) → event_of what ≡ Some event → f ≡ fate_in what → action_of what ≡ action_by f (Event event) o
 told_event event (Did e) f o of is = rw (is, is_some e event of) refl
 told_event event (Refused e fault) f o of is = rw is refl
 told_event event (Faulted e) f o of is = rw (is, is_some e event of) refl
@@ -134,7 +134,7 @@ told_event event MountFailed f o of is = rw is refl
 told_event event (RaiseFailed kept) f o of is = rw is refl
 told_event event (RaiseRefused kept) f o of is = rw is refl
 
-told_compaction : (what : HistoryEvent) (f : Option EventOutcome) (self nodes first : ℕ) (s now : NodeState) → IsCompaction now what → f ≡ fate_in what → deed_of what ≡ deed_by f Compaction (what_outcome self nodes first s what (act.Compact 0))
+told_compaction : (what : HistoryEvent) (f : Option EventOutcome) (self nodes first : ℕ) (s now : NodeState) → IsCompaction now what → f ≡ fate_in what → action_of what ≡ action_by f Compaction (what_outcome self nodes first s what (act.Compact 0))
 told_compaction (NoOp resting.Nothing) f self nodes first s now came is = rw is refl
 told_compaction (NoOp resting.Compacted) f self nodes first s now came is = rw is refl
 told_compaction (NoOp resting.CompactDown) f self nodes first s now came is = rw is refl
@@ -142,7 +142,7 @@ told_compaction (NoOp resting.CompactAreaExhausted) f self nodes first s now cam
 told_compaction Crashed f self nodes first s now came is = rw is refl
 told_compaction what f self nodes first s now came is = absurd came
 
-told_so : (b : Brought) (what : HistoryEvent) (f : Option EventOutcome) (o : Outcome) (self nodes first : ℕ) (s : NodeState) → CameOf s b what → f ≡ fate_in what → o ≡ what_outcome self nodes first s what (bringing b) → deed_of what ≡ deed_by f b o
+told_so : (b : Brought) (what : HistoryEvent) (f : Option EventOutcome) (o : Outcome) (self nodes first : ℕ) (s : NodeState) → CameOf s b what → f ≡ fate_in what → o ≡ what_outcome self nodes first s what (bringing b) → action_of what ≡ action_by f b o
 told_so (Event event) what f o self nodes first s came is ended = told_event event what f o came is
 told_so Arming what f o self nodes first s came is ended = rw (is, came) refl
 told_so Crash what f o self nodes first s came is ended = rw (is, came) refl
@@ -217,7 +217,7 @@ nodes_go_on (Denies n why ∷ steps) step = nodes_go_on steps step
 
 messages_go_on : (steps : List Step) (step : Step) → messages_in (steps ++ step ∷ []) ≡ messages_in steps ++ messages_in (step ∷ [])
 messages_go_on [] step = refl
-messages_go_on (Takes n number what ∷ steps) step = ap (λ (ms : List (Option ℕ)). message_if (deed_brought (deed_of what)) number ∷ ms) (messages_go_on steps step)
+messages_go_on (Takes n number what ∷ steps) step = ap (λ (ms : List (Option ℕ)). message_if (action_brought (action_of what)) number ∷ ms) (messages_go_on steps step)
 messages_go_on (Changes net ∷ steps) step = messages_go_on steps step
 messages_go_on (Denies n why ∷ steps) step = messages_go_on steps step
 
@@ -264,7 +264,7 @@ goes_on nodes slots before a old new trace trace' order order' so step turned sa
 pub traced : (nodes slots : ℕ) (before : List Act) (a : Act) (n : ℕ) (b : Brought) (d : TraceAction) (old new : WorldView) (place : ℕ) (sent : List Envelope) (trace trace' : List (List Claim)) (order order' : Order)
     → IsSoFar nodes slots old before trace order → new.slots ≡ old.slots → ((w : World) → StandsFor old w → ActedAs old w a b d new) → brought_by (length old.nodes) old.net a ≡ Some (n, b)
     → place ≡ length old.net.sent → sent ≡ drop place new.net.sent
-    → IsNoted n (claim d sent) trace trace' → IsNextTurn n (message_if (deed_brought d) (number_of a)) order order'
+    → IsNoted n (claim d sent) trace trace' → IsNextTurn n (message_if (action_brought d) (number_of a)) order order'
     → IsSoFar nodes slots new (before ++ a ∷ []) trace' order'
 traced nodes slots before a n b d old new place sent trace trace' order order' so same acts brings place_is sent_is noted next_turn =
     let w = world_at nodes (start nodes) so.run.steps in
@@ -278,9 +278,9 @@ traced nodes slots before a n b d old new place sent trace trace' order order' s
     let next : IsNext size new.slots w a step = subst (λ (x : Step). IsNext size new.slots w a x) at.is acted.next in
     let s = next.allowed.0 in
     let there : slice_get w.states n ≡ Some s = next.allowed.1 in
-    let told_of = (subst (λ (x : Step). ReportsDeed w x told) at.is did.1.reports) s there in
+    let told_of = (subst (λ (x : Step). ReportsAction w x told) at.is did.1.reports) s there in
     let outcome_is : told.outcome ≡ act_outcome size w a step = acted.outcome_is ∙ ap (λ (x : Step). act_outcome size w a x) at.is in
-    let deed_is : deed_of at.what ≡ d =
+    let action_is : action_of at.what ≡ d =
     told_so b at.what told.event_outcome told.outcome n size (length w.net.sent) (node_in w.states n) at.came told_of.event_outcome (outcome_is ∙ at.same_outcome n size (length w.net.sent) (node_in w.states n)) ∙ sym did.2 in
     let stands : StandsFor new (world_after size w step) = subst (λ (x : Step). StandsFor new (world_after size w x)) at.is acted.stands in
     let sent_are : sent_at n size (node_in w.states n) at.what ≡ sent =
@@ -288,7 +288,7 @@ traced nodes slots before a n b d old new place sent trace trace' order order' s
     ∙ ap (λ (net : Network). drop (length net.sent) new.net.sent) (sym so.stands.net) ∙ ap (λ (k : ℕ). drop k new.net.sent) (sym place_is) ∙ sym sent_is in
     let entry : Entry = record { what = at.what; sent = sent_at n nodes (node_in w.states n) at.what } in
     let sent_there : entry.sent ≡ sent = subst (λ (k : ℕ). sent_at n k (node_in w.states n) at.what ≡ sent) so.count sent_are in
-    let claim_is : claim_of entry ≡ claim d sent = λ i. record { deed = deed_is i; sent = sent_there i } in
+    let claim_is : claim_of entry ≡ claim d sent = λ i. record { action = action_is i; sent = sent_there i } in
     let hs = trace_in (histories_of nodes so.run.steps) in
     let many = length-map (histories_of nodes so.run.steps) (λ (h : List Entry). map claim_of h) ∙ how_many nodes 0 nodes so.run.steps in
     let h = at_place hs n (let within = slice_get_within w.states n s there in let count = so.count in omega (arith, within, count, many)) in
@@ -296,8 +296,8 @@ traced nodes slots before a n b d old new place sent trace trace' order order' s
     let of_histories : trace' ≡ trace_in (histories_of nodes (so.run.steps ++ step ∷ [])) =
     noted h.0 (ap (λ (xs : List (List Claim)). slice_get xs n) so.run.of_histories ∙ h.1) ∙ ap (λ (xs : List (List Claim)). slice_set xs n (h.0 ++ claim d sent ∷ [])) so.run.of_histories
     ∙ ap (λ (c : Claim). slice_set hs n (h.0 ++ c ∷ [])) (sym claim_is) ∙ sym grown in
-    let message : message_if (deed_brought d) (number_of a) ≡ message_if (deed_brought (deed_of at.what)) at.number =
-    λ i. message_if (deed_brought (sym deed_is i)) (sym at.numbered i) in
+    let message : message_if (action_brought d) (number_of a) ≡ message_if (action_brought (action_of at.what)) at.number =
+    λ i. message_if (action_brought (sym action_is i)) (sym at.numbered i) in
     let turned : IsTurned step order order' = record { nodes = next_turn.nodes; messages = next_turn.messages ∙ ap (λ (k : Option ℕ). order.messages.items ++ k ∷ []) message } in
     goes_on nodes slots before a old new trace trace' order order' so step turned same next of_histories (record {
       stands = stands;

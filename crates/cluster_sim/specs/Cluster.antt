@@ -78,7 +78,7 @@ abbrev pub command_in : Act → Option CommandKind → Option Command
 command_in a tried = command_with (work_in a) tried
 
 abbrev pub tried_by : Act → ActReport → Option Attempt
-tried_by a deed = tried_as (command_in a deed.tried) deed.acked
+tried_by a action = tried_as (command_in a action.tried) action.acked
 
 abbrev pub tried_at : ℕ → Option Attempt → Option AttemptAt
 tried_at n None = None
@@ -108,9 +108,9 @@ with_act m tried mounted r = record {
 }
 
 -- with this act of node n, which is as it is now and had tried so many commands before, where these are all messages
-abbrev pub with_deed : List Envelope → ℕ → ℕ → Act → ActReport → Node Memory → Report → Report
-with_deed sent n before a deed node r =
-    with_act (record { act = a; node = n; outcome = deed.outcome; sent = sent_under sent deed.outcome; state = node.state }) (tried_at n (tried_by a deed)) (mounting_at n before (mounted_now deed.mounted node.mounted)) r
+abbrev pub with_action : List Envelope → ℕ → ℕ → Act → ActReport → Node Memory → Report → Report
+with_action sent n before a action node r =
+    with_act (record { act = a; node = n; outcome = action.outcome; sent = sent_under sent action.outcome; state = node.state }) (tried_at n (tried_by a action)) (mounting_at n before (mounted_now action.mounted node.mounted)) r
 
 -- a report with one more node that opened
 abbrev pub with_opening : ℕ → State → Report → Report

@@ -7,5 +7,5 @@ pub mod Acting
 pub mod Cluster
 pub mod Deliveries
 pub mod Bringing
-pub mod Deeds
+pub mod Actions
 pub mod Traced

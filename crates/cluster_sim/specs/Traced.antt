@@ -8,7 +8,7 @@ use Rattle.histories.specs.declared.history_event.HistoryEvent.TheVariants.{Did,
 use Rattle.histories.specs.HistoryEvent.{Entry}
 use Rattle.schedule.specs.declared.act.Act.{Act}
 use Rattle.trace_check.specs.declared.trace.TraceAction.{TraceAction}
-use Rattle.trace_check.specs.declared.trace.TraceAction.TheVariants as deed
+use Rattle.trace_check.specs.declared.trace.TraceAction.TheVariants as action
 use Rattle.trace_check.specs.declared.trace.RecoverFault.TheVariants as recover
 use Rattle.trace_check.specs.declared.order.Order.{Order}
 use Rattle.trace_check.specs.Claims.{Claim, brought_by}
@@ -22,28 +22,28 @@ use Rattle.cluster_sim.specs.World.{AreUnarmed, WorldView, StandsFor}
 
 -- an event that was handled: a recovery of a node that is up has a name of its own
 abbrev pub done : Event → TraceAction
-done on.Recover = deed.Recovered false
-done event = deed.Done event
+done on.Recover = action.Recovered false
+done event = action.Done event
 
 -- and one in whose command the device failed
 abbrev pub failed : Event → TraceAction
-failed on.Recover = deed.NotRecovered false recover.Raise
-failed event = deed.Faulted event
+failed on.Recover = action.NotRecovered false recover.Raise
+failed event = action.Faulted event
 
 -- how what came stands in a trace: what was refused, and what leaves a node as it is, is nothing
-abbrev pub deed_of : HistoryEvent → TraceAction
-deed_of (Did event) = done event
-deed_of (Refused event fault) = deed.Nothing
-deed_of (Faulted event) = failed event
-deed_of (NoOp rest) = deed.Nothing
-deed_of Crashed = deed.Crashed
-deed_of (Recovered kept) = deed.Recovered kept
-deed_of MountFailed = deed.NotRecovered false recover.Mount
-deed_of (RaiseFailed kept) = deed.NotRecovered kept recover.Raise
-deed_of (RaiseRefused kept) = deed.Nothing
+abbrev pub action_of : HistoryEvent → TraceAction
+action_of (Did event) = done event
+action_of (Refused event fault) = action.Nothing
+action_of (Faulted event) = failed event
+action_of (NoOp rest) = action.Nothing
+action_of Crashed = action.Crashed
+action_of (Recovered kept) = action.Recovered kept
+action_of MountFailed = action.NotRecovered false recover.Mount
+action_of (RaiseFailed kept) = action.NotRecovered kept recover.Raise
+action_of (RaiseRefused kept) = action.Nothing
 
 abbrev pub claim_of : Entry → Claim
-claim_of e = record { deed = deed_of e.what; sent = e.sent }
+claim_of e = record { action = action_of e.what; sent = e.sent }
 
 abbrev pub trace_in : List (List Entry) → List (List Claim)
 trace_in hs = map (λ (h : List Entry). map claim_of h) hs
@@ -84,7 +84,7 @@ message_if (m ∷ ms) number = Some number
 -- of each turn the number of the message that its node was brought; of one that it refused nothing stands in a trace
 abbrev pub messages_in : List Step → List (Option ℕ)
 messages_in [] = []
-messages_in (Takes n number what ∷ steps) = message_if (brought_by (deed_of what)) number ∷ messages_in steps
+messages_in (Takes n number what ∷ steps) = message_if (brought_by (action_of what)) number ∷ messages_in steps
 messages_in (Changes net ∷ steps) = messages_in steps
 messages_in (Denies n why ∷ steps) = messages_in steps
 

@@ -115,20 +115,20 @@ abbrev pub bare : Outcome → ActReport
 bare o = record { outcome = o; event_outcome = None; tried = None; acked = None; mounted = false }
 
 -- the node says this of its disk
-pub record DeedOf (id nodes : ℕ) (s : NodeState) (what : HistoryEvent) (deed : ActReport) : Type 0 where
-  pub event_outcome : deed.event_outcome ≡ fate_in what
-  pub tried : deed.tried ≡ option_map attempt_of (command_at id nodes s what)
-  pub acked : deed.acked ≡ answer_at id nodes s what
-  pub mounted : deed.mounted ≡ is_mounting what
+pub record ActionOf (id nodes : ℕ) (s : NodeState) (what : HistoryEvent) (action : ActReport) : Type 0 where
+  pub event_outcome : action.event_outcome ≡ fate_in what
+  pub tried : action.tried ≡ option_map attempt_of (command_at id nodes s what)
+  pub acked : action.acked ≡ answer_at id nodes s what
+  pub mounted : action.mounted ≡ is_mounting what
 
 -- one such thing came of a call at a node that was in this state, and so it is reported of this act, sent and kept
-pub record Comes (slots id nodes : ℕ) (a : Act) (P : HistoryEvent → Type 0) (s : NodeState) (deed : ActReport) (new : Node Memory) (net net' : Network) : Type 0 where
+pub record Comes (slots id nodes : ℕ) (a : Act) (P : HistoryEvent → Type 0) (s : NodeState) (action : ActReport) (new : Node Memory) (net net' : Network) : Type 0 where
   pub what : HistoryEvent
   pub is : P what
   pub possible : IsPossible id nodes s what
   pub of_slots : IsOfSlots slots id nodes s what
-  pub outcome_is : deed.outcome ≡ what_outcome id nodes (length net.sent) s what a
-  pub reports : DeedOf id nodes s what deed
+  pub outcome_is : action.outcome ≡ what_outcome id nodes (length net.sent) s what a
+  pub reports : ActionOf id nodes s what action
   pub sent : net' ≡ after_all_sent net (sent_at id nodes s what)
   pub mounted : new.mounted ≡ mounted_at s what
   pub stands : Stands state_of new (after id nodes s what)
@@ -211,25 +211,25 @@ pub record Acted (w : World) (act : Act) (outcome : Outcome) (new : WorldView) :
   pub stands : StandsFor new (world_after (length w.states) w step)
 
 -- what the node of a step says of its disk: where no node takes it, nothing
-abbrev pub ReportsDeed : World → Step → ActReport → Type 0
-ReportsDeed w (Takes n number what) deed = (s : NodeState) → slice_get w.states n ≡ Some s → DeedOf n (length w.states) s what deed
-ReportsDeed w step deed = (deed.tried ≡ None) × (deed.mounted ≡ false) × (deed.event_outcome ≡ None)
+abbrev pub ReportsAction : World → Step → ActReport → Type 0
+ReportsAction w (Takes n number what) action = (s : NodeState) → slice_get w.states n ≡ Some s → ActionOf n (length w.states) s what action
+ReportsAction w step action = (action.tried ≡ None) × (action.mounted ≡ false) × (action.event_outcome ≡ None)
 
 -- a step of this kind led from what the cluster stood for to what it stands for now, and so it is reported of this act
-pub record Makes (a : Act) (Q : Step → Type 0) (w : World) (deed : ActReport) (new : WorldView) : Type 0 where
+pub record Makes (a : Act) (Q : Step → Type 0) (w : World) (action : ActReport) (new : WorldView) : Type 0 where
   pub step : Step
   pub is : Q step
   pub allowed : IsAllowed (length w.states) w step
   pub of_slots : StepOfSlots new.slots (length w.states) w step
-  pub outcome_is : deed.outcome ≡ act_outcome (length w.states) w a step
+  pub outcome_is : action.outcome ≡ act_outcome (length w.states) w a step
   pub shows : Shows w step new
-  pub reports : ReportsDeed w step deed
+  pub reports : ReportsAction w step action
   pub stands : StandsFor new (world_after (length w.states) w step)
 
 -- the act, and what its node says
-pub record Performed (w : World) (act : Act) (deed : ActReport) (new : WorldView) : Type 0 where
-  pub acted : Acted w act deed.outcome new
-  pub reports : ReportsDeed w acted.step deed
+pub record Performed (w : World) (act : Act) (action : ActReport) (new : WorldView) : Type 0 where
+  pub acted : Acted w act action.outcome new
+  pub reports : ReportsAction w acted.step action
 
 -- the disk of a node, if there is such a node
 abbrev pub disk_of : Option (Node Memory) → Option Memory

@@ -1,7 +1,7 @@
 // What an act brings to a node.
 ghost use Rattle.std.specs.Prelude.{◌≡◌, ◌<◌, IfSome};
 ghost use Rattle.sim_net.specs.Network.{delivery};
-ghost use Rattle.trace_check.specs.Claims.{brought_by as deed_brought};
+ghost use Rattle.trace_check.specs.Claims.{brought_by as action_brought};
 ghost use Rattle.cluster_sim.specs.Bringing.{brought_by, delivered, number_of};
 ghost use Rattle.cluster_sim.specs.Traced.{message_if};
 
@@ -54,11 +54,11 @@ fn delivered(net: &Net, number: u64) -> Option<(NodeId, Brought)>
     }
 }
 
-/// The number of the message that an act brought to a node, where its deed says that it was brought one.
-pub(crate) fn message_of(act: &Act, deed: &TraceAction) -> Option<u64>
-    ensures { result ≡ message_if (deed_brought deed.now) (number_of act.now) }
+/// The number of the message that an act brought to a node, where its action says that it was brought one.
+pub(crate) fn message_of(act: &Act, action: &TraceAction) -> Option<u64>
+    ensures { result ≡ message_if (action_brought action.now) (number_of act.now) }
 {
-    deed.brought()?;
+    action.brought()?;
     match act {
         Act::Deliver(number) => Some(*number),
         _ => Some(0),

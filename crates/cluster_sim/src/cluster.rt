@@ -97,10 +97,10 @@ impl Cluster {
         // Promise: An act `arm` arms its node's disk with just so many calls, `crash` leaves of it what a crash leaves with just
         // these bytes, and `compact` is refused and does as `DurableNode::compact` says.
         // Also: World::step.
-        // Refuses: armed_for_one_call_at_most, crash_with_one_byte, worn_answered_as_exhausted, compaction_left_out.
+        // Refuses: armed_for_one_call_at_most, crash_with_one_byte, area_exhausted_answered_as_exhausted, compaction_left_out.
         ensures disk { IfOk result (Operates act self.old.world self.new.world) }
         ensures answers { IfOk result (IsAnsweredBy act self.old.world) }
-        ensures unworn { IfOk result (λ outcome. outcome ≢ outcomes.Refused (OfNode AreaExhausted)) }
+        ensures never_area_exhausted { IfOk result (λ outcome. outcome ≢ outcomes.Refused (OfNode AreaExhausted)) }
         // Promise: Want of memory leaves cluster and report as they were, so the same act made again has the same steps; no node,
         // disk or network has changed, but that a node may not show any more what it mounted last.
         // Also: untouched, World::step.
@@ -195,20 +195,20 @@ fn advance(
     ensures faults { IfOk result (FaultsAt (armed_by act) (node_named (length world.old.nodes) world.old.net.sent act) world.old world.new) }
     ensures disk { IfOk result (Operates act world.old world.new) }
     ensures answers { IfOk result (IsAnsweredBy act world.old) }
-    ensures unworn { IfOk result (λ outcome. outcome ≢ outcomes.Refused (OfNode AreaExhausted)) }
+    ensures never_area_exhausted { IfOk result (λ outcome. outcome ≢ outcomes.Refused (OfNode AreaExhausted)) }
     ensures memory { (w : RunWorld) → Reports (cluster_with world.old report.old) w → OnErr result (Reports (cluster_with world.new report.new) w) }
     ensures untouched { OnErr result (IsUntouched (node_named (length world.old.nodes) world.old.net.sent act) world.old world.new × ((cluster_with world.new report.new).report ≡ (cluster_with world.old report.old).report)) }
 {
     let id = node_named(world.count(), world.net(), &act);
     let room = report.reserve(alloc, world.node(id), world.slots())?;
-    let deed = world.step(&act)?;
+    let action = world.step(&act)?;
     let place = usize::from(id.number());
     let before = counts[place];
-    if deed.tried.is_some() {
+    if action.tried.is_some() {
         counts[place] = before + 1;
     }
-    report.add(world.node(id), id, before, act, deed, room);
-    Ok(deed.outcome)
+    report.add(world.node(id), id, before, act, action, room);
+    Ok(action.outcome)
 }
 
 /// Runs acts on a cluster that just opened, and gives its report, with the network that holds the messages. The numbers in an

@@ -15,7 +15,7 @@ mod act_report;
 mod acts;
 mod bringing;
 mod cluster;
-mod deeds;
+mod actions;
 mod member;
 mod naming;
 mod nodes;

@@ -42,12 +42,12 @@ pub(crate) fn handle(
 ) -> Result<ActReport, AllocError>
     ensures same { IsSame node.old node.new }
     ensures came { (slots : ℕ) (s : NodeState) (a : AnyAct) → slots ≤ 4096 → IsOfSize slots node.old.disk → Stands state_of node.old s
-        → IfOk result (λ deed. Comes slots node.old.id node.old.nodes a (IsOf event.now) s deed node.new net.old.network net.new.network) }
+        → IfOk result (λ action. Comes slots node.old.id node.old.nodes a (IsOf event.now) s action node.new net.old.network net.new.network) }
     ensures memory { OnErr result ((s : NodeState) → Stands state_of node.old s → IsUntouchedNode node.old node.new) }
     ensures unsent { OnErr result (net.new.network ≡ net.old.network) }
-    ensures counted { IfOk result (λ deed. IsCounted as_before node.old.disk node.new.disk deed.outcome) }
-    ensures answers { (s : NodeState) → Stands state_of node.old s → IfOk result (λ deed. IsAnswered node.old event.now deed.outcome) }
-    ensures areas { (s : NodeState) → Stands state_of node.old s → IfOk result (λ deed. AreaRises node.old.disk node.new.disk deed.outcome) }
+    ensures counted { IfOk result (λ action. IsCounted as_before node.old.disk node.new.disk action.outcome) }
+    ensures answers { (s : NodeState) → Stands state_of node.old s → IfOk result (λ action. IsAnswered node.old event.now action.outcome) }
+    ensures areas { (s : NodeState) → Stands state_of node.old s → IfOk result (λ action. AreaRises node.old.disk node.new.disk action.outcome) }
 {
     lend_room(node, room);
     node.is_fallen();

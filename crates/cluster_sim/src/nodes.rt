@@ -95,12 +95,12 @@ impl Nodes {
     pub(crate) fn take(&mut self, id: NodeId, event: &Event) -> Result<ActReport, AllocError>
         ensures slots { self.new.slots ≡ self.old.slots }
         ensures acted { (w : World) (number : ℕ) (a : AnyAct) → StandsFor self.old w → IsBrought w number (brought (Some event.now)) → AreAddressed id (brought (Some event.now))
-            → IfOk result (λ deed. Makes a (λ step. At (nat_lt id (length w.states)) id number (IsOf event.now) step) w deed self.new) }
+            → IfOk result (λ action. Makes a (λ step. At (nat_lt id (length w.states)) id number (IsOf event.now) step) w action self.new) }
         ensures memory { (w : World) → StandsFor self.old w → OnErr result (StandsFor self.new w) }
         ensures untouched { (w : World) → StandsFor self.old w → OnErr result (IsUntouched (node_or_first (length self.old.nodes) id) self.old self.new) }
-        ensures faults { IfOk result (λ deed. FaultsAt as_before (node_or_first (length self.old.nodes) id) self.old self.new deed.outcome) }
-        ensures answers { (w : World) → StandsFor self.old w → IfOk result (λ deed. IsAnsweredAt self.old.nodes id event.now deed.outcome) }
-        ensures areas { (w : World) → StandsFor self.old w → IfOk result (λ deed. AreasRise self.old self.new deed.outcome) }
+        ensures faults { IfOk result (λ action. FaultsAt as_before (node_or_first (length self.old.nodes) id) self.old self.new action.outcome) }
+        ensures answers { (w : World) → StandsFor self.old w → IfOk result (λ action. IsAnsweredAt self.old.nodes id event.now action.outcome) }
+        ensures areas { (w : World) → StandsFor self.old w → IfOk result (λ action. AreasRise self.old self.new action.outcome) }
     {
         let place = usize::from(id.number());
         if place >= self.nodes.len() {

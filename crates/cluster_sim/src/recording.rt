@@ -8,7 +8,7 @@ ghost use Rattle.cluster_sim.specs.World.{StandsFor};
 ghost use Rattle.runs.specs.Reporting.{report_of};
 ghost use Rattle.runs.specs.Numbered.{sent_under};
 ghost use Rattle.runs.specs.World.{start};
-ghost use Rattle.cluster_sim.specs.Cluster.{moment_in, report_in, mounted_of, HasRoom, command_in, listed, with_deed, with_opening, given_in, mounting_at, pending_room, tried_as, tried_at, work_in};
+ghost use Rattle.cluster_sim.specs.Cluster.{moment_in, report_in, mounted_of, HasRoom, command_in, listed, with_action, with_opening, given_in, mounting_at, pending_room, tried_as, tried_at, work_in};
 
 use crate::act_report::ActReport;
 use crate::naming::hand_room;
@@ -84,26 +84,26 @@ impl Report {
         id: NodeId,
         before: u64,
         act: Act,
-        deed: ActReport,
+        action: ActReport,
         room: Room,
     )
         requires room { HasRoom self.old }
         requires hand { length node.now.state.hand ≤ room.vector.hand.room }
         requires empty { room.pending.items ≡ [] }
-        requires jobs { (mounted : Durable) → deed.mounted ≡ true → node.now.mounted ≡ Some mounted → length mounted.pending ≤ vec_capacity room.pending }
-        requires count { (count : ℕ) → deed.tried ≡ Some CommandKind.Raise → deed.acked ≡ Some count → 1 ≤ count }
-        ensures { (sent : List Envelope) → report_in self.new sent ≡ with_deed sent id before act deed node.now (report_in self.old sent) }
+        requires jobs { (mounted : Durable) → action.mounted ≡ true → node.now.mounted ≡ Some mounted → length mounted.pending ≤ vec_capacity room.pending }
+        requires count { (count : ℕ) → action.tried ≡ Some CommandKind.Raise → action.acked ≡ Some count → 1 ≤ count }
+        ensures { (sent : List Envelope) → report_in self.new sent ≡ with_action sent id before act action node.now (report_in self.old sent) }
     {
         let Room { vector, pending } = room;
-        let mounted = if deed.mounted {
+        let mounted = if action.mounted {
             mounted_by(node, id, before, pending)
         } else {
             None
         };
-        let group = given_by(id, deed.tried, deed.acked);
-        let command: Option<Command> = command_in(&act, deed.tried);
-        let tried: Option<Attempt> = tried_by(command, deed.acked);
-        let moment = moment_of(node, id, act, deed.outcome, vector);
+        let group = given_by(id, action.tried, action.acked);
+        let command: Option<Command> = command_in(&act, action.tried);
+        let tried: Option<Attempt> = tried_by(command, action.acked);
+        let moment = moment_of(node, id, act, action.outcome, vector);
         self.moments.push_reserved(moment);
         push_some(&mut self.groups, group);
         push_some(&mut self.commands, tried_at(id, tried));

@@ -8,11 +8,11 @@ ghost use Rattle.trace_check.specs.Claims.{Claim};
 ghost use Rattle.trace_check.specs.Traces.{claim};
 ghost use Rattle.trace_check.specs.Verdicts.{IsRun};
 ghost use Rattle.cluster_sim.specs.Bringing.{brought_by};
-ghost use Rattle.cluster_sim.specs.Deeds.{ActedAs, IsNoted, IsStepped};
+ghost use Rattle.cluster_sim.specs.Actions.{ActedAs, IsNoted, IsStepped};
 ghost use Rattle.cluster_sim.specs.Traced.{HasWorld, IsNext, IsOrder, IsRecordOf, IsSoFar, IsTraceOf};
 
 use crate::bringing::{Brought, brought_by, message_of};
-use crate::deeds::deed_by;
+use crate::actions::action_by;
 use crate::world::World;
 use group_task::NodeId;
 use message_list::MessageList;
@@ -127,10 +127,10 @@ fn trace_act(
         return step(world, act);
     };
     let place = world.net().sent().len();
-    let deed = perform(world, act, &brought)?;
+    let action = perform(world, act, &brought)?;
     let sent = sent_since(alloc, world.net().sent(), place)?;
-    let message = message_of(act, &deed);
-    note(histories, order, id, &deed, message, &sent)
+    let message = message_of(act, &action);
+    note(histories, order, id, &action, message, &sent)
 }
 
 /// Does an act that comes to no node.
@@ -147,12 +147,12 @@ fn step(world: &mut World, act: &Act) -> Result<(), AllocError>
 /// Does an act that brings this to a node: what was done there, as the node tells. Want of memory is an error, wherever it came.
 fn perform(world: &mut World, act: &Act, brought: &Brought) -> Result<TraceAction, AllocError>
     ensures slots { world.new.slots ≡ world.old.slots }
-    ensures acted { (w : RunWorld) → StandsFor world.old w → IfOk result (λ deed. ActedAs world.old w act.now brought.now deed world.new) }
+    ensures acted { (w : RunWorld) → StandsFor world.old w → IfOk result (λ action. ActedAs world.old w act.now brought.now action world.new) }
 {
     let told = world.step(act)?;
     match told.outcome {
         Outcome::Refused(ActRefusal::Node(Refusal::Core(CoreFault::NoMemory))) => Err(AllocError),
-        _ => Ok(deed_by(told.event_outcome, brought, told.outcome)),
+        _ => Ok(action_by(told.event_outcome, brought, told.outcome)),
     }
 }
 
@@ -180,15 +180,15 @@ fn note(
     histories: &mut Vec<History>,
     order: &mut Order,
     id: NodeId,
-    deed: &TraceAction,
+    action: &TraceAction,
     message: Option<u64>,
     sent: &[Message],
 ) -> Result<(), AllocError>
     requires { id < length histories.old.items }
-    ensures noted { OnOk result (IsNoted id (claim deed.now sent.now) histories.old.items histories.new.items × IsNext id message order.old order.new) }
+    ensures noted { OnOk result (IsNoted id (claim action.now sent.now) histories.old.items histories.new.items × IsNext id message order.old order.new) }
     ensures many { OnOk result (length histories.new.items ≡ length histories.old.items) }
 {
-    histories[usize::from(id.number())].push(deed, sent)?;
+    histories[usize::from(id.number())].push(action, sent)?;
     order.nodes.push(id)?;
     order.messages.push(message)?;
     Ok(())

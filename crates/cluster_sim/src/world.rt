@@ -88,15 +88,15 @@ impl World {
         // Promise: What is told of an act is what came of it: the outcome of the event at its node, the command that the node tried with
         // its answer, and whether it mounted its disk.
         // Refuses: told_of_another_mounting.
-        ensures acted { (w : RunWorld) → StandsFor self.old w → IfOk result (λ deed. Performed w act.now deed self.new) }
+        ensures acted { (w : RunWorld) → StandsFor self.old w → IfOk result (λ action. Performed w act.now action self.new) }
         // Promise: Want of memory leaves the cluster as it was.
         ensures memory { (w : RunWorld) → StandsFor self.old w → OnErr result (StandsFor self.new w) }
         ensures untouched { (w : RunWorld) → StandsFor self.old w → OnErr result (IsUntouched (node_named (length self.old.nodes) self.old.net.sent act.now) self.old self.new) }
-        ensures faults { IfOk result (λ deed. FaultsAt (armed_by act.now) (node_named (length self.old.nodes) self.old.net.sent act.now) self.old self.new deed.outcome) }
-        ensures disk { IfOk result (λ deed. Operates act.now self.old self.new deed.outcome) }
-        ensures answers { (w : RunWorld) → StandsFor self.old w → IfOk result (λ deed. IsAnsweredBy act.now self.old deed.outcome) }
+        ensures faults { IfOk result (λ action. FaultsAt (armed_by act.now) (node_named (length self.old.nodes) self.old.net.sent act.now) self.old self.new action.outcome) }
+        ensures disk { IfOk result (λ action. Operates act.now self.old self.new action.outcome) }
+        ensures answers { (w : RunWorld) → StandsFor self.old w → IfOk result (λ action. IsAnsweredBy act.now self.old action.outcome) }
         // No act is refused because areas are used up, where each of their numbers can be raised once more.
-        ensures areas { (w : RunWorld) → StandsFor self.old w → IfOk result (λ deed. AreasRise self.old self.new deed.outcome) }
+        ensures areas { (w : RunWorld) → StandsFor self.old w → IfOk result (λ action. AreasRise self.old self.new action.outcome) }
     {
         if let Act::Deliver(number) = act {
             return self.deliver(*number);
@@ -157,12 +157,12 @@ impl World {
     #[inline(always)]
     fn deliver(&mut self, number: u64) -> Result<ActReport, AllocError>
         ensures slots { self.new.slots ≡ self.old.slots }
-        ensures acted { (w : RunWorld) → StandsFor self.old w → IfOk result (λ deed. Performed w (acts.Deliver number) deed self.new) }
+        ensures acted { (w : RunWorld) → StandsFor self.old w → IfOk result (λ action. Performed w (acts.Deliver number) action self.new) }
         ensures memory { (w : RunWorld) → StandsFor self.old w → OnErr result (StandsFor self.new w) }
         ensures untouched { (w : RunWorld) → StandsFor self.old w → OnErr result (IsUntouched (receiver_or_first (length self.old.nodes) (slice_get self.old.net.sent number)) self.old self.new) }
-        ensures faults { IfOk result (λ deed. FaultsAt as_before (receiver_or_first (length self.old.nodes) (slice_get self.old.net.sent number)) self.old self.new deed.outcome) }
-        ensures answers { (w : RunWorld) → StandsFor self.old w → IfOk result (λ deed. IsAnsweredBy (acts.Deliver number) self.old deed.outcome) }
-        ensures areas { (w : RunWorld) → StandsFor self.old w → IfOk result (λ deed. AreasRise self.old self.new deed.outcome) }
+        ensures faults { IfOk result (λ action. FaultsAt as_before (receiver_or_first (length self.old.nodes) (slice_get self.old.net.sent number)) self.old self.new action.outcome) }
+        ensures answers { (w : RunWorld) → StandsFor self.old w → IfOk result (λ action. IsAnsweredBy (acts.Deliver number) self.old action.outcome) }
+        ensures areas { (w : RunWorld) → StandsFor self.old w → IfOk result (λ action. AreasRise self.old self.new action.outcome) }
     {
         match read_delivery(self.nodes.net(), number, &mut self.delivery) {
             Ok(receiver) => self.nodes.take(receiver, &self.delivery),

@@ -2,7 +2,7 @@
 use Rattle.std.proofs.Common.{◌≡◌, ◌⊎◌, ⊎_elim, inl, inr, ℕ, List, map, Option, Some, None, Result, Ok, Err, IfOk, string_bytes, refl}
 use Rattle.console_text.specs.Ends.{Printout, Prints, status_of}
 use Rattle.console_text.specs.declared.ends.ExitKind.{ExitKind}
-use Rattle.pace.specs.Timers.{measured}
+use Rattle.node_timers.specs.Timers.{measured}
 use Rattle.trace_console.specs.Files.{PrintsFiles}
 use Rattle.trace_console.specs.declared.files.TraceFile.{TraceFile}
 use Rattle.trace_console.specs.declared.judging.Stage.{Stage}

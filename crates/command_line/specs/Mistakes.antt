@@ -5,7 +5,7 @@ use Rattle.std.specs.Io.KnownBytes.{Appends, Keeps}
 use Rattle.clap.specs.Words.{App, HasMatchesOf, first_value, found_of, rows_of, subcommand_name_of, subcommand_rows_of, takes}
 use Rattle.clap.specs.declared.parser.matches.ArgMatches.{ArgMatches}
 use Rattle.group_task.specs.declared.node.TheConstants.{NODES}
-use Rattle.disk_sector.specs.declared.layout.TheConstants.{LEAST_SLOTS, MOST_SLOTS}
+use Rattle.disk_layout.specs.declared.layout.TheConstants.{LEAST_SLOTS, MOST_SLOTS}
 use Rattle.command_line.specs.Asked.{Arguments, asked, asked_by, is_set, machine_of, number_in, place_of, round_trip_of, stride_of, values_of}
 use Rattle.command_line.specs.declared.invocation.TheConstants.{MOST_ROUND_TRIP}
 use Rattle.command_line.specs.declared.invocation.Invocation.{Invocation}

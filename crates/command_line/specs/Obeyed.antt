@@ -3,7 +3,7 @@ use Rattle.std.specs.Prelude.{ℕ, ◌≡◌, ◌⊎◌, List, [], map, Option, 
 use Rattle.console_text.specs.Ends.{Printout, Prints, status_of}
 use Rattle.console_text.specs.declared.ends.ExitKind.{ExitKind}
 use Rattle.lease_machine.specs.declared.terms.LeaseTerms.{LeaseTerms}
-use Rattle.pace.specs.Timers.{measured}
+use Rattle.node_timers.specs.Timers.{measured}
 use Rattle.store_console.specs.Printed.{IsShown}
 use Rattle.store_console.specs.Salvaged.{IsSalvagePrintout}
 use Rattle.trace_console.specs.Files.{PrintsFiles}

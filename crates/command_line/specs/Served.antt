@@ -4,7 +4,7 @@ use Rattle.line_words.specs.Lines.{lines_of}
 use Rattle.sealed_msg.specs.Cluster.{cluster_key}
 use Rattle.file_disk.specs.File.{FileState, state_of}
 use Rattle.file_disk.specs.declared.disk.FileDisk.{FileDisk}
-use Rattle.pace.specs.declared.timer_settings.TimerSettings.{TimerSettings}
+use Rattle.node_timers.specs.declared.timer_settings.TimerSettings.{TimerSettings}
 use Rattle.node_session.specs.Seals.{Seals, new_seals}
 use Rattle.node_server.specs.Served.{IsBrokenOff, IsServedTo, begun}
 use Rattle.node_server.specs.declared.serving.ServingEnd.{ServingEnd}

@@ -7,7 +7,7 @@ use crate::invocation::{
     Batch, Invocation, MOST_ROUND_TRIP, Making, NodePlace, ROUND_TRIP, Sealing,
 };
 use clap::ArgMatches;
-use disk_sector::{LEAST_SLOTS, MOST_SLOTS};
+use disk_layout::{LEAST_SLOTS, MOST_SLOTS};
 use file_disk::Stride;
 use group_task::{NODES, NodeId};
 use invite_console::Details;

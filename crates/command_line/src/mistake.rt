@@ -5,7 +5,7 @@ ghost use Rattle.command_line.specs.Mistakes.{mistake_by, mistake_in_format, mis
 use crate::asking::{is, is_set, machine, place, round_trip, stride};
 use crate::invocation::MOST_ROUND_TRIP;
 use clap::ArgMatches;
-use disk_sector::{LEAST_SLOTS, MOST_SLOTS};
+use disk_layout::{LEAST_SLOTS, MOST_SLOTS};
 use group_task::NODES;
 use line_words::number;
 use std::fmt;

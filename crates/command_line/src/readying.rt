@@ -7,7 +7,7 @@ use crate::status::{Status, stopped};
 use file_disk::FileDisk;
 use group_task::NodeId;
 use node_session::Session;
-use pace::TimerSettings;
+use node_timers::TimerSettings;
 use std::alloc::Global;
 use std::io;
 use store_console::has_unsealed_number;

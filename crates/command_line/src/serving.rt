@@ -1,7 +1,7 @@
 // A node that is served over its file.
 ghost use Rattle.std.specs.Prelude.{◌≡◌, ◌<◌, ◌≤◌, IfOk, IfErr};
 ghost use Rattle.group_task.specs.declared.node.TheConstants.{NODES};
-ghost use Rattle.pace.specs.Timers.{measured};
+ghost use Rattle.node_timers.specs.Timers.{measured};
 ghost use Rattle.command_line.specs.Labelled.{IsOwnFile};
 ghost use Rattle.command_line.specs.Served.{BreaksOff, IsSealUnder, IsUnserved, ServesSo, ServesTo};
 
@@ -14,7 +14,7 @@ use file_disk::MARK;
 use group_task::NodeId;
 use node_server::{ServingEnd, serve_node};
 use node_session::Seal;
-use pace::TimerSettings;
+use node_timers::TimerSettings;
 use std::alloc::Global;
 use std::fs::{File, Files};
 use std::io::{ErrorKind, Read, Write};

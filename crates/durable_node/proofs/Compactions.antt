@@ -47,7 +47,7 @@ module _ {Disk A : Type 0} (disks : Disk → DiskState) (id nodes : ℕ) (core c
       elim (ends_as (is_last (area_of store)) result answers) [
         | inl ok ↦ (NoOp Compacted, ok, rw stands.state at up, stays (left.stays (ok_is_none result node.Device ok)))
         | inr (inl device) ↦ (Crashed, device, tt, stands_down disks _ (after id nodes s Crashed) store'.disk id (left.falls device) refl (ends (after id nodes s Crashed) refl) (left.falls device) stands.doubt)
-        | inr (inr worn) ↦ (NoOp CompactAreaExhausted, worn, rw stands.state at up, stays (left.stays (λ e. cc)))
+        | inr (inr area_exhausted) ↦ (NoOp CompactAreaExhausted, area_exhausted, rw stands.state at up, stays (left.stays (λ e. cc)))
       ]
     where
       kept : durable_of store ≡ s.durable

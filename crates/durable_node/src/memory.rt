@@ -1,7 +1,7 @@
 // A node over a disk in memory: how it opens, and how it crashes.
 ghost use Rattle.std.specs.Prelude.{◌≡◌, ◌≤◌, ◌<◌, ◌+◌, ◌*◌, ℕ, IfOk, IsSome, Some, None};
-ghost use Rattle.disk_sector.specs.Layout.{sectors_for};
-ghost use Rattle.disk_sector.specs.declared.layout.TheConstants.{LEAST_SLOTS, MOST_SLOTS};
+ghost use Rattle.disk_layout.specs.Layout.{sectors_for};
+ghost use Rattle.disk_layout.specs.declared.layout.TheConstants.{LEAST_SLOTS, MOST_SLOTS};
 ghost use Rattle.job_journal.specs.Journal.{AllWithin};
 ghost use Rattle.group_task.specs.declared.node.TheConstants.{NODES};
 ghost use Rattle.sector_disk.specs.Memory.{Memory, state_of, all_synced};
@@ -17,7 +17,7 @@ ghost use Rattle.histories.specs.declared.history_event.HistoryEvent.TheVariants
 
 use crate::node::DurableNode;
 use crate::node_disk::NodeDisk;
-use disk_sector::sectors_for;
+use disk_layout::sectors_for;
 use group_task::NodeId;
 use histories::EventOutcome;
 use node_core::NodeCore;

@@ -13,7 +13,7 @@ use Rattle.trace_check.specs.declared.order.Order.{Order}
 use Rattle.trace_check.specs.Claims.{Claim}
 use Rattle.trace_text.specs.Fits.{AreNamed, HasName, IsWritable}
 use Rattle.trace_text.specs.Ordered.{IsEven, ordered_by}
-use Rattle.cluster_sim.specs.Traced.{IsRecordOf, claim_of, deed_of, done, failed, messages_in, nodes_in, trace_in}
+use Rattle.cluster_sim.specs.Traced.{IsRecordOf, claim_of, action_of, done, failed, messages_in, nodes_in, trace_in}
 
 done_named : (e : Event) → HasName (done e)
 done_named on.Recover = tt
@@ -23,14 +23,14 @@ failed_named : (e : Event) → HasName (failed e)
 failed_named on.Recover = tt
 failed_named _ = tt
 
-deed_named : (what : HistoryEvent) → HasName (deed_of what)
-deed_named (Did event) = done_named event
-deed_named (Faulted event) = failed_named event
-deed_named _ = tt
+action_named : (what : HistoryEvent) → HasName (action_of what)
+action_named (Did event) = done_named event
+action_named (Faulted event) = failed_named event
+action_named _ = tt
 
 history_named : (h : List Entry) → AreNamed (map claim_of h)
 history_named [] = tt
-history_named (e ∷ h) = (deed_named e.what, history_named h)
+history_named (e ∷ h) = (action_named e.what, history_named h)
 
 trace_named : (hs : List (List Entry)) → Each AreNamed (trace_in hs)
 trace_named [] = tt

@@ -1,6 +1,6 @@
 -- What an image stands for as a journal of jobs.
 use Rattle.std.specs.Prelude.{◌≡◌, ◌⊎◌, ◌<◌, ◌≤◌, ℕ, ◌+◌, ◌*◌, Bool, false, List, Option, Some, None, is_none, if◌then◌else◌, IsTrue}
-use Rattle.disk_sector.specs.Layout.{sectors_for}
+use Rattle.disk_layout.specs.Layout.{sectors_for}
 use Rattle.sector_disk.specs.Disk.{Image, DiskState, IsImage}
 use Rattle.sector_disk.specs.Run.{Each}
 use Rattle.slot_gate.specs.Slot.{slot_at}

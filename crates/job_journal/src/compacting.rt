@@ -1,7 +1,7 @@
 // A journal moved into its other area, with no record in it but those of the pending jobs.
 ghost use Rattle.std.specs.Prelude.{◌≡◌, ◌≢◌, ◌<◌, ◌≤◌, ◌+◌, ◌-◌, ◌*◌, ◌^◌, IsTrue, IsOk, IsErrOf, IsSome, Some, None};
-ghost use Rattle.disk_sector.specs.Layout.{sectors_for};
-ghost use Rattle.disk_sector.specs.declared.layout.TheConstants.{MOST_SLOTS};
+ghost use Rattle.disk_layout.specs.Layout.{sectors_for};
+ghost use Rattle.disk_layout.specs.declared.layout.TheConstants.{MOST_SLOTS};
 ghost use Rattle.sector_disk.specs.Disk.{Counts};
 ghost use Rattle.sector_disk.specs.Run.{Run, Each};
 ghost use Rattle.slot_gate.specs.Writing.{CallWrites};

@@ -1,7 +1,7 @@
 // A journal made on its disk.
 ghost use Rattle.std.specs.Prelude.{◌≡◌, ◌<◌, ◌≤◌, ◌+◌, ◌*◌, IsTrue, IsOk, Some};
-ghost use Rattle.disk_sector.specs.Layout.{sectors_for};
-ghost use Rattle.disk_sector.specs.declared.layout.TheConstants.{MOST_SLOTS};
+ghost use Rattle.disk_layout.specs.Layout.{sectors_for};
+ghost use Rattle.disk_layout.specs.declared.layout.TheConstants.{MOST_SLOTS};
 ghost use Rattle.sector_disk.specs.Disk.{Image, IsImage, AllSynced};
 ghost use Rattle.slot_gate.specs.Writing.{CallWrites};
 ghost use Rattle.job_journal.specs.Jobs.{no_jobs};

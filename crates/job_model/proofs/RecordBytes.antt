@@ -4,8 +4,8 @@ use Rattle.std.specs.Int.{to_be_bytes, w64, w16}
 use Rattle.std.proofs.lemmas.Bool.Decides.{nat_tests}
 use Rattle.std.proofs.lemmas.Nat.{from_be_bytes-to_be_bytes_8, from_be_bytes-to_be_bytes_2}
 use Rattle.std.proofs.lemmas.List.{drop_at, take_at, drop-replicate, length-take, length-drop}
-use Rattle.disk_sector.specs.Blank.{is_blank}
-use Rattle.disk_sector.proofs.PublicLaws.{blank}
+use Rattle.disk_layout.specs.Blank.{is_blank}
+use Rattle.disk_layout.proofs.PublicLaws.{blank}
 use Rattle.job_model.specs.declared.job.Job.{Job}
 use Rattle.job_model.specs.declared.payload.TheConstants.{PAYLOAD_CAPACITY}
 use Rattle.job_model.specs.declared.queue.TheConstants.{QUEUES}

@@ -5,7 +5,7 @@ use Rattle.std.proofs.lemmas.Bool.Decides.{nat_tests}
 use Rattle.std.proofs.lemmas.Nat.{be_bytes_8, be_bytes_2}
 use Rattle.std.proofs.lemmas.List.{take-append-drop, drop-drop, drop-replicate, length-take, length-drop}
 use Rattle.std.proofs.lemmas.List.Sums.{sum_by-cons}
-use Rattle.disk_sector.specs.Blank.{is_blank}
+use Rattle.disk_layout.specs.Blank.{is_blank}
 use Rattle.job_model.specs.declared.job.Job.{Job}
 use Rattle.job_model.specs.declared.payload.TheConstants.{PAYLOAD_CAPACITY}
 use Rattle.job_model.specs.declared.queue.TheConstants.{QUEUES}

@@ -6,7 +6,7 @@ use crate::job::Job;
 use crate::payload::{PAYLOAD_CAPACITY, Payload};
 use crate::queue::Queue;
 use crate::work::Work;
-use disk_sector::{Sector, is_blank};
+use disk_layout::{Sector, is_blank};
 
 const OLD_PUT: u8 = 1;
 

@@ -20,8 +20,8 @@ second = record { client = bob; number = 0; epoch = 2; sent = 219 }
 abbrev moments : List Moment
 moments = record { at = 0; what = raises 8 } ∷ record { at = 200; what = grants first } ∷ record { at = 211; what = releases ann 1 } ∷ record { at = 220; what = grants second } ∷ []
 
-abbrev deeds : List Act
-deeds =
+abbrev actions : List Act
+actions =
     record { at = 199; client = ann; what = asks first }
     ∷ record { at = 219; client = bob; what = asks second }
     ∷ record { at = 210; client = ann; what = stops 1 }
@@ -32,7 +32,7 @@ deeds =
     ∷ []
 
 abbrev run : Run
-run = record { nodes = 3; keeps = 160; relies_for = 150; clock = λ machine boot t. t; grain = 5; history = λ voter. moments; acts = deeds }
+run = record { nodes = 3; keeps = 160; relies_for = 150; clock = λ machine boot t. t; grain = 5; history = λ voter. moments; acts = actions }
 
 follows : Follows 160 (λ boot t. t) 0 (opening (λ boot t. t)) moments
 follows = (

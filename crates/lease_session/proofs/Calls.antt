@@ -38,7 +38,7 @@ use Rattle.lease_session.specs.Turns.{claim_of, Follow, GaveUp, GoesTo, IsClient
 use Rattle.lease_session.proofs.Machines.{by_client, by_name, own_at, shows_still}
 use Rattle.lease_session.proofs.Leases.{Keeps, LeasesKept, keeps_news, kept_told, leases_same, same_name}
 use Rattle.lease_session.proofs.News.{epoch_told, other_without, told_now, told_other}
-use Rattle.lease_session.proofs.Turns.{Rest, deed, deed_told, is_at_quiet, is_there, itself, its_machine, no_deed, nothing_had, quiet_self, failed, sends_still, sent_still, shows, stands, stay, text_same, then_had, to_same, who_is}
+use Rattle.lease_session.proofs.Turns.{Rest, action, action_told, is_at_quiet, is_there, itself, its_machine, no_action, nothing_had, quiet_self, failed, sends_still, sent_still, shows, stands, stay, text_same, then_had, to_same, who_is}
 
 pub by_bool : {P : Type 0} (b : Bool) → (b ≡ true → P) → (b ≡ false → P) → P
 by_bool true positive negative = positive refl
@@ -67,9 +67,9 @@ pub voted : {client : Client} {epoch now : ℕ} {a b : LeaseProcess} {x y : Leas
     → (result ≡ vote.Granted → Did x y now (itself a) (takes (request name client number epoch))) → (result ≡ vote.Refused → DidNothing x y now)
     → (result ≡ vote.Full → DidNothing x y now) → LeasesKept x y → Voted result name client number epoch now a b
 voted {client = client} {epoch = epoch} {a = a} vote.Granted name number r was is granted refused full kept =
-    record { turn = deed (itself a) (takes (request name client number epoch)) r was is (granted refl) refl refl (λ p h. h) (inl (inl refl)) tt kept; grants = λ e. inl refl }
-voted vote.Refused name number r was is granted refused full kept = record { turn = no_deed r was is (refused refl) kept; grants = λ e. absurd cc }
-voted vote.Full name number r was is granted refused full kept = record { turn = no_deed r was is (full refl) kept; grants = λ e. absurd cc }
+    record { turn = action (itself a) (takes (request name client number epoch)) r was is (granted refl) refl refl (λ p h. h) (inl (inl refl)) tt kept; grants = λ e. inl refl }
+voted vote.Refused name number r was is granted refused full kept = record { turn = no_action r was is (refused refl) kept; grants = λ e. absurd cc }
+voted vote.Full name number r was is granted refused full kept = record { turn = no_action r was is (full refl) kept; grants = λ e. absurd cc }
 
 pub release_said : (m : LeaseMessage) → m.body ≡ body.Release → (client : Client) → client ≡ asker m.client → IsAmong (release m.name client m.epoch) (said m)
 release_said m is client same = subst (λ (b : LeaseBody). IsAmong (release m.name client m.epoch) (said_by m b)) (sym is)
@@ -230,14 +230,14 @@ pub gave_up : {now : ℕ} {a b : LeaseProcess} {x y : LeaseMachine} (client : Cl
     → Did x y now client (sends (release name client epoch)) → client.machine ≡ a.terms.machine → client.boot ≡ a.start.process → NoneUpTo name epoch a.told.items
     → LeasesKept x y → GaveUp name client epoch now a b
 gave_up client name epoch r was is did_it machine process none kept =
-    record { turn = deed client (sends (release name client epoch)) r was is did_it machine process (λ p h. h) tt (inl none) kept; sends = inl refl }
+    record { turn = action client (sends (release name client epoch)) r was is did_it machine process (λ p h. h) tt (inl none) kept; sends = inl refl }
 
 -- and its user is told
 pub gave_up_lost : {now told : ℕ} {a b c : LeaseProcess} {x y : LeaseMachine} (client : Client) (name : Name) (epoch : ℕ) → Rest a b → a.machine ≡ Some x → b.machine ≡ Some y
     → Did x y now client (sends (release name client epoch)) → client.machine ≡ a.terms.machine → client.boot ≡ a.start.process → told ≤ epoch → a.halt ≡ None
     → TellsUser (lost name told) b c → (AreHoldersTold (Some x) a.told.items → AreHoldersTold (Some y) (told_row a.told.items (lost name told))) → GaveUp name client epoch now a c
 gave_up_lost {now = now} {told = told} {a = a} {b = b} {c = c} {x = x} {y = y} client name epoch r was is did_it machine process covers going tells holders = record {
-  turn = deed_told client (sends (release name client epoch)) (wrote (lost name told) ∷ []) r was is did_it machine process (λ p h. h) tt tells.quiet
+  turn = action_told client (sends (release name client epoch)) (wrote (lost name told) ∷ []) r was is did_it machine process (λ p h. h) tt tells.quiet
       (λ out. absurd (let bad : None ≡ Some NoMemory = sym going ∙ out in cc)) (λ none. going)
       (λ goes. elim tells.said [
         | inl out ↦ absurd (goes out)
@@ -342,7 +342,7 @@ requested {now = now} {a = a} {x = x} {y = y} name asks number epoch r was is h 
     let message = request name by number epoch in
     let at = claim_there name was h.claimed in
     let its : Did x y now by (sends message) = subst (λ (c : ClientId). Did x y now (client_of c) (sends (request name (client_of c) number epoch))) h.as_client did_it in
-    let t = deed {sent = []} {brought = []} by (sends message) r was is its (ap (λ (c : ClientId). c.machine) (sym h.as_client) ∙ of_machine a x name h.claim was at)
+    let t = action {sent = []} {brought = []} by (sends message) r was is its (ap (λ (c : ClientId). c.machine) (sym h.as_client) ∙ of_machine a x name h.claim was at)
     (ap (λ (c : ClientId). c.boot) (sym h.as_client) ∙ of_process a x name h.claim was at) (λ p g. g) tt tt kept in
     record {
       turn = then_had t sends_it (requested_of (ap (λ (c : Client). request name c number epoch) same)) (nothing_had [] (message ∷ []));
@@ -417,9 +417,9 @@ pub heard : {now voter number : ℕ} {a b c : LeaseProcess} {x y : LeaseMachine}
     → ((d : Claim) (r : Request) → claim_at y name ≡ Some d → d.candidate.lease ≡ Some r → Keeps x name d.user d.candidate.relies_for r ⊎ (now < r.sent + d.candidate.relies_for))
     → OthersSame name x y → IsQuiet b c → IsOut c ⊎ SaysHeld now name b c → Turn [] (grant name (client_of client) number voter ∷ []) now a c
 heard {now = now} {voter = voter} {number = number} {a = a} {b = b} {c = c} {x = x} {y = y} client name r was is did_it machine process kept others quiet said = elim said [
-  | inl out ↦ deed_told by what [] r was is did_it machine process (λ p h. h) (inl (inl refl)) quiet (λ before. out) (λ none. not_out out none) (λ goes. absurd (goes out))
+  | inl out ↦ action_told by what [] r was is did_it machine process (λ p h. h) (inl (inl refl)) quiet (λ before. out) (λ none. not_out out none) (λ goes. absurd (goes out))
       (λ goes. absurd (goes out)) (λ goes. absurd (goes out)) (λ none. not_out out none) (λ terms at m clock there. (tt, refl))
-  | inr s ↦ deed_told by what (wrote (held name s.user s.epoch s.until) ∷ []) r was is did_it machine process (λ p h. h) (inl (inl refl)) quiet
+  | inr s ↦ action_told by what (wrote (held name s.user s.epoch s.until) ∷ []) r was is did_it machine process (λ p h. h) (inl (inl refl)) quiet
       (λ out. absurd (let bad : None ≡ Some NoMemory = sym (sym r.halt ∙ s.going) ∙ out in cc)) (λ none. sym r.halt ∙ s.going)
       (λ goes. s.text ∙ (ap (λ (u : List ℕ). u ++ row_text (held name s.user s.epoch s.until)) (text_same r)
       ∙ ap (λ (u : List ℕ). a.text.items ++ u) (sym (append-nil (row_text (held name s.user s.epoch s.until))))))

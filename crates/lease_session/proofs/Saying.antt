@@ -10,7 +10,7 @@ use Rattle.lease_session.specs.Saying.{TellsNews, TellsNone}
 use Rattle.lease_session.specs.Turns.{Turn}
 use Rattle.lease_session.proofs.Calls.{heard, said_turn}
 use Rattle.lease_session.proofs.Leases.{Keeps, keeps_news, kept_told, leases_same, same_name}
-use Rattle.lease_session.proofs.Turns.{Rest, deed_told, failed, stayed, text_same}
+use Rattle.lease_session.proofs.Turns.{Rest, action_told, failed, stayed, text_same}
 use Rattle.lease_runs.specs.declared.candidate.Request.{Request}
 use Rattle.lease_network.specs.Network.{Name}
 use Rattle.lease_machine.specs.declared.name_entry.Claim.{Claim}
@@ -80,7 +80,7 @@ pub heard_so : {now voter number : ℕ} {a b c : LeaseProcess} {x y : LeaseMachi
     → OthersSame name x y → TellsNews now name b c → Turn [] (grant name (client_of client) number voter ∷ []) now a c
 heard_so {now = now} {voter = voter} {number = number} {a = a} {b = b} {c = c} {x = x} {y = y} client name r was is did_it machine process kept others t = elim t.said [
   | inl out ↦ heard client name r was is did_it machine process kept others t.quiet (inl out)
-  | inr (inl n) ↦ deed_told (client_of client) (takes (grant name (client_of client) number voter)) [] r was is did_it machine process (λ p h. h) (inl (inl refl)) t.quiet
+  | inr (inl n) ↦ action_told (client_of client) (takes (grant name (client_of client) number voter)) [] r was is did_it machine process (λ p h. h) (inl (inl refl)) t.quiet
       (λ out. n.same_halt ∙ (r.halt ∙ out)) (λ none. sym r.halt ∙ (sym n.same_halt ∙ none))
       (λ goes. ap (λ u. u.items) n.same_text ∙ (text_same r ∙ sym (append-nil a.text.items))) (λ goes. ap (λ u. u.items) n.same_told ∙ ap (λ u. u.items) r.told)
       (λ goes. (tt, tt))

@@ -325,14 +325,14 @@ holders_rest {a = a} {b = b} {x = x} {y = y} r was is kept h = subst (λ (o : Op
     (λ name. kept_told x y a.told.items name (kept name) (subst (λ (o : Option LeaseMachine). AreHoldersTold o a.told.items) was h name)))
 
 -- and maybe writes a line of it
-abbrev pub deed_told : {sent brought : List Message} {now : ℕ} {a b c : LeaseProcess} {x y : LeaseMachine} (by : Client) (what : Event) (rest : List Mark) → Rest a b
+abbrev pub action_told : {sent brought : List Message} {now : ℕ} {a b c : LeaseProcess} {x y : LeaseMachine} (by : Client) (what : Event) (rest : List Mark) → Rest a b
     → a.machine ≡ Some x → b.machine ≡ Some y → Did x y now by what → by.machine ≡ a.terms.machine → by.boot ≡ a.start.process
     → ((process : Option ℕ) → process ≡ Some a.start.process → Runs a.start.process process what) → IsHad brought sent what → IsQuiet b c → (IsOut a → IsOut c)
     → (c.halt ≡ None → a.halt ≡ None) → ((IsOut c → ⊥) → c.text.items ≡ a.text.items ++ text_of rest) → ((IsOut c → ⊥) → c.told.items ≡ told_after a.told.items rest)
     → ((IsOut c → ⊥) → AreTold a.told.items (did by what ∷ rest)) → (c.halt ≡ None → AreHoldersTold a.machine a.told.items → AreHoldersTold c.machine c.told.items)
     → ((terms : Terms) (at : ℕ) (m : Machine) → terms.clock a.terms.machine a.start.process at ≡ now → IsAt terms now b m
     → Follow terms (who a) at brought (sent_by by what ++ sent) m rest × (after_marks terms at m rest ≡ m)) → Turn sent brought now a c
-deed_told {now = now} {a = a} {b = b} {c = c} {x = x} {y = y} by what rest r was is did_it of_machine of_process runs had quiet halts goes_on text told careful holders follow = record {
+action_told {now = now} {a = a} {b = b} {c = c} {x = x} {y = y} by what rest r was is did_it of_machine of_process runs had quiet halts goes_on text told careful holders follow = record {
   marks = did by what ∷ rest;
   terms = quiet.terms ∙ r.terms;
   start = quiet.start ∙ r.start;
@@ -368,17 +368,17 @@ quiet_self a = record { machine = refl; terms = refl; start = refl; key = refl }
 pub quiet_then : {a b c : LeaseProcess} → IsQuiet a b → IsQuiet b c → IsQuiet a c
 quiet_then s t = record { machine = t.machine ∙ s.machine; terms = t.terms ∙ s.terms; start = t.start ∙ s.start; key = t.key ∙ s.key }
 
-abbrev pub deed : {sent brought : List Message} {now : ℕ} {a b : LeaseProcess} {x y : LeaseMachine} (by : Client) (what : Event) → Rest a b → a.machine ≡ Some x → b.machine ≡ Some y
+abbrev pub action : {sent brought : List Message} {now : ℕ} {a b : LeaseProcess} {x y : LeaseMachine} (by : Client) (what : Event) → Rest a b → a.machine ≡ Some x → b.machine ≡ Some y
     → Did x y now by what → by.machine ≡ a.terms.machine → by.boot ≡ a.start.process → ((process : Option ℕ) → process ≡ Some a.start.process → Runs a.start.process process what)
     → IsHad brought sent what → IsTold a.told.items what [] → LeasesKept x y → Turn sent brought now a b
-deed {a = a} {b = b} by what r was is did_it of_machine of_process runs had told kept =
-    deed_told by what [] r was is did_it of_machine of_process runs had (quiet_self b) (λ out. r.halt ∙ out) (λ none. sym r.halt ∙ none)
+action {a = a} {b = b} by what r was is did_it of_machine of_process runs had told kept =
+    action_told by what [] r was is did_it of_machine of_process runs had (quiet_self b) (λ out. r.halt ∙ out) (λ none. sym r.halt ∙ none)
     (λ goes. text_same r ∙ sym (append-nil a.text.items)) (λ goes. ap (λ t. t.items) r.told) (λ goes. (told, tt)) (λ none h. holders_rest r was is kept h)
     (λ terms at m clock there. (tt, refl))
 
-pub no_deed : {sent brought : List Message} {now : ℕ} {a b : LeaseProcess} {x y : LeaseMachine} → Rest a b → a.machine ≡ Some x → b.machine ≡ Some y → DidNothing x y now
+pub no_action : {sent brought : List Message} {now : ℕ} {a b : LeaseProcess} {x y : LeaseMachine} → Rest a b → a.machine ≡ Some x → b.machine ≡ Some y → DidNothing x y now
     → LeasesKept x y → Turn sent brought now a b
-no_deed {now = now} {a = a} {b = b} {x = x} {y = y} r was is did_none kept = record {
+no_action {now = now} {a = a} {b = b} {x = x} {y = y} r was is did_none kept = record {
   marks = [];
   terms = r.terms;
   start = r.start;

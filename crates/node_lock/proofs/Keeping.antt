@@ -29,7 +29,7 @@ use Rattle.node_lock.proofs.Drawing.{more_numbers}
 use Rattle.node_lock.proofs.Losing.{lost_more}
 use Rattle.node_lock.specs.Drawing.{IsGiven}
 use Rattle.node_lock.proofs.Wearing.{disk_before, turn_fails}
-use Rattle.node_lock.specs.Wearing.{AreaRises, AreaWithin, Fails, IsWorn, NoneWorn}
+use Rattle.node_lock.specs.Wearing.{AreaRises, AreaWithin, Fails, IsAreaExhausted, NoneAreaExhausted}
 
 -- one step more
 pub path_snoc : {S E : Type 0} (step : S → E → S → Type 0) (s : S) (es : List E) (e : E) (t u : S) → Path step s es t → step t e u → Path step s (es ++ e ∷ []) u
@@ -104,9 +104,9 @@ slots_more h asked t new k did =
 pub gives_in : (h : HeldView) (asked : Asked) (t : Turn) (new : Node Memory) → HeldInvariant h → TurnDid h.node asked t.entry.what t.entry.sent new → Gives asked t.entry.what
 gives_in h asked t new k did = (comes_in h asked t new k did).gives
 
-none_worn_more : (es : List NodeEntry) (e : NodeEntry) → NoneWorn es → (IsWorn e.what → ⊥) → NoneWorn (es ++ e ∷ [])
-none_worn_more [] e all none = (none, tt)
-none_worn_more (x ∷ es) e all none = (all.0, none_worn_more es e all.1 none)
+none_area_exhausted_more : (es : List NodeEntry) (e : NodeEntry) → NoneAreaExhausted es → (IsAreaExhausted e.what → ⊥) → NoneAreaExhausted (es ++ e ∷ [])
+none_area_exhausted_more [] e all none = (none, tt)
+none_area_exhausted_more (x ∷ es) e all none = (all.0, none_area_exhausted_more es e all.1 none)
 
 -- one turn more, and all that goes with it
 pub keeps : (h n : HeldView) (asked : Asked) (e : Turn) → HeldInvariant h → n.run ≡ h.run → n.plans ≡ h.plans → n.history ≡ h.history ++ e ∷ [] → n.node.id ≡ h.node.id → n.node.nodes ≡ h.node.nodes → PlanStep h.plans h.turns e n.turns
@@ -141,7 +141,7 @@ keeps h n asked e k run plans history id nodes plan did sent lost number area le
   lost = rw (history, lost.1) (lost_more h.history e h.lost lost.0 h.puts n.puts k.lost sent lost.2);
   numbers = more_numbers h.drawn n.drawn h.numbers n.numbers k.numbers number;
   area = subst (λ (m : ℕ). AreaWithin m n.node.disk) (let long = length-append h.history (e ∷ []) in let same = ap length history in let next : (2 + length h.history) + 1 ≡ 2 + length n.history = omega (arith, long, same) in next) (area (2 + length h.history) k.area).0;
-  unworn = rw (history, entries-snoc h.history e) (none_worn_more (entries_of h.history) e.entry k.unworn ((area (2 + length h.history) k.area).1 (omega (arith, few))));
+  never_area_exhausted = rw (history, entries-snoc h.history e) (none_area_exhausted_more (entries_of h.history) e.entry k.never_area_exhausted ((area (2 + length h.history) k.area).1 (omega (arith, few))));
   failures = λ disk at.
       let was = disk_before h.node n.node asked e.entry.what e.entry.sent did disk at in
       rw (history, entries-snoc h.history e) (path_snoc Fails 0 (entries_of h.history) e.entry was.0.failures disk.failures (k.failures was.0 was.1) (turn_fails h.node n.node asked e.entry.what e.entry.sent did was.0 disk was.1 at));

@@ -65,7 +65,7 @@ keeps_none h n k run plans turns none len takes waiting =
       lost = rw (history, none.lost) (lost_stays h.history h.lost h.puts n.puts none.puts k.lost);
       numbers = rw (none.drawn, none.numbers) k.numbers;
       area = rw history (λ d at. k.area d (sym disk ∙ at));
-      unworn = rw history k.unworn;
+      never_area_exhausted = rw history k.never_area_exhausted;
       failures = rw history (λ d at. k.failures d (sym disk ∙ at));
     }
 

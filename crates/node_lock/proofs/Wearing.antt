@@ -40,7 +40,7 @@ use Rattle.durable_node.specs.Refusing.{AnswersEvent, area_refusal, disk_refusal
 use Rattle.node_core.specs.Refusals.{refusal_of}
 use Rattle.node_lock.specs.Asking.{Asked, Hand, NoEvent, Arm, Crash}
 use Rattle.node_lock.specs.Doing.{Did, StandsForSome, TurnDid}
-use Rattle.node_lock.specs.Wearing.{AreaRises, AreaWithin, Fails, IsWorn, is_fault}
+use Rattle.node_lock.specs.Wearing.{AreaRises, AreaWithin, Fails, IsAreaExhausted, is_fault}
 
 some_of : {A : Type 0} (o : Option A) → IsSome o → (a : A) × (o ≡ Some a)
 some_of (Some a) is = (a, refl)
@@ -81,20 +81,20 @@ area_free area free = by_room (area.used == area.slots)
     by_room false = refl
 
 -- where the area can be raised it isn't used up
-not_worn : (d : Durable) (area : Area) (wants : Option Command) → is_last area ≡ false → disk_refusal d area wants ≢ Some AreaExhausted
-not_worn d area None free is = absurd cc
-not_worn d area (Some Raise) free is = by_counter (d.counter == 2 ^ 64 - 1) is
+not_area_exhausted : (d : Durable) (area : Area) (wants : Option Command) → is_last area ≡ false → disk_refusal d area wants ≢ Some AreaExhausted
+not_area_exhausted d area None free is = absurd cc
+not_area_exhausted d area (Some Raise) free is = by_counter (d.counter == 2 ^ 64 - 1) is
   where
     by_counter : (b : Bool) → (if b then Some Exhausted else None) ≡ Some AreaExhausted → ⊥
     by_counter true is = absurd cc
     by_counter false is = absurd cc
-not_worn d area (Some (Put work)) free is = by_both (nat_le (2 ^ 64 - 1) d.next) (nat_lt area.slots (length d.pending + 3)) is
+not_area_exhausted d area (Some (Put work)) free is = by_both (nat_le (2 ^ 64 - 1) d.next) (nat_lt area.slots (length d.pending + 3)) is
   where
     by_both : (b c : Bool) → (if b then Some Exhausted else (if c then Some Full else area_refusal area)) ≡ Some AreaExhausted → ⊥
     by_both true c is = absurd cc
     by_both false true is = absurd cc
     by_both false false is = (let none = sym (area_free area free) ∙ is in absurd cc)
-not_worn d area (Some (JobDone id)) free is = (let none = sym (area_free area free) ∙ is in absurd cc)
+not_area_exhausted d area (Some (JobDone id)) free is = (let none = sym (area_free area free) ∙ is in absurd cc)
 
 -- what an event answers that the core lets pass, and that is told as exhausted
 exhausted_why : (why : Option Refusal) → AnswersEvent {A = StepReport} None why (Err node.Exhausted) → (why ≡ Some Exhausted) ⊎ (why ≡ Some AreaExhausted)
@@ -104,14 +104,14 @@ exhausted_why (Some Full) a = ⊎_elim (λ e. absurd (let bad = e in cc)) (λ e.
 exhausted_why (Some Exhausted) a = inl refl
 exhausted_why (Some AreaExhausted) a = inr refl
 
-worn_outcome : (event other : Event) (o : EventOutcome) → what_of event o ≡ what.Refused other AreaExhausted → o ≡ outcome.Refused AreaExhausted
-worn_outcome event other outcome.Done is = absurd cc
-worn_outcome event other (outcome.Refused why) is = (let same : why ≡ AreaExhausted = cc is in ap outcome.Refused same)
-worn_outcome event other outcome.Faulted is = absurd cc
-worn_outcome event other (outcome.Recovered kept) is = absurd cc
-worn_outcome event other outcome.MountFailed is = absurd cc
-worn_outcome event other (outcome.RaiseFailed kept) is = absurd cc
-worn_outcome event other (outcome.RaiseRefused kept) is = absurd cc
+area_exhausted_outcome : (event other : Event) (o : EventOutcome) → what_of event o ≡ what.Refused other AreaExhausted → o ≡ outcome.Refused AreaExhausted
+area_exhausted_outcome event other outcome.Done is = absurd cc
+area_exhausted_outcome event other (outcome.Refused why) is = (let same : why ≡ AreaExhausted = cc is in ap outcome.Refused same)
+area_exhausted_outcome event other outcome.Faulted is = absurd cc
+area_exhausted_outcome event other (outcome.Recovered kept) is = absurd cc
+area_exhausted_outcome event other outcome.MountFailed is = absurd cc
+area_exhausted_outcome event other (outcome.RaiseFailed kept) is = absurd cc
+area_exhausted_outcome event other (outcome.RaiseRefused kept) is = absurd cc
 
 -- ---- an event
 
@@ -135,14 +135,14 @@ module _ (old new : Node Memory) (event : Event) (w : HistoryEvent) (sent : List
   came = did.came
 
   -- a node that is down refuses nothing so
-  worn_down : is_down old.state.phase ≡ true → IsPossible old.id old.nodes s (what.Refused event AreaExhausted) → ⊥
-  worn_down is possible =
+  area_exhausted_down : is_down old.state.phase ≡ true → IsPossible old.id old.nodes s (what.Refused event AreaExhausted) → ⊥
+  area_exhausted_down is possible =
       let fallen : s.state ≡ down old.id = sym stands.state ∙ shows.fallen is in
       let none = (at_down old.id old.nodes s event fallen possible.0 possible.1.0).wants in
       subst (λ (w : Option Command). IsAppended w) none possible.1.1.1
 
-  worn_up : (bound : ℕ) → is_down old.state.phase ≡ false → IsPossible old.id old.nodes s (what.Refused event AreaExhausted) → answered (Ok came) ≡ Err node.Exhausted → AreaWithin bound old.disk → bound + 1 < 2 ^ 64 → ⊥
-  worn_up bound is possible ends within more =
+  area_exhausted_up : (bound : ℕ) → is_down old.state.phase ≡ false → IsPossible old.id old.nodes s (what.Refused event AreaExhausted) → answered (Ok came) ≡ Err node.Exhausted → AreaWithin bound old.disk → bound + 1 < 2 ^ 64 → ⊥
+  area_exhausted_up bound is possible ends within more =
       let disk = some_of old.disk did.counts.was_there in
       let d = some_of old.kept (shows.up is).0 in
       let area = some_of old.area (shows.up is).1 in
@@ -153,20 +153,20 @@ module _ (old new : Node Memory) (event : Event) (w : HistoryEvent) (sent : List
       subst (λ x. IsSpent x (wants_of old.id x.pending event old.state) → ⊥) (sym same) (subst (λ x. IsSpent s.durable (wants_of old.id s.durable.pending event x) → ⊥) (sym stands.state) possible.1.1.0) in
       let why = disk_refusal d.0 area.0 (wants_of old.id d.0.pending event old.state) in
       let answers : AnswersEvent {A = StepReport} None why (Err node.Exhausted) = subst (λ (c : Option CoreFault). AnswersEvent {A = StepReport} c why (Err node.Exhausted)) core (subst (λ (r : Result StepReport NodeFault). AnswersEvent (refusal_of old.nodes old.id event old.state) why r) ends (did.answers d.0 area.0 d.1 area.1)) in
-      ⊎_elim (λ e. unspent (refused_spent d.0 area.0 (wants_of old.id d.0.pending event old.state) (shows.ids d.0 d.1) e)) (λ e. not_worn d.0 area.0 (wants_of old.id d.0.pending event old.state) (can_rise area.0 bound low more) e) (exhausted_why why answers)
+      ⊎_elim (λ e. unspent (refused_spent d.0 area.0 (wants_of old.id d.0.pending event old.state) (shows.ids d.0 d.1) e)) (λ e. not_area_exhausted d.0 area.0 (wants_of old.id d.0.pending event old.state) (can_rise area.0 bound low more) e) (exhausted_why why answers)
 
-  worn : (bound : ℕ) → AreaWithin bound old.disk → bound + 1 < 2 ^ 64 → IsWorn w → ⊥
-  worn bound within more is =
+  area_exhausted : (bound : ℕ) → AreaWithin bound old.disk → bound + 1 < 2 ^ 64 → IsAreaExhausted w → ⊥
+  area_exhausted bound within more is =
       let disk = some_of old.disk did.counts.was_there in
-      let ends : came.event_outcome ≡ outcome.Refused AreaExhausted = worn_outcome event is.0 came.event_outcome (sym did.written ∙ is.1) in
+      let ends : came.event_outcome ≡ outcome.Refused AreaExhausted = area_exhausted_outcome event is.0 came.event_outcome (sym did.written ∙ is.1) in
       let does = (did.steps disk.0 s disk.1 stands (λ _. refl)).0 in
       let possible : IsPossible old.id old.nodes s (what.Refused event AreaExhausted) = subst (λ o. IsPossible old.id old.nodes s (what_of event o)) ends does.possible in
       let told : answered (Ok came) ≡ Err node.Exhausted = ap (λ o. answered_as came (fault_of o)) ends in
       by_phase (is_down old.state.phase) refl possible told
     where
       by_phase : (b : Bool) → is_down old.state.phase ≡ b → IsPossible old.id old.nodes s (what.Refused event AreaExhausted) → answered (Ok came) ≡ Err node.Exhausted → ⊥
-      by_phase true is possible told = worn_down is possible
-      by_phase false is possible told = worn_up bound is possible told within more
+      by_phase true is possible told = area_exhausted_down is possible
+      by_phase false is possible told = area_exhausted_up bound is possible told within more
 
 forgotten_within : (bound : ℕ) (disk : Option Memory) → AreaWithin bound disk → AreaWithin bound (forgotten_disk disk)
 forgotten_within bound None within d at = absurd cc
@@ -176,7 +176,7 @@ pub event_area : (old new : Node Memory) (event : Event) (w : HistoryEvent) (sen
 event_area old new event w sent did shows stands bound within =
     let disk = some_of old.disk did.counts.was_there in (
       subst (λ (m : Option Memory). AreaWithin (bound + 1) m) (sym (ap (λ (n : Node Memory). n.disk) did.forgot)) (forgotten_within (bound + 1) did.left.disk (λ now at. did.counts.rises disk.0 now disk.1 at refl bound (within disk.0 disk.1))),
-      λ more is. worn old new event w sent did shows stands.0 stands.1 bound within more is,
+      λ more is. area_exhausted old new event w sent did shows stands.0 stands.1 bound within more is,
     )
 
 -- ---- turns without an event
@@ -184,14 +184,14 @@ event_area old new event w sent did shows stands bound within =
 more_within : (bound : ℕ) (disk : Option Memory) → AreaWithin bound disk → AreaWithin (bound + 1) disk
 more_within bound disk within d at image number is cell = omega (arith, within d at image number is cell)
 
-rests_unworn : IsWorn (what.NoOp Nothing) → ⊥
-rests_unworn is = (let bad = is.1 in absurd cc)
+rests_never_area_exhausted : IsAreaExhausted (what.NoOp Nothing) → ⊥
+rests_never_area_exhausted is = (let bad = is.1 in absurd cc)
 
 pub rests_area : (disk : Option Memory) → AreaRises disk disk (what.NoOp Nothing)
-rests_area disk bound within = (more_within bound disk within, λ more is. rests_unworn is)
+rests_area disk bound within = (more_within bound disk within, λ more is. rests_never_area_exhausted is)
 
 pub armed_area : (calls : ℕ) (disk : Option Memory) → AreaRises disk (armed_disk calls disk) (what.NoOp Nothing)
-armed_area calls disk bound within = (more_within bound (armed_disk calls disk) (armed_within disk within), λ more is. rests_unworn is)
+armed_area calls disk bound within = (more_within bound (armed_disk calls disk) (armed_within disk within), λ more is. rests_never_area_exhausted is)
   where
     armed_within : (disk : Option Memory) → AreaWithin bound disk → AreaWithin bound (armed_disk calls disk)
     armed_within None within d at = absurd cc

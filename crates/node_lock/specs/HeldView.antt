@@ -20,7 +20,7 @@ use Rattle.node_lock.specs.Sending.{PutsSome, addressed_to, SameSides, IsFirst, 
 use Rattle.node_lock.specs.declared.turn_log.Loss.{Loss}
 use Rattle.node_lock.specs.Drawing.{Counter, HaveNumbers}
 use Rattle.node_lock.specs.Lost.{HasLost}
-use Rattle.node_lock.specs.Wearing.{AreaWithin, HasFailed, NoneWorn}
+use Rattle.node_lock.specs.Wearing.{AreaWithin, HasFailed, NoneAreaExhausted}
 use Rattle.node_lock.specs.History.{Turn, IsReplay, FollowsPlans, PlanStep, entries_of, polled, from_link, listed}
 
 -- the node and its disk, the ends of its links, the plans and the turns that were taken of them, what came of these, which messages they lost and which numbers they have and drew, of which counter; a
@@ -90,7 +90,7 @@ pub record HeldInvariant (h : HeldView) : Type 0 where
   pub numbers : HaveNumbers h.drawn h.numbers
   -- the areas of the disk aren't used up, so no event was refused since they are; and the disk failed just where an event says so
   pub area : AreaWithin (2 + length h.history) h.node.disk
-  pub unworn : NoneWorn (entries_of h.history)
+  pub never_area_exhausted : NoneAreaExhausted (entries_of h.history)
   pub failures : (disk : Memory) → h.node.disk ≡ Some disk → HasFailed (entries_of h.history) disk.failures
 
 -- so it is of the messages that were seen in the ring of the link that the intake's next turn polls

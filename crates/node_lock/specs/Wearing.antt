@@ -11,12 +11,12 @@ use Rattle.histories.specs.HistoryEvent.{Entry}
 use Rattle.node_lock.specs.Path.{Path}
 
 -- an event was refused since the areas of its node's disk are used up
-abbrev pub IsWorn : HistoryEvent → Type 0
-IsWorn w = (event : Event) × (w ≡ what.Refused event AreaExhausted)
+abbrev pub IsAreaExhausted : HistoryEvent → Type 0
+IsAreaExhausted w = (event : Event) × (w ≡ what.Refused event AreaExhausted)
 
 -- none of these was
-abbrev pub NoneWorn : List Entry → Type 0
-NoneWorn entries = AllByRecursion (λ (e : Entry). IsWorn e.what → ⊥) entries
+abbrev pub NoneAreaExhausted : List Entry → Type 0
+NoneAreaExhausted entries = AllByRecursion (λ (e : Entry). IsAreaExhausted e.what → ⊥) entries
 
 -- no image that a crash now may leave has an area of a greater number
 abbrev pub AreaWithin : ℕ → Option Memory → Type 0
@@ -24,7 +24,7 @@ AreaWithin bound disk = (d : Memory) → disk ≡ Some d → AllWithin bound (st
 
 -- the number of the area rises by one at most, and where it can rise nothing is refused since it can't
 abbrev pub AreaRises : Option Memory → Option Memory → HistoryEvent → Type 0
-AreaRises old new w = (bound : ℕ) → AreaWithin bound old → AreaWithin (bound + 1) new × (bound + 1 < 2 ^ 64 → IsWorn w → ⊥)
+AreaRises old new w = (bound : ℕ) → AreaWithin bound old → AreaWithin (bound + 1) new × (bound + 1 < 2 ^ 64 → IsAreaExhausted w → ⊥)
 
 -- whether the device failed
 abbrev pub is_fault : HistoryEvent → Bool

@@ -149,7 +149,7 @@ impl Held {
         // Refuses: entry_changed, outcome_invented, refusal_invented, doubt_told_wrong.
         // Promise: All that is said of `DurableNode::step` holds of the event's step: which refusal comes first, that it faulted
         // only where its disk failed, what a mounting read and gave, how much it sent.
-        // Refuses: submit_refused_as_worn, disk_armed_by_nobody.
+        // Refuses: submit_refused_as_area_exhausted, disk_armed_by_nobody.
         // Promise: A poll hands on the message that waits, else the first of those that were seen in its link's ring; it finds
         // nothing only where none waits and none was seen.
         // Refuses: poll_that_never_looks, message_waits_on.

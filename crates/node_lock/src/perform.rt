@@ -36,7 +36,7 @@ pub(crate) fn perform(
     // Refuses: dispatch_has_room_for_one, no_room_for_work_to_node_0.
     ensures each { IfOk result (λ r. (j : ℕ) → length (addressed_to j r.1.items) ≤ most_to event.now node.old.state node.old.kept j) }
     // Promise: The areas of a node's disk are never used up in a run in threads: no event is refused as if they were.
-    // Refuses: threads_refused_as_worn.
+    // Refuses: threads_refused_as_area_exhausted.
     ensures area { IfOk result (λ r. AreaRises node.old.disk node.new.disk (what_of event.now r.0)) }
     ensures memory { IfErr result (λ fault. (fault ≡ NoMemory) × (node.new ≡ record node.old { mounted = None })) }
 {

@@ -3,7 +3,7 @@ use Rattle.std.specs.Prelude.{ℕ, ◌≡◌, ◌⊎◌, ◌++◌, List, [], tru
 use Rattle.std.specs.Io.KnownBytes.{Appends, Consumes, IsAtEnd, Keeps}
 use Rattle.std.specs.declared.io.Error.{Error}
 use Rattle.sector_disk.specs.Disk.{DiskState}
-use Rattle.pace.specs.declared.timer_settings.TimerSettings.{TimerSettings}
+use Rattle.node_timers.specs.declared.timer_settings.TimerSettings.{TimerSettings}
 use Rattle.node_session.specs.Seals.{Seals}
 use Rattle.node_session.specs.Serving.{Progress, Fed, opened}
 use Rattle.node_server.specs.declared.serving.ServingEnd.{ServingEnd}

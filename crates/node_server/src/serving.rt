@@ -10,7 +10,7 @@ use crate::writing::write_whole;
 use group_task::NodeId;
 use memchr::memchr;
 use node_session::{Seal, Session, any_clearing, any_cutting, any_taking, at_once_is_fed};
-use pace::TimerSettings;
+use node_timers::TimerSettings;
 use sector_disk::SectorDisk;
 use std::alloc::Global;
 use std::io;

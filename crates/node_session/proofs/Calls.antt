@@ -14,7 +14,7 @@ use Rattle.node_session.specs.declared.call_outcome.CallOutcome.{CallOutcome}
 use Rattle.node_session.specs.declared.call_outcome.CallOutcome.TheVariants as end
 use Rattle.node_core.specs.State.{State, is_down}
 use Rattle.node_session.specs.Turns.{Turn, after_turn, cause, end_of, sent_in, IsFired, IsTimely, IsGoing, MayComeOf, MayCompact}
-use Rattle.pace.specs.Retransmission.{Waits}
+use Rattle.node_timers.specs.Retransmission.{Waits}
 use Rattle.node_session.specs.Chains.{AreGoing, AreTimely, ComesAndEnds, IsOne, IsWrittenAnew, brought_up, after_turns, last_end, waits_turn, waits_turns}
 use Rattle.node_session.specs.Text.{fired_by, fired_line, fired_news, turn_text, turns_text, no_news}
 use Rattle.node_session.specs.Exact.{IsCallOf, AreCallsOf}

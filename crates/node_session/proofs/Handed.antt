@@ -31,7 +31,7 @@ use Rattle.durable_node.specs.declared.fault.NodeFault.TheVariants as node
 use Rattle.durable_node.specs.Changes.{dropped_since, held_by, taken_since, told_anew, view_of}
 use Rattle.durable_node.specs.declared.group_view.GroupView.{GroupView}
 use Rattle.histories.specs.NodeState.{NodeState}
-use Rattle.pace.specs.Retransmission.{sent_again}
+use Rattle.node_timers.specs.Retransmission.{sent_again}
 use Rattle.node_session.specs.declared.asked.Asked.{Asked}
 use Rattle.node_session.specs.declared.asked.Asked.TheVariants as ask
 use Rattle.node_session.specs.declared.asked.Unsealed.{Unsealed}

@@ -39,7 +39,7 @@ use Rattle.durable_node.specs.Remounting.{Remounted}
 use Rattle.node_session.specs.declared.call_outcome.CallOutcome.{CallOutcome}
 use Rattle.node_session.specs.declared.call_outcome.CallOutcome.TheVariants as end
 use Rattle.node_session.specs.Turns.{Turn, Goes, Unmounted, Begins, MayComeOf, MayCompact, IsGoing, IsOfCompaction, after_turn, cause, compaction_end, end_at, end_of, ended_by, sent_by, sent_in}
-use Rattle.pace.specs.Retransmission.{Waits, waits_behind}
+use Rattle.node_timers.specs.Retransmission.{Waits, waits_behind}
 use Rattle.node_session.specs.Changes.{changes, gone_news, is_finish, news}
 use Rattle.node_session.specs.Text.{call_text, send_lines}
 use Rattle.node_session.specs.Exact.{CompactionSays, IsCallBy, StepSays}

@@ -2,9 +2,9 @@
 use Rattle.std.proofs.Common.{◌≡◌, ◌⊎◌, inl, inr, ℕ, Bool, true, false, not, refl, sym, subst, ap, ◌∙◌, Option, is_some}
 use Rattle.std.specs.Prelude.{◌&&◌}
 use Rattle.node_core.specs.declared.event.Event.{Event}
-use Rattle.pace.specs.declared.snapshot.NodeSnapshot.{NodeSnapshot}
-use Rattle.pace.specs.Policy.{Policy, all_answered}
-use Rattle.pace.specs.Retransmission.{Waits, is_answered}
+use Rattle.node_timers.specs.declared.snapshot.NodeSnapshot.{NodeSnapshot}
+use Rattle.node_timers.specs.Policy.{Policy, all_answered}
+use Rattle.node_timers.specs.Retransmission.{Waits, is_answered}
 use Rattle.histories.specs.NodeState.{NodeState}
 use Rattle.node_session.specs.Ticks.{IsNext, Ticks}
 use Rattle.node_session.specs.Timing.{Timers, IsSeen, IsToldNext, Looks, LooksAgain, LooksIn}

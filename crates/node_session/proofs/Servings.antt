@@ -17,7 +17,7 @@ use Rattle.node_session.specs.Seals.{Seals, asked_under, life_of, sealed_behind,
 use Rattle.node_core.specs.declared.event.Event.{Event}
 use Rattle.node_core.specs.State.{State, is_down}
 use Rattle.node_session.specs.Turns.{Turn, MayCompact}
-use Rattle.pace.specs.Retransmission.{Waits, sent_again, waits_on}
+use Rattle.node_timers.specs.Retransmission.{Waits, sent_again, waits_on}
 use Rattle.node_session.specs.Chains.{LineOutcome, ComesAndEnds, IsAtOnce, behind_end, step_end, MayCome, IsTold, IsToldBy, after_turns, is_failed, line_end, next, waits_begun, waits_turns}
 use Rattle.node_session.specs.Lines.{At, AreOf, Comes, after_by, after_asked, after_lines, answer_by, answers, plain_answer, written_answer}
 use Rattle.node_session.specs.Text.{answer, answer_at_once, closing, event_closing, fired_news, keeps_news, next_line, send_lines, turns_text, no_news}

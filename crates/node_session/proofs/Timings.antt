@@ -5,7 +5,7 @@ use Rattle.node_core.specs.State.{State}
 use Rattle.node_core.specs.declared.event.Event.{Event}
 use Rattle.durable_node.specs.Node.{Stands}
 use Rattle.histories.specs.NodeState.{NodeState}
-use Rattle.pace.specs.Retransmission.{Waits}
+use Rattle.node_timers.specs.Retransmission.{Waits}
 use Rattle.node_session.specs.declared.call_outcome.CallOutcome.{CallOutcome}
 use Rattle.node_session.specs.declared.call_outcome.CallOutcome.TheVariants as end
 use Rattle.node_session.specs.declared.timers.TheConstants.{MOST_FIRED}

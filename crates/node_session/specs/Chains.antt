@@ -1,6 +1,6 @@
 -- What comes of each line, and the chains of histories that this makes.
 use Rattle.std.specs.Prelude.{ℕ, ◌≡◌, ◌+◌, List, [], ◌∷◌, Bool, true, false, if◌then◌else◌, Option, None, is_some}
-use Rattle.pace.specs.Retransmission.{Waits, waits_behind, waits_on}
+use Rattle.node_timers.specs.Retransmission.{Waits, waits_behind, waits_on}
 use Rattle.histories.specs.NodeState.{NodeState}
 use Rattle.histories.specs.HistoryEvent.{Entry}
 use Rattle.histories.specs.After.{sent_at}

@@ -1,6 +1,6 @@
 -- What comes of lines, one after another, and the answers to them.
 use Rattle.std.specs.Prelude.{ℕ, List, [], ◌∷◌, ◌++◌, Bool, true, false, Option}
-use Rattle.pace.specs.Retransmission.{Waits}
+use Rattle.node_timers.specs.Retransmission.{Waits}
 use Rattle.histories.specs.NodeState.{NodeState}
 use Rattle.node_session.specs.declared.asked.Asked.{Asked}
 use Rattle.node_session.specs.Chains.{LineOutcome, IsNone, IsTold, MayCome, after_turns, is_failed, line_end, next, waits_begun, waits_turns}

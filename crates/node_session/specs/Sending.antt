@@ -5,7 +5,7 @@ use Rattle.line_words.specs.Words.{first_word, words_of}
 use Rattle.line_words.specs.Lines.{lines_of}
 use Rattle.wire_msg.specs.Envelope.{Envelope}
 use Rattle.wire_msg.specs.Spelling.{spelling, IsMessage}
-use Rattle.pace.specs.Retransmission.{Waits, sent_again}
+use Rattle.node_timers.specs.Retransmission.{Waits, sent_again}
 use Rattle.histories.specs.NodeState.{NodeState}
 use Rattle.sealed_msg.specs.declared.stamp.Stamp.{Stamp}
 use Rattle.sealed_msg.specs.Sealing.{sealed}

@@ -6,7 +6,7 @@ use Rattle.node_core.specs.Start.{down}
 use Rattle.node_store.specs.Store.{slots_for}
 use Rattle.durable_node.specs.Node.{Node, Stands}
 use Rattle.wire_msg.specs.Spelling.{IsMessage}
-use Rattle.pace.specs.Retransmission.{Waits, none_waited}
+use Rattle.node_timers.specs.Retransmission.{Waits, none_waited}
 use Rattle.histories.specs.NodeState.{NodeState}
 use Rattle.histories.specs.declared.history_event.HistoryEvent.{HistoryEvent}
 use Rattle.histories.specs.After.{after}
@@ -19,7 +19,7 @@ use Rattle.node_session.specs.Exact.{IsCallOf, AreCallsOf, AreCallsIn}
 use Rattle.node_session.specs.Sending.{AreMessagesIn, AreSentIn, again, sent_turns}
 use Rattle.node_session.specs.Seals.{Seals}
 use Rattle.node_session.specs.Timing.{Timers, AreTimedIn, IsTimed, Nothing, OwnTime, Spends, new_timers}
-use Rattle.pace.specs.declared.timer_settings.TimerSettings.{TimerSettings}
+use Rattle.node_timers.specs.declared.timer_settings.TimerSettings.{TimerSettings}
 use Rattle.node_session.specs.Text.{answer, turn_text, turns_text}
 use Rattle.node_session.specs.declared.asked.Asked.{Asked}
 use Rattle.node_session.specs.declared.call_outcome.CallOutcome.{CallOutcome}

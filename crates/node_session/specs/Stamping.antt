@@ -5,7 +5,7 @@ use Rattle.wire_msg.specs.Reading.{message_of}
 use Rattle.node_core.specs.declared.event.Event.TheVariants as on
 use Rattle.line_words.specs.Words.{words_of}
 use Rattle.line_words.specs.Lines.{bytes_of, lines_of}
-use Rattle.pace.specs.Retransmission.{none_waited}
+use Rattle.node_timers.specs.Retransmission.{none_waited}
 use Rattle.histories.specs.NodeState.{NodeState}
 use Rattle.histories.specs.declared.history_event.HistoryEvent.TheVariants.{Crashed}
 use Rattle.histories.specs.After.{after}

@@ -14,7 +14,7 @@ use Rattle.node_core.specs.State.{State, is_down}
 use Rattle.node_core.specs.Words.{members_of}
 use Rattle.durable_node.specs.declared.fault.NodeFault.{NodeFault}
 use Rattle.durable_node.specs.declared.fault.NodeFault.TheVariants as node
-use Rattle.pace.specs.Retransmission.{Waits, sent_again}
+use Rattle.node_timers.specs.Retransmission.{Waits, sent_again}
 use Rattle.histories.specs.NodeState.{NodeState}
 use Rattle.node_session.specs.declared.asked.Asked.{Asked}
 use Rattle.node_session.specs.declared.asked.Asked.TheVariants as ask

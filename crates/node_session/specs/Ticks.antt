@@ -2,12 +2,12 @@
 use Rattle.std.specs.Prelude.{ℕ, ◌≡◌, ◌≢◌, ◌<◌, ◌≤◌, ◌-◌, ◌^◌, ◌⊎◌, [], IfSome, Option, Some, None, is_some, true}
 use Rattle.node_core.specs.declared.event.Event.{Event}
 use Rattle.node_core.specs.declared.event.Event.TheVariants as on
-use Rattle.pace.specs.declared.wait.Wait.{Wait}
-use Rattle.pace.specs.declared.deadline.Deadline.{Deadline}
-use Rattle.pace.specs.declared.snapshot.NodeSnapshot.{NodeSnapshot}
-use Rattle.pace.specs.Timers.{prompted_left, soon_left, wait_of}
-use Rattle.pace.specs.Policy.{Policy, Counts, Dispatches, HasCome, IsDue, IsWorkDue, MayFire, MovesDeadline, Runs, Sets, asked_at, event_at, passed, random_at, slowest_at}
-use Rattle.pace.specs.Retransmission.{Waits, has_come, sent_again}
+use Rattle.node_timers.specs.declared.wait.Wait.{Wait}
+use Rattle.node_timers.specs.declared.deadline.Deadline.{Deadline}
+use Rattle.node_timers.specs.declared.snapshot.NodeSnapshot.{NodeSnapshot}
+use Rattle.node_timers.specs.Timers.{prompted_left, soon_left, wait_of}
+use Rattle.node_timers.specs.Policy.{Policy, Counts, Dispatches, HasCome, IsDue, IsWorkDue, MayFire, MovesDeadline, Runs, Sets, asked_at, event_at, passed, random_at, slowest_at}
+use Rattle.node_timers.specs.Retransmission.{Waits, has_come, sent_again}
 
 -- a deadline is set, where none ran
 abbrev pub SetsDeadline : NodeSnapshot → Policy → Policy → Type 0

@@ -11,13 +11,13 @@ use Rattle.node_core.specs.State.{State, in_phase, is_down}
 use Rattle.node_core.specs.Wait.{IsMergeWait}
 use Rattle.node_core.specs.Words.{members_of}
 use Rattle.histories.specs.NodeState.{NodeState}
-use Rattle.pace.specs.declared.snapshot.NodeSnapshot.{NodeSnapshot}
-use Rattle.pace.specs.declared.timer_settings.TimerSettings.{TimerSettings}
-use Rattle.pace.specs.Hearing.{told_by}
-use Rattle.pace.specs.Policy.{Policy, all_answered, fresh, gives_up, in_new_group, passed, spent, without_asked}
-use Rattle.pace.specs.Retransmission.{Waits, is_answered, waits_on}
-use Rattle.pace.specs.Snapshots.{snapshot_of}
-use Rattle.pace.specs.Timers.{raise_of}
+use Rattle.node_timers.specs.declared.snapshot.NodeSnapshot.{NodeSnapshot}
+use Rattle.node_timers.specs.declared.timer_settings.TimerSettings.{TimerSettings}
+use Rattle.node_timers.specs.Hearing.{told_by}
+use Rattle.node_timers.specs.Policy.{Policy, all_answered, fresh, gives_up, in_new_group, passed, spent, without_asked}
+use Rattle.node_timers.specs.Retransmission.{Waits, is_answered, waits_on}
+use Rattle.node_timers.specs.Snapshots.{snapshot_of}
+use Rattle.node_timers.specs.Timers.{raise_of}
 use Rattle.node_session.specs.declared.asked.Asked.{Asked}
 use Rattle.node_session.specs.declared.asked.Asked.TheVariants as ask
 use Rattle.node_session.specs.declared.call_outcome.CallOutcome.{CallOutcome}

@@ -1,14 +1,14 @@
 // When something is due next at a node, and the line that tells it.
 ghost use Rattle.std.specs.Prelude.{◌≡◌, ◌<◌, ◌≤◌, ◌^◌, ◌++◌, ◌⊎◌, ◌-◌, ℕ, [], OnOk, is_some, true, Some};
 ghost use Rattle.node_core.specs.declared.event.Event.{Event};
-ghost use Rattle.pace.specs.declared.deadline.Deadline.{Deadline};
-ghost use Rattle.pace.specs.Policy.{passed, IsDue, MayFire, Runs};
-ghost use Rattle.pace.specs.Retransmission.{has_come, sent_again};
-ghost use Rattle.pace.specs.Timers.{wait_of};
+ghost use Rattle.node_timers.specs.declared.deadline.Deadline.{Deadline};
+ghost use Rattle.node_timers.specs.Policy.{passed, IsDue, MayFire, Runs};
+ghost use Rattle.node_timers.specs.Retransmission.{has_come, sent_again};
+ghost use Rattle.node_timers.specs.Timers.{wait_of};
 ghost use Rattle.node_session.specs.Text.{next_line};
 
 use console_text::{push_number, push_text};
-use pace::{NodeSnapshot, Retransmission, TimerPolicy};
+use node_timers::{NodeSnapshot, Retransmission, TimerPolicy};
 use std::alloc::AllocError;
 
 /// When a timer fires or a message is sent again next, at a node that stays as it is seen, where it is so late now and the clock doesn't fall back. Before
@@ -21,7 +21,7 @@ pub(crate) fn next_due(
 ) -> u64
     // Promise: A tick tells when something is due next, unless the node is Down then, and nothing else does; before that time no
     // timer fires and nothing is sent again, where nothing comes, whatever time is told.
-    // Refuses: later_of_the_two_told, nothing_told, pace::due_too_late, pace::due_too_early.
+    // Refuses: later_of_the_two_told, nothing_told, node_timers::due_too_late, node_timers::due_too_early.
     ensures quiet { (later : ℕ) → later < result → (event : Event) → MayFire (passed later pace.now) snapshot.now event → ⊥ }
     ensures silent { (later : ℕ) → now ≤ later → later < result → sent_again later waiting.now ≡ [] }
     ensures fires { (d : Deadline) → Runs pace.now snapshot.now d → is_some pace.now.told ≡ true → result < 2 ^ 64 - 1

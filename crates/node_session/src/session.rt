@@ -16,7 +16,7 @@ ghost use Rattle.durable_node.specs.Faults.{answered};
 ghost use Rattle.durable_node.specs.Node.{Stands};
 ghost use Rattle.histories.specs.NodeState.{NodeState};
 ghost use Rattle.node_core.specs.State.{is_down, state_of};
-ghost use Rattle.pace.specs.Retransmission.{sent_again, waits_on};
+ghost use Rattle.node_timers.specs.Retransmission.{sent_again, waits_on};
 ghost use Rattle.wire_msg.specs.Spelling.{IsMessage};
 ghost use Rattle.node_session.specs.Text.{fired_line, fired_news, no_news, send_lines};
 ghost use Rattle.node_session.specs.Turns.{compaction_end, ended_by, sent_by, IsFired, MayComeOf, MayCompact};
@@ -36,7 +36,7 @@ use durable_node::{DurableNode, NodeFault, StepReport};
 use group_task::NodeId;
 use line_words::cut_line;
 use node_core::{CoreFault, Event, Phase, Timer, Vector};
-use pace::{NodeSnapshot, Retransmission, TimerSettings};
+use node_timers::{NodeSnapshot, Retransmission, TimerSettings};
 use sector_disk::SectorDisk;
 use std::alloc::{AllocError, Global};
 use std::marker::Model;
@@ -169,10 +169,10 @@ impl<D: SectorDisk + Drop> Session<D> {
         // compaction: each refusal comes exactly where its rule says, `Device` only where the disk's count of failures rose or is the
         // greatest, and what is mounted is what the disk reads.
         // Also: Session::turn, Session::compact, stops_where_failed, device_where_failed, exhausted_where_none_left.
-        // Refuses: device_fault_at_will, submit_refused_as_worn, recovery_answered_damaged, done_refused_as_worn, compaction_refused_at_will.
+        // Refuses: device_fault_at_will, submit_refused_as_area_exhausted, recovery_answered_damaged, done_refused_as_area_exhausted, compaction_refused_at_will.
         // Promise: A tick or a loss names each event that it makes; a recovery writes what is kept; a tick sends again what the
         // node sent and still waits for, once a round trip.
-        // Refuses: node_words::fired_as_another, sent_again_without_end, pace::sent_again_at_once.
+        // Refuses: node_words::fired_as_another, sent_again_without_end, node_timers::sent_again_at_once.
         // Promise: Behind the line that says that the device failed nothing is answered.
         // Refuses: device_goes_on.
         // Promise: What was fed decides the text, however it was cut, and what was written of it may be cleared; what isn't a whole

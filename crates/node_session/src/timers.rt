@@ -6,7 +6,7 @@ ghost use Rattle.node_session.specs.Turns.{IsFired};
 
 use group_task::{GroupNo, NodeId};
 use node_core::{Event, Phase, Vector};
-use pace::{NodeSnapshot, Retransmission, TimerPolicy, TimerSettings};
+use node_timers::{NodeSnapshot, Retransmission, TimerPolicy, TimerSettings};
 use std::marker::Model;
 
 /// At most so many timers fire in one tick; what is due beyond that fires in the next.

@@ -1,7 +1,7 @@
 -- What a disk with a counter and a journal stands for, and what a mounted store knows of it.
 use Rattle.std.specs.Prelude.{◌≡◌, ◌⊎◌, ◌<◌, ◌≤◌, ℕ, ◌-◌, ◌/◌, ◌^◌, ◌==◌, min, Bool, List, IsTrue, IsFalse, Option, Some, None, if◌then◌else◌, Result}
-use Rattle.disk_sector.specs.Layout.{sectors_for}
-use Rattle.disk_sector.specs.declared.layout.TheConstants.{MOST_SLOTS}
+use Rattle.disk_layout.specs.Layout.{sectors_for}
+use Rattle.disk_layout.specs.declared.layout.TheConstants.{MOST_SLOTS}
 use Rattle.sector_disk.specs.Disk.{Image, DiskState, IsImage, AllSynced, sector_at}
 use Rattle.safe_cell.specs.Answered.{AnswersOr}
 use Rattle.safe_cell.specs.Cell.{cell_at}

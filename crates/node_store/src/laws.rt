@@ -1,7 +1,7 @@
 //! The limits of the crate as numbers: the contract of a function that does nothing.
 
 ghost use Rattle.std.specs.Prelude.{◌≡◌, ◌≤◌, ℕ};
-ghost use Rattle.disk_sector.specs.declared.layout.TheConstants.{MOST_SLOTS};
+ghost use Rattle.disk_layout.specs.declared.layout.TheConstants.{MOST_SLOTS};
 ghost use Rattle.node_store.specs.Store.{slots_for};
 ghost use Rattle.node_store.specs.Beginning.{HasNoCounter};
 ghost use Rattle.sector_disk.specs.Memory.{blank, state_of};

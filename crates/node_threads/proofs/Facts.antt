@@ -23,7 +23,7 @@ use Rattle.node_lock.specs.Kept.{Log}
 use Rattle.node_lock.specs.Drawing.{HaveNumbers}
 use Rattle.node_lock.specs.Lost.{AreMarked, HasLost, all_losses, all_went}
 use Rattle.node_lock.specs.Sending.{addressed_to}
-use Rattle.node_lock.specs.Wearing.{NoneWorn}
+use Rattle.node_lock.specs.Wearing.{NoneAreaExhausted}
 use Rattle.node_threads.specs.Nodes.{NodeEnds, run_at}
 use Rattle.node_threads.specs.Ended.{HasEnded, AreEnded}
 use Rattle.node_threads.specs.Whole.{IsInterleaving}
@@ -117,8 +117,8 @@ lost_facts run plan log ends e =
       put = λ x is. let at = among_at x h.puts (rw e.is_puts is) in rw at.2 at (has.put at.0 x at.1);
     }
 
-pub unworn_fact : (run : Run) (plan : Planned) (log : Log) (ends : NodeEnds) → HasEnded run plan log ends → NoneWorn (entries_of log.turns)
-unworn_fact run plan log ends e = rw e.is_history at e.kept.unworn
+pub never_area_exhausted_fact : (run : Run) (plan : Planned) (log : Log) (ends : NodeEnds) → HasEnded run plan log ends → NoneAreaExhausted (entries_of log.turns)
+never_area_exhausted_fact run plan log ends e = rw e.is_history at e.kept.never_area_exhausted
 
 pub numbers_fact : (run : Run) (plan : Planned) (log : Log) (ends : NodeEnds) → HasEnded run plan log ends → (drawn : List ℕ) × HaveNumbers drawn log.numbers
 numbers_fact run plan log ends e = (e.view.drawn, rw e.is_numbers at e.kept.numbers)

@@ -4,7 +4,7 @@ use Rattle.std.specs.Prelude.{MatchBool}
 use Rattle.histories.specs.HistoryEvent.{Entry}
 use Rattle.histories.specs.Lists.{IsAmong}
 use Rattle.node_lock.specs.Path.{Path}
-use Rattle.node_lock.specs.Wearing.{Fails, IsWorn, NoneWorn, is_fault}
+use Rattle.node_lock.specs.Wearing.{Fails, IsAreaExhausted, NoneAreaExhausted, is_fault}
 
 step_zero : (b : Bool) (n m : ℕ) → MatchBool b ((n < m) ⊎ (m ≡ 2 ^ 64 - 1)) (m ≡ n) → m ≡ 0 → (b ≡ false) × (n ≡ 0)
 step_zero true n m (inl rose) none = absurd (let no : ⊥ = omega (arith, rose, none) in no)
@@ -21,7 +21,7 @@ none_failed (x ∷ es) n failures none path e (inl same) =
     ap (λ (y : Entry). is_fault y.what) same ∙ (step_zero (is_fault x.what) n path.0 path.1 (count_zero es path.0 (subst (λ (k : ℕ). Path Fails path.0 es k) none path.2))).0
 none_failed (x ∷ es) n failures none path e (inr later) = none_failed es path.0 failures none path.2 e later
 
-pub none_worn : (es : List Entry) → NoneWorn es → (e : Entry) → IsAmong e es → IsWorn e.what → ⊥
-none_worn [] all e is = absurd is
-none_worn (x ∷ es) all e (inl same) = λ worn. all.0 (subst (λ (y : Entry). IsWorn y.what) same worn)
-none_worn (x ∷ es) all e (inr later) = none_worn es all.1 e later
+pub none_area_exhausted : (es : List Entry) → NoneAreaExhausted es → (e : Entry) → IsAmong e es → IsAreaExhausted e.what → ⊥
+none_area_exhausted [] all e is = absurd is
+none_area_exhausted (x ∷ es) all e (inl same) = λ area_exhausted. all.0 (subst (λ (y : Entry). IsAreaExhausted y.what) same area_exhausted)
+none_area_exhausted (x ∷ es) all e (inr later) = none_area_exhausted es all.1 e later

@@ -29,11 +29,11 @@ use Rattle.node_lock.specs.HeldView.{IsOther}
 use Rattle.node_lock.specs.Kept.{Log}
 use Rattle.node_lock.specs.Drawing.{HaveNumbers}
 use Rattle.node_lock.specs.Lost.{all_went}
-use Rattle.node_lock.specs.Wearing.{HasFailed, NoneWorn}
+use Rattle.node_lock.specs.Wearing.{HasFailed, NoneAreaExhausted}
 use Rattle.node_threads.specs.Nodes.{NodeEnds, run_at}
 use Rattle.node_threads.specs.Links.{IsLinkOf, AreGathered}
 use Rattle.node_threads.specs.Whole.{IsCarried, sent_by, IsWhole, IsOneBook, histories_in}
-use Rattle.node_threads.proofs.Facts.{Facts, LostFacts, facts, lost_facts, numbers_fact, unworn_fact}
+use Rattle.node_threads.proofs.Facts.{Facts, LostFacts, facts, lost_facts, numbers_fact, never_area_exhausted_fact}
 use Rattle.node_threads.specs.declared.size.RunSize.{RunSize}
 use Rattle.node_threads.specs.Ended.{AreEnded}
 use Rattle.node_threads.proofs.Places.{place_of, at_map}
@@ -210,14 +210,14 @@ record NodeOf (size : RunSize) (plans : List Planned) (ends : List NodeEnds) (n 
   facts : Facts (run_at size n) plan h.turns mine
   losses : LostFacts h mine
   numbers : (drawn : List ℕ) × HaveNumbers drawn h.numbers
-  unworn : NoneWorn (entries_of h.turns)
+  never_area_exhausted : NoneAreaExhausted (entries_of h.turns)
   failures : HasFailed (entries_of h.turns) h.failures
 
 with_plan : (size : RunSize) (plans : List Planned) (histories : List Log) (links : List LinkEnd) (r : Ended size plans histories links) (n : ℕ) (p : Planned) (h : Log) (e : NodeEnds) → slice_get plans n ≡ Some p → slice_get histories n ≡ Some h → slice_get r.ends n ≡ Some e
     → NodeOf size plans r.ends n h
 with_plan size plans histories links r n p h e at_plan at at_end =
     let has = r.ended.each n p h e at_plan at at_end in
-    record { plan = p; mine = e; plan_at = at_plan; ends_at = at_end; facts = facts (run_at size n) p h e has; losses = lost_facts (run_at size n) p h e has; numbers = numbers_fact (run_at size n) p h e has; unworn = unworn_fact (run_at size n) p h e has; failures = has.failures }
+    record { plan = p; mine = e; plan_at = at_plan; ends_at = at_end; facts = facts (run_at size n) p h e has; losses = lost_facts (run_at size n) p h e has; numbers = numbers_fact (run_at size n) p h e has; never_area_exhausted = never_area_exhausted_fact (run_at size n) p h e has; failures = has.failures }
 
 node_of : (size : RunSize) (plans : List Planned) (histories : List Log) (links : List LinkEnd) (r : Ended size plans histories links) (n : ℕ) (h : Log) → slice_get histories n ≡ Some h → NodeOf size plans r.ends n h
 node_of size plans histories links r n h at =
@@ -309,7 +309,7 @@ whole_run size plans histories ends links nodes ended gathered =
                 subst (λ (x : LinkEnd). x.put.messages ≡ addressed_to j (all_went a.losses.went h.turns)) same (went_on (run_at size n) (run_at size j) a.plan _ h to.0.turns l.0 a.mine a.losses l.2 refl);
           };
       numbers = λ n h at. (node_of size plans histories links r n h at).numbers;
-      unworn = λ n h at. (node_of size plans histories links r n h at).unworn;
+      never_area_exhausted = λ n h at. (node_of size plans histories links r n h at).never_area_exhausted;
       failures = λ n h at. (node_of size plans histories links r n h at).failures;
       link_count = gathered.count ∙ ap (λ (n : ℕ). n * (n - 1)) ended.ends_count;
       carried = λ i k j p from to at_from at_to at_plan other.

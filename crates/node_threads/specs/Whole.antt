@@ -29,7 +29,7 @@ use Rattle.node_lock.specs.Drawing.{HaveNumbers}
 use Rattle.node_lock.specs.Lost.{AreMarked, all_losses, all_went}
 use Rattle.node_lock.specs.Planned.{Planned, plan_len, turns_of}
 use Rattle.node_lock.specs.Sending.{PutsSome, addressed_to}
-use Rattle.node_lock.specs.Wearing.{HasFailed, NoneWorn}
+use Rattle.node_lock.specs.Wearing.{HasFailed, NoneAreaExhausted}
 use Rattle.node_threads.specs.declared.size.RunSize.{RunSize}
 
 -- each worker's turns are its whole plan, in its order
@@ -92,7 +92,7 @@ pub record IsWhole (size : RunSize) (plans : List Planned) (histories : List Log
   -- the numbers of a node's turns rise, and are those that it drew
   pub numbers : (n : ℕ) (h : Log) → slice_get histories n ≡ Some h → (drawn : List ℕ) × HaveNumbers drawn h.numbers
   -- no event was refused since the areas of the disk are used up, and the disk failed just where an event says so
-  pub unworn : (n : ℕ) (h : Log) → slice_get histories n ≡ Some h → NoneWorn (entries_of h.turns)
+  pub never_area_exhausted : (n : ℕ) (h : Log) → slice_get histories n ≡ Some h → NoneAreaExhausted (entries_of h.turns)
   pub failures : (n : ℕ) (h : Log) → slice_get histories n ≡ Some h → HasFailed (entries_of h.turns) h.failures
   pub link_count : length links ≡ length plans * (length plans - 1)
   pub carried : (i k j : ℕ) (p : Planned) (from to : Log) → slice_get histories i ≡ Some from → slice_get histories j ≡ Some to → slice_get plans j ≡ Some p → IsOther i k j → (link : LinkEnd) × (slice_get links (i * (length plans - 1) + k) ≡ Some link) × IsCarried size.capacity i j p from.turns to.turns link

@@ -7,7 +7,7 @@ ghost use Rattle.link_ring.specs.declared.gathering.LinkEnd.{LinkEnd};
 ghost use Rattle.node_lock.specs.History.{entries_of};
 ghost use Rattle.node_lock.specs.Kept.{Log};
 ghost use Rattle.node_lock.specs.Planned.{Planned};
-ghost use Rattle.node_lock.specs.Wearing.{IsWorn, is_fault};
+ghost use Rattle.node_lock.specs.Wearing.{IsAreaExhausted, is_fault};
 ghost use Rattle.node_threads.specs.Whole.{IsWhole};
 ghost use Rattle.node_threads.specs.declared.size.RunSize.{RunSize};
 
@@ -19,7 +19,7 @@ pub fn faults_have_failures()
     ensures failures { (size : RunSize) (plans : List Planned) (histories : List Log) (links : List LinkEnd) → IsWhole size plans histories links
         → (n : ℕ) (h : Log) → slice_get histories n ≡ Some h → h.failures ≡ 0 → (e : Entry) → IsAmong e (entries_of h.turns) → is_fault e.what ≡ false }
     // Promise: Of a whole run in threads, no event is refused since the areas of its node's disk are used up.
-    // Refuses: node_lock::threads_refused_as_worn.
-    ensures unworn { (size : RunSize) (plans : List Planned) (histories : List Log) (links : List LinkEnd) → IsWhole size plans histories links
-        → (n : ℕ) (h : Log) → slice_get histories n ≡ Some h → (e : Entry) → IsAmong e (entries_of h.turns) → IsWorn e.what → ⊥ }
+    // Refuses: node_lock::threads_refused_as_area_exhausted.
+    ensures never_area_exhausted { (size : RunSize) (plans : List Planned) (histories : List Log) (links : List LinkEnd) → IsWhole size plans histories links
+        → (n : ℕ) (h : Log) → slice_get histories n ≡ Some h → (e : Entry) → IsAmong e (entries_of h.turns) → IsAreaExhausted e.what → ⊥ }
 {}

@@ -63,7 +63,7 @@ pub fn run_threads<R: Threads + Wait + Sync, G: Gate + Send>(
     // Promise: No event is refused because a disk's areas are used up, and the count of failed calls that a history tells rose just at the
     // events that say that the device failed.
     // Also: faults_have_failures.
-    // Refuses: node_lock::threads_refused_as_worn, node_lock::failures_never_shown.
+    // Refuses: node_lock::threads_refused_as_area_exhausted, node_lock::failures_never_shown.
     // Promise: No entry is one that a journal of the run's slots doesn't allow.
     // Refuses: cluster_sim::disks_of_four_slots.
     // Promise: Each job that a node takes out of its journal was finished by a node that had it in hand and owned its queue then;

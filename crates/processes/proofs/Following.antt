@@ -14,9 +14,9 @@ use Rattle.histories.specs.After.{after, sent_at}
 use Rattle.histories.specs.Possible.{IsSettling}
 use Rattle.histories.specs.History.{Follows, replay, sent_in}
 use Rattle.histories.proofs.PublicLaws.{among_either, among_left, among_right}
-use Rattle.pace.specs.declared.repeat.Repeat.{Repeat}
-use Rattle.pace.specs.declared.retransmission.TheConstants.{MOST_AT_ONCE}
-use Rattle.pace.specs.Retransmission.{Waits, answerer, first, has_come, is_due, is_resting, is_waited, is_waited_still, message_of, nearer, overdue, rested, waits_behind}
+use Rattle.node_timers.specs.declared.repeat.Repeat.{Repeat}
+use Rattle.node_timers.specs.declared.retransmission.TheConstants.{MOST_AT_ONCE}
+use Rattle.node_timers.specs.Retransmission.{Waits, answerer, first, has_come, is_due, is_resting, is_waited, is_waited_still, message_of, nearer, overdue, rested, waits_behind}
 use Rattle.node_session.specs.declared.asked.Asked.{Asked}
 use Rattle.node_session.specs.declared.asked.Asked.TheVariants as ask
 use Rattle.node_session.specs.Turns.{Turn, Goes, Unmounted, Begins, after_turn, cause, IsFired, MayCompact}

@@ -335,7 +335,7 @@ there slots nodes w n number what may = subst (λ (x : NodeState). MayHaveCome (
 
 exact_step : (slots nodes : ℕ) (w : World) (a : Act) (step : Step) → IsStepOf nodes w a step → IsLawful slots nodes w step
     → act_outcome nodes w a step ≢ outcome.Refused (Node Exhausted) → act_outcome nodes w a step ≢ outcome.Refused (Node AreaExhausted) → IsExactStep nodes slots w a step
-exact_step slots nodes w a step of may unspent unworn =
+exact_step slots nodes w a step of may unspent never_area_exhausted =
     step_by _ _ _ _ nodes step
     (λ n number event what known is of. let it = came_there n number what is in event_exact slots n nodes (node_in w.states n) event what of it.possible it.of_slots (left n number what is))
     (λ n number what known is of. let it = came_there n number what is in compact_exact n nodes (node_in w.states n) what of it.possible (left n number what is))
@@ -347,26 +347,26 @@ exact_step slots nodes w a step of may unspent unworn =
     left : (n number : ℕ) (what : HistoryEvent) → step ≡ Takes n number what → IsUsedUp what → ⊥
     left n number what is up = elim (used_up_outcome n nodes (length w.net.sent) (node_in w.states n) what a up) [
       | inl spent ↦ unspent (ap (act_outcome nodes w a) is ∙ spent)
-      | inr worn ↦ unworn (ap (act_outcome nodes w a) is ∙ worn)
+      | inr area_exhausted ↦ never_area_exhausted (ap (act_outcome nodes w a) is ∙ area_exhausted)
     ]
 
 exact_from : (slots nodes : ℕ) (acts : List Act) (steps : List Step) (w : World) → IsRunOf nodes slots w acts steps
     → ((m : Moment) → IsAmong m (moments_from nodes w acts steps) → m.outcome ≢ outcome.Refused (Node Exhausted))
     → ((k : ℕ) (m : Moment) → slice_get (moments_from nodes w acts steps) k ≡ Some m → m.outcome ≢ outcome.Refused (Node AreaExhausted)) → IsExactRun nodes slots w acts steps
-exact_from slots nodes [] [] w run unspent unworn = tt
-exact_from slots nodes [] (step ∷ steps) w run unspent unworn = absurd run
-exact_from slots nodes (a ∷ acts) [] w run unspent unworn = absurd run
-exact_from slots nodes (a ∷ acts) (step ∷ steps) w run unspent unworn = (
-  exact_step slots nodes w a step run.0 run.1 (unspent (moment_of nodes w a step) (inl refl)) (unworn 0 (moment_of nodes w a step) refl),
-  exact_from slots nodes acts steps (world_after nodes w step) run.2 (λ m i. unspent m (inr i)) (λ k m at. unworn (suc k) m at),
+exact_from slots nodes [] [] w run unspent never_area_exhausted = tt
+exact_from slots nodes [] (step ∷ steps) w run unspent never_area_exhausted = absurd run
+exact_from slots nodes (a ∷ acts) [] w run unspent never_area_exhausted = absurd run
+exact_from slots nodes (a ∷ acts) (step ∷ steps) w run unspent never_area_exhausted = (
+  exact_step slots nodes w a step run.0 run.1 (unspent (moment_of nodes w a step) (inl refl)) (never_area_exhausted 0 (moment_of nodes w a step) refl),
+  exact_from slots nodes acts steps (world_after nodes w step) run.2 (λ m i. unspent m (inr i)) (λ k m at. never_area_exhausted (suc k) m at),
 )
 
 pub exact_run : (slots nodes : ℕ) (acts : List Act) (steps : List Step) → IsShort acts → IsRunOf nodes slots (start nodes) acts steps → NoAreaExhausted (report_of nodes acts steps) → IsExactRun nodes slots (start nodes) acts steps
-exact_run slots nodes acts steps short run unworn =
+exact_run slots nodes acts steps short run never_area_exhausted =
     let same = moments_are nodes acts steps in
     exact_from slots nodes acts steps (start nodes) run
     (λ m i. none_spent nodes slots acts steps short run m (subst (IsAmong m) (sym same) i))
-    (λ k m at. unworn k m (subst (λ (ms : List Moment). slice_get ms k ≡ Some m) (sym same) at))
+    (λ k m at. never_area_exhausted k m (subst (λ (ms : List Moment). slice_get ms k ≡ Some m) (sym same) at))
 
 -- ---- an exact run is a run
 
@@ -434,11 +434,11 @@ run_few slots nodes limit (a ∷ acts) (step ∷ steps) w run few =
 -- the step of the next act is exact, unless it is refused because the areas of a disk are used up
 pub exact_next : (slots nodes : ℕ) (acts : List Act) (steps : List Step) (a : Act) (step : Step) → length acts + 2 < 2 ^ 64 → IsRunOf nodes slots (start nodes) acts steps → IsNext nodes slots (world_at nodes (start nodes) steps) a step
     → act_outcome nodes (world_at nodes (start nodes) steps) a step ≢ outcome.Refused (Node AreaExhausted) → IsExactStep nodes slots (world_at nodes (start nodes) steps) a step
-exact_next slots nodes acts steps a step short run next unworn =
+exact_next slots nodes acts steps a step short run next never_area_exhausted =
     let w : World = world_at nodes (start nodes) steps in
     let lawful = lawful_of slots nodes w step next.allowed next.of_slots in
     exact_step slots nodes w a step next.of_act lawful
-    (step_unspent slots nodes (1 + length acts) w a step next.of_act lawful (run_few slots nodes 1 acts steps (start nodes) run (opens_few nodes)) (omega (arith, short))) unworn
+    (step_unspent slots nodes (1 + length acts) w a step next.of_act lawful (run_few slots nodes 1 acts steps (start nodes) run (opens_few nodes)) (omega (arith, short))) never_area_exhausted
 
 -- ---- nothing is used up in an exact run
 

@@ -48,14 +48,14 @@ pub runs_open : RunsOpen
 runs_open nodes slots = record { short = omega arith; steps = []; is_run = tt; world = refl; reported = refl }
 
 pub runs_grow : RunsGrow
-runs_grow nodes slots w r a step left next few unworn =
+runs_grow nodes slots w r a step left next few never_area_exhausted =
     let acts : List Act = acts_in r in
     let steps : List Step = left.steps in
     let many : length acts ≡ length r.moments = length-map r.moments (λ (m : Moment). m.act) in
     let was_run : IsRunOf nodes slots (start nodes) acts steps = left_run nodes slots w r left in
     let exact : IsExactStep nodes slots (world_at nodes (start nodes) steps) a step =
     exact_next slots nodes acts steps a step (omega (arith, few, many)) was_run (subst (λ (x : World). IsNext nodes slots x a step) left.world next)
-    (subst (λ (x : World). act_outcome nodes x a step ≢ Refused (OfNode AreaExhausted)) left.world unworn) in
+    (subst (λ (x : World). act_outcome nodes x a step ≢ Refused (OfNode AreaExhausted)) left.world never_area_exhausted) in
     let run : IsExactRun nodes slots (start nodes) (acts ++ a ∷ []) (steps ++ step ∷ []) = exact_goes_on nodes slots acts steps (start nodes) a step left.is_run exact in
     let shown : acts_in (grown nodes w a step r) ≡ acts ++ a ∷ [] = map-append (λ (m : Moment). m.act) r.moments (moment_of nodes w a step ∷ []) in
     let reported : grown nodes w a step r ≡ report_of nodes (acts ++ a ∷ []) (steps ++ step ∷ []) =

@@ -246,4 +246,4 @@ keeps nodes slots acts steps short exact =
     }
 
 pub every_schedule : EverySchedule
-every_schedule nodes slots acts steps short is_run unworn = keeps nodes slots acts steps short (exact_run slots nodes acts steps short is_run unworn)
+every_schedule nodes slots acts steps short is_run never_area_exhausted = keeps nodes slots acts steps short (exact_run slots nodes acts steps short is_run never_area_exhausted)

@@ -86,7 +86,7 @@ pub fn acts_do_as_answered()
     ensures down { DownRefusesCompaction }
     // Promise: No act is refused as Exhausted because the counter or the ids of its node are used up, or as AreaExhausted because the areas of
     // its disk are.
-    // Refuses: recovery_refused_as_spent, compaction_refused_as_worn, cluster_sim::submit_refused_as_worn.
+    // Refuses: recovery_refused_as_spent, compaction_refused_as_area_exhausted, cluster_sim::submit_refused_as_area_exhausted.
     ensures unspent { NoneIsSpent }
 {}
 

@@ -3,8 +3,8 @@ use Rattle.std.proofs.Common.{◌≡◌, ◌<◌, ◌^◌, ℕ, ◌++◌, replic
 use Rattle.std.specs.Int.{from_be_bytes, to_be_bytes, w64}
 use Rattle.std.proofs.lemmas.Nat.{from_be_bytes-to_be_bytes_8}
 use Rattle.std.proofs.lemmas.List.{drop_at}
-use Rattle.disk_sector.specs.Blank.{is_blank}
-use Rattle.disk_sector.proofs.PublicLaws.{blank}
+use Rattle.disk_layout.specs.Blank.{is_blank}
+use Rattle.disk_layout.proofs.PublicLaws.{blank}
 use Rattle.safe_cell.specs.Body.{body_value, body_of}
 
 pub body_value-body_of : (value : ℕ) → value < 2 ^ 64 → body_value (body_of value) ≡ Some value

@@ -1,6 +1,6 @@
 -- The body of a slot of a cell: the value in eight bytes, greatest first, and zeros.
 use Rattle.std.specs.Prelude.{ℕ, List, ◌++◌, drop, replicate, Option, Some, None, if◌then◌else◌}
-use Rattle.disk_sector.specs.Blank.{is_blank}
+use Rattle.disk_layout.specs.Blank.{is_blank}
 use Rattle.std.specs.Int.{from_be_bytes, to_be_bytes, w64}
 
 -- the value that a body stands for, if it is a cell's: `from_be_bytes` reads the first eight bytes

@@ -3,7 +3,7 @@ use Rattle.std.specs.Prelude.{List, length, ◌≤◌}
 use Rattle.group_task.specs.declared.node.TheConstants.{NODES}
 use Rattle.schedule.specs.declared.act.Act.{Act}
 use Rattle.schedule.specs.declared.size.Size.{Size}
-use Rattle.disk_sector.specs.declared.layout.TheConstants.{LEAST_SLOTS, MOST_SLOTS}
+use Rattle.disk_layout.specs.declared.layout.TheConstants.{LEAST_SLOTS, MOST_SLOTS}
 use Rattle.schedule.specs.declared.size.TheConstants.{MOST_ACTS}
 
 -- a cluster that can be opened

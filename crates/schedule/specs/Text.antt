@@ -5,7 +5,7 @@ use Rattle.line_words.specs.Lines.{lines_of}
 use Rattle.schedule.specs.declared.act.Act.{Act}
 use Rattle.group_task.specs.declared.node.TheConstants.{NODES}
 use Rattle.schedule.specs.declared.size.Size.{Size}
-use Rattle.disk_sector.specs.declared.layout.TheConstants.{LEAST_SLOTS, MOST_SLOTS}
+use Rattle.disk_layout.specs.declared.layout.TheConstants.{LEAST_SLOTS, MOST_SLOTS}
 use Rattle.schedule.specs.declared.size.TheConstants.{MOST_ACTS}
 use Rattle.schedule.specs.Fields.{number_between}
 use Rattle.schedule.specs.Acts.{act_of, of_two}

@@ -1,7 +1,7 @@
 //! The limits of the crate as numbers: the contract of a function that does nothing.
 
 ghost use Rattle.std.specs.Prelude.{◌≡◌};
-ghost use Rattle.disk_sector.specs.declared.layout.TheConstants.{LEAST_SLOTS, MOST_SLOTS};
+ghost use Rattle.disk_layout.specs.declared.layout.TheConstants.{LEAST_SLOTS, MOST_SLOTS};
 ghost use Rattle.schedule.specs.declared.size.TheConstants.{LEAST_CAPACITY, MOST_CAPACITY, MOST_ACTS};
 
 /// A journal has from 4 to 4,096 slots, a link room for 1 to 65,536 messages, and a schedule at most 65,536 acts.

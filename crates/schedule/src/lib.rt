@@ -17,7 +17,7 @@ mod size;
 mod verb;
 
 pub use act::{Act, Fill, Submitted};
-pub use disk_sector::{LEAST_SLOTS, MOST_SLOTS};
+pub use disk_layout::{LEAST_SLOTS, MOST_SLOTS};
 pub use flaw::{Flaw, flaw_in};
 pub use laws::limits;
 pub use reading::{cluster_size, read_schedule};

@@ -9,7 +9,7 @@ use crate::act::Act;
 use crate::fields::between;
 use crate::parsing::{act, delivered};
 use crate::size::{MOST_ACTS, Schedule, Size};
-use disk_sector::{LEAST_SLOTS, MOST_SLOTS};
+use disk_layout::{LEAST_SLOTS, MOST_SLOTS};
 use group_task::NODES;
 use line_words::{LineFault, cut_line, cut_word, is_word};
 use std::alloc::{AllocError, Global};

@@ -19,6 +19,6 @@ mod sector;
 mod sectors;
 
 pub use disk::SectorDisk;
-pub use disk_sector::Sector;
+pub use disk_layout::Sector;
 pub use fault::DiskFault;
 pub use memory::MemDisk;

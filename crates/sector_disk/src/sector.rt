@@ -4,11 +4,11 @@ ghost use Rattle.sector_disk.specs.Crash.{filled};
 ghost use Rattle.sector_disk.specs.Shorts.{IsShort};
 ghost use Rattle.sector_disk.specs.Undo.{last_of, whole};
 
-pub use disk_sector::Sector;
-use disk_sector::is_zero_block;
+pub use disk_layout::Sector;
+use disk_layout::is_zero_block;
 
 // Whether a sector is all zeros.
-#[tactic(auto, using(disk_sector::proofs::PublicLaws::blank))]
+#[tactic(auto, using(disk_layout::proofs::PublicLaws::blank))]
 pub fn is_zero(sector: &Sector) -> bool
     ensures { IsTrue result ↔ (sector.now ≡ replicate 512 0) }
 {

@@ -1,7 +1,7 @@
 //! What is wrong with a line of jobs.
 
 ghost use Rattle.std.specs.Prelude.{◌≡◌, ◌↔◌, ◌≤◌, IfOk, None};
-ghost use Rattle.disk_sector.specs.declared.layout.TheConstants.{LEAST_SLOTS, MOST_SLOTS};
+ghost use Rattle.disk_layout.specs.declared.layout.TheConstants.{LEAST_SLOTS, MOST_SLOTS};
 ghost use Rattle.line_words.specs.Words.{words_of};
 ghost use Rattle.line_words.specs.Lines.{line_numbered, lines_of};
 ghost use Rattle.store_console.specs.Restored.{job_of};

@@ -1,8 +1,8 @@
 //! What a disk holds, part by part. Want of memory is answered also where the disk fails: one in memory fails for nothing else.
 
 ghost use Rattle.std.specs.Prelude.{◌≡◌, ◌<◌, ◌≤◌, ◌+◌, ◌*◌, ◌^◌, length, IfOk};
-ghost use Rattle.disk_sector.specs.Layout.{sectors_for};
-ghost use Rattle.disk_sector.specs.declared.layout.TheConstants.{LEAST_SLOTS, MOST_SLOTS};
+ghost use Rattle.disk_layout.specs.Layout.{sectors_for};
+ghost use Rattle.disk_layout.specs.declared.layout.TheConstants.{LEAST_SLOTS, MOST_SLOTS};
 ghost use Rattle.slot_gate.specs.Slot.{slot_at};
 ghost use Rattle.safe_cell.specs.Cell.{cell_at};
 ghost use Rattle.job_journal.specs.Areas.{first_of, sealed_prefix, slots_from};
@@ -10,7 +10,7 @@ ghost use Rattle.store_console.specs.Held.{counter_of, found_in, is_label, is_ma
 
 use crate::copying::label_in;
 use crate::found::{Counter, Owner};
-use disk_sector::Sector;
+use disk_layout::Sector;
 use file_disk::{LABEL, Stride, mark_in, marked_label, slots_in};
 use job_journal::{JobJournal, JournalFault};
 use safe_cell::CellFault;

@@ -4,7 +4,7 @@ ghost use Rattle.std.specs.Prelude.{◌≡◌, ◌≤◌, ◌+◌, drop, replica
 ghost use Rattle.job_model.specs.Records.{length_in};
 ghost use Rattle.store_console.specs.Salvaged.{cleared, is_nearly_blank, readable, readable_number, record_bytes};
 
-use disk_sector::Sector;
+use disk_layout::Sector;
 use job_model::Record;
 
 /// The record of a body: what stands behind its bytes may be zeros, or zeros but for one byte.

@@ -3,7 +3,7 @@ ghost use Rattle.line_words.specs.Words.{words_of};
 ghost use Rattle.store_console.specs.Requests.{alone_of, put_named, request_of, slots_of, with_one};
 
 use crate::request::Request;
-use disk_sector::{LEAST_SLOTS, MOST_SLOTS};
+use disk_layout::{LEAST_SLOTS, MOST_SLOTS};
 use job_model::NewJob;
 use line_words::{cut_word, is_word, number};
 use schedule::fields::{between, new_job, priority};

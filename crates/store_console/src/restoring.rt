@@ -1,7 +1,7 @@
 //! Jobs read from lines, as `export` prints them, for a file that is made with them.
 
 ghost use Rattle.std.specs.Prelude.{◌≡◌, ◌≤◌, ◌+◌, [], length, IfOk, IfErr, OnOk};
-ghost use Rattle.disk_sector.specs.declared.layout.TheConstants.{LEAST_SLOTS, MOST_SLOTS};
+ghost use Rattle.disk_layout.specs.declared.layout.TheConstants.{LEAST_SLOTS, MOST_SLOTS};
 ghost use Rattle.job_journal.specs.Jobs.{jobs_of};
 ghost use Rattle.line_words.specs.Words.{words_of};
 ghost use Rattle.store_console.specs.Restored.{IsInputFault, IsLineNotTaken, TakesInput, TakesLine, job_of, job_with};

@@ -1,8 +1,8 @@
 //! What can still be read of the slots of a store, also where some are damaged.
 
 ghost use Rattle.std.specs.Prelude.{◌≡◌, ◌<◌, ◌≤◌, ◌+◌, ◌*◌, ◌^◌, ◌++◌, ◌∷◌, [], length, IfOk, IfSome, OnOk, ℕ};
-ghost use Rattle.disk_sector.specs.Layout.{sectors_for};
-ghost use Rattle.disk_sector.specs.declared.layout.TheConstants.{MOST_SLOTS};
+ghost use Rattle.disk_layout.specs.Layout.{sectors_for};
+ghost use Rattle.disk_layout.specs.declared.layout.TheConstants.{MOST_SLOTS};
 ghost use Rattle.sector_disk.specs.Disk.{sector_at};
 ghost use Rattle.slot_gate.specs.Slot.{slot_at};
 ghost use Rattle.store_console.specs.Salvaged.{IsSealedTo, Reads, content_at, contents_from, is_whole, said_in, sure_area, sure_of, sure_value};
@@ -11,7 +11,7 @@ use crate::looking::{first_of, seen};
 use crate::near_record::{readable, readable_number};
 use crate::slot_content::{Said, SlotContent};
 use crate::verifying::is_raised;
-use disk_sector::Sector;
+use disk_layout::Sector;
 use job_model::Record;
 use sector_disk::{MemDisk, SectorDisk};
 use std::alloc::{AllocError, Global};

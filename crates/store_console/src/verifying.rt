@@ -1,8 +1,8 @@
 //! What the bytes of a store show of rot: what no crash leaves, and what may tell of an older state.
 
 ghost use Rattle.std.specs.Prelude.{◌≡◌, ◌<◌, ◌≤◌, ◌+◌, ◌*◌, ◌^◌, ◌++◌, length, IfOk, IfSome, OnOk};
-ghost use Rattle.disk_sector.specs.Layout.{sectors_for};
-ghost use Rattle.disk_sector.specs.declared.layout.TheConstants.{LEAST_SLOTS, MOST_SLOTS};
+ghost use Rattle.disk_layout.specs.Layout.{sectors_for};
+ghost use Rattle.disk_layout.specs.declared.layout.TheConstants.{LEAST_SLOTS, MOST_SLOTS};
 ghost use Rattle.slot_gate.specs.Slot.{slot_at};
 ghost use Rattle.safe_cell.specs.Body.{body_value};
 ghost use Rattle.safe_cell.specs.Cell.{cell_at};
@@ -13,7 +13,7 @@ ghost use Rattle.store_console.specs.Held.{counter_of, found_in};
 use crate::findings::Finding;
 use crate::found::Counter;
 use crate::looking::{area, counter, first_of, journal, sealed_from, seen};
-use disk_sector::{Sector, is_blank};
+use disk_layout::{Sector, is_blank};
 use job_journal::JobJournal;
 use job_model::{JobRef, PendingJobs};
 use sector_disk::{MemDisk, SectorDisk};

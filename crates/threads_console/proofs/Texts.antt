@@ -11,7 +11,7 @@ use Rattle.node_lock.specs.History.{Turn}
 use Rattle.node_core.specs.declared.event.Event.{Event}
 use Rattle.node_lock.specs.Kept.{IsHandledAt, IsQuietAt, Log}
 use Rattle.trace_check.specs.Claims.{Claim}
-use Rattle.cluster_sim.specs.Traced.{deed_of, done}
+use Rattle.cluster_sim.specs.Traced.{action_of, done}
 use Rattle.trace_text.specs.Tokens.{message_tokens}
 use Rattle.trace_text.specs.Written.{entry_data, history_data}
 use Rattle.trace_text.proofs.PublicLaws.{there, drop_get, drop_all, messages_more}
@@ -28,7 +28,7 @@ turn_more text new item bytes later turns i is same added =
     more text new (comma_if later) whole (entries_text true (drop (i + 1) turns)) (added ∙ ap (λ (s : List ℕ). text ++ (comma_if later ++ s)) (same ∙ is.is_text)) ∙ ap (λ (ts : List Turn). text ++ entries_text later ts) (sym (drop_get turns i is.turn is.at))
 
 quiet_is : (turns : List Turn) (i : ℕ) (q : Quiet) (is : IsQuietAt i q turns) → quiet_claim q ≡ turn_claim is.turn
-quiet_is turns i q is = sym (ap₂ (λ (what : HistoryEvent) (sent : List Envelope). record { deed = deed_of what; sent = sent }) is.what is.sent)
+quiet_is turns i q is = sym (ap₂ (λ (what : HistoryEvent) (sent : List Envelope). record { action = action_of what; sent = sent }) is.what is.sent)
 
 pub quiet_more : (text new item : List ℕ) (later : Bool) (turns : List Turn) (i : ℕ) (q : Quiet) → IsQuietAt i q turns → item ≡ compact_text (entry_data (quiet_claim q)) → new ≡ text ++ (comma_if later ++ item)
     → new ++ entries_text true (drop (i + 1) turns) ≡ text ++ entries_text later (drop i turns)
@@ -51,9 +51,9 @@ message_more out new item bytes ms i within spelled same added =
     messages_more out new ms i m at (added ∙ ap (λ (bs : List ℕ). out ++ string (encode_lower bs) ∷ []) (same ∙ spells.spelled))
 
 -- the entry of an event that was handled is that of its turn
-pub handled_text : (place : ℕ) (turns : List Turn) (event : Event) (sent : List Envelope) → IsHandledAt place event sent turns → (text : List ℕ) → text ≡ compact_text (entry_data (record { deed = done event; sent = sent })) → IsTextAt place turns text
+pub handled_text : (place : ℕ) (turns : List Turn) (event : Event) (sent : List Envelope) → IsHandledAt place event sent turns → (text : List ℕ) → text ≡ compact_text (entry_data (record { action = done event; sent = sent })) → IsTextAt place turns text
 handled_text place turns event sent is text said = record {
   turn = is.turn;
   at = is.at;
-  is_text = said ∙ ap (λ (c : Claim). compact_text (entry_data c)) (sym (ap₂ (λ (what : HistoryEvent) (ms : List Envelope). record { deed = deed_of what; sent = ms }) is.what is.sent));
+  is_text = said ∙ ap (λ (c : Claim). compact_text (entry_data c)) (sym (ap₂ (λ (what : HistoryEvent) (ms : List Envelope). record { action = action_of what; sent = ms }) is.what is.sent));
 }

@@ -7,7 +7,7 @@ use Rattle.node_lock.specs.declared.line.Quiet.{Quiet}
 use Rattle.node_lock.specs.declared.line.Quiet.TheVariants.{Rested, Crashed}
 use Rattle.node_lock.specs.Kept.{Log, what_quiet}
 use Rattle.trace_check.specs.Claims.{Claim}
-use Rattle.cluster_sim.specs.Traced.{claim_of, deed_of}
+use Rattle.cluster_sim.specs.Traced.{claim_of, action_of}
 use Rattle.trace_text.specs.Written.{entry_data, history_data}
 use Rattle.trace_text.specs.Parts.{trace_head}
 use Rattle.threads_console.specs.declared.writing.Known.{Known}
@@ -27,7 +27,7 @@ run_claims logs = map log_claims logs
 
 -- the entry of a quiet turn
 abbrev pub quiet_claim : Quiet → Claim
-quiet_claim q = record { deed = deed_of (what_quiet q); sent = [] }
+quiet_claim q = record { action = action_of (what_quiet q); sent = [] }
 
 -- the texts of the entries of quiet turns
 pub record AreKnown (known : Known) : Type 0 where

@@ -4,7 +4,7 @@ ghost use Rattle.std.specs.Prelude.{◌≡◌, ◌≤◌, IfOk, vec_len};
 ghost use Rattle.group_task.specs.declared.node.TheConstants.{NODES};
 ghost use Rattle.threads_console.specs.Texts.{log_claims, run_claims};
 
-use crate::writing::deed_of;
+use crate::writing::action_of;
 use node_lock::{Sent, TurnLog};
 use node_threads::Gathered;
 use std::alloc::{AllocError, Global};
@@ -35,7 +35,7 @@ fn history_of(alloc: Global, turns: &TurnLog) -> Result<History, AllocError>
             unreachable!()
         };
         let sent = messages_of(alloc, &turn.sent)?;
-        history.push(&deed_of(&turn.what), &sent)?;
+        history.push(&action_of(&turn.what), &sent)?;
     }
     Ok(history)
 }

@@ -4,7 +4,7 @@ ghost use Rattle.std.specs.Prelude.{◌≡◌, ◌≤◌, ◌<◌, ◌++◌, [],
 ghost use Rattle.group_task.specs.declared.node.TheConstants.{NODES};
 ghost use Rattle.serde_json.specs.Written.{comma_if, compact_text};
 ghost use Rattle.node_lock.specs.Kept.{what_quiet};
-ghost use Rattle.cluster_sim.specs.Traced.{deed_of, done};
+ghost use Rattle.cluster_sim.specs.Traced.{action_of, done};
 ghost use Rattle.trace_text.specs.Tokens.{Adds, head_tokens, message_tokens};
 ghost use Rattle.trace_text.specs.Written.{entry_data, history_data};
 ghost use Rattle.threads_console.specs.Printed.{IsPlainText, IsRunText};
@@ -104,14 +104,14 @@ fn quiet_text(alloc: Global, quiet: Quiet) -> Result<Vec<u8>, AllocError>
     ensures { IfOk result (λ text. text.items ≡ compact_text (entry_data (quiet_claim quiet))) }
 {
     let mut out = Writer::new(Vec::new(alloc));
-    begin_entry(alloc, &mut out, &quiet_deed(quiet))?;
+    begin_entry(alloc, &mut out, &quiet_action(quiet))?;
     end_entry(&mut out)?;
     Ok(out.into_inner())
 }
 
 /// How a trace has what came of a turn that handed no event to its node.
-fn quiet_deed(quiet: Quiet) -> TraceAction
-    ensures { result ≡ deed_of (what_quiet quiet) }
+fn quiet_action(quiet: Quiet) -> TraceAction
+    ensures { result ≡ action_of (what_quiet quiet) }
 {
     match quiet {
         Quiet::Rested => TraceAction::Nothing,
@@ -246,7 +246,7 @@ fn other_text(
     };
     room.clear();
     let mut out = Writer::new(room);
-    begin_entry(alloc, &mut out, &deed_of(&entry.what))?;
+    begin_entry(alloc, &mut out, &action_of(&entry.what))?;
     write_sent(alloc, &mut out, &entry.sent, spelled)?;
     end_entry(&mut out)?;
     Ok(out.into_inner())
@@ -270,8 +270,8 @@ fn write_sent(
 }
 
 /// How a trace has what came of a turn.
-pub(crate) fn deed_of(what: &HistoryEvent) -> TraceAction
-    ensures { result ≡ deed_of what.now }
+pub(crate) fn action_of(what: &HistoryEvent) -> TraceAction
+    ensures { result ≡ action_of what.now }
 {
     match what {
         HistoryEvent::Did(Event::Recover) => TraceAction::Recovered(false),

@@ -8,7 +8,7 @@ use Rattle.trace_check.specs.declared.kept.PackedEvent.TheVariants as kept
 use Rattle.trace_check.specs.declared.kept.PackedAction.{PackedAction}
 use Rattle.trace_check.specs.declared.kept.PackedAction.TheVariants as done
 use Rattle.trace_check.specs.Claims.{brought_by}
-use Rattle.trace_check.specs.Kept.{delivered, part, event_said, deed_said, delivered_at, brought_at, EventStands, DeedStands}
+use Rattle.trace_check.specs.Kept.{delivered, part, event_said, action_said, delivered_at, brought_at, EventStands, ActionStands}
 
 there : (ms : List Envelope) (i : ℕ) → i < length ms → (m : Envelope) × (slice_get ms i ≡ Some m)
 there [] i within = absurd (omega (arith, within))
@@ -35,7 +35,7 @@ event_brought ms p (kept.Deliver place) at h is =
     (h, part_one ms place at_i.0 at_i.1 ∙ sym (ap (λ (o : Option Envelope). brought (Some (delivered o))) at_i.1))
 event_brought ms p e at h is = absurd cc
 
-pub brought_there : (ms : List Envelope) (p : List ℕ) (d : PackedAction) (at : ℕ) → DeedStands (length ms) (length p) d → brought_at d ≡ Some at → BroughtAt ms at (brought_by (deed_said ms p d))
+pub brought_there : (ms : List Envelope) (p : List ℕ) (d : PackedAction) (at : ℕ) → ActionStands (length ms) (length p) d → brought_at d ≡ Some at → BroughtAt ms at (brought_by (action_said ms p d))
 brought_there ms p (done.Done event) at h is = event_brought ms p event at h is
 brought_there ms p (done.Faulted event) at h is = event_brought ms p event at h is
 brought_there ms p d at h is = absurd cc
@@ -44,7 +44,7 @@ event_without : (ms : List Envelope) (p : List ℕ) (e : PackedEvent) → delive
 event_without ms p (kept.Deliver place) is = absurd cc
 event_without ms p e is = refl
 
-pub brought_nowhere : (ms : List Envelope) (p : List ℕ) (d : PackedAction) → brought_at d ≡ None → brought_by (deed_said ms p d) ≡ []
+pub brought_nowhere : (ms : List Envelope) (p : List ℕ) (d : PackedAction) → brought_at d ≡ None → brought_by (action_said ms p d) ≡ []
 brought_nowhere ms p (done.Done event) is = event_without ms p event is
 brought_nowhere ms p (done.Faulted event) is = event_without ms p event is
 brought_nowhere ms p d is = refl

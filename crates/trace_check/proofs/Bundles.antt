@@ -15,7 +15,7 @@ use Rattle.histories.specs.History.{Follows, sent_in, brought_in}
 use Rattle.histories.specs.Bundle.{sent_by_all}
 use Rattle.histories.proofs.PublicLaws.{among_left, among_right, sent_of_one, each_append, each_at, each_more}
 use Rattle.trace_check.specs.declared.trace.TraceAction.{TraceAction}
-use Rattle.trace_check.specs.declared.trace.TraceAction.TheVariants as deed
+use Rattle.trace_check.specs.declared.trace.TraceAction.TheVariants as action
 use Rattle.trace_check.specs.declared.trace.RecoverFault.TheVariants as recover
 use Rattle.trace_check.specs.Claims.{Claim, what_of, what_at, MayCome, after_what, after_claim, state_after, brought_by}
 use Rattle.trace_check.specs.Orders.{history, taken, state_of, IsSent, MayTake, IsLegal, IsComplete}
@@ -27,14 +27,14 @@ use Rattle.trace_check.proofs.Furthest.{sent_more}
 -- each entry is possible after those before it, and P holds of what it was brought
 abbrev AllCome : ℕ → ℕ → (Envelope → Type 0) → NodeState → List Claim → Type 0
 AllCome self nodes P s [] = Unit {0}
-AllCome self nodes P s (c ∷ cs) = MayCome self nodes s c × Each P (brought_by c.deed) × AllCome self nodes P (after_claim self nodes s c) cs
+AllCome self nodes P s (c ∷ cs) = MayCome self nodes s c × Each P (brought_by c.action) × AllCome self nodes P (after_claim self nodes s c) cs
 
 -- the same, place by place
 record ComesAt (self nodes : ℕ) (P : Envelope → Type 0) (s : NodeState) (h : List Claim) (k : ℕ) : Type 0 where
   claim : Claim
   at : slice_get h k ≡ Some claim
   possible : MayCome self nodes (state_after self nodes s (take k h)) claim
-  brings : Each P (brought_by claim.deed)
+  brings : Each P (brought_by claim.action)
 
 all_from_places : (self nodes : ℕ) (P : Envelope → Type 0) (s : NodeState) (h : List Claim) → ((k : ℕ) → k < length h → ComesAt self nodes P s h k) → AllCome self nodes P s h
 all_from_places self nodes P s [] each = tt
@@ -42,7 +42,7 @@ all_from_places self nodes P s (c ∷ cs) each =
     let first = each 0 (omega arith) in
     let is : c ≡ first.claim = same_Some c first.claim first.at in (
       subst (λ (x : Claim). MayCome self nodes s x) (sym is) first.possible,
-      subst (λ (x : Claim). Each P (brought_by x.deed)) (sym is) first.brings,
+      subst (λ (x : Claim). Each P (brought_by x.action)) (sym is) first.brings,
       all_from_places self nodes P (after_claim self nodes s c) cs (λ k within.
           let here = each (suc k) (omega (arith, within)) in
           record { claim = here.claim; at = here.at; possible = here.possible; brings = here.brings }),
@@ -60,24 +60,24 @@ follows_all self nodes P s (c ∷ cs) all =
 
 -- an entry stands for one that brings the same
 same_brought : (down : Bool) (d : TraceAction) (what : HistoryEvent) → what_of down d ≡ Some what → brought (event_of what) ≡ brought_by d
-same_brought down deed.Nothing what is = rw (sym (same_Some _ what is)) refl
-same_brought down (deed.Done event) what is = rw (sym (same_Some _ what is)) refl
-same_brought down (deed.Faulted event) what is = rw (sym (same_Some _ what is)) refl
-same_brought down deed.Crashed what is = rw (sym (same_Some _ what is)) refl
-same_brought true (deed.Recovered kept) what is = rw (sym (same_Some _ what is)) refl
-same_brought false (deed.Recovered false) what is = rw (sym (same_Some _ what is)) refl
-same_brought false (deed.Recovered true) what is = absurd cc
-same_brought true (deed.NotRecovered false recover.Mount) what is = rw (sym (same_Some _ what is)) refl
-same_brought true (deed.NotRecovered true recover.Mount) what is = absurd cc
-same_brought true (deed.NotRecovered kept recover.Raise) what is = rw (sym (same_Some _ what is)) refl
-same_brought false (deed.NotRecovered kept recover.Mount) what is = absurd cc
-same_brought false (deed.NotRecovered false recover.Raise) what is = rw (sym (same_Some _ what is)) refl
-same_brought false (deed.NotRecovered true recover.Raise) what is = absurd cc
+same_brought down action.Nothing what is = rw (sym (same_Some _ what is)) refl
+same_brought down (action.Done event) what is = rw (sym (same_Some _ what is)) refl
+same_brought down (action.Faulted event) what is = rw (sym (same_Some _ what is)) refl
+same_brought down action.Crashed what is = rw (sym (same_Some _ what is)) refl
+same_brought true (action.Recovered kept) what is = rw (sym (same_Some _ what is)) refl
+same_brought false (action.Recovered false) what is = rw (sym (same_Some _ what is)) refl
+same_brought false (action.Recovered true) what is = absurd cc
+same_brought true (action.NotRecovered false recover.Mount) what is = rw (sym (same_Some _ what is)) refl
+same_brought true (action.NotRecovered true recover.Mount) what is = absurd cc
+same_brought true (action.NotRecovered kept recover.Raise) what is = rw (sym (same_Some _ what is)) refl
+same_brought false (action.NotRecovered kept recover.Mount) what is = absurd cc
+same_brought false (action.NotRecovered false recover.Raise) what is = rw (sym (same_Some _ what is)) refl
+same_brought false (action.NotRecovered true recover.Raise) what is = absurd cc
 
-brings_by : (P : Envelope → Type 0) (down : Bool) (c : Claim) (o : Option HistoryEvent) (es : List Entry) → what_of down c.deed ≡ o → Each P (brought_by c.deed) → Each P (brought_in es) → Each P (brought_in (entry_with c o es))
+brings_by : (P : Envelope → Type 0) (down : Bool) (c : Claim) (o : Option HistoryEvent) (es : List Entry) → what_of down c.action ≡ o → Each P (brought_by c.action) → Each P (brought_in es) → Each P (brought_in (entry_with c o es))
 brings_by P down c None es is here rest = rest
 brings_by P down c (Some what) es is here rest =
-    each_append P (brought (event_of what)) (brought_in es) (subst (λ (ms : List Envelope). Each P ms) (sym (same_brought down c.deed what is)) here) rest
+    each_append P (brought (event_of what)) (brought_in es) (subst (λ (ms : List Envelope). Each P ms) (sym (same_brought down c.action what is)) here) rest
 
 brings_all : (self nodes : ℕ) (P : Envelope → Type 0) (s : NodeState) (h : List Claim) → AllCome self nodes P s h → Each P (brought_in (entries_of self nodes s h))
 brings_all self nodes P s [] all = tt
@@ -115,7 +115,7 @@ comes_later hs earlier order n k more t = record {
   claim = t.claim;
   at = t.at;
   possible = t.possible;
-  brings = each_more (Brings hs earlier n) (Brings hs order n) (brought_by t.claim.deed) (λ m b. (sent_more hs earlier order m more b.0, b.1)) t.brings;
+  brings = each_more (Brings hs earlier n) (Brings hs order n) (brought_by t.claim.action) (λ m b. (sent_more hs earlier order m more b.0, b.1)) t.brings;
 }
 
 comes_now : (hs : List (List Claim)) (order : List ℕ) (n k : ℕ) → k ≡ taken n order → MayTake hs order n → ComesAt n (length hs) (Brings hs order n) (opening n) (history hs n) k
@@ -123,7 +123,7 @@ comes_now hs order n k is t = record {
   claim = t.claim;
   at = rw is t.next;
   possible = subst (λ (j : ℕ). MayCome n (length hs) (state_of hs n j) t.claim) (sym is) t.possible;
-  brings = both hs order n (brought_by t.claim.deed) t.sent t.addressed;
+  brings = both hs order n (brought_by t.claim.action) t.sent t.addressed;
 }
 
 taken_more : (m k : ℕ) (order : List ℕ) → taken k order ≤ taken k (m ∷ order)

@@ -61,13 +61,13 @@ get_seam (x ∷ xs) c ys = get_seam xs c ys
 
 -- ---- what was taken
 
-addressed_by : (hs : List (List Claim)) (past : List ℕ) (n k : ℕ) (c : Claim) → MayTake hs past n → k ≡ taken n past → slice_get (history hs n) k ≡ Some c → AreAddressed n (brought_by c.deed)
+addressed_by : (hs : List (List Claim)) (past : List ℕ) (n k : ℕ) (c : Claim) → MayTake hs past n → k ≡ taken n past → slice_get (history hs n) k ≡ Some c → AreAddressed n (brought_by c.action)
 addressed_by hs past n k c may here at =
     let same : may.claim ≡ c = same_Some _ _ (sym may.next ∙ ap (λ (j : ℕ). slice_get (history hs n) j) (sym here) ∙ at) in
-    subst (λ (d : Claim). AreAddressed n (brought_by d.deed)) same may.addressed
+    subst (λ (d : Claim). AreAddressed n (brought_by d.action)) same may.addressed
 
 -- what an entry was brought that an order takes is for its node
-are_addressed : (hs : List (List Claim)) (past : List ℕ) (n k : ℕ) (c : Claim) → IsLegal hs past → k < taken n past → slice_get (history hs n) k ≡ Some c → AreAddressed n (brought_by c.deed)
+are_addressed : (hs : List (List Claim)) (past : List ℕ) (n k : ℕ) (c : Claim) → IsLegal hs past → k < taken n past → slice_get (history hs n) k ≡ Some c → AreAddressed n (brought_by c.action)
 are_addressed hs [] n k c legal less at = absurd (omega (arith, less))
 are_addressed hs (m ∷ past) n k c legal less at = elim (cases_Bool (m == n)) [
   | inl same ↦ (
@@ -87,7 +87,7 @@ state_append self nodes s (c ∷ xs) ys = state_append self nodes (after_claim s
 -- ---- what can't be
 
 -- entries of which the last can't come behind the others
-cant : (nodes n : ℕ) (s : NodeState) (front : List Claim) (c : Claim) → (MayCome n nodes (state_after n nodes s front) c → AreAddressed n (brought_by c.deed) → ⊥) → CantBe nodes n s (front ++ c ∷ [])
+cant : (nodes n : ℕ) (s : NodeState) (front : List Claim) (c : Claim) → (MayCome n nodes (state_after n nodes s front) c → AreAddressed n (brought_by c.action) → ⊥) → CantBe nodes n s (front ++ c ∷ [])
 cant nodes n s front c dead hs before behind count is stands run =
     let h = history hs n in
     let early = before ++ front in

@@ -37,7 +37,7 @@ module _ (hs : List (List Claim)) (seats : List NodeCursor) (posted : List Envel
         claim = t.claim;
         next = subst (λ (s : NodeCursor). slice_get (history hs n) s.place ≡ Some t.claim) is t.next;
         possible = subst (λ (s : NodeCursor). MayCome s.node_model.id s.node_model.nodes s.node_model.node t.claim) is t.possible;
-        sent = each_more (λ (m : Envelope). IsPosted posted m) (λ (m : Envelope). IsSent hs past m) (brought_by t.claim.deed) (λ m there. (are.posts m).0 there) t.sent;
+        sent = each_more (λ (m : Envelope). IsPosted posted m) (λ (m : Envelope). IsSent hs past m) (brought_by t.claim.action) (λ m there. (are.posts m).0 there) t.sent;
         addressed = t.addressed;
       }
 

@@ -24,7 +24,7 @@ may_take_later hs earlier order n more same t =
       claim = t.claim;
       next = rw same at t.next;
       possible = subst (λ (k : ℕ). MayCome n (length hs) (state_of hs n k) t.claim) same t.possible;
-      sent = all_sent_more hs earlier order (brought_by t.claim.deed) more t.sent;
+      sent = all_sent_more hs earlier order (brought_by t.claim.action) more t.sent;
       addressed = t.addressed;
     }
 

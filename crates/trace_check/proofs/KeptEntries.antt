@@ -11,7 +11,7 @@ use Rattle.node_core.specs.declared.event.Event.{Event}
 use Rattle.node_core.specs.declared.event.Event.TheVariants as on
 use Rattle.histories.specs.HistoryEvent.{brought}
 use Rattle.trace_check.specs.declared.trace.TraceAction.{TraceAction}
-use Rattle.trace_check.specs.declared.trace.TraceAction.TheVariants as deed
+use Rattle.trace_check.specs.declared.trace.TraceAction.TheVariants as action
 use Rattle.trace_check.specs.declared.kept.PackedEvent.{PackedEvent}
 use Rattle.trace_check.specs.declared.kept.PackedEvent.TheVariants as kept
 use Rattle.trace_check.specs.declared.kept.PackedAction.{PackedAction}
@@ -20,7 +20,7 @@ use Rattle.trace_check.specs.declared.kept.PackedEntry.{PackedEntry}
 use Rattle.trace_check.specs.declared.stored.StoredEntry.{StoredEntry}
 use Rattle.trace_check.specs.Claims.{Claim, brought_by}
 use Rattle.trace_check.specs.Traces.{claim}
-use Rattle.trace_check.specs.Kept.{kept_event, kept_deed, payload_of, payload_in, delivered, part, event_said, deed_said, claim_said, EventStands, DeedStands, EntryStands}
+use Rattle.trace_check.specs.Kept.{kept_event, kept_action, payload_of, payload_in, delivered, part, event_said, action_said, claim_said, EventStands, ActionStands, EntryStands}
 use Rattle.trace_check.specs.Stored.{claim_stored, entry_of, IsStored}
 
 -- ---- more is kept, and an entry says what it said
@@ -40,15 +40,15 @@ event_same ms more p bytes (kept.Deliver place) h = ap (λ (o : Option Envelope)
 event_same ms more p bytes (kept.Submit queue priority len start) h = ap (λ (xs : List ℕ). on.Submit (record { queue = queue; priority = priority; payload = xs })) (part_same p bytes start len h.0)
 event_same ms more p bytes e h = refl
 
-deed_same : (ms more : List Envelope) (p bytes : List ℕ) (d : PackedAction) → DeedStands (length ms) (length p) d → deed_said (ms ++ more) (p ++ bytes) d ≡ deed_said ms p d
-deed_same ms more p bytes (done.Done event) h = ap (λ (e : Event). deed.Done e) (event_same ms more p bytes event h)
-deed_same ms more p bytes (done.Faulted event) h = ap (λ (e : Event). deed.Faulted e) (event_same ms more p bytes event h)
-deed_same ms more p bytes d h = refl
+action_same : (ms more : List Envelope) (p bytes : List ℕ) (d : PackedAction) → ActionStands (length ms) (length p) d → action_said (ms ++ more) (p ++ bytes) d ≡ action_said ms p d
+action_same ms more p bytes (done.Done event) h = ap (λ (e : Event). action.Done e) (event_same ms more p bytes event h)
+action_same ms more p bytes (done.Faulted event) h = ap (λ (e : Event). action.Faulted e) (event_same ms more p bytes event h)
+action_same ms more p bytes d h = refl
 
 claim_same : (ms more : List Envelope) (p bytes : List ℕ) (e : PackedEntry) → EntryStands (length ms) (length p) e → claim_said (ms ++ more) (p ++ bytes) e ≡ claim_said ms p e
 claim_same ms more p bytes e h =
-    ap (λ (d : TraceAction). claim d (part e.start e.end (ms ++ more))) (deed_same ms more p bytes e.deed h.deed)
-    ∙ ap (λ (xs : List Envelope). claim (deed_said ms p e.deed) xs) (part_same ms more e.start (e.end - e.start) (let front = h.sent.0 in let back = h.sent.1 in omega (arith, front, back)))
+    ap (λ (d : TraceAction). claim d (part e.start e.end (ms ++ more))) (action_same ms more p bytes e.action h.action)
+    ∙ ap (λ (xs : List Envelope). claim (action_said ms p e.action) xs) (part_same ms more e.start (e.end - e.start) (let front = h.sent.0 in let back = h.sent.1 in omega (arith, front, back)))
 
 claims_same : (ms more : List Envelope) (p bytes : List ℕ) (es : List StoredEntry) → All (IsStored (length ms) (length p)) es → map (claim_stored (ms ++ more) (p ++ bytes)) es ≡ map (claim_stored ms p) es
 claims_same ms more p bytes [] h = refl
@@ -74,20 +74,20 @@ event_again ms p (on.Deliver m) = ap (λ (o : Option Envelope). delivered o) (ge
 event_again ms p (on.Submit work) = ap (λ (xs : List ℕ). on.Submit (record work { payload = xs })) (part_again p work.payload)
 event_again ms p e = refl
 
-pub deed_again : (ms : List Envelope) (p : List ℕ) (d : TraceAction) → deed_said (ms ++ brought_by d) (p ++ payload_in d) (kept_deed (length ms) (length p) d) ≡ d
-deed_again ms p (deed.Done event) = ap (λ (e : Event). deed.Done e) (event_again ms p event)
-deed_again ms p (deed.Faulted event) = ap (λ (e : Event). deed.Faulted e) (event_again ms p event)
-deed_again ms p d = refl
+pub action_again : (ms : List Envelope) (p : List ℕ) (d : TraceAction) → action_said (ms ++ brought_by d) (p ++ payload_in d) (kept_action (length ms) (length p) d) ≡ d
+action_again ms p (action.Done event) = ap (λ (e : Event). action.Done e) (event_again ms p event)
+action_again ms p (action.Faulted event) = ap (λ (e : Event). action.Faulted e) (event_again ms p event)
+action_again ms p d = refl
 
 pub event_stands : (ms : List Envelope) (p : List ℕ) (e : Event) → length (payload_of e) ≤ PAYLOAD_CAPACITY → EventStands (length (ms ++ brought (Some e))) (length (p ++ payload_of e)) (kept_event (length ms) (length p) e)
 event_stands ms p (on.Deliver m) few = omega (arith, length-append ms (m ∷ []))
 event_stands ms p (on.Submit work) few = (omega (arith, length-append p work.payload), few)
 event_stands ms p e few = tt
 
-pub deed_stands : (ms : List Envelope) (p : List ℕ) (d : TraceAction) → length (payload_in d) ≤ PAYLOAD_CAPACITY → DeedStands (length (ms ++ brought_by d)) (length (p ++ payload_in d)) (kept_deed (length ms) (length p) d)
-deed_stands ms p (deed.Done event) few = event_stands ms p event few
-deed_stands ms p (deed.Faulted event) few = event_stands ms p event few
-deed_stands ms p d few = tt
+pub action_stands : (ms : List Envelope) (p : List ℕ) (d : TraceAction) → length (payload_in d) ≤ PAYLOAD_CAPACITY → ActionStands (length (ms ++ brought_by d)) (length (p ++ payload_in d)) (kept_action (length ms) (length p) d)
+action_stands ms p (action.Done event) few = event_stands ms p event few
+action_stands ms p (action.Faulted event) few = event_stands ms p event few
+action_stands ms p d few = tt
 
 -- ---- where more can be read, what could be read still can
 
@@ -96,19 +96,19 @@ event_longer m m' p p' (kept.Deliver place) a b h = omega (arith, a, h)
 event_longer m m' p p' (kept.Submit queue priority len start) a b h = (let within = h.0 in omega (arith, b, within), h.1)
 event_longer m m' p p' e a b h = tt
 
-pub deed_longer : (m m' p p' : ℕ) (d : PackedAction) → m ≤ m' → p ≤ p' → DeedStands m p d → DeedStands m' p' d
-deed_longer m m' p p' (done.Done event) a b h = event_longer m m' p p' event a b h
-deed_longer m m' p p' (done.Faulted event) a b h = event_longer m m' p p' event a b h
-deed_longer m m' p p' d a b h = tt
+pub action_longer : (m m' p p' : ℕ) (d : PackedAction) → m ≤ m' → p ≤ p' → ActionStands m p d → ActionStands m' p' d
+action_longer m m' p p' (done.Done event) a b h = event_longer m m' p p' event a b h
+action_longer m m' p p' (done.Faulted event) a b h = event_longer m m' p p' event a b h
+action_longer m m' p p' d a b h = tt
 
 pub entry_longer : (m m' p p' : ℕ) → m ≤ m' → p ≤ p' → (e : PackedEntry) → EntryStands m p e → EntryStands m' p' e
-entry_longer m m' p p' a b e h = record { deed = deed_longer m m' p p' e.deed a b h.deed; sent = (h.sent.0, let back = h.sent.1 in omega (arith, a, back)) }
+entry_longer m m' p p' a b e h = record { action = action_longer m m' p p' e.action a b h.action; sent = (h.sent.0, let back = h.sent.1 in omega (arith, a, back)) }
 
 -- ---- one entry more
 
 -- the entry, as it is kept behind these messages and payloads
 abbrev pub kept_entry : ℕ → ℕ → TraceAction → List Envelope → PackedEntry
-kept_entry messages payloads d sent = record { deed = kept_deed messages payloads d; start = messages + length (brought_by d); end = messages + length (brought_by d) + length sent }
+kept_entry messages payloads d sent = record { action = kept_action messages payloads d; start = messages + length (brought_by d); end = messages + length (brought_by d) + length sent }
 
 sent_again : (ms : List Envelope) (d : TraceAction) (sent : List Envelope) → part (length ms + length (brought_by d)) (length ms + length (brought_by d) + length sent) (ms ++ brought_by d ++ sent) ≡ sent
 sent_again ms d sent =
@@ -120,14 +120,14 @@ claim_again : (ms : List Envelope) (p : List ℕ) (d : TraceAction) (sent : List
     → claim_said (ms ++ brought_by d ++ sent) (p ++ payload_in d) (kept_entry (length ms) (length p) d sent) ≡ claim d sent
 claim_again ms p d sent few =
     ap (λ (x : TraceAction). claim x (part (length ms + length (brought_by d)) (length ms + length (brought_by d) + length sent) (ms ++ brought_by d ++ sent)))
-    (deed_later ms p d sent few ∙ deed_again ms p d)
+    (action_later ms p d sent few ∙ action_again ms p d)
     ∙ ap (λ (xs : List Envelope). claim d xs) (sent_again ms d sent)
   where
-    deed_later : (ms : List Envelope) (p : List ℕ) (d : TraceAction) (sent : List Envelope) → length (payload_in d) ≤ PAYLOAD_CAPACITY
-        → deed_said (ms ++ brought_by d ++ sent) (p ++ payload_in d) (kept_deed (length ms) (length p) d) ≡ deed_said (ms ++ brought_by d) (p ++ payload_in d) (kept_deed (length ms) (length p) d)
-    deed_later ms p d sent few =
-        ap (λ (q : List ℕ). deed_said (ms ++ brought_by d ++ sent) q (kept_deed (length ms) (length p) d)) (sym (append_none (p ++ payload_in d)))
-        ∙ deed_same (ms ++ brought_by d) sent (p ++ payload_in d) [] (kept_deed (length ms) (length p) d) (deed_stands ms p d few)
+    action_later : (ms : List Envelope) (p : List ℕ) (d : TraceAction) (sent : List Envelope) → length (payload_in d) ≤ PAYLOAD_CAPACITY
+        → action_said (ms ++ brought_by d ++ sent) (p ++ payload_in d) (kept_action (length ms) (length p) d) ≡ action_said (ms ++ brought_by d) (p ++ payload_in d) (kept_action (length ms) (length p) d)
+    action_later ms p d sent few =
+        ap (λ (q : List ℕ). action_said (ms ++ brought_by d ++ sent) q (kept_action (length ms) (length p) d)) (sym (append_none (p ++ payload_in d)))
+        ∙ action_same (ms ++ brought_by d) sent (p ++ payload_in d) [] (kept_action (length ms) (length p) d) (action_stands ms p d few)
       where
         append_none : (xs : List ℕ) → xs ++ [] ≡ xs
         append_none [] = refl
@@ -141,7 +141,7 @@ entry_stands ms p d sent few =
     let first = length-append ms (brought_by d) in
     let second = length-append (ms ++ brought_by d) sent in
     record {
-      deed = deed_longer (length (ms ++ brought_by d)) (length (ms ++ brought_by d ++ sent)) p' p' (kept_deed (length ms) (length p) d) (omega (arith, second)) (omega arith) (deed_stands ms p d few);
+      action = action_longer (length (ms ++ brought_by d)) (length (ms ++ brought_by d ++ sent)) p' p' (kept_action (length ms) (length p) d) (omega (arith, second)) (omega arith) (action_stands ms p d few);
       sent = (omega arith, omega (arith, first, second));
     }
 

@@ -13,7 +13,7 @@ use Rattle.histories.specs.Possible.{IsPossible}
 use Rattle.node_core.specs.declared.event.Event.{Event}
 use Rattle.node_core.specs.declared.event.Event.TheVariants as on
 use Rattle.trace_check.specs.declared.trace.TraceAction.{TraceAction}
-use Rattle.trace_check.specs.declared.trace.TraceAction.TheVariants as deed
+use Rattle.trace_check.specs.declared.trace.TraceAction.TheVariants as action
 use Rattle.trace_check.specs.declared.trace.RecoverFault.TheVariants as recover
 use Rattle.trace_check.specs.declared.leftover.Holdup.{Holdup}
 use Rattle.trace_check.specs.declared.leftover.Holdup.TheVariants.{Waits, Misaddressed, Refused, Sends}
@@ -55,8 +55,8 @@ event_brings (on.Deliver m) = omega arith
 event_brings event = omega arith
 
 pub brings_few : (d : TraceAction) → length (brought_by d) < 2
-brings_few (deed.Done event) = event_brings event
-brings_few (deed.Faulted event) = event_brings event
+brings_few (action.Done event) = event_brings event
+brings_few (action.Faulted event) = event_brings event
 brings_few d = omega arith
 
 missing : (hs : List (List Claim)) (past : List ℕ) (ms : List Envelope) → length ms < 2 → (Each (λ (m : Envelope). IsSent hs past m) ms → ⊥) → IsMissing hs past ms
@@ -69,7 +69,7 @@ pub held_up : (hs : List (List Claim)) (past : List ℕ) (n : ℕ) (c : Claim) (
     → HoldsUp n (length hs) (state_of hs n (taken n past)) c holdup → IsHeldUp hs past n c holdup
 held_up hs past n c Waits stuck next holds = (
   holds,
-  missing hs past (brought_by c.deed) (brings_few c.deed) (λ sent. stuck n (record { claim = c; next = next; possible = holds.0; sent = sent; addressed = holds.1 })),
+  missing hs past (brought_by c.action) (brings_few c.action) (λ sent. stuck n (record { claim = c; next = next; possible = holds.0; sent = sent; addressed = holds.1 })),
 )
 held_up hs past n c Misaddressed stuck next holds = (holds, tt)
 held_up hs past n c (Refused phase) stuck next holds = (holds, tt)
@@ -101,25 +101,25 @@ silent_refused self nodes s (Some what) silent cant may = cant (may, sym silent)
 
 -- but for an event that is handled, and a recovery
 abbrev pub IsQuiet : Bool → TraceAction → Type 0
-IsQuiet down (deed.Done event) = ⊥
-IsQuiet down (deed.Recovered kept) = down ≡ true
+IsQuiet down (action.Done event) = ⊥
+IsQuiet down (action.Recovered kept) = down ≡ true
 IsQuiet down d = Unit {0}
 
 pub quiet_silent : (self nodes : ℕ) (s : NodeState) (down : Bool) (d : TraceAction) → IsQuiet down d → IfSome (what_of down d) (λ (what : HistoryEvent). sent_at self nodes s what ≡ [])
-quiet_silent self nodes s down deed.Nothing quiet = refl
-quiet_silent self nodes s down (deed.Done event) quiet = absurd quiet
-quiet_silent self nodes s down (deed.Faulted event) quiet = refl
-quiet_silent self nodes s down deed.Crashed quiet = refl
-quiet_silent self nodes s true (deed.Recovered kept) quiet = refl
-quiet_silent self nodes s false (deed.Recovered kept) quiet = absurd cc
-quiet_silent self nodes s true (deed.NotRecovered false recover.Mount) quiet = refl
-quiet_silent self nodes s true (deed.NotRecovered true recover.Mount) quiet = tt
-quiet_silent self nodes s true (deed.NotRecovered false recover.Raise) quiet = refl
-quiet_silent self nodes s true (deed.NotRecovered true recover.Raise) quiet = refl
-quiet_silent self nodes s false (deed.NotRecovered false recover.Mount) quiet = tt
-quiet_silent self nodes s false (deed.NotRecovered true recover.Mount) quiet = tt
-quiet_silent self nodes s false (deed.NotRecovered false recover.Raise) quiet = refl
-quiet_silent self nodes s false (deed.NotRecovered true recover.Raise) quiet = tt
+quiet_silent self nodes s down action.Nothing quiet = refl
+quiet_silent self nodes s down (action.Done event) quiet = absurd quiet
+quiet_silent self nodes s down (action.Faulted event) quiet = refl
+quiet_silent self nodes s down action.Crashed quiet = refl
+quiet_silent self nodes s true (action.Recovered kept) quiet = refl
+quiet_silent self nodes s false (action.Recovered kept) quiet = absurd cc
+quiet_silent self nodes s true (action.NotRecovered false recover.Mount) quiet = refl
+quiet_silent self nodes s true (action.NotRecovered true recover.Mount) quiet = tt
+quiet_silent self nodes s true (action.NotRecovered false recover.Raise) quiet = refl
+quiet_silent self nodes s true (action.NotRecovered true recover.Raise) quiet = refl
+quiet_silent self nodes s false (action.NotRecovered false recover.Mount) quiet = tt
+quiet_silent self nodes s false (action.NotRecovered true recover.Mount) quiet = tt
+quiet_silent self nodes s false (action.NotRecovered false recover.Raise) quiet = refl
+quiet_silent self nodes s false (action.NotRecovered true recover.Raise) quiet = tt
 
 -- ---- the node's next entry, and those before it
 

@@ -139,7 +139,7 @@ module _ (hs : List (List Claim)) (seats seats' : List NodeCursor) (ready ready'
         claim = t.claim;
         next = subst (λ (k : ℕ). slice_get (history hs n) k ≡ Some t.claim) fits.place t.next;
         possible = subst (λ (w : Twin). MayCome w.id w.nodes w.node t.claim) twin t.possible;
-        sent = each_more (λ (m : Envelope). IsPosted posted m) (λ (m : Envelope). IsSent hs past m) (brought_by t.claim.deed) (λ m is. (search.posts m).0 is) t.sent;
+        sent = each_more (λ (m : Envelope). IsPosted posted m) (λ (m : Envelope). IsSent hs past m) (brought_by t.claim.action) (λ m is. (search.posts m).0 is) t.sent;
         addressed = t.addressed;
       }
 
@@ -196,14 +196,14 @@ module _ (hs : List (List Claim)) (seats seats' : List NodeCursor) (ready ready'
                 claim = later.claim;
                 next = its_next;
                 possible = its_possible;
-                sent = sent_before hs past n c (brought_by later.claim.deed) k turned
+                sent = sent_before hs past n c (brought_by later.claim.action) k turned
                     (λ m now to. clash (has ready' k) (ap (λ (j : ℕ). has ready' j) (sym to) ∙ all.wakes m now (ap (λ (j : ℕ). has stopped j) to ∙ live)) not_ready) later.sent later.addressed;
                 addressed = later.addressed;
               })
             ];
         dead = λ k gone.
             let other : k ≢ n = λ is. clash (has stopped n) (ap (λ (j : ℕ). has stopped j) (sym is) ∙ gone) going in
-            subst (λ (p : ℕ). (d : Claim) → slice_get (history hs k) p ≡ Some d → MayCome k (length hs) (state_of hs k p) d → AreAddressed k (brought_by d.deed) → ⊥) (sym (taken_other k n past other)) (search.dead k gone);
+            subst (λ (p : ℕ). (d : Claim) → slice_get (history hs k) p ≡ Some d → MayCome k (length hs) (state_of hs k p) d → AreAddressed k (brought_by d.action) → ⊥) (sym (taken_other k n past other)) (search.dead k gone);
       }
 
 -- ---- messages that are sent

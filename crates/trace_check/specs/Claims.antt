@@ -11,33 +11,33 @@ use Rattle.histories.specs.HistoryEvent.{brought}
 use Rattle.histories.specs.After.{after, sent_at}
 use Rattle.histories.specs.Possible.{IsPossible}
 use Rattle.trace_check.specs.declared.trace.TraceAction.{TraceAction}
-use Rattle.trace_check.specs.declared.trace.TraceAction.TheVariants as deed
+use Rattle.trace_check.specs.declared.trace.TraceAction.TheVariants as action
 use Rattle.trace_check.specs.declared.trace.RecoverFault.TheVariants as recover
 
 -- an entry of a trace without where it lies in memory: what was done, and what was sent
 pub record Claim : Type 0 where
-  pub deed : TraceAction
+  pub action : TraceAction
   pub sent : List Envelope
 
--- what came of the deed at a node that was down, or wasn't. None where the deed contradicts itself
+-- what came of the action at a node that was down, or wasn't. None where the action contradicts itself
 abbrev pub what_of : Bool → TraceAction → Option HistoryEvent
-what_of down deed.Nothing = Some (NoOp Nothing)
-what_of down (deed.Done event) = Some (Did event)
-what_of down (deed.Faulted event) = Some (Faulted event)
-what_of down deed.Crashed = Some Crashed
-what_of true (deed.Recovered kept) = Some (Recovered kept)
-what_of false (deed.Recovered false) = Some (Did on.Recover)
-what_of false (deed.Recovered true) = None
-what_of true (deed.NotRecovered false recover.Mount) = Some MountFailed
-what_of true (deed.NotRecovered true recover.Mount) = None
-what_of true (deed.NotRecovered kept recover.Raise) = Some (RaiseFailed kept)
-what_of false (deed.NotRecovered kept recover.Mount) = None
-what_of false (deed.NotRecovered false recover.Raise) = Some (Faulted on.Recover)
-what_of false (deed.NotRecovered true recover.Raise) = None
+what_of down action.Nothing = Some (NoOp Nothing)
+what_of down (action.Done event) = Some (Did event)
+what_of down (action.Faulted event) = Some (Faulted event)
+what_of down action.Crashed = Some Crashed
+what_of true (action.Recovered kept) = Some (Recovered kept)
+what_of false (action.Recovered false) = Some (Did on.Recover)
+what_of false (action.Recovered true) = None
+what_of true (action.NotRecovered false recover.Mount) = Some MountFailed
+what_of true (action.NotRecovered true recover.Mount) = None
+what_of true (action.NotRecovered kept recover.Raise) = Some (RaiseFailed kept)
+what_of false (action.NotRecovered kept recover.Mount) = None
+what_of false (action.NotRecovered false recover.Raise) = Some (Faulted on.Recover)
+what_of false (action.NotRecovered true recover.Raise) = None
 
 -- and so in this state
 abbrev pub what_at : NodeState → Claim → Option HistoryEvent
-what_at s c = what_of (is_down s.state.phase) c.deed
+what_at s c = what_of (is_down s.state.phase) c.action
 
 -- the entry is possible at a node in this state: what it says may come there, and it sends what is sent then
 abbrev pub MayCome : ℕ → ℕ → NodeState → Claim → Type 0
@@ -56,11 +56,11 @@ abbrev pub state_after : ℕ → ℕ → NodeState → List Claim → NodeState
 state_after self nodes s [] = s
 state_after self nodes s (c ∷ cs) = state_after self nodes (after_claim self nodes s c) cs
 
--- the message that a deed was brought
+-- the message that a action was brought
 abbrev pub brought_by : TraceAction → List Envelope
-brought_by deed.Nothing = []
-brought_by (deed.Done event) = brought (Some event)
-brought_by (deed.Faulted event) = brought (Some event)
-brought_by deed.Crashed = []
-brought_by (deed.Recovered kept) = []
-brought_by (deed.NotRecovered kept fault) = []
+brought_by action.Nothing = []
+brought_by (action.Done event) = brought (Some event)
+brought_by (action.Faulted event) = brought (Some event)
+brought_by action.Crashed = []
+brought_by (action.Recovered kept) = []
+brought_by (action.NotRecovered kept fault) = []

@@ -21,7 +21,7 @@ pub record IsStopped (hs : List (List Claim)) (n index : ℕ) : Type 0 where
   pub claim : Claim
   pub next : slice_get (history hs n) index ≡ Some claim
   pub before : CanReplay hs n index
-  pub dead : MayCome n (length hs) (state_of hs n index) claim → AreAddressed n (brought_by claim.deed) → ⊥
+  pub dead : MayCome n (length hs) (state_of hs n index) claim → AreAddressed n (brought_by claim.action) → ⊥
 
 -- what is left and doesn't wait is stopped
 abbrev pub LeftoversStop : Type 0

@@ -5,7 +5,7 @@ use Rattle.wire_msg.specs.Envelope.{Envelope}
 use Rattle.node_core.specs.declared.event.Event.{Event}
 use Rattle.node_core.specs.declared.event.Event.TheVariants as on
 use Rattle.trace_check.specs.declared.trace.TraceAction.{TraceAction}
-use Rattle.trace_check.specs.declared.trace.TraceAction.TheVariants as deed
+use Rattle.trace_check.specs.declared.trace.TraceAction.TheVariants as action
 use Rattle.trace_check.specs.declared.kept.PackedEvent.{PackedEvent}
 use Rattle.trace_check.specs.declared.kept.PackedEvent.TheVariants as kept
 use Rattle.trace_check.specs.declared.kept.PackedAction.{PackedAction}
@@ -26,17 +26,17 @@ abbrev pub payload_of : Event → List ℕ
 payload_of (on.Submit work) = work.payload
 payload_of event = []
 
-abbrev pub kept_deed : ℕ → ℕ → TraceAction → PackedAction
-kept_deed messages payloads deed.Nothing = done.Nothing
-kept_deed messages payloads (deed.Done event) = done.Done (kept_event messages payloads event)
-kept_deed messages payloads (deed.Faulted event) = done.Faulted (kept_event messages payloads event)
-kept_deed messages payloads deed.Crashed = done.Crashed
-kept_deed messages payloads (deed.Recovered kept) = done.Recovered kept
-kept_deed messages payloads (deed.NotRecovered kept fault) = done.NotRecovered kept fault
+abbrev pub kept_action : ℕ → ℕ → TraceAction → PackedAction
+kept_action messages payloads action.Nothing = done.Nothing
+kept_action messages payloads (action.Done event) = done.Done (kept_event messages payloads event)
+kept_action messages payloads (action.Faulted event) = done.Faulted (kept_event messages payloads event)
+kept_action messages payloads action.Crashed = done.Crashed
+kept_action messages payloads (action.Recovered kept) = done.Recovered kept
+kept_action messages payloads (action.NotRecovered kept fault) = done.NotRecovered kept fault
 
 abbrev pub payload_in : TraceAction → List ℕ
-payload_in (deed.Done event) = payload_of event
-payload_in (deed.Faulted event) = payload_of event
+payload_in (action.Done event) = payload_of event
+payload_in (action.Faulted event) = payload_of event
 payload_in d = []
 
 -- ---- what it says
@@ -56,16 +56,16 @@ event_said messages payloads (kept.Submit queue priority len start) = on.Submit 
 event_said messages payloads (kept.Finish origin id) = on.Finish origin id
 event_said messages payloads kept.Recover = on.Recover
 
-abbrev pub deed_said : List Envelope → List ℕ → PackedAction → TraceAction
-deed_said messages payloads done.Nothing = deed.Nothing
-deed_said messages payloads (done.Done event) = deed.Done (event_said messages payloads event)
-deed_said messages payloads (done.Faulted event) = deed.Faulted (event_said messages payloads event)
-deed_said messages payloads done.Crashed = deed.Crashed
-deed_said messages payloads (done.Recovered kept) = deed.Recovered kept
-deed_said messages payloads (done.NotRecovered kept fault) = deed.NotRecovered kept fault
+abbrev pub action_said : List Envelope → List ℕ → PackedAction → TraceAction
+action_said messages payloads done.Nothing = action.Nothing
+action_said messages payloads (done.Done event) = action.Done (event_said messages payloads event)
+action_said messages payloads (done.Faulted event) = action.Faulted (event_said messages payloads event)
+action_said messages payloads done.Crashed = action.Crashed
+action_said messages payloads (done.Recovered kept) = action.Recovered kept
+action_said messages payloads (done.NotRecovered kept fault) = action.NotRecovered kept fault
 
 abbrev pub claim_said : List Envelope → List ℕ → PackedEntry → Claim
-claim_said messages payloads e = record { deed = deed_said messages payloads e.deed; sent = part e.start e.end messages }
+claim_said messages payloads e = record { action = action_said messages payloads e.action; sent = part e.start e.end messages }
 
 -- ---- where the message stands that it was brought
 
@@ -85,11 +85,11 @@ EventStands messages payloads (kept.Deliver place) = place < messages
 EventStands messages payloads (kept.Submit queue priority len start) = (start + len ≤ payloads) × (len ≤ PAYLOAD_CAPACITY)
 EventStands messages payloads event = ⊤
 
-abbrev pub DeedStands : ℕ → ℕ → PackedAction → Type 0
-DeedStands messages payloads (done.Done event) = EventStands messages payloads event
-DeedStands messages payloads (done.Faulted event) = EventStands messages payloads event
-DeedStands messages payloads d = ⊤
+abbrev pub ActionStands : ℕ → ℕ → PackedAction → Type 0
+ActionStands messages payloads (done.Done event) = EventStands messages payloads event
+ActionStands messages payloads (done.Faulted event) = EventStands messages payloads event
+ActionStands messages payloads d = ⊤
 
 pub record EntryStands (messages payloads : ℕ) (e : PackedEntry) : Type 0 where
-  pub deed : DeedStands messages payloads e.deed
+  pub action : ActionStands messages payloads e.action
   pub sent : (e.start ≤ e.end) × (e.end ≤ messages)

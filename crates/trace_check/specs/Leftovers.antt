@@ -26,8 +26,8 @@ WouldSend self nodes s c ms = IsSomeAnd (what_at s c) (λ (what : HistoryEvent).
 
 -- why an entry isn't taken at a node in this state: all but its message is there, or it can't be there, whatever is sent
 abbrev pub HoldsUp : ℕ → ℕ → NodeState → Claim → Holdup → Type 0
-HoldsUp self nodes s c Waits = MayCome self nodes s c × AreAddressed self (brought_by c.deed)
-HoldsUp self nodes s c Misaddressed = AreAddressed self (brought_by c.deed) → ⊥
+HoldsUp self nodes s c Waits = MayCome self nodes s c × AreAddressed self (brought_by c.action)
+HoldsUp self nodes s c Misaddressed = AreAddressed self (brought_by c.action) → ⊥
 HoldsUp self nodes s c (Refused phase) = (phase ≡ s.state.phase) × IsRefused self nodes s c
 HoldsUp self nodes s c (Sends ms) = WouldSend self nodes s c ms.items × (ms.items ≢ c.sent)
 
@@ -39,7 +39,7 @@ pub record IsMissing (hs : List (List Claim)) (past : List ℕ) (ms : List Envel
 
 -- where an entry waits, its message is missing
 abbrev pub IsLacking : List (List Claim) → List ℕ → Claim → Holdup → Type 0
-IsLacking hs past c Waits = IsMissing hs past (brought_by c.deed)
+IsLacking hs past c Waits = IsMissing hs past (brought_by c.action)
 IsLacking hs past c holdup = Unit {0}
 
 -- this holds up the entry, which is the next one of its node after these
@@ -62,7 +62,7 @@ AreLeftovers hs left = (past : List ℕ) × IsLegal hs past × IsStuck hs past �
 
 -- what holds an entry up, but for a wait, holds it up whatever is sent
 abbrev pub HoldupsHold : Type 0
-HoldupsHold = (self nodes : ℕ) (s : NodeState) (c : Claim) (holdup : Holdup) → (holdup ≡ Waits → ⊥) → HoldsUp self nodes s c holdup → MayCome self nodes s c → AreAddressed self (brought_by c.deed) → ⊥
+HoldupsHold = (self nodes : ℕ) (s : NodeState) (c : Claim) (holdup : Holdup) → (holdup ≡ Waits → ⊥) → HoldsUp self nodes s c holdup → MayCome self nodes s c → AreAddressed self (brought_by c.action) → ⊥
 
 -- ---- a node that is brought through its history again
 

@@ -4,7 +4,7 @@ use Rattle.job_model.specs.declared.payload.TheConstants.{PAYLOAD_CAPACITY}
 use Rattle.node_core.specs.declared.event.Event.{Event}
 use Rattle.node_core.specs.declared.event.Event.TheVariants as on
 use Rattle.trace_check.specs.declared.trace.TraceAction.{TraceAction}
-use Rattle.trace_check.specs.declared.trace.TraceAction.TheVariants as deed
+use Rattle.trace_check.specs.declared.trace.TraceAction.TheVariants as action
 use Rattle.trace_check.specs.declared.lent_action.EventRef.{EventRef}
 use Rattle.trace_check.specs.declared.lent_action.EventRef.TheVariants as lent
 use Rattle.trace_check.specs.declared.lent_action.ActionRef.{ActionRef}
@@ -19,12 +19,12 @@ event_lent (lent.Finish origin id) = on.Finish origin id
 event_lent lent.Recover = on.Recover
 
 abbrev pub action_lent : ActionRef → TraceAction
-action_lent given.Nothing = deed.Nothing
-action_lent (given.Done event) = deed.Done (event_lent event)
-action_lent (given.Faulted event) = deed.Faulted (event_lent event)
-action_lent given.Crashed = deed.Crashed
-action_lent (given.Recovered kept) = deed.Recovered kept
-action_lent (given.NotRecovered kept fault) = deed.NotRecovered kept fault
+action_lent given.Nothing = action.Nothing
+action_lent (given.Done event) = action.Done (event_lent event)
+action_lent (given.Faulted event) = action.Faulted (event_lent event)
+action_lent given.Crashed = action.Crashed
+action_lent (given.Recovered kept) = action.Recovered kept
+action_lent (given.NotRecovered kept fault) = action.NotRecovered kept fault
 
 -- a payload that is lent is one of a job
 abbrev pub FitsEvent : EventRef → Type 0

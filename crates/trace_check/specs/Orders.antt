@@ -38,8 +38,8 @@ pub record MayTake (hs : List (List Claim)) (order : List ℕ) (n : ℕ) : Type 
   pub claim : Claim
   pub next : slice_get (history hs n) (taken n order) ≡ Some claim
   pub possible : MayCome n (length hs) (state_of hs n (taken n order)) claim
-  pub sent : Each (λ (m : Envelope). IsSent hs order m) (brought_by claim.deed)
-  pub addressed : AreAddressed n (brought_by claim.deed)
+  pub sent : Each (λ (m : Envelope). IsSent hs order m) (brought_by claim.action)
+  pub addressed : AreAddressed n (brought_by claim.action)
 
 -- the entries can be taken in this order
 abbrev pub IsLegal : List (List Claim) → List ℕ → Type 0

@@ -23,7 +23,7 @@ twin_at hs past n = twin_after hs n (taken n past)
 
 -- the next entry of the node can't come, whatever is sent
 abbrev pub IsDead : List (List Claim) → List ℕ → ℕ → Type 0
-IsDead hs past n = (c : Claim) → slice_get (history hs n) (taken n past) ≡ Some c → MayCome n (length hs) (state_of hs n (taken n past)) c → AreAddressed n (brought_by c.deed) → ⊥
+IsDead hs past n = (c : Claim) → slice_get (history hs n) (taken n past) ≡ Some c → MayCome n (length hs) (state_of hs n (taken n past)) c → AreAddressed n (brought_by c.action) → ⊥
 
 -- a node represents its node: one that is stopped keeps its place alone
 pub record SeatFits (hs : List (List Claim)) (past : List ℕ) (n : ℕ) (stopped : Bool) (s : NodeCursor) : Type 0 where
@@ -61,21 +61,21 @@ Rests hs d = IsAtRest hs d.seats.items (reverse d.order.items)
 pub record IsUnsent (hs : List (List Claim)) (posted : List Envelope) (n place : ℕ) : Type 0 where
   pub message : Envelope
   pub unsent : IsPosted posted message → ⊥
-  pub brought : (c : Claim) → slice_get (history hs n) place ≡ Some c → brought_by c.deed ≡ message ∷ []
+  pub brought : (c : Claim) → slice_get (history hs n) place ≡ Some c → brought_by c.action ≡ message ∷ []
 
 -- it can be taken, and the node stands after it
 pub record IsTaken (hs : List (List Claim)) (posted : List Envelope) (n : ℕ) (old new : NodeCursor) : Type 0 where
   pub claim : Claim
   pub next : slice_get (history hs n) old.place ≡ Some claim
   pub possible : MayCome old.node_model.id old.node_model.nodes old.node_model.node claim
-  pub sent : Each (IsPosted posted) (brought_by claim.deed)
-  pub addressed : AreAddressed n (brought_by claim.deed)
+  pub sent : Each (IsPosted posted) (brought_by claim.action)
+  pub addressed : AreAddressed n (brought_by claim.action)
   pub place : new.place ≡ old.place + 1
   pub node_model : new.node_model ≡ record { id = old.node_model.id; nodes = old.node_model.nodes; node = after_claim old.node_model.id old.node_model.nodes old.node_model.node claim }
 
 abbrev pub Judges : List (List Claim) → List Envelope → ℕ → NodeCursor → NodeCursor → Judgement → Type 0
 Judges hs posted n old new Stops =
-    (new.place ≡ old.place) × ((c : Claim) → slice_get (history hs n) old.place ≡ Some c → MayCome old.node_model.id old.node_model.nodes old.node_model.node c → AreAddressed n (brought_by c.deed) → ⊥)
+    (new.place ≡ old.place) × ((c : Claim) → slice_get (history hs n) old.place ≡ Some c → MayCome old.node_model.id old.node_model.nodes old.node_model.node c → AreAddressed n (brought_by c.action) → ⊥)
 Judges hs posted n old new Waits = (new ≡ old) × IsUnsent hs posted n old.place
 Judges hs posted n old new Takes = IsTaken hs posted n old new
 

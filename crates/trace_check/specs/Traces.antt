@@ -6,7 +6,7 @@ use Rattle.trace_check.specs.declared.history.EntryView.{EntryView}
 use Rattle.trace_check.specs.Claims.{Claim}
 
 abbrev pub claim : TraceAction → List Envelope → Claim
-claim deed sent = record { deed = deed; sent = sent }
+claim action sent = record { action = action; sent = sent }
 
 abbrev pub claim_seen : EntryView → Claim
-claim_seen e = record { deed = e.deed; sent = e.sent }
+claim_seen e = record { action = e.action; sent = e.sent }

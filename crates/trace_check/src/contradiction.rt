@@ -137,7 +137,7 @@ fn copy_entry(alloc: Global, history: &mut History, entry: &EntryView<'_>) -> Re
         };
         sent.push(message)?;
     }
-    history.push(&entry.deed, &sent)
+    history.push(&entry.action, &sent)
 }
 
 /// The trace of so many nodes in which this one has these entries, and the others have none.

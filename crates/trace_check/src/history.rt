@@ -3,15 +3,15 @@ ghost use Rattle.job_model.specs.declared.payload.TheConstants.{PAYLOAD_CAPACITY
 ghost use Rattle.wire_msg.specs.Envelope.{Envelope};
 ghost use Rattle.wire_msg.specs.Spelling.{Spells};
 ghost use Rattle.trace_check.specs.Claims.{Claim, brought_by};
-ghost use Rattle.trace_check.specs.Kept.{kept_deed, part, payload_in};
+ghost use Rattle.trace_check.specs.Kept.{kept_action, part, payload_in};
 ghost use Rattle.trace_check.specs.LentActions.{FitsPayload, action_lent};
-ghost use Rattle.trace_check.specs.Given.{FitsGiven, deed_given, sent_given};
+ghost use Rattle.trace_check.specs.Given.{FitsGiven, action_given, sent_given};
 ghost use Rattle.trace_check.specs.Traces.{claim, claim_seen};
 ghost use Rattle.trace_check.specs.Views.{Stands, claim_kept};
 
-use crate::kept::{PackedAction, PackedEntry, brought_at, deed_said, keep_event, keep_lent_event};
+use crate::kept::{PackedAction, PackedEntry, brought_at, action_said, keep_event, keep_lent_event};
 use crate::lent_action::ActionRef;
-use crate::stored::{StoredEntry, stored_deed};
+use crate::stored::{StoredEntry, stored_action};
 use crate::trace::TraceAction;
 use group_task::NodeId;
 use job_model::PAYLOAD_CAPACITY;
@@ -67,31 +67,31 @@ impl History {
 
     /// Adds an entry: what was done, and the messages sent in their order. It is refused where memory is short, or where the history
     /// could come to 2^32 messages or bytes of payloads.
-    pub fn push(&mut self, deed: &TraceAction, sent: &[Message]) -> Result<(), AllocError>
+    pub fn push(&mut self, action: &TraceAction, sent: &[Message]) -> Result<(), AllocError>
         // Promise: A history is the list of its entries, each as it was put in; want of memory leaves it as it was.
         // Also: History::push_lent, History::entry.
         // Refuses: payload_read_from_the_start, entry_keeps_what_it_was_brought_as_sent, halves_of_an_id_swapped,
         // failed_command_stored_as_handled, first_lent_message_left_out.
-        ensures added { OnOk result (self.new ≡ self.old ++ claim deed.now sent.now ∷ []) }
+        ensures added { OnOk result (self.new ≡ self.old ++ claim action.now sent.now ∷ []) }
         ensures refused { OnErr result (self.new ≡ self.old) }
     {
-        self.put_in(&Given::Made(deed, sent))
+        self.put_in(&Given::Made(action, sent))
     }
 
     /// Adds an entry as `push` does, but what was done is lent, and so is what was sent: neither an event nor a message is made.
-    pub fn push_lent(&mut self, deed: &ActionRef<'_>, sent: &Sent<'_>) -> Result<(), AllocError>
-        requires { FitsPayload deed.now }
-        ensures added { OnOk result (self.new ≡ self.old ++ claim (action_lent deed.now) sent.now ∷ []) }
+    pub fn push_lent(&mut self, action: &ActionRef<'_>, sent: &Sent<'_>) -> Result<(), AllocError>
+        requires { FitsPayload action.now }
+        ensures added { OnOk result (self.new ≡ self.old ++ claim (action_lent action.now) sent.now ∷ []) }
         ensures refused { OnErr result (self.new ≡ self.old) }
     {
-        self.put_in(&Given::Lent(deed, sent))
+        self.put_in(&Given::Lent(action, sent))
     }
 
     /// Adds an entry, as it is given.
     #[inline(always)]
     fn put_in(&mut self, given: &Given<'_>) -> Result<(), AllocError>
         requires { FitsGiven given.now }
-        ensures added { OnOk result (self.new ≡ self.old ++ claim (deed_given given.now) (sent_given given.now) ∷ []) }
+        ensures added { OnOk result (self.new ≡ self.old ++ claim (action_given given.now) (sent_given given.now) ∷ []) }
         ensures refused { OnErr result (self.new ≡ self.old) }
     {
         make_room(
@@ -100,11 +100,11 @@ impl History {
             &mut self.payloads,
             given.len(),
         )?;
-        let deed = given.keep_deed(&mut self.messages, &mut self.payloads);
+        let action = given.keep_action(&mut self.messages, &mut self.payloads);
         let start = self.messages.len();
         given.keep_sent(&mut self.messages);
         self.entries.push_reserved(StoredEntry {
-            deed: stored_deed(deed),
+            action: stored_action(action),
             start: start as u32,
             end: self.messages.len() as u32,
         });
@@ -121,8 +121,8 @@ impl History {
             return None;
         };
         let sent = kept.sent();
-        let deed = deed_said(kept.messages, kept.payloads, kept.entry.deed);
-        Some(EntryView { deed, sent })
+        let action = action_said(kept.messages, kept.payloads, kept.entry.action);
+        Some(EntryView { action, sent })
     }
 
     /// The entry at this place, as it is kept.
@@ -152,7 +152,7 @@ impl History {
 
     /// The message that the entry at this place was brought, alone: none where it was brought none. It isn't made for this.
     pub fn brought(&self, place: usize) -> Option<Sent<'_>>
-        ensures { result ≡ option_map (λ (c : Claim). brought_by c.deed) (slice_get self.now place) }
+        ensures { result ≡ option_map (λ (c : Claim). brought_by c.action) (slice_get self.now place) }
     {
         let Some(kept) = self.kept(place) else {
             return None;
@@ -242,18 +242,18 @@ impl<'a> Given<'a> {
 
     /// Keeps what was done, in the room that is there.
     #[inline(always)]
-    fn keep_deed(&self, messages: &mut MessageList, payloads: &mut Vec<u8>) -> PackedAction
+    fn keep_action(&self, messages: &mut MessageList, payloads: &mut Vec<u8>) -> PackedAction
         requires room { 1 ≤ messages.old.room }
         requires bytes { vec_len payloads.old + PAYLOAD_CAPACITY ≤ vec_capacity payloads.old }
         requires fits { FitsGiven self.now }
-        ensures value { result ≡ kept_deed (length messages.old.messages) (length payloads.old.items) (deed_given self.now) }
-        ensures messages { messages.new.messages ≡ messages.old.messages ++ brought_by (deed_given self.now) }
+        ensures value { result ≡ kept_action (length messages.old.messages) (length payloads.old.items) (action_given self.now) }
+        ensures messages { messages.new.messages ≡ messages.old.messages ++ brought_by (action_given self.now) }
         ensures left { messages.old.room ≤ messages.new.room + 1 }
-        ensures payloads { payloads.new.items ≡ payloads.old.items ++ payload_in (deed_given self.now) }
-        ensures few { length (payload_in (deed_given self.now)) ≤ PAYLOAD_CAPACITY }
+        ensures payloads { payloads.new.items ≡ payloads.old.items ++ payload_in (action_given self.now) }
+        ensures few { length (payload_in (action_given self.now)) ≤ PAYLOAD_CAPACITY }
     {
         match self {
-            Given::Made(deed, _) => match deed {
+            Given::Made(action, _) => match action {
                 TraceAction::Nothing => PackedAction::Nothing,
                 TraceAction::Done(event) => {
                     PackedAction::Done(keep_event(messages, payloads, event))
@@ -265,7 +265,7 @@ impl<'a> Given<'a> {
                 TraceAction::Recovered(kept) => PackedAction::Recovered(*kept),
                 TraceAction::NotRecovered(kept, fault) => PackedAction::NotRecovered(*kept, *fault),
             },
-            Given::Lent(deed, _) => match deed {
+            Given::Lent(action, _) => match action {
                 ActionRef::Nothing => PackedAction::Nothing,
                 ActionRef::Done(event) => {
                     PackedAction::Done(keep_lent_event(messages, payloads, event))
@@ -296,7 +296,7 @@ impl<'a> Given<'a> {
 /// An entry of a history, lent.
 #[derive(Debug, Drop)]
 pub struct EntryView<'a> {
-    pub deed: TraceAction,
+    pub action: TraceAction,
     pub sent: Sent<'a>,
 }
 
@@ -324,10 +324,10 @@ impl<'a> KeptView<'a> {
     /// The message that the entry was brought, alone: none where it was brought none.
     pub(crate) fn brought(&self) -> Sent<'a>
         requires { Stands self.now }
-        ensures { result ≡ brought_by (claim_kept self.now).deed }
+        ensures { result ≡ brought_by (claim_kept self.now).action }
     {
         let _many = self.messages.len();
-        match brought_at(self.entry.deed) {
+        match brought_at(self.entry.action) {
             Some(start) => Sent {
                 messages: self.messages,
                 start,
@@ -352,7 +352,7 @@ pub struct Sent<'a> {
 
 impl<'a> Model for Sent<'a> {
     ghost use Rattle.std.specs.Prelude.{◌≤◌, List, length};
-    ghost use Rattle.trace_check.specs.Kept.{kept_deed, part, payload_in};
+    ghost use Rattle.trace_check.specs.Kept.{kept_action, part, payload_in};
     ghost use Rattle.wire_msg.specs.Envelope.{Envelope};
 
     ghost Value = { List Envelope };

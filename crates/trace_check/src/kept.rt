@@ -6,7 +6,7 @@ ghost use Rattle.job_model.specs.declared.payload.TheConstants.{PAYLOAD_CAPACITY
 ghost use Rattle.node_core.specs.declared.event.Event.TheVariants as on;
 ghost use Rattle.histories.specs.HistoryEvent.{brought};
 ghost use Rattle.trace_check.specs.LentActions.{FitsEvent, event_lent};
-ghost use Rattle.trace_check.specs.Kept.{kept_event, payload_of, event_said, deed_said, delivered_at, brought_at, EventStands, DeedStands};
+ghost use Rattle.trace_check.specs.Kept.{kept_event, payload_of, event_said, action_said, delivered_at, brought_at, EventStands, ActionStands};
 
 use crate::lent_action::EventRef;
 use crate::trace::{RecoverFault, TraceAction};
@@ -41,7 +41,7 @@ pub enum PackedAction {
 /// An entry as it is kept. What it sent stands in the list of messages from start up to end.
 #[derive(Clone, Copy)]
 pub struct PackedEntry {
-    pub deed: PackedAction,
+    pub action: PackedAction,
     pub start: usize,
     pub end: usize,
 }
@@ -102,11 +102,11 @@ pub fn keep_lent_event(
 }
 
 /// What was done, read back.
-pub fn deed_said(messages: &MessageList, payloads: &[u8], deed: PackedAction) -> TraceAction
-    requires { DeedStands (length messages.now.messages) (length payloads.now) deed }
-    ensures { result ≡ deed_said messages.now.messages payloads.now deed }
+pub fn action_said(messages: &MessageList, payloads: &[u8], action: PackedAction) -> TraceAction
+    requires { ActionStands (length messages.now.messages) (length payloads.now) action }
+    ensures { result ≡ action_said messages.now.messages payloads.now action }
 {
-    match deed {
+    match action {
         PackedAction::Nothing => TraceAction::Nothing,
         PackedAction::Done(event) => TraceAction::Done(event_said(messages, payloads, event)),
         PackedAction::Faulted(event) => TraceAction::Faulted(event_said(messages, payloads, event)),
@@ -185,11 +185,11 @@ fn set_finish(said: &mut Event, origin: NodeId, id: u64)
     *said = Event::Finish(origin, id);
 }
 
-/// Where the message stands that a deed was brought, if it was brought one.
-pub fn brought_at(deed: PackedAction) -> Option<usize>
-    ensures { result ≡ brought_at deed }
+/// Where the message stands that a action was brought, if it was brought one.
+pub fn brought_at(action: PackedAction) -> Option<usize>
+    ensures { result ≡ brought_at action }
 {
-    match deed {
+    match action {
         PackedAction::Done(event) | PackedAction::Faulted(event) => delivered_at(event),
         _ => None,
     }

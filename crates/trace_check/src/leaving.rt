@@ -63,7 +63,7 @@ fn next_holdup(
     let Some(entry) = trace.entry(node, seat.place) else {
         return Ok(None);
     };
-    if !is_for(&entry.deed, node) {
+    if !is_for(&entry.action, node) {
         return Ok(Some(Holdup::Misaddressed));
     }
     renew(alloc, trace, node, is_stopped, seat)?;
@@ -92,10 +92,10 @@ fn renew(
 }
 
 /// Whether the message that was brought, if there is one, is for this node.
-fn is_for(deed: &TraceAction, node: NodeId) -> bool
-    ensures { IsTrue result ↔ AreAddressed node (brought_by deed.now) }
+fn is_for(action: &TraceAction, node: NodeId) -> bool
+    ensures { IsTrue result ↔ AreAddressed node (brought_by action.now) }
 {
-    match deed.brought() {
+    match action.brought() {
         Some(message) => message.receiver() == node,
         None => true,
     }
@@ -103,7 +103,7 @@ fn is_for(deed: &TraceAction, node: NodeId) -> bool
 
 /// What holds an entry up at a node that stands before it.
 fn holdup_at(node_model: &mut NodeModel, entry: &EntryView<'_>) -> Result<Holdup, AllocError>
-    requires { AreAddressed node_model.old.id (brought_by entry.now.deed) }
+    requires { AreAddressed node_model.old.id (brought_by entry.now.action) }
     ensures { IfOk result (HoldsUp node_model.old.id node_model.old.nodes node_model.old.node (claim_seen entry.now)) }
 {
     let phase = node_model.vector().group_state.phase;

@@ -15,7 +15,7 @@ ghost use Rattle.trace_check.specs.Twins.{Judged, Taken, Settled, WantsOf, came}
 ghost use Rattle.trace_check.specs.Kept.{EventStands, event_said};
 ghost use Rattle.trace_check.specs.Traces.{claim, claim_seen};
 ghost use Rattle.trace_check.specs.Views.{Stands, claim_kept};
-ghost use Rattle.trace_check.specs.declared.trace.TraceAction.TheVariants as deed;
+ghost use Rattle.trace_check.specs.declared.trace.TraceAction.TheVariants as action;
 
 use crate::durable_state::DurableState;
 use crate::history::{EntryView, KeptView, Sent};
@@ -146,7 +146,7 @@ impl NodeModel {
         ensures taken { IfOk result (Taken self.old self.new (claim_seen entry.now)) }
     {
         let sent = &entry.sent;
-        match &entry.deed {
+        match &entry.action {
             TraceAction::Nothing => Ok(sent.is_empty()),
             TraceAction::Done(event) => self.handle(event, sent),
             TraceAction::Faulted(event) => self.fault(event, sent),
@@ -156,7 +156,7 @@ impl NodeModel {
         }
     }
 
-    /// Takes an entry as it is kept, as `take` does. No deed is made of it: one that has a message would be a copy of it.
+    /// Takes an entry as it is kept, as `take` does. No action is made of it: one that has a message would be a copy of it.
     pub(crate) fn take_kept(
         &mut self,
         kept: &KeptView<'_>,
@@ -168,7 +168,7 @@ impl NodeModel {
         ensures taken { IfOk result (Taken self.old self.new (claim_kept kept.now)) }
     {
         let sent = kept.sent();
-        match kept.entry.deed {
+        match kept.entry.action {
             PackedAction::Nothing => Ok(sent.is_empty()),
             PackedAction::Done(PackedEvent::Deliver(place)) => {
                 if !kept.messages.read(place, &mut room.message) {
@@ -193,7 +193,7 @@ impl NodeModel {
         ensures { IfOk result (λ made. MatchOption made (IsRefused self.old.id self.old.nodes self.old.node (claim_seen entry.now))
             (λ messages. WouldSend self.old.id self.old.nodes self.old.node (claim_seen entry.now) messages.items)) }
     {
-        match &entry.deed {
+        match &entry.action {
             TraceAction::Done(event) => self.handled(event),
             TraceAction::Recovered(kept) => self.risen(*kept, entry),
             TraceAction::Nothing => self.silent(entry),
@@ -249,7 +249,7 @@ impl NodeModel {
     fn recover(&mut self, kept: bool, sent: &Sent<'_>) -> Result<bool, AllocError>
         ensures id { self.new.id ≡ self.old.id }
         ensures nodes { self.new.nodes ≡ self.old.nodes }
-        ensures taken { IfOk result (Taken self.old self.new (claim (deed.Recovered kept) sent.now)) }
+        ensures taken { IfOk result (Taken self.old self.new (claim (action.Recovered kept) sent.now)) }
     {
         if self.is_down() {
             self.rise(kept, sent)
@@ -269,7 +269,7 @@ impl NodeModel {
     ) -> Result<bool, AllocError>
         ensures id { self.new.id ≡ self.old.id }
         ensures nodes { self.new.nodes ≡ self.old.nodes }
-        ensures taken { IfOk result (Taken self.old self.new (claim (deed.NotRecovered kept fault) sent.now)) }
+        ensures taken { IfOk result (Taken self.old self.new (claim (action.NotRecovered kept fault) sent.now)) }
     {
         if matches!(fault, RecoverFault::Mount) {
             return Ok(self.is_down() && !kept && sent.is_empty());
@@ -353,7 +353,7 @@ impl NodeModel {
         kept: bool,
         entry: &EntryView<'_>,
     ) -> Result<Option<Vec<Message>>, AllocError>
-        requires { entry.now.deed ≡ deed.Recovered kept }
+        requires { entry.now.action ≡ action.Recovered kept }
         ensures { IfOk result (λ made. MatchOption made (IsRefused self.old.id self.old.nodes self.old.node (claim_seen entry.now))
             (λ messages. WouldSend self.old.id self.old.nodes self.old.node (claim_seen entry.now) messages.items)) }
     {
@@ -373,7 +373,7 @@ impl NodeModel {
             (λ messages. WouldSend self.old.id self.old.nodes self.old.node (claim_seen entry.now) messages.items)) }
     {
         let alone = EntryView {
-            deed: entry.deed,
+            action: entry.action,
             sent: entry.sent.none(),
         };
         if self.take(&alone)? {

@@ -1,8 +1,8 @@
 //! Entries as a history stores them: 20 bytes for each, with numbers of 32 bits.
 
 ghost use Rattle.std.specs.Prelude.{◌≡◌, ◌-◌, ◌^◌};
-ghost use Rattle.trace_check.specs.Kept.{DeedStands, EventStands};
-ghost use Rattle.trace_check.specs.Stored.{deed_of, entry_of, happened};
+ghost use Rattle.trace_check.specs.Kept.{ActionStands, EventStands};
+ghost use Rattle.trace_check.specs.Stored.{action_of, entry_of, happened};
 
 use crate::kept::{PackedAction, PackedEntry, PackedEvent};
 use crate::trace::RecoverFault;
@@ -13,7 +13,7 @@ use std::mem::size_of;
 
 /// What was done, as it is stored. With an event it is said whether it was handled: else the device failed in its command.
 #[derive(Clone, Copy, Debug)]
-pub enum StoredDeed {
+pub enum StoredAction {
     Nothing,
     Crashed,
     Recovered(bool),
@@ -29,7 +29,7 @@ pub enum StoredDeed {
 /// An entry as it is stored.
 #[derive(Clone, Copy, Debug)]
 pub struct StoredEntry {
-    pub deed: StoredDeed,
+    pub action: StoredAction,
     pub start: u32,
     pub end: u32,
 }
@@ -47,7 +47,7 @@ impl StoredEntry {
         ensures { result ≡ entry_of self.now }
     {
         PackedEntry {
-            deed: deed_of(self.deed),
+            action: action_of(self.action),
             start: self.start as usize,
             end: self.end as usize,
         }
@@ -56,60 +56,60 @@ impl StoredEntry {
 
 /// What was done, stored.
 #[inline(always)]
-pub fn stored_deed(deed: PackedAction) -> StoredDeed
-    requires { DeedStands (2 ^ 32 - 1) (2 ^ 32 - 1) deed }
-    ensures { deed_of result ≡ deed }
+pub fn stored_action(action: PackedAction) -> StoredAction
+    requires { ActionStands (2 ^ 32 - 1) (2 ^ 32 - 1) action }
+    ensures { action_of result ≡ action }
 {
-    match deed {
-        PackedAction::Nothing => StoredDeed::Nothing,
+    match action {
+        PackedAction::Nothing => StoredAction::Nothing,
         PackedAction::Done(event) => stored_event(true, event),
         PackedAction::Faulted(event) => stored_event(false, event),
-        PackedAction::Crashed => StoredDeed::Crashed,
-        PackedAction::Recovered(kept) => StoredDeed::Recovered(kept),
-        PackedAction::NotRecovered(kept, fault) => StoredDeed::NotRecovered(kept, fault),
+        PackedAction::Crashed => StoredAction::Crashed,
+        PackedAction::Recovered(kept) => StoredAction::Recovered(kept),
+        PackedAction::NotRecovered(kept, fault) => StoredAction::NotRecovered(kept, fault),
     }
 }
 
 #[inline(always)]
-fn stored_event(is_done: bool, event: PackedEvent) -> StoredDeed
+fn stored_event(is_done: bool, event: PackedEvent) -> StoredAction
     requires { EventStands (2 ^ 32 - 1) (2 ^ 32 - 1) event }
-    ensures { deed_of result ≡ happened is_done event }
+    ensures { action_of result ≡ happened is_done event }
 {
     match event {
-        PackedEvent::Timer(timer) => StoredDeed::Timer(is_done, timer),
-        PackedEvent::Deliver(place) => StoredDeed::Deliver(is_done, place as u32),
+        PackedEvent::Timer(timer) => StoredAction::Timer(is_done, timer),
+        PackedEvent::Deliver(place) => StoredAction::Deliver(is_done, place as u32),
         PackedEvent::Submit(queue, priority, len, start) => {
-            StoredDeed::Submit(is_done, queue, priority, len, start as u32)
+            StoredAction::Submit(is_done, queue, priority, len, start as u32)
         }
         PackedEvent::Finish(origin, id) => {
-            StoredDeed::Finish(is_done, origin, (id % HALF) as u32, (id / HALF) as u32)
+            StoredAction::Finish(is_done, origin, (id % HALF) as u32, (id / HALF) as u32)
         }
-        PackedEvent::Recover => StoredDeed::Recover(is_done),
+        PackedEvent::Recover => StoredAction::Recover(is_done),
     }
 }
 
 #[inline(always)]
-fn deed_of(deed: StoredDeed) -> PackedAction
-    ensures { result ≡ deed_of deed }
+fn action_of(action: StoredAction) -> PackedAction
+    ensures { result ≡ action_of action }
 {
-    match deed {
-        StoredDeed::Nothing => PackedAction::Nothing,
-        StoredDeed::Crashed => PackedAction::Crashed,
-        StoredDeed::Recovered(kept) => PackedAction::Recovered(kept),
-        StoredDeed::NotRecovered(kept, fault) => PackedAction::NotRecovered(kept, fault),
-        StoredDeed::Timer(is_done, timer) => happened(is_done, PackedEvent::Timer(timer)),
-        StoredDeed::Deliver(is_done, place) => {
+    match action {
+        StoredAction::Nothing => PackedAction::Nothing,
+        StoredAction::Crashed => PackedAction::Crashed,
+        StoredAction::Recovered(kept) => PackedAction::Recovered(kept),
+        StoredAction::NotRecovered(kept, fault) => PackedAction::NotRecovered(kept, fault),
+        StoredAction::Timer(is_done, timer) => happened(is_done, PackedEvent::Timer(timer)),
+        StoredAction::Deliver(is_done, place) => {
             happened(is_done, PackedEvent::Deliver(place as usize))
         }
-        StoredDeed::Submit(is_done, queue, priority, len, start) => {
+        StoredAction::Submit(is_done, queue, priority, len, start) => {
             let event = PackedEvent::Submit(queue, priority, len, start as usize);
             happened(is_done, event)
         }
-        StoredDeed::Finish(is_done, origin, low, high) => {
+        StoredAction::Finish(is_done, origin, low, high) => {
             let id = u64::from(high) * HALF + u64::from(low);
             happened(is_done, PackedEvent::Finish(origin, id))
         }
-        StoredDeed::Recover(is_done) => happened(is_done, PackedEvent::Recover),
+        StoredAction::Recover(is_done) => happened(is_done, PackedEvent::Recover),
     }
 }
 

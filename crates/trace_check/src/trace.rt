@@ -144,7 +144,7 @@ impl Trace {
 
     /// The message that the entry of a node at this place of its history was brought, alone: none where it was brought none.
     pub fn brought(&self, node: NodeId, place: usize) -> Option<Sent<'_>>
-        ensures { result ≡ option_map (λ (c : Claim). brought_by c.deed) (slice_get (history self.now node) place) }
+        ensures { result ≡ option_map (λ (c : Claim). brought_by c.action) (slice_get (history self.now node) place) }
     {
         let history = self.histories.get(usize::from(node.number()))?;
         history.brought(place)

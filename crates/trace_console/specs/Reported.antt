@@ -16,7 +16,7 @@ use Rattle.trace_check.specs.Leftovers.{AreLeftovers}
 use Rattle.trace_check.specs.Orders.{history}
 use Rattle.trace_text.specs.declared.fault.Location.{Location}
 use Rattle.trace_text.specs.Wholes.{trace_of}
-use Rattle.trace_text.specs.Written.{deed_name}
+use Rattle.trace_text.specs.Written.{action_name}
 use Rattle.trace_console.specs.Judged.{words}
 
 -- a message in hex digits, behind a space
@@ -32,14 +32,14 @@ sent_text [] = codes " nothing"
 sent_text (m ∷ ms) = messages_text (m ∷ ms)
 
 abbrev pub cannot_text : TraceAction → List ℕ
-cannot_text deed = codes " (" ++ deed_name deed ++ codes ") can't be: "
+cannot_text action = codes " (" ++ action_name action ++ codes ") can't be: "
 
 -- what holds an entry up
 abbrev pub holdup_text : Claim → Holdup → List ℕ
-holdup_text c holdup.Waits = codes " waits for" ++ messages_text (brought_by c.deed)
-holdup_text c holdup.Misaddressed = cannot_text c.deed ++ codes "it is for node" ++ words (map (λ (m : Envelope). m.receiver) (brought_by c.deed))
-holdup_text c (holdup.Refused phase) = cannot_text c.deed ++ codes "its node refuses it, being " ++ phase_text phase
-holdup_text c (holdup.Sends ms) = cannot_text c.deed ++ codes "it would send" ++ sent_text ms.items
+holdup_text c holdup.Waits = codes " waits for" ++ messages_text (brought_by c.action)
+holdup_text c holdup.Misaddressed = cannot_text c.action ++ codes "it is for node" ++ words (map (λ (m : Envelope). m.receiver) (brought_by c.action))
+holdup_text c (holdup.Refused phase) = cannot_text c.action ++ codes "its node refuses it, being " ++ phase_text phase
+holdup_text c (holdup.Sends ms) = cannot_text c.action ++ codes "it would send" ++ sent_text ms.items
 
 -- an entry: its node, and its index
 unfoldable pub place_text : List ℕ → ℕ → ℕ → List ℕ

@@ -13,7 +13,7 @@ use group_task::NodeId;
 use node_words::phase_word;
 use std::alloc::{AllocError, Global};
 use trace_check::{EntryView, Holdup, Leftover, Trace, TraceAction};
-use trace_text::deed_name;
+use trace_text::action_name;
 use wire_msg::{Message, encode};
 
 /// What is said of entries that are left, with the first of them that isn't waiting: a line for each, without the last line feed.
@@ -121,53 +121,53 @@ fn push_holdup(
 ) -> Result<(), AllocError>
     ensures { OnOk result (text.new.items ≡ text.old.items ++ holdup_text (claim_seen entry.now) holdup.now) }
 {
-    let deed = &entry.deed;
+    let action = &entry.action;
     match holdup {
         Holdup::Waits => {
             push_text(text, " waits for")?;
-            push_brought(alloc, text, deed)
+            push_brought(alloc, text, action)
         }
         Holdup::Misaddressed => {
-            push_cannot(text, deed)?;
+            push_cannot(text, action)?;
             push_text(text, "it is for node")?;
-            push_receiver(text, deed)
+            push_receiver(text, action)
         }
         Holdup::Refused(phase) => {
-            push_cannot(text, deed)?;
+            push_cannot(text, action)?;
             push_text(text, "its node refuses it, being ")?;
             push_text(text, phase_word(*phase))
         }
         Holdup::Sends(messages) => {
-            push_cannot(text, deed)?;
+            push_cannot(text, action)?;
             push_text(text, "it would send")?;
             push_sent(alloc, text, messages)
         }
     }
 }
 
-fn push_cannot(text: &mut Vec<u8>, deed: &TraceAction) -> Result<(), AllocError>
-    ensures { OnOk result (text.new.items ≡ text.old.items ++ cannot_text deed.now) }
+fn push_cannot(text: &mut Vec<u8>, action: &TraceAction) -> Result<(), AllocError>
+    ensures { OnOk result (text.new.items ≡ text.old.items ++ cannot_text action.now) }
 {
     push_text(text, " (")?;
-    push_text(text, deed_name(deed))?;
+    push_text(text, action_name(action))?;
     push_text(text, ") can't be: ")
 }
 
 /// Adds the message that an entry was brought.
-fn push_brought(alloc: Global, text: &mut Vec<u8>, deed: &TraceAction) -> Result<(), AllocError>
-    ensures { OnOk result (text.new.items ≡ text.old.items ++ messages_text (brought_by deed.now)) }
+fn push_brought(alloc: Global, text: &mut Vec<u8>, action: &TraceAction) -> Result<(), AllocError>
+    ensures { OnOk result (text.new.items ≡ text.old.items ++ messages_text (brought_by action.now)) }
 {
-    match deed.brought() {
+    match action.brought() {
         Some(message) => push_message(alloc, text, message),
         None => Ok(()),
     }
 }
 
 /// Adds the node that it is for.
-fn push_receiver(text: &mut Vec<u8>, deed: &TraceAction) -> Result<(), AllocError>
-    ensures { OnOk result (text.new.items ≡ text.old.items ++ words (map (λ (m : Envelope). m.receiver) (brought_by deed.now))) }
+fn push_receiver(text: &mut Vec<u8>, action: &TraceAction) -> Result<(), AllocError>
+    ensures { OnOk result (text.new.items ≡ text.old.items ++ words (map (λ (m : Envelope). m.receiver) (brought_by action.now))) }
 {
-    match deed.brought() {
+    match action.brought() {
         Some(message) => push_word(text, u64::from(message.receiver().number())),
         None => Ok(()),
     }

@@ -21,13 +21,13 @@ use Rattle.node_core.specs.declared.event.Event.TheVariants as on
 use Rattle.node_core.specs.declared.timer.Timer.TheVariants as timer
 use Rattle.histories.specs.Lists.{Each}
 use Rattle.trace_check.specs.declared.trace.TraceAction.{TraceAction}
-use Rattle.trace_check.specs.declared.trace.TraceAction.TheVariants as deed
+use Rattle.trace_check.specs.declared.trace.TraceAction.TheVariants as action
 use Rattle.trace_check.specs.declared.trace.RecoverFault.TheVariants as recover
 use Rattle.trace_check.specs.Claims.{Claim}
 use Rattle.trace_text.specs.declared.fault.Location.{Location}
 use Rattle.trace_text.specs.Fields.{fields_in}
-use Rattle.trace_text.specs.Entries.{message_in, with_first, messages_in, below, short, priority_in, submitted, done_in, deed_in, claim_in}
-use Rattle.trace_text.specs.Fits.{EventFits, IsNamed, WorkFits, DeedFits, ClaimFits, TraceFits, HasName, IsWritable}
+use Rattle.trace_text.specs.Entries.{message_in, with_first, messages_in, below, short, priority_in, submitted, done_in, action_in, claim_in}
+use Rattle.trace_text.specs.Fits.{EventFits, IsNamed, WorkFits, ActionFits, ClaimFits, TraceFits, HasName, IsWritable}
 use Rattle.trace_text.specs.Wholes.{first_entry, entries_from, first_history, histories_from, count_items, all_lists, shape_in, in_shape}
 use Rattle.trace_text.specs.Written.{message_data, entry_data, history_data, trace_data}
 
@@ -78,7 +78,7 @@ parts_back : (failed : Bool) (w : Work) (queue priority : Option ℕ) (payload :
     → option_and_then (λ (event : Event). Some (done_in event failed)) (submitted queue priority payload) ≡ Some (done_in (on.Submit w) failed)
 parts_back failed w queue priority payload a b c = rw (a, b, c) refl
 
-submit_back : (failed b : Bool) (w : Work) (ms : List Envelope) → (w.priority == 0) ≡ b → WorkFits w → deed_in (fields_in (object (work_members failed b w ms))) ≡ Some (done_in (on.Submit w) failed)
+submit_back : (failed b : Bool) (w : Work) (ms : List Envelope) → (w.priority == 0) ≡ b → WorkFits w → action_in (fields_in (object (work_members failed b w ms))) ≡ Some (done_in (on.Submit w) failed)
 submit_back true true w ms is fits = parts_back true w _ _ _ (below_back QUEUES w.queue fits.queue) (priority_back true w.priority is fits.priority) (payload_back w.payload fits.payload fits.bytes)
 submit_back false true w ms is fits = parts_back false w _ _ _ (below_back QUEUES w.queue fits.queue) (priority_back true w.priority is fits.priority) (payload_back w.payload fits.payload fits.bytes)
 submit_back failed b w ms is fits = parts_back failed w _ _ _ (below_back QUEUES w.queue fits.queue) (priority_back b w.priority is fits.priority) (payload_back w.payload fits.payload fits.bytes)
@@ -92,9 +92,9 @@ finish_back : (failed : Bool) (origin id : ℕ) → origin < NODES
 finish_back failed origin id h = ap (λ (x : Option ℕ). option_and_then (λ (event : Event). Some (done_in event failed)) (option_and_then (λ (o : ℕ). Some (on.Finish o id)) x)) (below_back NODES origin h)
 
 abbrev pub claim_with : TraceAction → List Envelope → Claim
-claim_with d ms = record { deed = d; sent = ms }
+claim_with d ms = record { action = d; sent = ms }
 
-event_back : (failed : Bool) (event : Event) (ms : List Envelope) → EventFits event → IsNamed event → deed_in (fields_in (entry_data (claim_with (done_in event failed) ms))) ≡ Some (done_in event failed)
+event_back : (failed : Bool) (event : Event) (ms : List Envelope) → EventFits event → IsNamed event → action_in (fields_in (entry_data (claim_with (done_in event failed) ms))) ≡ Some (done_in event failed)
 event_back true (on.Timer timer.Check) ms fits named = refl
 event_back false (on.Timer timer.Check) ms fits named = refl
 event_back _ (on.Timer _) ms fits named = refl
@@ -106,14 +106,14 @@ event_back true (on.Finish origin id) ms fits named = finish_back true origin id
 event_back false (on.Finish origin id) ms fits named = finish_back false origin id fits.0
 event_back failed on.Recover ms fits named = absurd named
 
-deed_back : (d : TraceAction) (ms : List Envelope) → DeedFits d → HasName d → deed_in (fields_in (entry_data (claim_with d ms))) ≡ Some d
-deed_back deed.Nothing ms fits named = refl
-deed_back (deed.Done event) ms fits named = event_back false event ms fits named
-deed_back (deed.Faulted event) ms fits named = event_back true event ms fits named
-deed_back deed.Crashed ms fits named = refl
-deed_back (deed.Recovered kept) ms fits named = refl
-deed_back (deed.NotRecovered kept recover.Mount) ms fits named = refl
-deed_back (deed.NotRecovered kept recover.Raise) ms fits named = refl
+action_back : (d : TraceAction) (ms : List Envelope) → ActionFits d → HasName d → action_in (fields_in (entry_data (claim_with d ms))) ≡ Some d
+action_back action.Nothing ms fits named = refl
+action_back (action.Done event) ms fits named = event_back false event ms fits named
+action_back (action.Faulted event) ms fits named = event_back true event ms fits named
+action_back action.Crashed ms fits named = refl
+action_back (action.Recovered kept) ms fits named = refl
+action_back (action.NotRecovered kept recover.Mount) ms fits named = refl
+action_back (action.NotRecovered kept recover.Raise) ms fits named = refl
 
 -- ---- entries
 
@@ -128,23 +128,23 @@ event_sent false (on.Submit w) ms = work_sent false (w.priority == 0) w ms
 event_sent _ _ ms = refl
 
 sent_there : (d : TraceAction) (ms : List Envelope) → get (codes "sent") (entry_data (claim_with d ms)) ≡ Some (sent_data ms)
-sent_there (deed.Done event) ms = event_sent false event ms
-sent_there (deed.Faulted event) ms = event_sent true event ms
+sent_there (action.Done event) ms = event_sent false event ms
+sent_there (action.Faulted event) ms = event_sent true event ms
 sent_there _ ms = refl
 
-claim_back : (c : Claim) → ClaimFits c → HasName c.deed → claim_in (entry_data c) ≡ Some c
+claim_back : (c : Claim) → ClaimFits c → HasName c.action → claim_in (entry_data c) ≡ Some c
 claim_back c fits named =
-    ap (λ (o : Option Data). option_and_then (λ (done : TraceAction). option_map (λ (sent : List Envelope). claim_with done sent) (option_and_then messages_in (option_and_then as_array o))) (deed_in (fields_in (entry_data c)))) (sent_there c.deed c.sent)
-    ∙ ap (λ (o : Option TraceAction). option_and_then (λ (done : TraceAction). option_map (λ (sent : List Envelope). claim_with done sent) (messages_in (items_of (map message_data c.sent)))) o) (deed_back c.deed c.sent fits.0 named)
-    ∙ ap (λ (o : Option (List Envelope)). option_map (λ (sent : List Envelope). claim_with c.deed sent) o) (messages_back c.sent fits.1)
+    ap (λ (o : Option Data). option_and_then (λ (done : TraceAction). option_map (λ (sent : List Envelope). claim_with done sent) (option_and_then messages_in (option_and_then as_array o))) (action_in (fields_in (entry_data c)))) (sent_there c.action c.sent)
+    ∙ ap (λ (o : Option TraceAction). option_and_then (λ (done : TraceAction). option_map (λ (sent : List Envelope). claim_with done sent) (messages_in (items_of (map message_data c.sent)))) o) (action_back c.action c.sent fits.0 named)
+    ∙ ap (λ (o : Option (List Envelope)). option_map (λ (sent : List Envelope). claim_with c.action sent) o) (messages_back c.sent fits.1)
 
-entries_back : (node i : ℕ) (h : List Claim) → Each ClaimFits h → Each (λ (c : Claim). HasName c.deed) h → entries_from node i (items_of (map entry_data h)) ≡ Ok h
+entries_back : (node i : ℕ) (h : List Claim) → Each ClaimFits h → Each (λ (c : Claim). HasName c.action) h → entries_from node i (items_of (map entry_data h)) ≡ Ok h
 entries_back node i [] fits named = refl
 entries_back node i (c ∷ h) fits named =
     ap (λ (o : Option Claim). first_entry node i o (entries_from node (i + 1) (items_of (map entry_data h)))) (claim_back c fits.0 named.0)
     ∙ ap (λ (r : Result (List Claim) (Option Location)). first_entry node i (Some c) r) (entries_back node (i + 1) h fits.1 named.1)
 
-pub histories_back : (node : ℕ) (hs : List (List Claim)) → TraceFits hs → Each (λ (h : List Claim). Each (λ (c : Claim). HasName c.deed) h) hs → histories_from node (items_of (map history_data hs)) ≡ Ok hs
+pub histories_back : (node : ℕ) (hs : List (List Claim)) → TraceFits hs → Each (λ (h : List Claim). Each (λ (c : Claim). HasName c.action) h) hs → histories_from node (items_of (map history_data hs)) ≡ Ok hs
 histories_back node [] fits named = refl
 histories_back node (h ∷ hs) fits named =
     ap (λ (r : Result (List Claim) (Option Location)). first_history r (histories_from (node + 1) (items_of (map history_data hs)))) (entries_back node 0 h fits.0 named.0)

@@ -13,19 +13,19 @@ use Rattle.trace_check.specs.declared.trace.TraceAction.{TraceAction}
 use Rattle.trace_check.specs.Claims.{Claim}
 use Rattle.trace_text.specs.Ordered.{Ordered, order_text, ordered_data}
 use Rattle.trace_text.specs.Parts.{ordered_end, trace_end, trace_head}
-use Rattle.trace_text.specs.Tokens.{Adds, deed_tokens, message_tokens, head_tokens, end_tokens, entry_tokens}
-use Rattle.trace_text.specs.Written.{deed_name, entry_data, history_data, trace_data}
+use Rattle.trace_text.specs.Tokens.{Adds, action_tokens, message_tokens, head_tokens, end_tokens, entry_tokens}
+use Rattle.trace_text.specs.Written.{action_name, entry_data, history_data, trace_data}
 use Rattle.trace_text.proofs.Printing.{entry_printed, ok_then}
 
 -- ---- an entry
 
-entry_joined : (d : TraceAction) (ms : List Envelope) → head_tokens d ++ (message_tokens ms ++ end_tokens) ≡ entry_tokens (record { deed = d; sent = ms })
+entry_joined : (d : TraceAction) (ms : List Envelope) → head_tokens d ++ (message_tokens ms ++ end_tokens) ≡ entry_tokens (record { action = d; sent = ms })
 entry_joined d ms =
-    ap (λ (ts : List Token). token.begin_object ∷ token.key (codes "do") ∷ token.string (deed_name d) ∷ ts)
-    (append_assoc (deed_tokens d) (token.key (codes "sent") ∷ token.begin_array ∷ []) (message_tokens ms ++ end_tokens))
+    ap (λ (ts : List Token). token.begin_object ∷ token.key (codes "do") ∷ token.string (action_name d) ∷ ts)
+    (append_assoc (action_tokens d) (token.key (codes "sent") ∷ token.begin_array ∷ []) (message_tokens ms ++ end_tokens))
 
 pub entry_added : (d : TraceAction) (ms : List Envelope) (r : Result (Unit {0}) AllocError) (a b c e : Written) → Adds a b (head_tokens d) → Adds b c (message_tokens ms) → OnOk r (Adds c e end_tokens)
-    → OnOk r (Adds a e (entry_tokens (record { deed = d; sent = ms })))
+    → OnOk r (Adds a e (entry_tokens (record { action = d; sent = ms })))
 entry_added d ms r a b c e begun middle ended =
     subst (λ (ts : List Token). OnOk r (Adds a e ts)) (entry_joined d ms) (ok_then r a b e (head_tokens d) (message_tokens ms ++ end_tokens) begun (ok_then r b c e (message_tokens ms) end_tokens middle ended))
 
@@ -33,12 +33,12 @@ pub no_messages : (a : Written) → Adds a a (message_tokens [])
 no_messages a = record { before = refl; tokens = sym (append-nil a.tokens) }
 
 pub entry_written : (d : TraceAction) (ms : List Envelope) (a b c e : Written) (items : List ℕ) → a.before ≡ [] → a.tokens ≡ [] → Adds a b (head_tokens d) → Adds b c (message_tokens ms) → Adds c e end_tokens
-    → items ≡ e.before ++ print e.tokens → items ≡ compact_text (entry_data (record { deed = d; sent = ms }))
+    → items ≡ e.before ++ print e.tokens → items ≡ compact_text (entry_data (record { action = d; sent = ms }))
 entry_written d ms a b c e items none empty begun middle ended is =
-    let tokens : e.tokens ≡ entry_tokens (record { deed = d; sent = ms }) =
+    let tokens : e.tokens ≡ entry_tokens (record { action = d; sent = ms }) =
     ended.tokens ∙ ap (λ (ts : List Token). ts ++ end_tokens) (middle.tokens ∙ ap (λ (ts : List Token). ts ++ message_tokens ms) (begun.tokens ∙ ap (λ (ts : List Token). ts ++ head_tokens d) empty))
     ∙ append_assoc (head_tokens d) (message_tokens ms) end_tokens ∙ entry_joined d ms in
-    is ∙ ap (λ (xs : List ℕ). xs ++ print e.tokens) (ended.before ∙ middle.before ∙ begun.before ∙ none) ∙ ap print tokens ∙ entry_printed (record { deed = d; sent = ms })
+    is ∙ ap (λ (xs : List ℕ). xs ++ print e.tokens) (ended.before ∙ middle.before ∙ begun.before ∙ none) ∙ ap print tokens ∙ entry_printed (record { action = d; sent = ms })
 
 -- ---- a message that is spelled
 

@@ -17,12 +17,12 @@ use Rattle.trace_text.specs.declared.fault.Location.{Location}
 use Rattle.trace_text.specs.declared.stream.Entries.{Entries}
 use Rattle.trace_text.specs.Drafts.{listed_by, unless_bad}
 use Rattle.trace_text.specs.Fields.{fields_in, fields_put, plain}
-use Rattle.trace_text.specs.Entries.{message_in, messages_in, number_in, deed_in, claim_in, with_first}
+use Rattle.trace_text.specs.Entries.{message_in, messages_in, number_in, action_in, claim_in, with_first}
 use Rattle.trace_text.specs.Streams.{Drafted, Judged, Listed, data_at, drafted_in, drafted_put, judged_in, judged_of, members_at, parted_in, sent_in, shaped}
 use Rattle.trace_text.specs.Pieces.{after_good, entries_then, histories_then, lists_then, listed_then, list_then}
 use Rattle.trace_text.specs.Wholes.{all_lists, count_items, entries_from, first_entry, first_history, histories_from, in_shape, is_shape, shape_in, trace_of}
 use Rattle.trace_text.proofs.Lists.{and_then, one_more}
-use Rattle.trace_text.proofs.Plain.{deed_same}
+use Rattle.trace_text.proofs.Plain.{action_same}
 use Rattle.trace_text.proofs.Texts.{bad_text, good_text}
 use Rattle.trace_text.proofs.Walks.{in_object, mapped_some}
 
@@ -57,17 +57,17 @@ messages_done true ms = ap (λ (xs : List Envelope). Some xs) (append-nil ms)
 -- ---- an entry
 
 abbrev claim_with : Option TraceAction → Option (List Envelope) → Option Claim
-claim_with done sent = option_and_then (λ (d : TraceAction). option_map (λ (messages : List Envelope). record { deed = d; sent = messages }) sent) done
+claim_with done sent = option_and_then (λ (d : TraceAction). option_map (λ (messages : List Envelope). record { action = d; sent = messages }) sent) done
 
 abbrev pub claim_drafted : Drafted → Option Claim
-claim_drafted s = claim_with (deed_in s.0) s.1
+claim_drafted s = claim_with (action_in s.0) s.1
 
 sent_same : (o : Option Data) → option_and_then messages_in (option_and_then as_array o) ≡ option_and_then sent_in o
 sent_same None = refl
 sent_same (Some d) = refl
 
 claim_law : (ms : Members) → claim_in (object ms) ≡ claim_drafted (drafted_in ms)
-claim_law ms = ap₂ claim_with (sym (deed_same (fields_in (object ms)))) (sent_same (get_member (codes "sent") ms))
+claim_law ms = ap₂ claim_with (sym (action_same (fields_in (object ms)))) (sent_same (get_member (codes "sent") ms))
 
 abbrev pub added_in : List Claim → Data → Option (List Claim)
 added_in old d = option_map (λ (c : Claim). old ++ c ∷ []) (claim_in d)
@@ -81,16 +81,16 @@ entry_read ts r new s o old is read says =
     ∙ ap (λ (x : Option Claim). Some (option_map (λ (c : Claim). old ++ c ∷ []) x, new)) (claim_law m.0 ∙ ap claim_drafted m.2 ∙ says)
 
 pub no_sent : (s : Drafted) → s.1 ≡ None → claim_drafted s ≡ None
-no_sent s is = ap (claim_with (deed_in s.0)) is ∙ none (deed_in s.0)
+no_sent s is = ap (claim_with (action_in s.0)) is ∙ none (action_in s.0)
   where
     none : (o : Option TraceAction) → claim_with o None ≡ None
     none None = refl
     none (Some d) = refl
 
-pub no_deed : (s : Drafted) → deed_in s.0 ≡ None → claim_drafted s ≡ None
-no_deed s is = ap (λ (o : Option TraceAction). claim_with o s.1) is
+pub no_action : (s : Drafted) → action_in s.0 ≡ None → claim_drafted s ≡ None
+no_action s is = ap (λ (o : Option TraceAction). claim_with o s.1) is
 
-pub claim_some : (s : Drafted) (done : TraceAction) (sent : List Envelope) → deed_in s.0 ≡ Some done → s.1 ≡ Some sent → claim_drafted s ≡ Some (record { deed = done; sent = sent })
+pub claim_some : (s : Drafted) (done : TraceAction) (sent : List Envelope) → action_in s.0 ≡ Some done → s.1 ≡ Some sent → claim_drafted s ≡ Some (record { action = done; sent = sent })
 claim_some s done sent is all = ap₂ claim_with is all
 
 -- a field more

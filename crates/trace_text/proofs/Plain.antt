@@ -6,9 +6,9 @@ use Rattle.serde_json.specs.Data.{Data, Items, Members, null, boolean, number, u
 use Rattle.serde_json.specs.Find.{as_str, as_bool}
 use Rattle.node_core.specs.declared.event.Event.{Event}
 use Rattle.trace_check.specs.declared.trace.TraceAction.{TraceAction}
-use Rattle.trace_check.specs.declared.trace.TraceAction.TheVariants as deed
+use Rattle.trace_check.specs.declared.trace.TraceAction.TheVariants as action
 use Rattle.trace_text.specs.Fields.{FieldData, plain, plain_fields}
-use Rattle.trace_text.specs.Entries.{message_in, spelled_in, number_in, priority_in, submit_in, finish_in, deliver_in, event_in, device_in, done_in, recovered_in, recover_in, deed_named, deed_in}
+use Rattle.trace_text.specs.Entries.{message_in, spelled_in, number_in, priority_in, submit_in, finish_in, deliver_in, event_in, device_in, done_in, recovered_in, recover_in, action_named, action_in}
 
 -- a reading that finds the same in all that isn't looked at finds in a value what is looked at of it
 looked : {A : Type 0} (f : Data → A) → ((z : ℤ) → f null ≡ f (number (negative z))) → ((x : Float) → f null ≡ f (number (float x))) → ((ds : Items) → f null ≡ f (array ds)) → ((ms : Members) → f null ≡ f (object ms))
@@ -80,18 +80,18 @@ module _ (f : FieldData) where
 
   abbrev named : Option TraceAction → Option Event → Option Bool → List ℕ → Option TraceAction
   named recovery event device name =
-      if bytes_eq name (codes "none") then Some deed.Nothing else
-      if bytes_eq name (codes "crash") then Some deed.Crashed else
+      if bytes_eq name (codes "none") then Some action.Nothing else
+      if bytes_eq name (codes "crash") then Some action.Crashed else
       if bytes_eq name (codes "recover") then recovery else option_and_then (λ (e : Event). option_map (λ (failed : Bool). done_in e failed) device) event
 
-  named_same : (name : List ℕ) → deed_named (plain_fields f) name ≡ deed_named f name
+  named_same : (name : List ℕ) → action_named (plain_fields f) name ≡ action_named f name
   named_same name =
       ap (λ (o : Option TraceAction). named o (event_in (plain_fields f) name) (device_in (option_map plain f.fault)) name) recover_same
       ∙ ap (λ (o : Option Event). named (recover_in f) o (device_in (option_map plain f.fault)) name) (event_same name) ∙ ap (λ (o : Option Bool). named (recover_in f) (event_in f name) o name) (device_same f.fault)
 
-  pub deed_same : deed_in (plain_fields f) ≡ deed_in f
-  deed_same = ap (option_and_then (deed_named (plain_fields f))) (text_same f.name) ∙ each (option_and_then as_str f.name)
+  pub action_same : action_in (plain_fields f) ≡ action_in f
+  action_same = ap (option_and_then (action_named (plain_fields f))) (text_same f.name) ∙ each (option_and_then as_str f.name)
     where
-      each : (o : Option (List ℕ)) → option_and_then (deed_named (plain_fields f)) o ≡ option_and_then (deed_named f) o
+      each : (o : Option (List ℕ)) → option_and_then (action_named (plain_fields f)) o ≡ option_and_then (action_named f) o
       each None = refl
       each (Some name) = named_same name

@@ -21,10 +21,10 @@ use Rattle.wire_msg.specs.Spelling.{spelling}
 use Rattle.node_core.specs.declared.event.Event.{Event}
 use Rattle.node_core.specs.declared.event.Event.TheVariants as on
 use Rattle.trace_check.specs.declared.trace.TraceAction.{TraceAction}
-use Rattle.trace_check.specs.declared.trace.TraceAction.TheVariants as deed
+use Rattle.trace_check.specs.declared.trace.TraceAction.TheVariants as action
 use Rattle.trace_check.specs.Claims.{Claim}
-use Rattle.trace_text.specs.Written.{message_data, event_members, priority_members, deed_name, deed_members, entry_data, history_data, trace_data}
-use Rattle.trace_text.specs.Tokens.{Adds, priority_tokens, event_tokens, deed_tokens, message_tokens, entry_tokens, entries_tokens, history_tokens, histories_tokens, trace_tokens}
+use Rattle.trace_text.specs.Written.{message_data, event_members, priority_members, action_name, action_members, entry_data, history_data, trace_data}
+use Rattle.trace_text.specs.Tokens.{Adds, priority_tokens, event_tokens, action_tokens, message_tokens, entry_tokens, entries_tokens, history_tokens, histories_tokens, trace_tokens}
 
 messages_of : (ms : List Envelope) → items_tokens (items_outline (items_of (map message_data ms))) ≡ message_tokens ms ++ token.end_array ∷ []
 messages_of [] = refl
@@ -47,21 +47,21 @@ event_of (on.Submit work) rest =
 event_of (on.Finish origin id) rest = refl
 event_of on.Recover rest = refl
 
-deed_of : (d : TraceAction) (rest : Members) → members_tokens (members_outline (deed_members d rest)) ≡ deed_tokens d ++ members_tokens (members_outline rest)
-deed_of deed.Nothing rest = refl
-deed_of (deed.Done event) rest = event_of event rest
-deed_of (deed.Faulted event) rest = ap (λ (ts : List Token). token.key (codes "fault") ∷ token.string (codes "device") ∷ ts) (event_of event rest)
-deed_of deed.Crashed rest = refl
-deed_of (deed.Recovered kept) rest = refl
-deed_of (deed.NotRecovered kept fault) rest = refl
+action_of : (d : TraceAction) (rest : Members) → members_tokens (members_outline (action_members d rest)) ≡ action_tokens d ++ members_tokens (members_outline rest)
+action_of action.Nothing rest = refl
+action_of (action.Done event) rest = event_of event rest
+action_of (action.Faulted event) rest = ap (λ (ts : List Token). token.key (codes "fault") ∷ token.string (codes "device") ∷ ts) (event_of event rest)
+action_of action.Crashed rest = refl
+action_of (action.Recovered kept) rest = refl
+action_of (action.NotRecovered kept fault) rest = refl
 
 entry_of : (c : Claim) → json_tokens (outline (entry_data c)) ≡ entry_tokens c
 entry_of c =
     let sent = items_outline (items_of (map message_data c.sent)) in
-    ap (λ (ts : List Token). token.begin_object ∷ token.key (codes "do") ∷ token.string (deed_name c.deed) ∷ ts)
-    (deed_of c.deed (member (codes "sent") (array (items_of (map message_data c.sent))) no_members)
-    ∙ ap (λ (ts : List Token). deed_tokens c.deed ++ token.key (codes "sent") ∷ token.begin_array ∷ (ts ++ token.end_object ∷ [])) (messages_of c.sent)
-    ∙ ap (λ (ts : List Token). deed_tokens c.deed ++ token.key (codes "sent") ∷ token.begin_array ∷ ts) (append_assoc (message_tokens c.sent) (token.end_array ∷ []) (token.end_object ∷ [])))
+    ap (λ (ts : List Token). token.begin_object ∷ token.key (codes "do") ∷ token.string (action_name c.action) ∷ ts)
+    (action_of c.action (member (codes "sent") (array (items_of (map message_data c.sent))) no_members)
+    ∙ ap (λ (ts : List Token). action_tokens c.action ++ token.key (codes "sent") ∷ token.begin_array ∷ (ts ++ token.end_object ∷ [])) (messages_of c.sent)
+    ∙ ap (λ (ts : List Token). action_tokens c.action ++ token.key (codes "sent") ∷ token.begin_array ∷ ts) (append_assoc (message_tokens c.sent) (token.end_array ∷ []) (token.end_object ∷ [])))
 
 pub entry_printed : (c : Claim) → print (entry_tokens c) ≡ compact_text (entry_data c)
 entry_printed c = ap print (sym (entry_of c)) ∙ print-outline (entry_data c)

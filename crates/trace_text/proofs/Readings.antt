@@ -21,13 +21,13 @@ use Rattle.node_core.specs.declared.event.Event.{Event}
 use Rattle.node_core.specs.declared.event.Event.TheVariants as on
 use Rattle.histories.specs.Lists.{Each}
 use Rattle.trace_check.specs.declared.trace.TraceAction.{TraceAction}
-use Rattle.trace_check.specs.declared.trace.TraceAction.TheVariants as deed
+use Rattle.trace_check.specs.declared.trace.TraceAction.TheVariants as action
 use Rattle.trace_check.specs.Claims.{Claim}
 use Rattle.trace_text.specs.Entries.{done_in}
-use Rattle.trace_text.specs.Fits.{EventFits, WorkFits, DeedFits, ClaimFits, TraceFits, IsWritable}
+use Rattle.trace_text.specs.Fits.{EventFits, WorkFits, ActionFits, ClaimFits, TraceFits, IsWritable}
 use Rattle.trace_text.specs.Tokens.{Adds, trace_tokens}
 use Rattle.trace_text.specs.Wholes.{trace_of}
-use Rattle.trace_text.specs.Written.{message_data, event_members, deed_members, entry_data, history_data, trace_data}
+use Rattle.trace_text.specs.Written.{message_data, event_members, action_members, entry_data, history_data, trace_data}
 use Rattle.trace_text.proofs.Backs.{claim_with, sent_data, trace_back, work_members}
 use Rattle.trace_text.proofs.Printing.{trace_tokens_of}
 use Rattle.trace_text.proofs.Texts.{good_text}
@@ -53,15 +53,15 @@ event_read false (on.Submit w) ms fits = work_read false (w.priority == 0) w ms 
 event_read _ (on.Finish origin id) ms fits = let place : origin < 2 ^ 64 = omega (arith, fits.0) in rw (number_of-decimal id fits.1, number_of-decimal origin place, sent_read ms) refl
 event_read _ _ ms fits = rw (sent_read ms) refl
 
-entry_read : (d : TraceAction) (ms : List Envelope) → DeedFits d → of_json (outline (entry_data (claim_with d ms))) ≡ Some (entry_data (claim_with d ms))
-entry_read (deed.Done event) ms fits = event_read false event ms fits
-entry_read (deed.Faulted event) ms fits = event_read true event ms fits
+entry_read : (d : TraceAction) (ms : List Envelope) → ActionFits d → of_json (outline (entry_data (claim_with d ms))) ≡ Some (entry_data (claim_with d ms))
+entry_read (action.Done event) ms fits = event_read false event ms fits
+entry_read (action.Faulted event) ms fits = event_read true event ms fits
 entry_read _ ms fits = rw (sent_read ms) refl
 
 entries_read : (h : List Claim) → Each ClaimFits h → of_items (items_outline (items_of (map entry_data h))) ≡ Some (items_of (map entry_data h))
 entries_read [] fits = refl
 entries_read (c ∷ h) fits =
-    ap (λ (o : Option Data). option_and_then (λ (d : Data). option_map (item d) (of_items (items_outline (items_of (map entry_data h))))) o) (entry_read c.deed c.sent fits.0.0)
+    ap (λ (o : Option Data). option_and_then (λ (d : Data). option_map (item d) (of_items (items_outline (items_of (map entry_data h))))) o) (entry_read c.action c.sent fits.0.0)
     ∙ ap (λ (o : Option Items). option_map (item (entry_data c)) o) (entries_read h fits.1)
 
 pub histories_read : (hs : List (List Claim)) → TraceFits hs → of_items (items_outline (items_of (map history_data hs))) ≡ Some (items_of (map history_data hs))
@@ -90,18 +90,18 @@ event_flat (on.Submit w) rest = let ranked = priority_flat (w.priority == 0) w.p
 event_flat (on.Finish origin id) rest = omega arith
 event_flat on.Recover rest = omega arith
 
-deed_flat : (d : TraceAction) (rest : Members) → tree.members_depth (members_outline (deed_members d rest)) ≤ tree.members_depth (members_outline rest)
-deed_flat deed.Nothing rest = omega arith
-deed_flat (deed.Done event) rest = event_flat event rest
-deed_flat (deed.Faulted event) rest = let flat = event_flat event rest in omega (arith, flat)
-deed_flat deed.Crashed rest = omega arith
-deed_flat (deed.Recovered kept) rest = omega arith
-deed_flat (deed.NotRecovered kept fault) rest = omega arith
+action_flat : (d : TraceAction) (rest : Members) → tree.members_depth (members_outline (action_members d rest)) ≤ tree.members_depth (members_outline rest)
+action_flat action.Nothing rest = omega arith
+action_flat (action.Done event) rest = event_flat event rest
+action_flat (action.Faulted event) rest = let flat = event_flat event rest in omega (arith, flat)
+action_flat action.Crashed rest = omega arith
+action_flat (action.Recovered kept) rest = omega arith
+action_flat (action.NotRecovered kept fault) rest = omega arith
 
 entry_flat : (c : Claim) → tree.depth (outline (entry_data c)) ≤ 2
 entry_flat c =
     let sent = sent_flat c.sent in
-    let done = deed_flat c.deed (member (codes "sent") (sent_data c.sent) no_members) in
+    let done = action_flat c.action (member (codes "sent") (sent_data c.sent) no_members) in
     omega (arith, sent, done)
 
 entries_flat : (h : List Claim) → tree.items_depth (items_outline (items_of (map entry_data h))) ≤ 2

@@ -17,7 +17,7 @@ use Rattle.node_core.specs.declared.event.Event.TheVariants as on
 use Rattle.node_core.specs.declared.timer.Timer.{Timer}
 use Rattle.node_core.specs.TimerWords.{timer_named}
 use Rattle.trace_check.specs.declared.trace.TraceAction.{TraceAction}
-use Rattle.trace_check.specs.declared.trace.TraceAction.TheVariants as deed
+use Rattle.trace_check.specs.declared.trace.TraceAction.TheVariants as action
 use Rattle.trace_check.specs.declared.trace.RecoverFault.TheVariants as recover
 use Rattle.trace_check.specs.Claims.{Claim}
 
@@ -90,34 +90,34 @@ device_in None = Some false
 device_in (Some d) = option_and_then (λ (text : List ℕ). if bytes_eq text (codes "device") then Some true else None) (as_str d)
 
 abbrev pub done_in : Event → Bool → TraceAction
-done_in event true = deed.Faulted event
-done_in event false = deed.Done event
+done_in event true = action.Faulted event
+done_in event false = action.Done event
 
 abbrev pub failed_in : Bool → Option (List ℕ) → Option TraceAction
 failed_in kept None = None
 failed_in kept (Some text) =
-    if bytes_eq text (codes "mount") then Some (deed.NotRecovered kept recover.Mount) else
-    if bytes_eq text (codes "raise") then Some (deed.NotRecovered kept recover.Raise) else None
+    if bytes_eq text (codes "mount") then Some (action.NotRecovered kept recover.Mount) else
+    if bytes_eq text (codes "raise") then Some (action.NotRecovered kept recover.Raise) else None
 
 abbrev pub recovered_in : Bool → Option Data → Option TraceAction
-recovered_in kept None = Some (deed.Recovered kept)
+recovered_in kept None = Some (action.Recovered kept)
 recovered_in kept (Some d) = failed_in kept (as_str d)
 
 abbrev pub recover_in : FieldData → Option TraceAction
 recover_in f = option_and_then (λ (kept : Bool). recovered_in kept f.fault) (option_and_then as_bool f.kept)
 
-abbrev pub deed_named : FieldData → List ℕ → Option TraceAction
-deed_named f name =
-    if bytes_eq name (codes "none") then Some deed.Nothing else
-    if bytes_eq name (codes "crash") then Some deed.Crashed else
+abbrev pub action_named : FieldData → List ℕ → Option TraceAction
+action_named f name =
+    if bytes_eq name (codes "none") then Some action.Nothing else
+    if bytes_eq name (codes "crash") then Some action.Crashed else
     if bytes_eq name (codes "recover") then recover_in f else
     option_and_then (λ (event : Event). option_map (λ (failed : Bool). done_in event failed) (device_in f.fault)) (event_in f name)
 
-abbrev pub deed_in : FieldData → Option TraceAction
-deed_in f = option_and_then (deed_named f) (option_and_then as_str f.name)
+abbrev pub action_in : FieldData → Option TraceAction
+action_in f = option_and_then (action_named f) (option_and_then as_str f.name)
 
 -- the entry; None where a field is missing or wrong
 abbrev pub claim_in : Data → Option Claim
 claim_in d =
-    option_and_then (λ (done : TraceAction). option_map (λ (sent : List Envelope). record { deed = done; sent = sent }) (option_and_then messages_in (option_and_then as_array (get (codes "sent") d))))
-    (deed_in (fields_in d))
+    option_and_then (λ (done : TraceAction). option_map (λ (sent : List Envelope). record { action = done; sent = sent }) (option_and_then messages_in (option_and_then as_array (get (codes "sent") d))))
+    (action_in (fields_in d))

@@ -9,7 +9,7 @@ use Rattle.node_core.specs.declared.event.Event.{Event}
 use Rattle.node_core.specs.declared.event.Event.TheVariants as on
 use Rattle.histories.specs.Lists.{Each}
 use Rattle.trace_check.specs.declared.trace.TraceAction.{TraceAction}
-use Rattle.trace_check.specs.declared.trace.TraceAction.TheVariants as deed
+use Rattle.trace_check.specs.declared.trace.TraceAction.TheVariants as action
 use Rattle.trace_check.specs.Claims.{Claim}
 use Rattle.trace_text.specs.declared.fault.WriteFault.{WriteFault}
 use Rattle.trace_text.specs.declared.fault.WriteFault.TheVariants.{NoMemory, Unwritable}
@@ -29,33 +29,33 @@ EventFits (on.Submit work) = WorkFits work
 EventFits (on.Finish origin id) = (origin < NODES) × (id < 2 ^ 64)
 EventFits on.Recover = ⊤
 
-abbrev pub DeedFits : TraceAction → Type 0
-DeedFits deed.Nothing = ⊤
-DeedFits (deed.Done event) = EventFits event
-DeedFits (deed.Faulted event) = EventFits event
-DeedFits deed.Crashed = ⊤
-DeedFits (deed.Recovered kept) = ⊤
-DeedFits (deed.NotRecovered kept fault) = ⊤
+abbrev pub ActionFits : TraceAction → Type 0
+ActionFits action.Nothing = ⊤
+ActionFits (action.Done event) = EventFits event
+ActionFits (action.Faulted event) = EventFits event
+ActionFits action.Crashed = ⊤
+ActionFits (action.Recovered kept) = ⊤
+ActionFits (action.NotRecovered kept fault) = ⊤
 
 abbrev pub ClaimFits : Claim → Type 0
-ClaimFits c = DeedFits c.deed × Each IsMessage c.sent
+ClaimFits c = ActionFits c.action × Each IsMessage c.sent
 
 abbrev pub TraceFits : List (List Claim) → Type 0
 TraceFits hs = Each (λ (h : List Claim). Each ClaimFits h) hs
 
--- ---- each deed has a name of its own: a recovery is written as Recovered or NotRecovered
+-- ---- each action has a name of its own: a recovery is written as Recovered or NotRecovered
 
 abbrev pub IsNamed : Event → Type 0
 IsNamed on.Recover = ⊥
 IsNamed event = ⊤
 
 abbrev pub HasName : TraceAction → Type 0
-HasName (deed.Done event) = IsNamed event
-HasName (deed.Faulted event) = IsNamed event
+HasName (action.Done event) = IsNamed event
+HasName (action.Faulted event) = IsNamed event
 HasName d = ⊤
 
 abbrev pub AreNamed : List Claim → Type 0
-AreNamed h = Each (λ (c : Claim). HasName c.deed) h
+AreNamed h = Each (λ (c : Claim). HasName c.action) h
 
 -- the trace can be written: it has a node, and each of its entries a name
 pub record IsWritable (hs : List (List Claim)) : Type 0 where

@@ -5,7 +5,7 @@ use Rattle.node_core.specs.declared.event.Event.TheVariants as on
 use Rattle.trace_text.specs.Fields.{FieldData}
 use Rattle.trace_text.specs.Entries.{done_in, device_in}
 use Rattle.trace_check.specs.declared.trace.TraceAction.{TraceAction}
-use Rattle.trace_check.specs.declared.trace.TraceAction.TheVariants as deed
+use Rattle.trace_check.specs.declared.trace.TraceAction.TheVariants as action
 use Rattle.trace_check.specs.declared.trace.RecoverFault.{RecoverFault}
 
 -- what is to be read is there now, or there is nothing to be read
@@ -18,8 +18,8 @@ abbrev pub recovery_said : Bool × Option RecoverFault → TraceAction
 recovery_said r = said r.0 r.1
   where
     said : Bool → Option RecoverFault → TraceAction
-    said kept None = deed.Recovered kept
-    said kept (Some fault) = deed.NotRecovered kept fault
+    said kept None = action.Recovered kept
+    said kept (Some fault) = action.NotRecovered kept fault
 
 abbrev pub finish_said : ℕ × ℕ → Event
 finish_said f = on.Finish f.0 f.1

@@ -10,9 +10,9 @@ use Rattle.wire_msg.specs.Spelling.{spelling}
 use Rattle.node_core.specs.declared.event.Event.{Event}
 use Rattle.node_core.specs.declared.event.Event.TheVariants as on
 use Rattle.trace_check.specs.declared.trace.TraceAction.{TraceAction}
-use Rattle.trace_check.specs.declared.trace.TraceAction.TheVariants as deed
+use Rattle.trace_check.specs.declared.trace.TraceAction.TheVariants as action
 use Rattle.trace_check.specs.Claims.{Claim}
-use Rattle.trace_text.specs.Written.{fault_name, deed_name}
+use Rattle.trace_text.specs.Written.{fault_name, action_name}
 
 -- these tokens are added
 pub record Adds (old new : Written) (ts : List Token) : Type 0 where
@@ -37,13 +37,13 @@ event_tokens (on.Submit work) = work_tokens work
 event_tokens (on.Finish origin id) = token.key (codes "id") ∷ token.number (decimal id) ∷ token.key (codes "origin") ∷ token.number (decimal origin) ∷ []
 event_tokens on.Recover = []
 
-abbrev pub deed_tokens : TraceAction → List Token
-deed_tokens deed.Nothing = []
-deed_tokens (deed.Done event) = event_tokens event
-deed_tokens (deed.Faulted event) = token.key (codes "fault") ∷ token.string (codes "device") ∷ event_tokens event
-deed_tokens deed.Crashed = []
-deed_tokens (deed.Recovered kept) = token.key (codes "kept") ∷ token.boolean kept ∷ []
-deed_tokens (deed.NotRecovered kept fault) = token.key (codes "fault") ∷ token.string (fault_name fault) ∷ token.key (codes "kept") ∷ token.boolean kept ∷ []
+abbrev pub action_tokens : TraceAction → List Token
+action_tokens action.Nothing = []
+action_tokens (action.Done event) = event_tokens event
+action_tokens (action.Faulted event) = token.key (codes "fault") ∷ token.string (codes "device") ∷ event_tokens event
+action_tokens action.Crashed = []
+action_tokens (action.Recovered kept) = token.key (codes "kept") ∷ token.boolean kept ∷ []
+action_tokens (action.NotRecovered kept fault) = token.key (codes "fault") ∷ token.string (fault_name fault) ∷ token.key (codes "kept") ∷ token.boolean kept ∷ []
 
 abbrev pub message_tokens : List Envelope → List Token
 message_tokens [] = []
@@ -51,15 +51,15 @@ message_tokens (m ∷ ms) = token.string (encode_lower (spelling m)) ∷ message
 
 -- an entry up to the messages that it sent, and behind them
 abbrev pub head_tokens : TraceAction → List Token
-head_tokens d = token.begin_object ∷ token.key (codes "do") ∷ token.string (deed_name d) ∷ (deed_tokens d ++ token.key (codes "sent") ∷ token.begin_array ∷ [])
+head_tokens d = token.begin_object ∷ token.key (codes "do") ∷ token.string (action_name d) ∷ (action_tokens d ++ token.key (codes "sent") ∷ token.begin_array ∷ [])
 
 abbrev pub end_tokens : List Token
 end_tokens = token.end_array ∷ token.end_object ∷ []
 
 abbrev pub entry_tokens : Claim → List Token
 entry_tokens c =
-    token.begin_object ∷ token.key (codes "do") ∷ token.string (deed_name c.deed)
-    ∷ (deed_tokens c.deed ++ token.key (codes "sent") ∷ token.begin_array ∷ (message_tokens c.sent ++ token.end_array ∷ token.end_object ∷ []))
+    token.begin_object ∷ token.key (codes "do") ∷ token.string (action_name c.action)
+    ∷ (action_tokens c.action ++ token.key (codes "sent") ∷ token.begin_array ∷ (message_tokens c.sent ++ token.end_array ∷ token.end_object ∷ []))
 
 abbrev pub entries_tokens : List Claim → List Token
 entries_tokens [] = []

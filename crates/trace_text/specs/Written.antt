@@ -10,7 +10,7 @@ use Rattle.node_core.specs.declared.event.Event.{Event}
 use Rattle.node_core.specs.declared.event.Event.TheVariants as on
 use Rattle.node_words.specs.Words.{event_word}
 use Rattle.trace_check.specs.declared.trace.TraceAction.{TraceAction}
-use Rattle.trace_check.specs.declared.trace.TraceAction.TheVariants as deed
+use Rattle.trace_check.specs.declared.trace.TraceAction.TheVariants as action
 use Rattle.trace_check.specs.declared.trace.RecoverFault.{RecoverFault}
 use Rattle.trace_check.specs.declared.trace.RecoverFault.TheVariants as recover
 use Rattle.trace_check.specs.Claims.{Claim}
@@ -34,25 +34,25 @@ abbrev pub fault_name : RecoverFault → List ℕ
 fault_name recover.Mount = codes "mount"
 fault_name recover.Raise = codes "raise"
 
-abbrev pub deed_name : TraceAction → List ℕ
-deed_name deed.Nothing = codes "none"
-deed_name (deed.Done event) = event_word event
-deed_name (deed.Faulted event) = event_word event
-deed_name deed.Crashed = codes "crash"
-deed_name (deed.Recovered kept) = codes "recover"
-deed_name (deed.NotRecovered kept fault) = codes "recover"
+abbrev pub action_name : TraceAction → List ℕ
+action_name action.Nothing = codes "none"
+action_name (action.Done event) = event_word event
+action_name (action.Faulted event) = event_word event
+action_name action.Crashed = codes "crash"
+action_name (action.Recovered kept) = codes "recover"
+action_name (action.NotRecovered kept fault) = codes "recover"
 
--- the members of a deed but for its name, in front of others
-abbrev pub deed_members : TraceAction → Members → Members
-deed_members deed.Nothing rest = rest
-deed_members (deed.Done event) rest = event_members event rest
-deed_members (deed.Faulted event) rest = member (codes "fault") (string (codes "device")) (event_members event rest)
-deed_members deed.Crashed rest = rest
-deed_members (deed.Recovered kept) rest = member (codes "kept") (boolean kept) rest
-deed_members (deed.NotRecovered kept fault) rest = member (codes "fault") (string (fault_name fault)) (member (codes "kept") (boolean kept) rest)
+-- the members of a action but for its name, in front of others
+abbrev pub action_members : TraceAction → Members → Members
+action_members action.Nothing rest = rest
+action_members (action.Done event) rest = event_members event rest
+action_members (action.Faulted event) rest = member (codes "fault") (string (codes "device")) (event_members event rest)
+action_members action.Crashed rest = rest
+action_members (action.Recovered kept) rest = member (codes "kept") (boolean kept) rest
+action_members (action.NotRecovered kept fault) rest = member (codes "fault") (string (fault_name fault)) (member (codes "kept") (boolean kept) rest)
 
 abbrev pub entry_data : Claim → Data
-entry_data c = object (member (codes "do") (string (deed_name c.deed)) (deed_members c.deed (member (codes "sent") (array (items_of (map message_data c.sent))) no_members)))
+entry_data c = object (member (codes "do") (string (action_name c.action)) (action_members c.action (member (codes "sent") (array (items_of (map message_data c.sent))) no_members)))
 
 abbrev pub history_data : List Claim → Data
 history_data h = array (items_of (map entry_data h))

@@ -7,7 +7,7 @@ ghost use Rattle.group_task.specs.declared.node.TheConstants.{NODES};
 ghost use Rattle.job_model.specs.declared.queue.TheConstants.{QUEUES};
 ghost use Rattle.trace_check.specs.LentActions.{FitsEvent, FitsPayload, action_lent, event_lent};
 ghost use Rattle.trace_text.specs.Fields.{data_of, fields_by};
-ghost use Rattle.trace_text.specs.Entries.{below, bytes_in, spelled_in, message_in, number_in, priority_in, deliver_in, submit_in, finish_in, event_in, device_in, recover_in, deed_named, deed_in};
+ghost use Rattle.trace_text.specs.Entries.{below, bytes_in, spelled_in, message_in, number_in, priority_in, deliver_in, submit_in, finish_in, event_in, device_in, recover_in, action_named, action_in};
 ghost use Rattle.trace_text.specs.Places.{IsRead, finish_said, recovery_said, with_device};
 
 use crate::fields::{Field, Fields};
@@ -101,13 +101,13 @@ fn read_spelled(room: &mut Vec<u8>, text: &[u8], message: &mut Message) -> Resul
 }
 
 /// What was done, lent from the room and the message in whose place it is read. None where the fields say none.
-pub(crate) fn read_deed<'a>(
+pub(crate) fn read_action<'a>(
     room: &'a mut Vec<u8>,
     message: &'a mut Message,
     fields: &Fields<'_>,
 ) -> Result<Option<ActionRef<'a>>, AllocError>
-    ensures deed { IfOk result (λ deed. option_map action_lent deed ≡ deed_in (fields_by fields.now)) }
-    ensures fits { IfOk result (λ deed. IfSome deed FitsPayload) }
+    ensures action { IfOk result (λ action. option_map action_lent action ≡ action_in (fields_by fields.now)) }
+    ensures fits { IfOk result (λ action. IfSome action FitsPayload) }
 {
     match text_of(fields.name) {
         Some(name) => read_named(room, message, fields, name),
@@ -123,8 +123,8 @@ fn read_named<'a>(
     fields: &Fields<'_>,
     name: &[u8],
 ) -> Result<Option<ActionRef<'a>>, AllocError>
-    ensures deed { IfOk result (λ deed. option_map action_lent deed ≡ deed_named (fields_by fields.now) name.now) }
-    ensures fits { IfOk result (λ deed. IfSome deed FitsPayload) }
+    ensures action { IfOk result (λ action. option_map action_lent action ≡ action_named (fields_by fields.now) name.now) }
+    ensures fits { IfOk result (λ action. IfSome action FitsPayload) }
 {
     if is_word(name, "deliver") {
         return read_deliver(room, message, fields);
@@ -139,8 +139,8 @@ fn read_other<'a>(
     name: &[u8],
 ) -> Result<Option<ActionRef<'a>>, AllocError>
     requires { bytes_eq name.now (codes "deliver") ≡ false }
-    ensures deed { IfOk result (λ deed. option_map action_lent deed ≡ deed_named (fields_by fields.now) name.now) }
-    ensures fits { IfOk result (λ deed. IfSome deed FitsPayload) }
+    ensures action { IfOk result (λ action. option_map action_lent action ≡ action_named (fields_by fields.now) name.now) }
+    ensures fits { IfOk result (λ action. IfSome action FitsPayload) }
 {
     if is_word(name, "none") {
         return Ok(Some(ActionRef::Nothing));
@@ -165,8 +165,8 @@ fn read_done<'a>(
     name: &[u8],
 ) -> Result<Option<ActionRef<'a>>, AllocError>
     requires { bytes_eq name.now (codes "deliver") ≡ false }
-    ensures deed { IfOk result (λ deed. option_map action_lent deed ≡ with_device (fields_by fields.now) (event_in (fields_by fields.now) name.now)) }
-    ensures fits { IfOk result (λ deed. IfSome deed FitsPayload) }
+    ensures action { IfOk result (λ action. option_map action_lent action ≡ with_device (fields_by fields.now) (event_in (fields_by fields.now) name.now)) }
+    ensures fits { IfOk result (λ action. IfSome action FitsPayload) }
 {
     match read_event(room, fields, name) {
         Ok(Some(event)) => match read_device(fields.fault) {
@@ -242,8 +242,8 @@ fn read_deliver<'a>(
     message: &'a mut Message,
     fields: &Fields<'_>,
 ) -> Result<Option<ActionRef<'a>>, AllocError>
-    ensures deed { IfOk result (λ deed. option_map action_lent deed ≡ with_device (fields_by fields.now) (deliver_in (fields_by fields.now))) }
-    ensures fits { IfOk result (λ deed. IfSome deed FitsPayload) }
+    ensures action { IfOk result (λ action. option_map action_lent action ≡ with_device (fields_by fields.now) (deliver_in (fields_by fields.now))) }
+    ensures fits { IfOk result (λ action. IfSome action FitsPayload) }
 {
     let Some(failed) = read_device(fields.fault) else {
         return Ok(None);

@@ -19,7 +19,7 @@ ghost use Rattle.trace_text.specs.Wholes.{IsFaultOf, trace_of};
 
 use crate::fault::{Location, TraceFault};
 use crate::fields::Fields;
-use crate::reading::{read_deed, read_message};
+use crate::reading::{read_action, read_message};
 use crate::values::{enter_object, open_list, open_object, read_field};
 use group_task::NODES;
 use json::{Invalid, Reader, Scratch, Token};
@@ -530,10 +530,10 @@ fn read_entry<'a>(
     if !draft.has_sent {
         return Ok(false);
     }
-    match read_deed(&mut draft.room, &mut draft.brought, &draft.fields) {
-        Ok(Some(deed)) => {
+    match read_action(&mut draft.room, &mut draft.brought, &draft.fields) {
+        Ok(Some(action)) => {
             let sent = Sent::part(&draft.sent, 0, draft.sent.len());
-            history.push_lent(&deed, &sent)?;
+            history.push_lent(&action, &sent)?;
             Ok(true)
         }
         Ok(None) => Ok(false),

@@ -32,17 +32,17 @@ fn is_named(history: &History) -> bool
         let Some(entry) = history.entry(place) else {
             unreachable!()
         };
-        if !has_name(&entry.deed) {
+        if !has_name(&entry.action) {
             return false;
         }
     }
     true
 }
 
-fn has_name(deed: &TraceAction) -> bool
-    ensures { IsTrue result ↔ HasName deed.now }
+fn has_name(action: &TraceAction) -> bool
+    ensures { IsTrue result ↔ HasName action.now }
 {
-    match deed {
+    match action {
         TraceAction::Done(Event::Recover) | TraceAction::Faulted(Event::Recover) => false,
         _ => true,
     }

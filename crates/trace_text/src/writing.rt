@@ -3,10 +3,10 @@ ghost use Rattle.hex.specs.Hex.{encode_lower};
 ghost use Rattle.json.specs.Token.{begin_array, begin_object, end_array, end_object, key, string, number};
 ghost use Rattle.serde_json.specs.Written.{compact_text};
 ghost use Rattle.trace_check.specs.Traces.{claim_seen};
-ghost use Rattle.trace_text.specs.Tokens.{Adds, deed_tokens, event_tokens, priority_tokens, rank_tokens, work_tokens, message_tokens, head_tokens, end_tokens, entry_tokens, history_tokens, histories_tokens, trace_tokens};
-ghost use Rattle.trace_text.specs.Fits.{WorkFits, EventFits, DeedFits, ClaimFits, TraceFits, IsUnwritable, IsWritable};
+ghost use Rattle.trace_text.specs.Tokens.{Adds, action_tokens, event_tokens, priority_tokens, rank_tokens, work_tokens, message_tokens, head_tokens, end_tokens, entry_tokens, history_tokens, histories_tokens, trace_tokens};
+ghost use Rattle.trace_text.specs.Fits.{WorkFits, EventFits, ActionFits, ClaimFits, TraceFits, IsUnwritable, IsWritable};
 ghost use Rattle.trace_text.specs.Wholes.{trace_of};
-ghost use Rattle.trace_text.specs.Written.{trace_data, deed_name, fault_name};
+ghost use Rattle.trace_text.specs.Written.{trace_data, action_name, fault_name};
 ghost use Rattle.wire_msg.specs.Spelling.{spelling, AreBytes, IsMessage};
 ghost use Rattle.job_model.specs.declared.queue.TheConstants.{QUEUES};
 ghost use Rattle.histories.specs.Lists.{Each};
@@ -127,20 +127,20 @@ fn write_entry(alloc: Global, out: &mut Writer, entry: &EntryView<'_>) -> Result
     ensures text { OnOk result (Adds out.old out.new (entry_tokens (claim_seen entry.now))) }
     ensures fits { OnOk result (ClaimFits (claim_seen entry.now)) }
 {
-    begin_entry(alloc, out, &entry.deed)?;
+    begin_entry(alloc, out, &entry.action)?;
     write_messages(alloc, out, &entry.sent)?;
     end_entry(out)
 }
 
 /// Begins an entry: the messages that it sent follow.
-pub fn begin_entry(alloc: Global, out: &mut Writer, deed: &TraceAction) -> Result<(), AllocError>
-    ensures text { OnOk result (Adds out.old out.new (head_tokens deed.now)) }
-    ensures fits { OnOk result (DeedFits deed.now) }
+pub fn begin_entry(alloc: Global, out: &mut Writer, action: &TraceAction) -> Result<(), AllocError>
+    ensures text { OnOk result (Adds out.old out.new (head_tokens action.now)) }
+    ensures fits { OnOk result (ActionFits action.now) }
 {
     out.begin_object()?;
     out.key("do")?;
-    out.string(deed_name(deed))?;
-    write_deed(alloc, out, deed)?;
+    out.string(action_name(action))?;
+    write_action(alloc, out, action)?;
     begin_list(out, "sent")
 }
 
@@ -164,11 +164,11 @@ pub fn end_entry(out: &mut Writer) -> Result<(), AllocError>
     out.end_object()
 }
 
-/// The name of a deed, as an entry has it.
-pub fn deed_name(deed: &TraceAction) -> &'static str
-    ensures { result.now ≡ deed_name deed.now }
+/// The name of a action, as an entry has it.
+pub fn action_name(action: &TraceAction) -> &'static str
+    ensures { result.now ≡ action_name action.now }
 {
-    match deed {
+    match action {
         TraceAction::Nothing => "none",
         TraceAction::Done(event) => event_word(event),
         TraceAction::Faulted(event) => event_word(event),
@@ -179,12 +179,12 @@ pub fn deed_name(deed: &TraceAction) -> &'static str
 }
 
 #[tactic(auto, using(crate::proofs::Printing::ok_then))]
-/// Writes the fields that a deed names, but for its own name.
-fn write_deed(alloc: Global, out: &mut Writer, deed: &TraceAction) -> Result<(), AllocError>
-    ensures text { OnOk result (Adds out.old out.new (deed_tokens deed.now)) }
-    ensures fits { OnOk result (DeedFits deed.now) }
+/// Writes the fields that a action names, but for its own name.
+fn write_action(alloc: Global, out: &mut Writer, action: &TraceAction) -> Result<(), AllocError>
+    ensures text { OnOk result (Adds out.old out.new (action_tokens action.now)) }
+    ensures fits { OnOk result (ActionFits action.now) }
 {
-    match deed {
+    match action {
         TraceAction::Nothing | TraceAction::Crashed => Ok(()),
         TraceAction::Done(event) => write_event(alloc, out, event),
         TraceAction::Faulted(event) => {
@@ -216,7 +216,7 @@ fn fault_name(fault: RecoverFault) -> &'static str
 }
 
 fn write_kept(out: &mut Writer, kept: bool) -> Result<(), AllocError>
-    ensures { OnOk result (Adds out.old out.new (deed_tokens (TraceAction.Recovered kept))) }
+    ensures { OnOk result (Adds out.old out.new (action_tokens (TraceAction.Recovered kept))) }
 {
     out.key("kept")?;
     out.boolean(kept)

@@ -21,5 +21,5 @@ returns-clause-left c = rw (← c.as_slice.ensures) c.crash.ensures.disk
 pub returns-clause-areas : goal.returns-clause-areas
 returns-clause-areas c =
     let was = some_of c.args.node.now.disk c.crash.ensures.there in
-    area_stays c.args.node.now.disk c.crash.new.self.disk c.nothing_sent.result (λ worn. let bad = sym c.nothing_sent.ensures ∙ worn in cc)
+    area_stays c.args.node.now.disk c.crash.new.self.disk c.nothing_sent.result (λ area_exhausted. let bad = sym c.nothing_sent.ensures ∙ area_exhausted in cc)
     (λ bound within now at. c.crash.ensures.number was.0 now bound was.1 at (within was.0 was.1))

@@ -1,5 +1,5 @@
 use Rattle.std.proofs.Common.{◌≡◌}
-use Rattle.pace.specs.Timers.{measured}
+use Rattle.node_timers.specs.Timers.{measured}
 use Rattle.command_line.specs.Served.{BreaksOff, ServesTo}
 use Rattle.command_line.proofs.Endings.{node_ends, untouched_so}
 use Rattle.command_line.proofs.obeying.node.Goals as goal

@@ -1,6 +1,6 @@
 use Rattle.std.proofs.Common.{◌≡◌, ◌≤◌, ◌+◌, ◌-◌, ◌∙◌, ap, sym, inl, inr, refl, take, drop, None, arith, rules, get_or}
 use Rattle.job_model.specs.declared.queue.TheConstants.{QUEUES}
-use Rattle.disk_sector.specs.Blank.{is_blank}
+use Rattle.disk_layout.specs.Blank.{is_blank}
 use Rattle.job_model.proofs.RecordBytes.{job_at-read, job_at-none}
 use Rattle.job_model.proofs.record.job_at.Goals as goal
 use Rattle.job_model.proofs.record.job_at.Goals.{then-len-gt-PAYLOAD_CAPACITY-via-then-len-gt-PAYLOAD_CAPACITY, then-len-gt-PAYLOAD_CAPACITY-via-else-len-gt-PAYLOAD_CAPACITY+then-not-is_blank}

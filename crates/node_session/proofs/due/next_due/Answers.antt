@@ -2,9 +2,9 @@ use Rattle.std.proofs.Common.{◌≡◌, ◌-◌, ◌^◌, ℕ, Bool, Option, So
 use Rattle.std.specs.Prelude.{if◌then◌else◌}
 use Rattle.std.specs.Option.{unwrap_or}
 use Rattle.node_core.specs.declared.event.Event.{Event}
-use Rattle.pace.specs.declared.deadline.Deadline.{Deadline}
-use Rattle.pace.specs.Policy.{passed, IsDue, MayFire, Runs}
-use Rattle.pace.specs.Retransmission.{has_come}
+use Rattle.node_timers.specs.declared.deadline.Deadline.{Deadline}
+use Rattle.node_timers.specs.Policy.{passed, IsDue, MayFire, Runs}
+use Rattle.node_timers.specs.Retransmission.{has_come}
 use Rattle.node_session.proofs.Next.{at_first, before}
 use Rattle.node_session.proofs.due.next_due.Goals as goal
 

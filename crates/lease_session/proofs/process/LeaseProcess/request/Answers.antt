@@ -1,12 +1,12 @@
 use Rattle.std.proofs.Common.{refl}
-use Rattle.lease_session.proofs.Turns.{no_deed}
+use Rattle.lease_session.proofs.Turns.{no_action}
 use Rattle.lease_session.proofs.Calls.{all_still, claim_there, named_machine, requested}
 use Rattle.lease_session.proofs.Leases.{kept_asking, leases_other, leases_still}
 use Rattle.lease_session.proofs.Bounds.{bound_kept, bound_quiet, bound_then}
 use Rattle.lease_session.proofs.process.LeaseProcess.request.Goals as goal
 
 pub returns-in_err-request-clause-none : goal.returns-in_err-request-clause-none
-returns-in_err-request-clause-none c = λ none. no_deed (record { terms = refl; start = refl; seal = refl; text = refl; halt = refl; told = refl }) c.in-Some.is refl (all_still (c.in_err-request.ensures.none refl) c.ask.ensures.goes_on) (leases_still c.in-Some.machine c.ask.new.self (c.in_err-request.ensures.none refl))
+returns-in_err-request-clause-none c = λ none. no_action (record { terms = refl; start = refl; seal = refl; text = refl; halt = refl; told = refl }) c.in-Some.is refl (all_still (c.in_err-request.ensures.none refl) c.ask.ensures.goes_on) (leases_still c.in-Some.machine c.ask.new.self (c.in_err-request.ensures.none refl))
 
 pub send_to_others-requires-clause-client : goal.send_to_others-requires-clause-client
 send_to_others-requires-clause-client c = named_machine c.args.self.now c.in-Some.machine c.args.name.now c.in-Some.is c.in_ok-asks.ensures.some c.in_ok-client.client c.in_ok-client.ensures

@@ -1,4 +1,0 @@
--- What proofs of other crates may cite of this one.
-
--- Bytes that are all zeros.
-pub use Rattle.disk_sector.proofs.Blanks.{blank}

@@ -1,6 +1,0 @@
-use Rattle.std.proofs.Common.{◌≡◌, take}
-use Rattle.disk_sector.specs.Blank.{is_blank}
-use Rattle.disk_sector.proofs.block.is_zero_block.Given as goal
-
-abbrev pub invariant-loop-at : goal.invariant-loop-at
-invariant-loop-at l = l.zeros ≡ is_blank (take l.at l.block)

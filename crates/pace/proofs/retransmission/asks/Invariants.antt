@@ -1,6 +1,0 @@
-use Rattle.std.proofs.Common.{◌≡◌, drop}
-use Rattle.pace.specs.Retransmission.{asks}
-use Rattle.pace.proofs.retransmission.asks.Given as goal
-
-abbrev pub invariant-loop-repeat : goal.invariant-loop-repeat
-invariant-loop-repeat l = asks (drop l.repeat-index l.repeats) ≡ asks l.fn.repeats

@@ -1,6 +1,0 @@
-use Rattle.std.proofs.Common.{◌≡◌, ◌++◌, drop, map}
-use Rattle.pace.specs.Retransmission.{message_of}
-use Rattle.pace.proofs.retransmission.push_messages.Given as goal
-
-abbrev pub invariant-loop-repeat : goal.invariant-loop-repeat
-invariant-loop-repeat l = l.messages.items ++ map message_of (drop l.repeat-index l.repeats) ≡ l.fn.messages.items ++ map message_of l.repeats

@@ -1,6 +1,0 @@
-use Rattle.std.proofs.Common.{◌≡◌, ◌++◌, drop, map}
-use Rattle.pace.specs.Retransmission.{nearer}
-use Rattle.pace.proofs.retransmission.push_nearer.Given as goal
-
-abbrev pub invariant-loop-repeat : goal.invariant-loop-repeat
-invariant-loop-repeat l = l.into.items ++ map nearer (drop l.repeat-index l.repeats) ≡ l.fn.into.items ++ map nearer l.repeats
