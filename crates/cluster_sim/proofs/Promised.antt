@@ -15,12 +15,14 @@ promised c w reports = left_keeps (length c.world.nodes) c.world.slots w c.repor
 
 -- ---- one act after another
 
-pub one_done : (old new : ClusterView) (nodes : ℕ) (acts : List Act) (a : Act) (o : Outcome) (h : HasRun nodes acts old) → GoesOn h.last a o old new → HasRun nodes (acts ++ a ∷ []) new
+pub one_done : (old new : ClusterView) (nodes : ℕ) (acts : List Act) (a : Act) (o : Outcome) (h : HasRun nodes acts old)
+    → GoesOn h.last a o old new → HasRun nodes (acts ++ a ∷ []) new
 one_done old new nodes acts a o h on = record {
   last = _;
   reports = on.reports;
   as_many = on.reports.stands.count ∙ step_length (length h.last.states) h.last on.step ∙ sym h.reports.stands.count ∙ h.as_many;
-  of_acts = ap acts_in on.grows ∙ map-append (λ (m : Moment). m.act) old.report.moments (moment_of (length h.last.states) h.last a on.step ∷ []) ∙ (λ i. h.of_acts i ++ a ∷ []);
+  of_acts = ap acts_in on.grows ∙ map-append (λ (m : Moment). m.act) old.report.moments
+      (moment_of (length h.last.states) h.last a on.step ∷ []) ∙ (λ i. h.of_acts i ++ a ∷ []);
 }
 
 pub ok_here : {A E : Type 0} (P : A → Type 0) (r : Result A E) → is_err r ≡ false → IfOk r P → (a : A) × P a

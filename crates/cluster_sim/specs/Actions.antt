@@ -36,11 +36,13 @@ action_by None b o = action.Nothing
 
 -- the act had one of its steps, and did to the disk of its node what it does
 abbrev pub IsStepped : WorldView → World → Act → WorldView → Type 0
-IsStepped old w a new = (told : Told) × Performed w a told new × Operates a old new told.outcome × FaultsAt (armed_by a) (node_named (length old.nodes) old.net.sent a) old new told.outcome
+IsStepped old w a new = (told : Told) × Performed w a told new × Operates a old new told.outcome
+    × FaultsAt (armed_by a) (node_named (length old.nodes) old.net.sent a) old new told.outcome
 
 -- and so did one that brought this to its node, of which that was done, as the node told
 abbrev pub ActedAs : WorldView → World → Act → Brought → TraceAction → WorldView → Type 0
-ActedAs old w a b d new = (told : Told) × Performed w a told new × (d ≡ action_by told.event_outcome b told.outcome) × Operates a old new told.outcome × FaultsAt (armed_by a) (node_named (length old.nodes) old.net.sent a) old new told.outcome
+ActedAs old w a b d new = (told : Told) × Performed w a told new × (d ≡ action_by told.event_outcome b told.outcome)
+    × Operates a old new told.outcome × FaultsAt (armed_by a) (node_named (length old.nodes) old.net.sent a) old new told.outcome
 
 -- the entry is added to the history of its node
 abbrev pub IsNoted : ℕ → Claim → List (List Claim) → List (List Claim) → Type 0

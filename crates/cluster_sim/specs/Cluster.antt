@@ -1,5 +1,6 @@
 -- A cluster with its report, as code keeps it.
-use Rattle.std.specs.Prelude.{ℕ, ◌≡◌, ◌+◌, ◌<◌, Bool, true, false, List, [], ◌∷◌, ◌++◌, map, length, slice_get, Option, Some, None, vec_len, vec_capacity}
+use Rattle.std.specs.Prelude.{ℕ, ◌≡◌, ◌+◌, ◌<◌, Bool, true, false, List, [], ◌∷◌, ◌++◌, map, length, slice_get, Option, Some, None, vec_len}
+use Rattle.std.specs.Prelude.{vec_capacity}
 use Rattle.group_task.specs.Group.{Group}
 use Rattle.job_model.specs.declared.node_command.NodeCommand.{NodeCommand as Command}
 use Rattle.job_model.specs.declared.node_command.NodeCommand.TheVariants.{Raise}
@@ -110,7 +111,8 @@ with_act m tried mounted r = record {
 -- with this act of node n, which is as it is now and had tried so many commands before, where these are all messages
 abbrev pub with_action : List Envelope → ℕ → ℕ → Act → ActReport → Node Memory → Report → Report
 with_action sent n before a action node r =
-    with_act (record { act = a; node = n; outcome = action.outcome; sent = sent_under sent action.outcome; state = node.state }) (tried_at n (tried_by a action)) (mounting_at n before (mounted_now action.mounted node.mounted)) r
+    with_act (record { act = a; node = n; outcome = action.outcome; sent = sent_under sent action.outcome; state = node.state })
+    (tried_at n (tried_by a action)) (mounting_at n before (mounted_now action.mounted node.mounted)) r
 
 -- a report with one more node that opened
 abbrev pub with_opening : ℕ → State → Report → Report

@@ -22,7 +22,8 @@ use Rattle.cluster_sim.specs.World.{WorldView, disk_of}
 
 -- a crash with these bytes leaves this of a disk
 abbrev pub IsLeftWith : List ℕ → Option Memory → Option Memory → Type 0
-IsLeftWith fill old new = (was now : Memory) → old ≡ Some was → new ≡ Some now → IsCrashed was fill now.contents × (now ≡ all_synced now.contents was.failures)
+IsLeftWith fill old new = (was now : Memory) → old ≡ Some was → new ≡ Some now
+    → IsCrashed was fill now.contents × (now ≡ all_synced now.contents was.failures)
 
 -- an act is refused by its node for this reason, or isn't refused
 abbrev pub IsRefusedAs : Option Refusal → Outcome → Type 0

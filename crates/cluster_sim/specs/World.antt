@@ -1,5 +1,6 @@
 -- What contracts see of the world of a cluster, and what it stands for.
-use Rattle.std.specs.Prelude.{ℕ, ◌≡◌, ◌≢◌, ◌+◌, ◌*◌, ◌≤◌, ◌⊎◌, ◌<◌, ◌^◌, Bool, true, false, if◌then◌else◌, List, length, slice_get, Option, Some, None, option_map, option_and_then}
+use Rattle.std.specs.Prelude.{ℕ, ◌≡◌, ◌≢◌, ◌+◌, ◌*◌, ◌≤◌, ◌⊎◌, ◌<◌, ◌^◌, Bool, true, false, if◌then◌else◌, List, length, slice_get, Option}
+use Rattle.std.specs.Prelude.{Some, None, option_map, option_and_then}
 use Rattle.group_task.specs.declared.node.TheConstants.{NODES}
 use Rattle.group_task.specs.Ids.{with_id, without_id}
 use Rattle.sector_disk.specs.Disk.{Counts}
@@ -11,7 +12,8 @@ use Rattle.durable_node.specs.Forgetting.{forgotten_disk}
 use Rattle.durable_node.specs.Node.{Node, Stands}
 use Rattle.histories.specs.NodeState.{NodeState, opening}
 use Rattle.histories.specs.declared.history_event.HistoryEvent.{HistoryEvent}
-use Rattle.histories.specs.declared.history_event.HistoryEvent.TheVariants.{Did, Refused, Faulted, NoOp, Crashed, Recovered, MountFailed, RaiseFailed, RaiseRefused}
+use Rattle.histories.specs.declared.history_event.HistoryEvent.TheVariants.{Did, Refused, Faulted, NoOp, Crashed, Recovered, MountFailed}
+use Rattle.histories.specs.declared.history_event.HistoryEvent.TheVariants.{RaiseFailed, RaiseRefused}
 use Rattle.histories.specs.After.{after, sent_at, mounted_at}
 use Rattle.histories.specs.Possible.{IsPossible, IsOfSlots}
 use Rattle.schedule.specs.declared.act.Act.{Act}
@@ -122,7 +124,8 @@ pub record ActionOf (id nodes : ℕ) (s : NodeState) (what : HistoryEvent) (acti
   pub mounted : action.mounted ≡ is_mounting what
 
 -- one such thing came of a call at a node that was in this state, and so it is reported of this act, sent and kept
-pub record Comes (slots id nodes : ℕ) (a : Act) (P : HistoryEvent → Type 0) (s : NodeState) (action : ActReport) (new : Node Memory) (net net' : Network) : Type 0 where
+pub record Comes (slots id nodes : ℕ) (a : Act) (P : HistoryEvent → Type 0) (s : NodeState) (action : ActReport) (new : Node Memory)
+    (net net' : Network) : Type 0 where
   pub what : HistoryEvent
   pub is : P what
   pub possible : IsPossible id nodes s what
@@ -199,7 +202,8 @@ AreasRise old new o = (bound : ℕ) → AreasWithin bound old.nodes →
 
 -- the node of a step shows what it mounted in it, if it mounted anything
 abbrev pub Shows : World → Step → WorldView → Type 0
-Shows w (Takes n number what) view = (node : Node Memory) (s : NodeState) → slice_get view.nodes n ≡ Some node → slice_get w.states n ≡ Some s → node.mounted ≡ mounted_at s what
+Shows w (Takes n number what) view = (node : Node Memory) (s : NodeState) → slice_get view.nodes n ≡ Some node
+    → slice_get w.states n ≡ Some s → node.mounted ≡ mounted_at s what
 Shows w step view = Unit {0}
 
 -- the act had one of its steps

@@ -12,10 +12,10 @@
 #![tactic(auto)]
 
 mod act_report;
+mod actions;
 mod acts;
 mod bringing;
 mod cluster;
-mod actions;
 mod member;
 mod naming;
 mod nodes;

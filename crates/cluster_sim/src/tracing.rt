@@ -11,8 +11,8 @@ ghost use Rattle.cluster_sim.specs.Bringing.{brought_by};
 ghost use Rattle.cluster_sim.specs.Actions.{ActedAs, IsNoted, IsStepped};
 ghost use Rattle.cluster_sim.specs.Traced.{HasWorld, IsNext, IsOrder, IsRecordOf, IsSoFar, IsTraceOf};
 
-use crate::bringing::{Brought, brought_by, message_of};
 use crate::actions::action_by;
+use crate::bringing::{Brought, brought_by, message_of};
 use crate::world::World;
 use group_task::NodeId;
 use message_list::MessageList;

@@ -19,7 +19,8 @@ use Rattle.command_line.specs.declared.keys.Keys.{Keys}
 use Rattle.command_line.specs.declared.status.Status.{Status}
 use Rattle.command_line.specs.declared.status.Status.TheVariants as status
 
-pub stops_so : (Untouched : Type 0) (To : LeaseEnd → Type 0) (ended : Status) → IsStopped ended → To end.Device → LeaseServesSo Untouched To ended
+pub stops_so : (Untouched : Type 0) (To : LeaseEnd → Type 0) (ended : Status) → IsStopped ended → To end.Device
+    → LeaseServesSo Untouched To ended
 stops_so Untouched To status.Done is to = absurd is
 stops_so Untouched To (status.Failed error) is to = absurd is
 stops_so Untouched To (status.File fault) is to = inr to
@@ -29,7 +30,8 @@ stops_so Untouched To status.Key is to = absurd is
 stops_so Untouched To (status.Spent fault) is to = absurd is
 stops_so Untouched To (status.Lost error) is to = inr to
 
-pub unbegun_so : (Untouched : Type 0) (To : LeaseEnd → Type 0) (ended : Status) → IsNotBegun ended → Untouched → LeaseServesSo Untouched To ended
+pub unbegun_so : (Untouched : Type 0) (To : LeaseEnd → Type 0) (ended : Status) → IsNotBegun ended → Untouched
+    → LeaseServesSo Untouched To ended
 unbegun_so Untouched To status.Done is nothing = absurd is
 unbegun_so Untouched To (status.Failed error) is nothing = tt
 unbegun_so Untouched To (status.File fault) is nothing = inl nothing
@@ -70,16 +72,22 @@ untouched_so A B To status.Key less so = less so
 untouched_so A B To (status.Spent fault) less so = less so
 untouched_so A B To (status.Lost error) less so = ⊎_elim (λ a. inl (less a)) (λ b. inr b) so
 
-pub leases_end : {E : Type 0} (place : NodePlace) (round_trip : ℕ) (sealing : Option Sealing) (input rest before behind : Option (List ℕ)) (ended : Status) (keys : Option Keys) (terms : LeaseTerms) (result : Result ℕ E)
-    → AreKeysOf sealing [] keys → AreTermsOf place round_trip sealing terms → LeaseServesSo ((rest ≡ input) × (behind ≡ before)) (LeaseServesTo keys terms input rest before behind) ended
+pub leases_end : {E : Type 0} (place : NodePlace) (round_trip : ℕ) (sealing : Option Sealing) (input rest before behind : Option (List ℕ))
+    (ended : Status) (keys : Option Keys) (terms : LeaseTerms) (result : Result ℕ E)
+    → AreKeysOf sealing [] keys → AreTermsOf place round_trip sealing terms
+    → LeaseServesSo ((rest ≡ input) × (behind ≡ before)) (LeaseServesTo keys terms input rest before behind) ended
     → IfOk result (λ (code : ℕ). code ≡ code_of ended) → IfOk result (LeasesFor place round_trip sealing input rest before behind)
-leases_end place round_trip sealing input rest before behind ended keys terms (Ok code) are of serves is = inr (ended, keys, terms, is, are, of, serves)
+leases_end place round_trip sealing input rest before behind ended keys terms (Ok code) are of serves is =
+    inr (ended, keys, terms, is, are, of, serves)
 leases_end place round_trip sealing input rest before behind ended keys terms (Err e) are of serves is = tt
 
 -- a process that took a block more than a file kept was served so
-pub serves_to : {Disk : Type 0} (keys : Option Keys) (terms : LeaseTerms) (input rest before behind : Option (List ℕ)) (seal : Option LeaseSeal) (was now stored : FileState Disk) (begun : Begun) (keeps : ℕ) (how : LeaseEnd)
-    → IsLeaseSealUnder keys terms.machines seal → begun ≡ begun_by (kept_of was) → kept_of now ≡ kept ((kept_of was).count + 1) keeps → stored ≡ now
-    → IsServed terms (start_by begun) seal (bound_of (kept_of stored).count) input rest before behind how → LeaseServesTo keys terms input rest before behind how
+pub serves_to : {Disk : Type 0} (keys : Option Keys) (terms : LeaseTerms) (input rest before behind : Option (List ℕ))
+    (seal : Option LeaseSeal) (was now stored : FileState Disk) (begun : Begun) (keeps : ℕ) (how : LeaseEnd)
+    → IsLeaseSealUnder keys terms.machines seal → begun ≡ begun_by (kept_of was) → kept_of now ≡ kept ((kept_of was).count + 1) keeps
+    → stored ≡ now
+    → IsServed terms (start_by begun) seal (bound_of (kept_of stored).count) input rest before behind how
+    → LeaseServesTo keys terms input rest before behind how
 serves_to {Disk = Disk} keys terms input rest before behind seal was now stored begun keeps how under is keeps_so same served = (
   seal,
   kept_of was,

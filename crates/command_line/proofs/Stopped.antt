@@ -6,7 +6,8 @@ use Rattle.command_line.specs.Served.{IsStopped, IsUnserved, ServesSo}
 use Rattle.command_line.specs.declared.status.Status.{Status}
 use Rattle.command_line.specs.declared.status.Status.TheVariants as status
 
-pub stops_so : (Untouched Broken : Type 0) (To : ServingEnd → Type 0) (ended : Status) → IsStopped ended → To end.Device → ServesSo Untouched Broken To ended
+pub stops_so : (Untouched Broken : Type 0) (To : ServingEnd → Type 0) (ended : Status) → IsStopped ended → To end.Device
+    → ServesSo Untouched Broken To ended
 stops_so Untouched Broken To status.Done is to = absurd is
 stops_so Untouched Broken To (status.Failed error) is to = absurd is
 stops_so Untouched Broken To (status.File fault) is to = inr to
@@ -16,7 +17,8 @@ stops_so Untouched Broken To status.Key is to = absurd is
 stops_so Untouched Broken To (status.Spent fault) is to = absurd is
 stops_so Untouched Broken To (status.Lost error) is to = inr (inl to)
 
-pub unserved_so : (Untouched Broken : Type 0) (To : ServingEnd → Type 0) (ended : Status) → IsUnserved ended → Untouched → ServesSo Untouched Broken To ended
+pub unserved_so : (Untouched Broken : Type 0) (To : ServingEnd → Type 0) (ended : Status) → IsUnserved ended → Untouched
+    → ServesSo Untouched Broken To ended
 unserved_so Untouched Broken To status.Done is nothing = absurd is
 unserved_so Untouched Broken To (status.Failed error) is nothing = inl nothing
 unserved_so Untouched Broken To (status.File fault) is nothing = inl nothing

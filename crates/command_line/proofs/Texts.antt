@@ -24,9 +24,11 @@ too_many first second (c ∷ rest) some = by_feed (is_line_feed c) refl
         ap (λ (lines : List (List ℕ)). secrets_of (first ∷ second ∷ lines)) (slice_split-cons_yes is_line_feed c rest is)
         ∙ behind_feed first second (lines_of rest) (let counts = length-slice_split is_line_feed rest in omega (arith, counts))
     by_feed false is =
-        ap (λ (lines : List (List ℕ)). secrets_of (first ∷ second ∷ lines)) (slice_split-cons_no is_line_feed c rest is) ∙ behind_byte first second c (lines_of rest)
+        ap (λ (lines : List (List ℕ)). secrets_of (first ∷ second ∷ lines)) (slice_split-cons_no is_line_feed c rest is)
+        ∙ behind_byte first second c (lines_of rest)
 
 -- what is mapped twice is mapped once
-pub mapped_twice : {A : Type 0} (o : Option A) (f : A → List ℕ) (g : List ℕ → List ℕ) → option_map (λ x. g (f x)) o ≡ option_map g (option_map f o)
+pub mapped_twice : {A : Type 0} (o : Option A) (f : A → List ℕ) (g : List ℕ → List ℕ)
+    → option_map (λ x. g (f x)) o ≡ option_map g (option_map f o)
 mapped_twice None f g = refl
 mapped_twice (Some x) f g = refl

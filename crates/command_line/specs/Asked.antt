@@ -1,5 +1,6 @@
 -- What the words of a command line ask for.
-use Rattle.std.specs.Prelude.{ℕ, List, [], length, map, ◌==◌, nat_le, nat_lt, Bool, true, false, bytes_eq, codes, if◌then◌else◌, option_map, Option, Some, None, string_bytes}
+use Rattle.std.specs.Prelude.{ℕ, List, [], length, map, ◌==◌, nat_le, nat_lt, Bool, true, false, bytes_eq, codes, if◌then◌else◌, option_map}
+use Rattle.std.specs.Prelude.{Option, Some, None, string_bytes}
 use Rattle.clap.specs.Words.{matched_of, raw_values}
 use Rattle.clap.specs.declared.parser.matches.Found.{Found}
 use Rattle.file_disk.specs.declared.stride.Stride.{Stride}
@@ -100,11 +101,13 @@ looks show.Jobs path = exports false path
 
 abbrev pub asked : Invocation → Asked
 asked (invocation.Batch batch) = asked_batch batch
-asked (invocation.Format path making jobs cluster) = makes (string_bytes path) (made making) (option_map string_bytes jobs) (option_map string_bytes cluster)
+asked (invocation.Format path making jobs cluster) = makes (string_bytes path) (made making) (option_map string_bytes jobs)
+    (option_map string_bytes cluster)
 asked (invocation.Node path place round_trip sealing cluster life) =
     serves (string_bytes path) (placed place) round_trip (option_map sealed sealing) (option_map string_bytes cluster) life.items
 asked (invocation.FormatLeases path machine first) = makes_leases (string_bytes path) machine first
-asked (invocation.Lease path place round_trip sealing) = serves_leases (string_bytes path) (placed place) round_trip (option_map sealed sealing)
+asked (invocation.Lease path place round_trip sealing) =
+    serves_leases (string_bytes path) (placed place) round_trip (option_map sealed sealing)
 asked (invocation.Look path shown) = looks shown (string_bytes path)
 asked (invocation.Salvage path) = exports true (string_bytes path)
 asked (invocation.Trace stage files) = traces (is_ongoing stage) (map string_bytes files.items)
@@ -164,10 +167,12 @@ making_by (Some place) None first stride = None
 making_by (Some place) (Some slots) None stride = None
 making_by (Some place) (Some slots) (Some first) None = None
 making_by (Some place) (Some slots) (Some first) (Some stride) =
-    if nat_lt slots LEAST_SLOTS then None else if nat_lt MOST_SLOTS slots then None else Some (record { place = place; slots = slots; first = first; stride = stride })
+    if nat_lt slots LEAST_SLOTS then None else if nat_lt MOST_SLOTS slots then None
+    else Some (record { place = place; slots = slots; first = first; stride = stride })
 
 abbrev pub making_of : Arguments → Option Made
-making_of arguments = making_by (place_of arguments) (number_in (arguments (codes "SLOTS"))) (first_of (arguments (codes "FIRST"))) (stride_of (arguments (codes "stride")))
+making_of arguments = making_by (place_of arguments) (number_in (arguments (codes "SLOTS"))) (first_of (arguments (codes "FIRST")))
+    (stride_of (arguments (codes "stride")))
 
 abbrev pub format_by : Option (List ℕ) → Option Made → Option (List ℕ) → Option (List ℕ) → Option Asked
 format_by None made jobs cluster = None
@@ -184,7 +189,8 @@ leases_by (Some path) (Some machine) first = option_map (makes_leases path machi
 
 -- a file of leases: its words are the file, the machine, and what the numbers of its processes begin behind
 abbrev pub format_leases_of : Arguments → Option Asked
-format_leases_of arguments = leases_by (arguments (codes "FILE")) (machine_of (number_in (arguments (codes "SLOTS")))) (first_of (arguments (codes "SELF")))
+format_leases_of arguments = leases_by (arguments (codes "FILE")) (machine_of (number_in (arguments (codes "SLOTS"))))
+    (first_of (arguments (codes "SELF")))
 
 abbrev pub format_of : Arguments → Option Asked
 format_of arguments = if is_set (arguments (codes "lease")) then format_leases_of arguments
@@ -221,7 +227,8 @@ abbrev pub life_of : Option (List ℕ) → Option (List ℕ)
 life_of None = Some []
 life_of (Some word) = life_by (bytes_of word)
 
-abbrev pub serves_by : Option (List ℕ) → Option (ℕ × ℕ) → Option ℕ → Option (Option Sealed) → Option (List ℕ) → Option (List ℕ) → Option Asked
+abbrev pub serves_by : Option (List ℕ) → Option (ℕ × ℕ) → Option ℕ → Option (Option Sealed) → Option (List ℕ) → Option (List ℕ)
+    → Option Asked
 serves_by None place round_trip sealing cluster life = None
 serves_by (Some path) None round_trip sealing cluster life = None
 serves_by (Some path) (Some place) None sealing cluster life = None

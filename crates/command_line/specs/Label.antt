@@ -1,5 +1,6 @@
 -- Whose a file is.
-use Rattle.std.specs.Prelude.{◌≡◌, ◌≢◌, ◌↔◌, ◌⊎◌, ℕ, ◌+◌, ◌*◌, ◌==◌, ◌&&◌, ◌||◌, not, Bool, false, IsTrue, IfSome, List, ◌∷◌, ◌++◌, bytes_eq, codes, get_or, if◌then◌else◌, replicate, slice_index_or, take, Option, Some, None}
+use Rattle.std.specs.Prelude.{◌≡◌, ◌≢◌, ◌↔◌, ◌⊎◌, ℕ, ◌+◌, ◌*◌, ◌==◌, ◌&&◌, ◌||◌, not, Bool, false, IsTrue, IfSome, List, ◌∷◌, ◌++◌}
+use Rattle.std.specs.Prelude.{bytes_eq, codes, get_or, if◌then◌else◌, replicate, slice_index_or, take, Option, Some, None}
 use Rattle.sealed_msg.specs.Hmac.{hmac}
 use Rattle.file_disk.specs.Label.{IsOfANode, byte_of, mark_in, marked_label, slots_in}
 use Rattle.file_disk.specs.declared.stride.Stride.{Stride}
@@ -8,7 +9,8 @@ use Rattle.command_line.specs.LeaseLabel.{lease_label}
 use Rattle.command_line.specs.declared.label.LabelOwner.{LabelOwner}
 use Rattle.command_line.specs.declared.label.LabelOwner.TheVariants as owner
 
--- what stands, by version 1, behind the last sector of the file of node `id` of so many, whose sectors lie so far apart: 16 bytes, and zeros are taken behind them
+-- what stands, by version 1, behind the last sector of the file of node `id` of so many, whose sectors lie so far apart: 16 bytes, and
+-- zeros are taken behind them
 abbrev pub label_of : ℕ → ℕ → Stride → List ℕ
 label_of id nodes stride = codes "dumgerok" ++ 1 ∷ id ∷ nodes ∷ byte_of stride ∷ replicate 20 0
 
@@ -45,12 +47,14 @@ is_marked label = not (slots_in label == 0) && is_spelled label
 -- a label of version 2 is that of node `id` of so many, whose file has so many sectors, in the cluster of this mark
 abbrev pub is_own_marked : List ℕ → ℕ → ℕ → Stride → ℕ → List ℕ → Bool
 is_own_marked label id nodes stride sectors mark =
-    bytes_eq label (marked_label id nodes stride (mark_in label) (slots_in label)) && sectors == 8 + 4 * slots_in label && are_one (mark_in label) mark
+    bytes_eq label (marked_label id nodes stride (mark_in label) (slots_in label)) && sectors == 8 + 4 * slots_in label
+    && are_one (mark_in label) mark
 
 -- a file with this label is that node's
 abbrev pub is_own : Option (List ℕ) → ℕ → ℕ → Stride → ℕ → List ℕ → Bool
 is_own None id nodes stride sectors mark = false
-is_own (Some label) id nodes stride sectors mark = bytes_eq label (label_of id nodes stride) || is_own_marked label id nodes stride sectors mark
+is_own (Some label) id nodes stride sectors mark = bytes_eq label (label_of id nodes stride)
+    || is_own_marked label id nodes stride sectors mark
 
 -- a label alone says this: that there are no leases, another length or another cluster takes more to say
 abbrev pub IsByLabel : LabelOwner → Type 0
@@ -68,7 +72,8 @@ judged other sectors mark = other
 
 -- a label, or none, says that a file is this one's
 pub record SaysOf (label : Option (List ℕ)) (whose : LabelOwner) : Type 0 where
-  pub node : (id nodes : ℕ) → (whose ≡ owner.Node id nodes) ↔ ((label ≡ Some (label_of id nodes Packed)) ⊎ (label ≡ Some (label_of id nodes Spaced)))
+  pub node : (id nodes : ℕ) → (whose ≡ owner.Node id nodes) ↔ ((label ≡ Some (label_of id nodes Packed))
+      ⊎ (label ≡ Some (label_of id nodes Spaced)))
   pub marked : IfSome label (λ l. (whose ≡ owner.Marked (get_or l 9 0) (get_or l 10 0) (slots_in l) (mark_in l)) ↔ IsTrue (is_marked l))
   pub leases : (machine : ℕ) → (whose ≡ owner.Leases machine) ↔ (label ≡ Some (lease_label machine))
   pub unread : (version : ℕ) → (whose ≡ owner.Unread version) ↔ (version ≢ 1) × (version ≢ 2) × IsOfVersion label version

@@ -15,7 +15,8 @@ IsOwnFile file id nodes mark = IsTrue (is_own file.label id nodes file.disk.stri
 -- a node's own file that is too short is nobody's; any other is refused as that of which its label says so
 abbrev pub IsRefusedAs : Bool → LabelledFile → List ℕ → Status → Type 0
 IsRefusedAs true file mark ended = ended ≡ status.Foreign owner.Nobody
-IsRefusedAs false file mark ended = (whose : LabelOwner) × SaysOf file.label whose × (ended ≡ status.Foreign (judged whose file.disk.sectors mark))
+IsRefusedAs false file mark ended = (whose : LabelOwner) × SaysOf file.label whose
+    × (ended ≡ status.Foreign (judged whose file.disk.sectors mark))
 
 -- it has the leases of that machine, and is long enough for them
 abbrev pub AreOwnLeases : LabelledFile → ℕ → Type 0

@@ -27,7 +27,8 @@ list_of machines (Some sealing) = from_be_bytes w64 (take 8 (hmac (string_bytes 
 
 -- the terms are those of the machine that the command line names, at its round trip
 abbrev pub AreTermsOf : NodePlace → ℕ → Option Sealing → LeaseTerms → Type 0
-AreTermsOf place round_trip sealing terms = (terms.machine ≡ place.id) × (terms.machines ≡ place.nodes) × (terms.list ≡ list_of place.nodes sealing) × (terms.keeps ≡ 100 * round_trip)
+AreTermsOf place round_trip sealing terms = (terms.machine ≡ place.id) × (terms.machines ≡ place.nodes)
+    × (terms.list ≡ list_of place.nodes sealing) × (terms.keeps ≡ 100 * round_trip)
 
 -- it seals and opens, by these secrets, the messages of leases of so many machines in the cluster of this name
 abbrev pub IsLeaseSealOf : List ℕ × Option (List ℕ) → ℕ → List ℕ → LeaseSeal → Type 0
@@ -35,7 +36,8 @@ IsLeaseSealOf secrets machines cluster seal =
     (seal.own ≡ lease_key secrets.0 machines cluster) × (seal.other ≡ option_map (λ other. lease_key other machines cluster) secrets.1)
 
 abbrev pub IsLeaseSealBy : ℕ → List ℕ → LeaseSeal → Type 0
-IsLeaseSealBy machines cluster seal = (secrets : List ℕ × Option (List ℕ)) × AreSpelled secrets × IsLeaseSealOf secrets machines cluster seal
+IsLeaseSealBy machines cluster seal = (secrets : List ℕ × Option (List ℕ)) × AreSpelled secrets
+    × IsLeaseSealOf secrets machines cluster seal
 
 -- messages are sealed where there are keys, and nowhere else
 abbrev pub IsLeaseSealUnder : Option Keys → ℕ → Option LeaseSeal → Type 0
@@ -47,12 +49,14 @@ abbrev pub start_by : Begun → Start
 start_by begun = record { process = begun.process; floor = begun.floor; waits = begun.waits }
 
 -- A process of these terms, which took a block more than some file kept, was served to this end.
-abbrev pub LeaseServesTo : Option Keys → LeaseTerms → Option (List ℕ) → Option (List ℕ) → Option (List ℕ) → Option (List ℕ) → LeaseEnd → Type 0
+abbrev pub LeaseServesTo : Option Keys → LeaseTerms → Option (List ℕ) → Option (List ℕ) → Option (List ℕ) → Option (List ℕ) → LeaseEnd
+    → Type 0
 LeaseServesTo keys terms input rest before behind how =
     (seal : Option LeaseSeal) × (kept : Kept) × IsLeaseSealUnder keys terms.machines seal
     × IsServed terms (start_by (begun_by kept)) seal (bound_of (kept.count + 1)) input rest before behind how
 
--- By how it ended: the input was read to its end and all of it answered; or the device failed, and all was answered that was read; or nothing was read or written.
+-- By how it ended: the input was read to its end and all of it answered; or the device failed, and all was answered that was read; or
+-- nothing was read or written.
 abbrev pub LeaseServesSo : Type 0 → (LeaseEnd → Type 0) → Status → Type 0
 LeaseServesSo Untouched To status.Done = To end.Input
 LeaseServesSo Untouched To (status.Failed error) = Unit {0}

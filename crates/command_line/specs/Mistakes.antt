@@ -1,12 +1,14 @@
 -- What a command line comes to: what it asks for, or which of its arguments is out of its range.
-use Rattle.std.specs.Prelude.{ℕ, ◌≡◌, ◌⊎◌, ◌||◌, ◌++◌, Bool, true, List, bytes_eq, codes, if◌then◌else◌, is_none, nat_lt, option_map, Option, Some, None, Result, Ok, Err}
+use Rattle.std.specs.Prelude.{ℕ, ◌≡◌, ◌⊎◌, ◌||◌, ◌++◌, Bool, true, List, bytes_eq, codes, if◌then◌else◌, is_none, nat_lt, option_map}
+use Rattle.std.specs.Prelude.{Option, Some, None, Result, Ok, Err}
 use Rattle.std.specs.Fmt.{decimal}
 use Rattle.std.specs.Io.KnownBytes.{Appends, Keeps}
 use Rattle.clap.specs.Words.{App, HasMatchesOf, first_value, found_of, rows_of, subcommand_name_of, subcommand_rows_of, takes}
 use Rattle.clap.specs.declared.parser.matches.ArgMatches.{ArgMatches}
 use Rattle.group_task.specs.declared.node.TheConstants.{NODES}
 use Rattle.disk_layout.specs.declared.layout.TheConstants.{LEAST_SLOTS, MOST_SLOTS}
-use Rattle.command_line.specs.Asked.{Arguments, asked, asked_by, is_set, machine_of, number_in, place_of, round_trip_of, stride_of, values_of}
+use Rattle.command_line.specs.Asked.{Arguments, asked, asked_by, is_set, machine_of, number_in, place_of, round_trip_of, stride_of}
+use Rattle.command_line.specs.Asked.{values_of}
 use Rattle.command_line.specs.declared.invocation.TheConstants.{MOST_ROUND_TRIP}
 use Rattle.command_line.specs.declared.invocation.Invocation.{Invocation}
 use Rattle.command_line.specs.declared.mistake.Mistake.{Mistake}
@@ -23,7 +25,8 @@ are_no_slots (Some slots) = nat_lt slots LEAST_SLOTS || nat_lt MOST_SLOTS slots
 
 abbrev pub mistake_in_format : Arguments → Mistake
 mistake_in_format arguments =
-    if are_no_slots (number_in (arguments (codes "SLOTS"))) then Slots else if is_none (stride_of (arguments (codes "stride"))) then Stride else First
+    if are_no_slots (number_in (arguments (codes "SLOTS"))) then Slots else if is_none (stride_of (arguments (codes "stride"))) then Stride
+    else First
 
 abbrev pub mistake_by : List ℕ → Arguments → Mistake
 mistake_by name arguments =
@@ -50,7 +53,8 @@ mistake_line mistake = codes "error: " ++ (mistake_text mistake ++ codes "\n\nFo
 -- Nothing is printed of a command that asks for work; of any other just its mistake, and the exit status is 2.
 abbrev pub IsAskedOrTold : List ℕ → ArgMatches → Option (List ℕ) → Option (List ℕ) → Result Invocation ℕ → Type 0
 IsAskedOrTold name words before behind (Ok invocation) =
-    (asked_by name (λ id. first_value (found_of words) id) (λ id. values_of (found_of words) id) ≡ Some (asked invocation)) × Keeps before behind
+    (asked_by name (λ id. first_value (found_of words) id) (λ id. values_of (found_of words) id) ≡ Some (asked invocation))
+    × Keeps before behind
 IsAskedOrTold name words before behind (Err code) =
     (asked_by name (λ id. first_value (found_of words) id) (λ id. values_of (found_of words) id) ≡ None)
     × (code ≡ 2) × Appends before behind (mistake_line (mistake_by name (λ id. first_value (found_of words) id)))

@@ -37,21 +37,25 @@ EndsByFile Is old new code = (EndsAs code × (new ≡ old)) ⊎ ((held : Option 
 abbrev pub names_of : List TraceFile → List (List ℕ)
 names_of files = map (λ (file : TraceFile). file.name.now) files
 
--- one of the files of these names can't be read, and nothing is printed; or the verdict is printed on the run whose records stand in files of just these names, in
+-- one of the files of these names can't be read, and nothing is printed; or the verdict is printed on the run whose records stand in files
+-- of just these names, in
 -- this order
 abbrev pub EndsByRecords : Stage → List (List ℕ) → Option (List ℕ) → Option (List ℕ) → ℕ → Type 0
 EndsByRecords stage names old new code = ((code ≡ 1) × (new ≡ old))
-    ⊎ ((files : List TraceFile) × (ending : ExitKind) × (names_of files ≡ names) × PrintsFiles stage files old new ending × (code ≡ status_of ending))
+    ⊎ ((files : List TraceFile) × (ending : ExitKind) × (names_of files ≡ names) × PrintsFiles stage files old new ending
+    × (code ≡ status_of ending))
 
 -- the keys of a process of this life are those that its command line names, and there are none where it names none
 abbrev pub AreKeysOf : Option Sealing → List ℕ → Option Keys → Type 0
 AreKeysOf None life None = Unit {0}
 AreKeysOf None life (Some keys) = ⊥
 AreKeysOf (Some sealing) life None = ⊥
-AreKeysOf (Some sealing) life (Some keys) = (keys.cluster.now ≡ string_bytes sealing.cluster) × (keys.path.now ≡ string_bytes sealing.key) × (keys.life.now ≡ life)
+AreKeysOf (Some sealing) life (Some keys) = (keys.cluster.now ≡ string_bytes sealing.cluster) × (keys.path.now ≡ string_bytes sealing.key)
+    × (keys.life.now ≡ life)
 
 -- a node was served as its command line says
-abbrev pub ServesFor : NodePlace → ℕ → Option Sealing → List ℕ → Option (List ℕ) → Option (List ℕ) → Option (List ℕ) → Option (List ℕ) → ℕ → Type 0
+abbrev pub ServesFor : NodePlace → ℕ → Option Sealing → List ℕ → Option (List ℕ) → Option (List ℕ) → Option (List ℕ) → Option (List ℕ) → ℕ
+    → Type 0
 ServesFor place round_trip sealing life input rest before behind code =
     (status : Status) × (keys : Option Keys) × (code ≡ code_of status) × AreKeysOf sealing life keys
     × ServesSo ((rest ≡ input) × (behind ≡ before)) (BreaksOff keys place.id place.nodes (measured round_trip) input rest before behind)
@@ -61,16 +65,20 @@ ServesFor place round_trip sealing life input rest before behind code =
 abbrev pub LeasesFor : NodePlace → ℕ → Option Sealing → Option (List ℕ) → Option (List ℕ) → Option (List ℕ) → Option (List ℕ) → ℕ → Type 0
 LeasesFor place round_trip sealing input rest before behind code =
     ((round_trip ≡ 0) × (code ≡ 2) × (rest ≡ input) × (behind ≡ before))
-    ⊎ ((status : Status) × (keys : Option Keys) × (terms : LeaseTerms) × (code ≡ code_of status) × AreKeysOf sealing [] keys × AreTermsOf place round_trip sealing terms
+    ⊎ ((status : Status) × (keys : Option Keys) × (terms : LeaseTerms) × (code ≡ code_of status) × AreKeysOf sealing [] keys
+    × AreTermsOf place round_trip sealing terms
     × LeaseServesSo ((rest ≡ input) × (behind ≡ before)) (LeaseServesTo keys terms input rest before behind) status)
 
 -- By what is asked for. Of a file that is made nothing is printed: its jobs can't be read, or the status is that of how it was made.
 abbrev pub Obeys : Invocation → Option (List ℕ) → Option (List ℕ) → Option (List ℕ) → Option (List ℕ) → ℕ → Type 0
 Obeys (invocation.Batch batch) input rest before behind code = EndsBy (IsOutcomeOf batch) input before behind code
 Obeys (invocation.Format path making jobs cluster) input rest before behind code = (behind ≡ before) × (EndsAs code ⊎ (code ≡ 1))
-Obeys (invocation.Node path place round_trip sealing cluster life) input rest before behind code = ServesFor place round_trip sealing life.items input rest before behind code
+Obeys (invocation.Node path place round_trip sealing cluster life) input rest before behind code =
+    ServesFor place round_trip sealing life.items input rest before behind code
 Obeys (invocation.FormatLeases path machine first) input rest before behind code = (rest ≡ input) × (behind ≡ before) × EndsAs code
-Obeys (invocation.Lease path place round_trip sealing) input rest before behind code = LeasesFor place round_trip sealing input rest before behind code
+Obeys (invocation.Lease path place round_trip sealing) input rest before behind code =
+    LeasesFor place round_trip sealing input rest before behind code
 Obeys (invocation.Look path shown) input rest before behind code = (rest ≡ input) × EndsByFile (IsShown shown) before behind code
 Obeys (invocation.Salvage path) input rest before behind code = (rest ≡ input) × EndsByFile IsSalvagePrintout before behind code
-Obeys (invocation.Trace stage paths) input rest before behind code = (rest ≡ input) × EndsByRecords stage (map string_bytes paths.items) before behind code
+Obeys (invocation.Trace stage paths) input rest before behind code = (rest ≡ input)
+    × EndsByRecords stage (map string_bytes paths.items) before behind code

@@ -29,7 +29,8 @@ IsOutcomeOf (Threads kind) = IsThreading kind
 IsOutcomeOf Turns = AreToldOf
 IsOutcomeOf Contradiction = IsContradictionOf
 
--- this is what is wrong with the input, or why its entries are no run; what is wrong with a text that is no trace is printed, and not said again
+-- this is what is wrong with the input, or why its entries are no run; what is wrong with a text that is no trace is printed, and not said
+-- again
 abbrev pub IsWhyOf : Batch → Option (List ℕ) → ExitKind → List ℕ → Type 0
 IsWhyOf (Answer place) = IsWhy (answer_flaw place.id place.nodes)
 IsWhyOf Show = IsWhy show_flaw

@@ -16,14 +16,16 @@ use Rattle.command_line.specs.declared.status.Status.TheVariants as status
 
 -- what seals and opens, by these secrets, the messages of a node of so many in the cluster of this name
 abbrev pub seals_by : List ℕ × Option (List ℕ) → ℕ → List ℕ → List ℕ → Seals
-seals_by secrets nodes cluster life = new_seals (cluster_key secrets.0 nodes cluster) (option_map (λ other. cluster_key other nodes cluster) secrets.1) life
+seals_by secrets nodes cluster life = new_seals (cluster_key secrets.0 nodes cluster)
+    (option_map (λ other. cluster_key other nodes cluster) secrets.1) life
 
 -- some text of a file of keys spells them
 abbrev pub AreSpelled : List ℕ × Option (List ℕ) → Type 0
 AreSpelled secrets = (text : List ℕ) × (secrets_of (lines_of text) ≡ Some secrets)
 
 abbrev pub IsSealBy : ℕ → List ℕ → List ℕ → Seals → Type 0
-IsSealBy nodes cluster life seals = (secrets : List ℕ × Option (List ℕ)) × AreSpelled secrets × (seals ≡ seals_by secrets nodes cluster life)
+IsSealBy nodes cluster life seals = (secrets : List ℕ × Option (List ℕ)) × AreSpelled secrets
+    × (seals ≡ seals_by secrets nodes cluster life)
 
 -- messages are sealed where there are keys, and nowhere else
 abbrev pub IsSealUnder : Option Keys → ℕ → Option Seals → Type 0
@@ -31,16 +33,20 @@ IsSealUnder None nodes seal = seal ≡ None
 IsSealUnder (Some keys) nodes seal = (seals : Seals) × IsSealBy nodes keys.cluster.now keys.life.now seals × (seal ≡ Some seals)
 
 -- The node of this id, of so many, was served over some disk to this end.
-abbrev pub ServesTo : Option Keys → ℕ → ℕ → TimerSettings → Option (List ℕ) → Option (List ℕ) → Option (List ℕ) → Option (List ℕ) → ServingEnd → Type 0
+abbrev pub ServesTo : Option Keys → ℕ → ℕ → TimerSettings → Option (List ℕ) → Option (List ℕ) → Option (List ℕ) → Option (List ℕ)
+    → ServingEnd → Type 0
 ServesTo keys id nodes setting input rest before behind how =
-    (seal : Option Seals) × (disk : FileState) × (left : FileState) × IsSealUnder keys nodes seal × IsServedTo state_of (begun id nodes setting seal disk) input rest before behind left how
+    (seal : Option Seals) × (disk : FileState) × (left : FileState) × IsSealUnder keys nodes seal
+    × IsServedTo state_of (begun id nodes setting seal disk) input rest before behind left how
 
 -- It was served until an error broke it off: of what was read a front was fed, and of the answers to that a front was written.
 abbrev pub BreaksOff : Option Keys → ℕ → ℕ → TimerSettings → Option (List ℕ) → Option (List ℕ) → Option (List ℕ) → Option (List ℕ) → Type 0
 BreaksOff keys id nodes setting input rest before behind =
-    (seal : Option Seals) × (disk : FileState) × IsSealUnder keys nodes seal × IsBrokenOff state_of (begun id nodes setting seal disk) input rest before behind
+    (seal : Option Seals) × (disk : FileState) × IsSealUnder keys nodes seal
+    × IsBrokenOff state_of (begun id nodes setting seal disk) input rest before behind
 
--- By how it ended: the input was read to its end and all of it answered; or an error broke it off; or the device failed, and all was answered that was read;
+-- By how it ended: the input was read to its end and all of it answered; or an error broke it off; or the device failed, and all was
+-- answered that was read;
 -- or the file was lost, and of the command behind which that was found nothing was written; or nothing was read or written.
 abbrev pub ServesSo : Type 0 → Type 0 → (ServingEnd → Type 0) → Status → Type 0
 ServesSo Untouched Broken To status.Done = To end.Input

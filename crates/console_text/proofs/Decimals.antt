@@ -26,10 +26,12 @@ pub written_over : (n : ℕ) (now rest : List ℕ) → n ≡ length now → take
 written_over n now rest all = ap (λ i. take i (now ++ rest)) all ∙ take-append_seam now rest
 
 -- a text's bytes stay, digits stand behind them, and what is left of the room is cut off
-pub cut_behind : (text room grown now digits : List ℕ) (start end : ℕ) → grown ≡ text ++ room → start ≡ length text → start + length digits ≡ end → take start now ≡ take start grown
+pub cut_behind : (text room grown now digits : List ℕ) (start end : ℕ) → grown ≡ text ++ room → start ≡ length text
+    → start + length digits ≡ end → take start now ≡ take start grown
     → drop start now ≡ digits ++ drop end grown → take end now ≡ text ++ digits
 cut_behind text room grown now digits start end grows from to before behind =
-    let front : take start now ≡ text = before ∙ ap (take start) grows ∙ ap (λ i. take i (text ++ room)) from ∙ take-append_seam text room in
+    let front : take start now ≡ text = before ∙ ap (take start) grows ∙ ap (λ i. take i (text ++ room)) from
+    ∙ take-append_seam text room in
     let whole : now ≡ text ++ (digits ++ drop end grown) =
     sym (take-append-drop start now) ∙ ap (λ l. l ++ drop start now) front ∙ ap (λ l. text ++ l) behind in
     let place : end ≡ length text + length digits = omega arith in

@@ -80,7 +80,8 @@ IsFixed fixed bytes printout = printout ≡ fixed bytes
 -- The text of a printout for the bytes that were read, and nothing else, is written. Where the reader says its bytes, they are these.
 abbrev pub Answered : (List ℕ → Printout → Type 0) → Option (List ℕ) → Option (List ℕ) → Option (List ℕ) → ExitKind → Type 0
 Answered Is input old new ending =
-    (bytes : List ℕ) × (printout : Printout) × IfSome input (λ known. known ≡ bytes) × Is bytes printout × (ending ≡ ending_of printout.good) × Appends old new printout.text
+    (bytes : List ℕ) × (printout : Printout) × IfSome input (λ known. known ≡ bytes) × Is bytes printout
+    × (ending ≡ ending_of printout.good) × Appends old new printout.text
 
 -- What a command writes for what it reads, by how it ends. Nothing is said of a writer that failed.
 abbrev pub Prints : (List ℕ → Printout → Type 0) → Option (List ℕ) → Option (List ℕ) → Option (List ℕ) → ExitKind → Type 0

@@ -27,15 +27,19 @@ mount_answered fault (inl small) = rw small tt
 mount_answered fault (inr (inl memory)) = rw memory refl
 mount_answered fault (inr (inr is)) = read_answered fault is
 
-pub unmounted_at : {Disk : Type 0} (id nodes : ℕ) (core : Core) (disk : NodeDisk Disk) (back : Disk) (doubt : Option (Wanted × ℕ)) (before : Option ℕ) (fault : StoreFault) → IsMountFault fault
+pub unmounted_at : {Disk : Type 0} (id nodes : ℕ) (core : Core) (disk : NodeDisk Disk) (back : Disk) (doubt : Option (Wanted × ℕ))
+    (before : Option ℕ) (fault : StoreFault) → IsMountFault fault
     → Remounted (node_with id nodes core disk doubt before) (node_with id nodes core (Bare back) doubt None) (Err (fault_for fault)) None
 unmounted_at id nodes core disk back doubt before fault of_mount = (mount_answered fault of_mount, refl, refl)
 
 -- what a raise leaves, by what came of it
-module _ {Disk : Type 0} (id nodes : ℕ) (core core' : Core) (disk : NodeDisk Disk) (mid end : StoreState Disk) (doubt doubt' : Option (Wanted × ℕ)) (before : Option ℕ) (kept : Bool) (came : StepReport) where
+module _ {Disk : Type 0} (id nodes : ℕ) (core core' : Core) (disk : NodeDisk Disk) (mid end : StoreState Disk)
+    (doubt doubt' : Option (Wanted × ℕ)) (before : Option ℕ) (kept : Bool) (came : StepReport) where
   pub remounted_at : (w : EventOutcome) → HasRisen id kept core core' mid end doubt doubt' came w
-      → Remounted (node_with id nodes core disk doubt before) (node_with id nodes core' (Mounted end) doubt' (Some (durable_of mid).counter)) (answered_as came (fault_of w)) (Some (durable_of mid))
-  remounted_at (event_outcome.Recovered k) is = (let risen = is.1 in (rw risen.state (ap (λ (d : Durable). Some d) risen.kept), risen.state, risen.doubt, risen.sent, risen.answer, risen.fits))
+      → Remounted (node_with id nodes core disk doubt before) (node_with id nodes core' (Mounted end) doubt'
+      (Some (durable_of mid).counter)) (answered_as came (fault_of w)) (Some (durable_of mid))
+  remounted_at (event_outcome.Recovered k) is = (let risen = is.1 in
+      (rw risen.state (ap (λ (d : Durable). Some d) risen.kept), risen.state, risen.doubt, risen.sent, risen.answer, risen.fits))
   remounted_at (event_outcome.RaiseFailed k) is = (is.1.state, inl (refl, is.1.doubt, is.1.fits))
   remounted_at (event_outcome.RaiseRefused k) is = (is.3.same_state, inr (refl, is.1, is.3.same_doubt))
   remounted_at end is = absurd is

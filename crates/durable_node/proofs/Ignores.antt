@@ -1,5 +1,6 @@
 -- What a node that is down does with an event that doesn't make it mount its disk.
-use Rattle.std.proofs.Common.{◌≡◌, ◌≢◌, ◌≤◌, ℕ, arith, length, [], Bool, true, false, ◌&&◌, Option, Some, None, IfSome, Result, Ok, Err, sym, ◌∙◌, ap, subst, refl, IfOk, IsErrOf}
+use Rattle.std.proofs.Common.{◌≡◌, ◌≢◌, ◌≤◌, ℕ, arith, length, [], Bool, true, false, ◌&&◌, Option, Some, None, IfSome, Result, Ok, Err}
+use Rattle.std.proofs.Common.{sym, ◌∙◌, ap, subst, refl, IfOk, IsErrOf}
 use Rattle.sector_disk.specs.Disk.{DiskState}
 use Rattle.job_model.specs.declared.node_command.NodeCommand.{NodeCommand as Command}
 use Rattle.job_model.specs.Fold.{after_wanted}
@@ -37,13 +38,23 @@ use Rattle.durable_node.specs.Faults.{fault_of, answered_as}
 use Rattle.durable_node.specs.declared.fault.NodeFault.TheVariants as node
 use Rattle.durable_node.proofs.Parts.{does, not_up}
 
-module _ {Disk : Type 0} (disks : Disk → DiskState) (id nodes : ℕ) (core core' : Core) (disk : NodeDisk Disk) (doubt : Option (Wanted × ℕ)) (was : Option ℕ) (event : Event) where
-  still : (s : NodeState) → core.state ≡ down id → core'.state ≡ core.state → Stands disks (node_with id nodes core disk doubt was) s → Stands disks (node_with id nodes core' disk doubt None) s
-  still s is same stands = record { state = same ∙ stands.state; doubt = stands.doubt; up = λ up. absurd (not_up id core'.state (same ∙ is) up); disk = stands.disk }
+module _ {Disk : Type 0} (disks : Disk → DiskState) (id nodes : ℕ) (core core' : Core) (disk : NodeDisk Disk) (doubt : Option (Wanted × ℕ))
+    (was : Option ℕ) (event : Event) where
+  still : (s : NodeState) → core.state ≡ down id → core'.state ≡ core.state → Stands disks (node_with id nodes core disk doubt was) s
+      → Stands disks (node_with id nodes core' disk doubt None) s
+  still s is same stands = record {
+    state = same ∙ stands.state;
+    doubt = stands.doubt;
+    up =
+        λ up. absurd (not_up id core'.state (same ∙ is) up);
+    disk = stands.disk;
+  }
 
-  by_fate : (slots : ℕ) (s : NodeState) → core.state ≡ down id → core'.state ≡ core.state → event ≢ Recover → Stands disks (node_with id nodes core disk doubt was) s
+  by_fate : (slots : ℕ) (s : NodeState) → core.state ≡ down id → core'.state ≡ core.state → event ≢ Recover
+      → Stands disks (node_with id nodes core disk doubt was) s
       → (came : StepReport) (end : EventOutcome) → IsIgnored (refusal_of nodes id event core.state) came end → came.tried ≡ None
-      → Does slots id nodes s event came None (what_of event end) × Stands disks (node_with id nodes core' disk doubt None) (after id nodes s (what_of event end))
+      → Does slots id nodes s event came None (what_of event end)
+      × Stands disks (node_with id nodes core' disk doubt None) (after id nodes s (what_of event end))
   by_fate slots s is same other stands came event_outcome.Done done tried =
       let at : s.state ≡ down id = sym stands.state ∙ is in
       let stays : StaysDown id nodes s event = at_down id nodes s event at (λ is. absurd (other is)) (rw stands.state at done.0) in
@@ -53,37 +64,46 @@ module _ {Disk : Type 0} (disks : Disk → DiskState) (id nodes : ℕ) (core cor
         doubt = s.doubt;
       }) in (
         does refl (λ is. absurd (other is), record { by_core = rw stands.state at done.0; not_spent = rw stays.wants (λ spent. spent) })
-            (rw stays.wants (λ full. full)) (rw stays.wants (tried_none event came.tried tried)) (rw stays.wants done.1.1) (done.1.0 ∙ sym stays.sent) refl,
+            (rw stays.wants (λ full. full)) (rw stays.wants (tried_none event came.tried tried)) (rw stays.wants done.1.1)
+            (done.1.0 ∙ sym stays.sent) refl,
         subst (λ (t : NodeState). Stands disks (node_with id nodes core' disk doubt None) t) kept (still s is same stands),
       )
-  by_fate slots s is same other stands came (event_outcome.Refused (refusal.Core why)) done tried =
-      (does refl (λ is. absurd (other is), rw stands.state at done.0) tt (tried_none event came.tried tried) done.1.1 done.1.0 refl, still s is same stands)
+  by_fate slots s is same other stands came (event_outcome.Refused (refusal.Core why)) done tried = (
+    does refl (λ is. absurd (other is), rw stands.state at done.0) tt (tried_none event came.tried tried) done.1.1 done.1.0 refl,
+    still s is same stands,
+  )
   by_fate slots s is same other stands came end done tried = absurd done
 
   pub ignores : core.state ≡ down id → core'.state ≡ core.state → event ≢ Recover → (result : Result StepReport NodeFault)
-      → IfOk result (λ came. IsIgnored (refusal_of nodes id event core.state) came came.event_outcome) → IfOk result (λ came. came.tried ≡ None)
+      → IfOk result (λ came. IsIgnored (refusal_of nodes id event core.state) came came.event_outcome)
+      → IfOk result (λ came. came.tried ≡ None)
       → IfOk result (Steps disks (node_with id nodes core disk doubt was) (node_with id nodes core' disk doubt None) event)
-  ignores is same other (Ok came) done tried = λ at s on stands mounting. by_fate (slots_for (disks at).sectors) s is same other stands came came.event_outcome done tried
+  ignores is same other (Ok came) done tried = λ at s on stands mounting.
+      by_fate (slots_for (disks at).sectors) s is same other stands came came.event_outcome done tried
   ignores is same other (Err fault) done tried = tt
 
 -- ---- what a caller is answered
 
-quiet_as : (why : Option CoreFault) (came : StepReport) (end : EventOutcome) → IsIgnored why came end → (IsErrOf (answered_as came (fault_of end)) node.Device → ⊥) × (came.sent.items ≡ [])
+quiet_as : (why : Option CoreFault) (came : StepReport) (end : EventOutcome) → IsIgnored why came end
+    → (IsErrOf (answered_as came (fault_of end)) node.Device → ⊥) × (came.sent.items ≡ [])
 quiet_as why came event_outcome.Done is = (λ device. cc, is.1.0)
 quiet_as why came (event_outcome.Refused (refusal.Core f)) is = (λ device. cc, is.1.0)
 quiet_as why came end is = absurd is
 
 -- no device was called
-pub no_device : (why : Option CoreFault) (came : StepReport) → IsIgnored why came came.event_outcome → IsErrOf (answered_as came (fault_of came.event_outcome)) node.Device → ⊥
+pub no_device : (why : Option CoreFault) (came : StepReport) → IsIgnored why came came.event_outcome
+    → IsErrOf (answered_as came (fault_of came.event_outcome)) node.Device → ⊥
 no_device why came is device = (quiet_as why came came.event_outcome is).0 device
 
 pub few_ignored : (n : ℕ) (why : Option CoreFault) (came : StepReport) → IsIgnored why came came.event_outcome → length came.sent.items ≤ n
-few_ignored n why came is = (let none : length came.sent.items ≡ 0 = ap length (quiet_as why came came.event_outcome is).1 in omega (arith, none))
+few_ignored n why came is = (let none : length came.sent.items ≡ 0 = ap length (quiet_as why came came.event_outcome is).1 in
+    omega (arith, none))
 
 -- ---- no memory is taken
 
 -- a node that is down takes memory for no event but Recover that it doesn't refuse first
-spared : (nodes id : ℕ) (event : Event) → event ≢ Recover → takes_memory id event (down id) ≡ true → refusal_of nodes id event (down id) ≡ None → ⊥
+spared : (nodes id : ℕ) (event : Event) → event ≢ Recover → takes_memory id event (down id) ≡ true
+    → refusal_of nodes id event (down id) ≡ None → ⊥
 spared nodes id on.Recover other takes none = absurd (other refl)
 spared nodes id (on.Deliver m) other takes none = by_body m.body takes
   where

@@ -25,20 +25,34 @@ abbrev fresh : ℕ → NodeState
 fresh id = record { state = down id; durable = formatted; doubt = None }
 
 abbrev pub new_node : ℕ → ℕ → Memory → Node Memory
-new_node id nodes disk = record { id = id; nodes = nodes; state = down id; disk = Some disk; kept = None; area = None; doubt = None; mounted = None }
+new_node id nodes disk = record {
+  id = id;
+  nodes = nodes;
+  state = down id;
+  disk = Some disk;
+  kept = None;
+  area = None;
+  doubt =
+      None;
+  mounted = None;
+}
 
 -- no command was in doubt
-none_kept : (slots id nodes : ℕ) (new : Node Memory) (came : StepReport) (end : EventOutcome) (kept : Bool) → end ≡ event_outcome.Recovered kept → Does slots id nodes (fresh id) Recover came new.mounted (what_of Recover end)
+none_kept : (slots id nodes : ℕ) (new : Node Memory) (came : StepReport) (end : EventOutcome) (kept : Bool)
+    → end ≡ event_outcome.Recovered kept → Does slots id nodes (fresh id) Recover came new.mounted (what_of Recover end)
     → Stands state_of new (after id nodes (fresh id) (what_of Recover end)) → Stands state_of new (opening id)
-none_kept slots id nodes new came (event_outcome.Recovered true) kept is does stands = (let none : false ≡ true = does.possible.1 refl in absurd cc)
+none_kept slots id nodes new came (event_outcome.Recovered true) kept is does stands =
+    (let none : false ≡ true = does.possible.1 refl in absurd cc)
 none_kept slots id nodes new came (event_outcome.Recovered false) kept is does stands = assumption stands
 none_kept slots id nodes new came end kept is does stands = absurd cc
 
-pub opens : (id nodes : ℕ) (disk : Memory) (new : Node Memory) (came : StepReport) (kept : Bool) → came.event_outcome ≡ event_outcome.Recovered kept → IsFresh disk → Steps state_of (new_node id nodes disk) new Recover came
+pub opens : (id nodes : ℕ) (disk : Memory) (new : Node Memory) (came : StepReport) (kept : Bool)
+    → came.event_outcome ≡ event_outcome.Recovered kept → IsFresh disk → Steps state_of (new_node id nodes disk) new Recover came
     → Stands state_of new (opening id)
 opens id nodes disk new came kept is new_disk steps =
     let left = left_by (state_of disk) (fresh id) new_disk.enough (λ honest. new_disk.formatted) new_disk.sound in
-    let did = steps disk (fresh id) refl (stands_at state_of (new_node id nodes disk) (fresh id) disk refl left refl refl (λ up. absurd cc)) (λ _. refl) in
+    let did = steps disk (fresh id) refl (stands_at state_of (new_node id nodes disk) (fresh id) disk refl left refl refl (λ up. absurd cc))
+    (λ _. refl) in
     none_kept (slots_for (state_of disk).sectors) id nodes new came came.event_outcome kept is did.0 did.1
 
 -- a copy of a disk that was just formatted
@@ -53,7 +67,8 @@ copy_fresh disk fresh =
     }
 
 -- what holds of a disk, armed or not, holds of it where it isn't armed
-pub under_left : (E : Memory → Type 0) → ((m : Memory) → E m → E (record m { left = None })) → (disk : Option Memory) → ((m : Memory) → disk ≡ Some m → E m)
+pub under_left : (E : Memory → Type 0) → ((m : Memory) → E m → E (record m { left = None })) → (disk : Option Memory)
+    → ((m : Memory) → disk ≡ Some m → E m)
     → (d : Memory) → with_left None disk ≡ Some d → E d
 under_left E still None each d e = absurd cc
 under_left E still (Some was) each d e = at_some E (record was { left = None }) d e (still was (each was refl))

@@ -36,14 +36,34 @@ pub not_up : (id : ℕ) (s : State) → s ≡ down id → is_down s.phase ≡ fa
 not_up id s is = clash (is_down s.phase) (down_phase id s is)
 
 -- a node over this disk
-pub stands_at : {Disk : Type 0} (disks : Disk → DiskState) (n : Node Disk) (s : NodeState) (disk : Disk) → n.disk ≡ Some disk → IsLeft (disks disk) s → n.state ≡ s.state → n.doubt ≡ shown_doubt s.durable s.doubt
+pub stands_at : {Disk : Type 0} (disks : Disk → DiskState) (n : Node Disk) (s : NodeState) (disk : Disk) → n.disk ≡ Some disk
+    → IsLeft (disks disk) s → n.state ≡ s.state → n.doubt ≡ shown_doubt s.durable s.doubt
     → (is_down n.state.phase ≡ false → (n.kept ≡ Some s.durable) × (s.doubt ≡ None)) → Stands disks n s
-stands_at disks n s disk at left state doubt up = record { state = state; doubt = doubt; up = up; disk = λ d e. at_some (λ (x : _). IsLeft (disks x) s) disk d (sym at ∙ e) left }
+stands_at disks n s disk at left state doubt up = record {
+  state = state;
+  doubt = doubt;
+  up = up;
+  disk =
+      λ d e. at_some (λ (x : _). IsLeft (disks x) s) disk d (sym at ∙ e) left;
+}
 
-pub stands_down : {Disk : Type 0} (disks : Disk → DiskState) (n : Node Disk) (s : NodeState) (disk : Disk) (id : ℕ) → n.state ≡ down id → n.disk ≡ Some disk → IsLeft (disks disk) s → n.state ≡ s.state → n.doubt ≡ shown_doubt s.durable s.doubt → Stands disks n s
-stands_down disks n s disk id fallen at left state doubt = stands_at disks n s disk at left state doubt (λ up. absurd (not_up id n.state fallen up))
+pub stands_down : {Disk : Type 0} (disks : Disk → DiskState) (n : Node Disk) (s : NodeState) (disk : Disk) (id : ℕ) → n.state ≡ down id
+    → n.disk ≡ Some disk → IsLeft (disks disk) s → n.state ≡ s.state → n.doubt ≡ shown_doubt s.durable s.doubt → Stands disks n s
+stands_down disks n s disk id fallen at left state doubt =
+    stands_at disks n s disk at left state doubt (λ up. absurd (not_up id n.state fallen up))
 
 -- this came of an event
-pub does : {slots self nodes : ℕ} {s : NodeState} {event : Event} {came : StepReport} {mounted : Option Durable} {what : HistoryEvent} → IsOf event what → IsPossible self nodes s what → IsOfSlots slots self nodes s what
-    → IsTriedAt event came.tried (command_at self nodes s what) → came.answer ≡ answer_at self nodes s what → came.sent.items ≡ sent_at self nodes s what → mounted ≡ mounted_at s what → Does slots self nodes s event came mounted what
-does of possible of_slots tried answer sent mounted = record { of = of; possible = possible; of_slots = of_slots; tried = tried; answer = answer; sent = sent; mounted = mounted }
+pub does : {slots self nodes : ℕ} {s : NodeState} {event : Event} {came : StepReport} {mounted : Option Durable} {what : HistoryEvent}
+    → IsOf event what → IsPossible self nodes s what → IsOfSlots slots self nodes s what
+    → IsTriedAt event came.tried (command_at self nodes s what) → came.answer ≡ answer_at self nodes s what
+    → came.sent.items ≡ sent_at self nodes s what → mounted ≡ mounted_at s what → Does slots self nodes s event came mounted what
+does of possible of_slots tried answer sent mounted = record {
+  of = of;
+  possible = possible;
+  of_slots = of_slots;
+  tried = tried;
+  answer =
+      answer;
+  sent = sent;
+  mounted = mounted;
+}

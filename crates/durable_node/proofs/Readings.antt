@@ -1,5 +1,6 @@
 -- What a recovery that mounts its disk reads there, and why it can't.
-use Rattle.std.proofs.Common.{◌≡◌, ◌<◌, ◌≤◌, ◌⊎◌, ◌↔◌, inl, inr, ⊎_elim, ℕ, Some, None, Result, Ok, Err, ◌∙◌, ap, refl, arith, IsTrue, IfErr}
+use Rattle.std.proofs.Common.{◌≡◌, ◌<◌, ◌≤◌, ◌⊎◌, ◌↔◌, inl, inr, ⊎_elim, ℕ, Some, None, Result, Ok, Err, ◌∙◌, ap, refl, arith, IsTrue}
+use Rattle.std.proofs.Common.{IfErr}
 use Rattle.sector_disk.specs.Disk.{DiskState, Image, nothing}
 use Rattle.sector_disk.specs.Run.{Run}
 use Rattle.job_model.specs.Durable.{Durable}
@@ -20,7 +21,8 @@ small_alone by_store.TooSmall e = refl
 small_alone fault e = absurd cc
 
 abbrev ByStore : ℕ → Image → StoreFault → Type 0
-ByStore slots image fault = (fault ≡ by_store.TooSmall) ⊎ (fault ≡ by_store.NoMemory) ⊎ (fault ≡ by_store.Device) ⊎ IsRefusedFor slots image fault
+ByStore slots image fault = (fault ≡ by_store.TooSmall) ⊎ (fault ≡ by_store.NoMemory) ⊎ (fault ≡ by_store.Device)
+    ⊎ IsRefusedFor slots image fault
 
 refused_for : (slots : ℕ) (image : Image) (fault : StoreFault) → IsRefusedFor slots image fault → IsUnread slots image (fault_for fault)
 refused_for slots image by_store.NotFormatted is = is
@@ -36,7 +38,8 @@ unread slots image fault (inr (inr (inr is))) = refused_for slots image fault is
 -- a mounting that is refused
 pub unread_at : {Disk : Type 0} (disks : Disk → DiskState) (was back : Disk) (fault : StoreFault)
     → ((fault ≡ by_store.TooSmall) ↔ ((disks was).sectors < 24)) → ((fault ≡ by_store.TooSmall) ⊎ (fault ≡ by_store.NoMemory) → back ≡ was)
-    → (IsTrue (disks was).honest → ByStore (slots_for (disks was).sectors) (disks was).contents fault) → (IsTrue (disks was).honest → Run nothing (disks was) (disks back))
+    → (IsTrue (disks was).honest → ByStore (slots_for (disks was).sectors) (disks was).contents fault)
+    → (IsTrue (disks was).honest → Run nothing (disks was) (disks back))
     → IsRead disks was back (Err (fault_for fault)) None
 unread_at disks was back fault small untouched refusal run = record {
   too_small = (λ e. small.0 (small_alone fault (cc e)), λ few. ap (λ (f : StoreFault). Err (fault_for f)) (small.1 few));
@@ -51,7 +54,8 @@ module _ {Disk : Type 0} (disks : Disk → DiskState) (was now : Disk) (old new 
   not_small (Ok came) is e = absurd cc
   not_small (Err fault) is e = ⊎_elim (λ device. absurd (let same = device.0 in cc)) (λ spent. absurd (let same = spent.0 in cc)) is.1
 
-  raise_refused : (slots : ℕ) (image : Image) (result : Result StepReport NodeFault) → Remounted old new result (Some d) → IfErr result (IsUnread slots image)
+  raise_refused : (slots : ℕ) (image : Image) (result : Result StepReport NodeFault) → Remounted old new result (Some d)
+      → IfErr result (IsUnread slots image)
   raise_refused slots image (Ok came) is = tt
   raise_refused slots image (Err fault) is = ⊎_elim (λ device. rw device.0 tt) (λ spent. rw spent.0 tt) is.1
 

@@ -14,7 +14,8 @@ use Rattle.durable_node.specs.Remounting.{IsMountedBy, Remounted}
 use Rattle.durable_node.specs.Stepping.{AreaGoesOn, CountsOf, Steps, Stuck, most_by}
 
 -- A call with an event: what came of it, the command that was tried with its answer, and the messages; or why it came to nothing.
-pub record IsCall {Disk : Type 0} (disks : Disk → DiskState) (old new : Node Disk) (event : Event) (result : Result StepReport NodeFault) : Type 0 where
+pub record IsCall {Disk : Type 0} (disks : Disk → DiskState) (old new : Node Disk) (event : Event) (result : Result StepReport NodeFault) :
+    Type 0 where
   pub step : IfOk result (Steps disks old new event)
   pub stuck : IfErr result (Stuck disks old new event)
   pub answers : Answers old event (answered result)
@@ -23,5 +24,6 @@ pub record IsCall {Disk : Type 0} (disks : Disk → DiskState) (old new : Node D
   -- over any disk, honest or not
   pub mounting : is_down old.state.phase ≡ true → event ≡ Recover → Remounted old new (answered result) new.mounted
   pub mounted : is_down old.state.phase ≡ true → event ≡ Recover
-      → IfOk result (λ came. IsMountedBy old.doubt came.event_outcome new.mounted) × ReadsDisk disks old.disk new.disk (answered result) new.mounted
+      → IfOk result (λ came. IsMountedBy old.doubt came.event_outcome new.mounted)
+      × ReadsDisk disks old.disk new.disk (answered result) new.mounted
   pub few : IfOk result (λ came. length came.sent.items ≤ most_by old.nodes old.kept)

@@ -36,12 +36,14 @@ BeforeOrAfter slots d wants image = (stands_for slots image ≡ Some d) ⊎ (sta
 -- What a wanted command leaves on an honest disk that stood for what was kept: each image since the call began is from before the
 -- command or after it, and once that is done the disk stands for what is kept now. On any honest disk the area then ends in the
 -- command's records.
-pub record Writes {Disk : Type 0} (disks : Disk → DiskState) (old new : StoreState Disk) (wants : Option Command) (done : Type 0) : Type 0 where
+pub record Writes {Disk : Type 0} (disks : Disk → DiskState) (old new : StoreState Disk) (wants : Option Command) (done : Type 0) :
+    Type 0 where
   pub images : IsTrue (disks old.disk).honest → AllStandFor old.journal.slots (durable_of old) (disks old.disk)
       → Each (disks old.disk) (disks new.disk) (BeforeOrAfter old.journal.slots (durable_of old) wants)
   pub after : IsTrue (disks old.disk).honest → AllStandFor old.journal.slots (durable_of old) (disks old.disk)
       → done → AllStandFor old.journal.slots (durable_of new) (disks new.disk)
-  pub spelled : IsTrue (disks old.disk).honest → done → AllEndIn (area_of new) (records_at (durable_of old) (area_of old) wants) (disks new.disk)
+  pub spelled : IsTrue (disks old.disk).honest → done → AllEndIn (area_of new) (records_at (durable_of old) (area_of old) wants)
+      (disks new.disk)
 
 -- the store may take the command
 pub record MayTake (slots : ℕ) (d : Durable) (wants : Option Command) : Type 0 where

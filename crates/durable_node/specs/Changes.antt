@@ -16,7 +16,8 @@ view_of s = record { phase = s.phase; coordinator = s.coordinator; group = s.gro
 
 -- of a node that is down its phase alone is told
 abbrev pub same_view : GroupView → GroupView → Bool
-same_view old new = in_phase old.phase new.phase && (is_down new.phase || (old.coordinator == new.coordinator && same_group old.group new.group && pointwise nat_eq old.members new.members))
+same_view old new = in_phase old.phase new.phase && (is_down new.phase
+    || (old.coordinator == new.coordinator && same_group old.group new.group && pointwise nat_eq old.members new.members))
 
 -- what is told, where another thing was told before
 abbrev pub told_anew : GroupView → GroupView → Option GroupView

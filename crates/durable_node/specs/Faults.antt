@@ -9,7 +9,8 @@ use Rattle.durable_node.specs.declared.fault.NodeFault.{NodeFault}
 use Rattle.durable_node.specs.declared.fault.NodeFault.TheVariants as node
 use Rattle.durable_node.specs.declared.step_report.StepReport.{StepReport}
 use Rattle.histories.specs.declared.event_outcome.EventOutcome.{EventOutcome}
-use Rattle.histories.specs.declared.event_outcome.EventOutcome.TheVariants.{Done, Refused, Faulted, Recovered, MountFailed, RaiseFailed, RaiseRefused}
+use Rattle.histories.specs.declared.event_outcome.EventOutcome.TheVariants.{Done, Refused, Faulted, Recovered, MountFailed, RaiseFailed}
+use Rattle.histories.specs.declared.event_outcome.EventOutcome.TheVariants.{RaiseRefused}
 
 -- why an event is refused, as it is answered: a caller sees no areas
 abbrev pub shown : Refusal → NodeFault

@@ -67,7 +67,12 @@ area_in false (Some store) = Some (area_of store)
 abbrev pub mounted_in : {Disk : Type 0} → Option ℕ → Option (StoreState Disk) → Option Durable
 mounted_in None store = None
 mounted_in (Some count) None = None
-mounted_in (Some count) (Some store) = Some (record { counter = count; next = store.journal.table.next; pending = store.journal.table.pending })
+mounted_in (Some count) (Some store) = Some (record {
+  counter = count;
+  next = store.journal.table.next;
+  pending =
+      store.journal.table.pending;
+})
 
 -- a node of these parts
 abbrev pub node_with : {Disk : Type 0} → ℕ → ℕ → Core → NodeDisk Disk → Option (Wanted × ℕ) → Option ℕ → Node Disk

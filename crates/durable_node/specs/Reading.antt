@@ -21,16 +21,19 @@ IsUnread slots image (node.Damaged sector) = IsRefusedFor slots image (store.Dam
 IsUnread slots image node.TooSmall = Unit {0}
 
 -- what a mounting answers and gives, by what its disk held before
-pub record IsRead {Disk : Type 0} (disks : Disk → DiskState) (was now : Disk) (result : Result StepReport NodeFault) (mounted : Option Durable) : Type 0 where
+pub record IsRead {Disk : Type 0} (disks : Disk → DiskState) (was now : Disk) (result : Result StepReport NodeFault)
+    (mounted : Option Durable) : Type 0 where
   -- with fewer than 24 sectors, and only then, it is too small, and isn't called
   pub too_small : IsErrOf result node.TooSmall ↔ ((disks was).sectors < 24)
   pub uncalled : IsErrOf result node.TooSmall → now ≡ was
   -- an honest disk is refused for what reads give, or what is mounted is what they stand for
   pub refused : IsTrue (disks was).honest → IfErr result (IsUnread (slots_for (disks was).sectors) (disks was).contents)
-  pub finds : IsTrue (disks was).honest → (d : Durable) → mounted ≡ Some d → stands_for (slots_for (disks was).sectors) (disks was).contents ≡ Some d
+  pub finds : IsTrue (disks was).honest → (d : Durable) → mounted ≡ Some d
+      → stands_for (slots_for (disks was).sectors) (disks was).contents ≡ Some d
   -- and where nothing is mounted, nothing is written
   pub unwritten : IsTrue (disks was).honest → mounted ≡ None → Run nothing (disks was) (disks now)
 
 -- the same of a node's disk, from before the call and after it
-abbrev pub ReadsDisk : {Disk : Type 0} → (Disk → DiskState) → Option Disk → Option Disk → Result StepReport NodeFault → Option Durable → Type 0
+abbrev pub ReadsDisk : {Disk : Type 0} → (Disk → DiskState) → Option Disk → Option Disk → Result StepReport NodeFault → Option Durable
+    → Type 0
 ReadsDisk {Disk} disks old new result mounted = (was now : Disk) → old ≡ Some was → new ≡ Some now → IsRead disks was now result mounted

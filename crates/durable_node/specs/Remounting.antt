@@ -35,7 +35,8 @@ pub record IsRiseFailed (mounted now : Durable) (old new : Core) (in_doubt : Opt
   pub doubt : in_doubt ≡ Some (wanted.Raise, mounted.counter)
 
 -- what came of the raise and what it left, where the command that was in doubt was mounted, or wasn't
-abbrev pub HasRisen : {Disk : Type 0} → ℕ → Bool → Core → Core → StoreState Disk → StoreState Disk → Option (Wanted × ℕ) → Option (Wanted × ℕ) → StepReport → EventOutcome → Type 0
+abbrev pub HasRisen : {Disk : Type 0} → ℕ → Bool → Core → Core → StoreState Disk → StoreState Disk → Option (Wanted × ℕ)
+    → Option (Wanted × ℕ) → StepReport → EventOutcome → Type 0
 HasRisen self kept core core' store store' doubt doubt' came (Recovered k) =
     (k ≡ kept) × IsRisen self (durable_of store) (durable_of store') core' doubt' came × IsFalse store'.broken
 HasRisen self kept core core' store store' doubt doubt' came (RaiseFailed k) =
@@ -84,7 +85,9 @@ IsUnmounted node.TooSmall = Unit {0}
 abbrev pub Remounted : {Disk : Type 0} → Node Disk → Node Disk → Result StepReport NodeFault → Option Durable → Type 0
 Remounted old new (Ok came) None = ⊥
 Remounted old new (Ok came) (Some mounted) =
-    (new.kept ≡ Some (after_command mounted Raise)) × (new.state ≡ alone old.id (mounted.counter + 1)) × (new.doubt ≡ None) × (came.sent.items ≡ []) × (came.answer ≡ Some (mounted.counter + 1)) × (mounted.counter + 1 < 2 ^ 64)
+    (new.kept ≡ Some (after_command mounted Raise)) × (new.state ≡ alone old.id (mounted.counter + 1)) × (new.doubt ≡ None)
+    × (came.sent.items ≡ []) × (came.answer ≡ Some (mounted.counter + 1)) × (mounted.counter + 1 < 2 ^ 64)
 Remounted old new (Err fault) None = IsUnmounted fault × (new.state ≡ old.state) × (new.doubt ≡ old.doubt)
 Remounted old new (Err fault) (Some mounted) =
-    (new.state ≡ old.state) × (((fault ≡ node.Device) × (new.doubt ≡ Some (wanted.Raise, mounted.counter)) × (mounted.counter + 1 < 2 ^ 64)) ⊎ ((fault ≡ node.Exhausted) × (mounted.counter ≡ 2 ^ 64 - 1) × (new.doubt ≡ old.doubt)))
+    (new.state ≡ old.state) × (((fault ≡ node.Device) × (new.doubt ≡ Some (wanted.Raise, mounted.counter)) × (mounted.counter + 1 < 2 ^ 64))
+    ⊎ ((fault ≡ node.Exhausted) × (mounted.counter ≡ 2 ^ 64 - 1) × (new.doubt ≡ old.doubt)))

@@ -1,5 +1,6 @@
 -- What a call of a node does, and how it is answered.
-use Rattle.std.specs.Prelude.{ℕ, ◌≡◌, ◌+◌, Bool, true, false, if◌then◌else◌, IsTrue, IsFalse, IsSome, IsOk, IsErrOf, [], Option, Some, None, option_map, Result}
+use Rattle.std.specs.Prelude.{ℕ, ◌≡◌, ◌+◌, Bool, true, false, if◌then◌else◌, IsTrue, IsFalse, IsSome, IsOk, IsErrOf, [], Option, Some, None}
+use Rattle.std.specs.Prelude.{option_map, Result}
 use Rattle.sector_disk.specs.Disk.{DiskState, Counts}
 use Rattle.job_journal.specs.Journal.{RisesByOne}
 use Rattle.job_model.specs.Answer.{answer_of}
@@ -44,7 +45,8 @@ is_recover event = false
 -- ---- an event at a node that is up
 
 -- the event was handled, and its command is on the disk
-pub record IsDone (slots nodes self : ℕ) (s : State) (d : Durable) (event : Event) (s' : State) (d' : Durable) (came : StepReport) : Type 0 where
+pub record IsDone (slots nodes self : ℕ) (s : State) (d : Durable) (event : Event) (s' : State) (d' : Durable) (came : StepReport) :
+    Type 0 where
   pub handled : IsHandled nodes self s d event s' d' came.sent.items
   pub fits : IsFull slots d (wants_of self d.pending event s) → ⊥
   pub answer : came.answer ≡ option_map (answer_of d) (wants_of self d.pending event s)
@@ -65,17 +67,21 @@ abbrev pub IsSilent : StepReport → Type 0
 IsSilent came = (came.sent.items ≡ []) × (came.answer ≡ None)
 
 -- the core's state, the store and the command in doubt are as they were
-pub record IsAsBefore {Disk : Type 0} (core core' : Core) (store store' : StoreState Disk) (doubt doubt' : Option (Wanted × ℕ)) : Type 0 where
+pub record IsAsBefore {Disk : Type 0} (core core' : Core) (store store' : StoreState Disk) (doubt doubt' : Option (Wanted × ℕ)) :
+    Type 0 where
   pub same_state : core'.state ≡ core.state
   pub same_store : store' ≡ store
   pub same_doubt : doubt' ≡ doubt
 
 -- what came of the event, and what it left
-abbrev pub IsServed : {Disk : Type 0} → ℕ → ℕ → Core → Core → StoreState Disk → StoreState Disk → Option (Wanted × ℕ) → Option (Wanted × ℕ) → Event → StepReport → EventOutcome → Type 0
+abbrev pub IsServed : {Disk : Type 0} → ℕ → ℕ → Core → Core → StoreState Disk → StoreState Disk → Option (Wanted × ℕ) → Option (Wanted × ℕ)
+    → Event → StepReport → EventOutcome → Type 0
 IsServed nodes self core core' store store' doubt doubt' event came event_outcome.Done =
-    IsDone store.journal.slots nodes self core.state (durable_of store) event core'.state (durable_of store') came × IsFalse store'.broken × (doubt' ≡ doubt)
+    IsDone store.journal.slots nodes self core.state (durable_of store) event core'.state (durable_of store') came × IsFalse store'.broken
+    × (doubt' ≡ doubt)
 IsServed nodes self core core' store store' doubt doubt' event came (event_outcome.Refused why) =
-    IsTurnedAway store.journal.slots nodes self core.state (durable_of store) event why × IsSilent came × IsAsBefore core core' store store' doubt doubt'
+    IsTurnedAway store.journal.slots nodes self core.state (durable_of store) event why × IsSilent came
+    × IsAsBefore core core' store store' doubt doubt'
 IsServed nodes self core core' store store' doubt doubt' event came event_outcome.Faulted =
     IsFailed store.journal.slots nodes self core.state (durable_of store) event × IsSilent came × (core'.state ≡ down self)
     × (doubt' ≡ shown_doubt (durable_of store) (wants_of self (durable_of store).pending event core.state))
@@ -112,7 +118,8 @@ answer_at self nodes s (Recovered kept) = Some ((settled kept s).counter + 1)
 answer_at self nodes s what = None
 
 -- this came of the event, and so the call answers it
-pub record Does (slots self nodes : ℕ) (s : NodeState) (event : Event) (came : StepReport) (shown : Option Durable) (what : HistoryEvent) : Type 0 where
+pub record Does (slots self nodes : ℕ) (s : NodeState) (event : Event) (came : StepReport) (shown : Option Durable) (what : HistoryEvent) :
+    Type 0 where
   pub of : IsOf event what
   pub possible : IsPossible self nodes s what
   pub of_slots : IsOfSlots slots self nodes s what
@@ -129,7 +136,8 @@ IsMounting s event = (is_down s.phase ≡ true) × (is_recover event ≡ true)
 abbrev pub Steps : {Disk : Type 0} → (Disk → DiskState) → Node Disk → Node Disk → Event → StepReport → Type 0
 Steps {Disk} disks old new event came =
     (disk : Disk) (s : NodeState) → old.disk ≡ Some disk → Stands disks old s → (IsMounting old.state event → IsTrue (disks disk).honest) →
-    Does (slots_for (disks disk).sectors) old.id old.nodes s event came new.mounted (what_of event came.event_outcome) × Stands disks new (after old.id old.nodes s (what_of event came.event_outcome))
+    Does (slots_for (disks disk).sectors) old.id old.nodes s event came new.mounted (what_of event came.event_outcome)
+    × Stands disks new (after old.id old.nodes s (what_of event came.event_outcome))
 
 -- the disk can't be mounted, which no disk of a node's history is, and nothing but the disk has changed
 pub record IsUnmountable {Disk : Type 0} (disks : Disk → DiskState) (old new : Node Disk) (event : Event) : Type 0 where
@@ -143,7 +151,8 @@ may_take_memory node event = if is_down node.state.phase then is_recover event e
 
 -- the event came to nothing, for want of memory or of a disk that can be mounted, and left the node as it was
 abbrev pub Stuck : {Disk : Type 0} → (Disk → DiskState) → Node Disk → Node Disk → Event → NodeFault → Type 0
-Stuck disks old new event (node.Core fault) = (fault ≡ NoMemory) × (new ≡ record old { mounted = None }) × (may_take_memory old event ≡ true)
+Stuck disks old new event (node.Core fault) = (fault ≡ NoMemory) × (new ≡ record old { mounted = None })
+    × (may_take_memory old event ≡ true)
 Stuck disks old new event node.Full = ⊥
 Stuck disks old new event node.Exhausted = ⊥
 Stuck disks old new event node.Device = ⊥
@@ -152,7 +161,8 @@ Stuck disks old new event (node.Damaged sector) = IsUnmountable disks old new ev
 Stuck disks old new event node.TooSmall = IsUnmountable disks old new event
 
 -- what becomes of an area by a wanted command: what the call leaves of it, and on an honest disk the command's records at its end
-pub record IsAreaAfter {Disk A : Type 0} (disks : Disk → DiskState) (old new : Node Disk) (d : Durable) (area : Area) (wants : Option Command) (result : Result A NodeFault) : Type 0 where
+pub record IsAreaAfter {Disk A : Type 0} (disks : Disk → DiskState) (old new : Node Disk) (d : Durable) (area : Area)
+    (wants : Option Command) (result : Result A NodeFault) : Type 0 where
   pub leaves : LeavesArea d area wants result new.area
   pub spelled : (was now : Disk) → old.disk ≡ Some was → new.disk ≡ Some now → IsTrue (disks was).honest → IsOk result
       → AllEndIn (area_after d area wants) (records_at d area wants) (disks now)
@@ -167,7 +177,8 @@ AreaGoesOn disks old new event result = (d : Durable) (area : Area) → old.kept
 pub record CountsOf {Disk A : Type 0} (disks : Disk → DiskState) (old new : Option Disk) (result : Result A NodeFault) : Type 0 where
   pub was_there : IsSome old
   pub is_there : IsSome new
-  pub counts : (was now : Disk) → old ≡ Some was → new ≡ Some now → Counts (disks was) (disks now) (IsErrOf result node.Device) (IsErrOf result node.Device → ⊥)
+  pub counts : (was now : Disk) → old ≡ Some was → new ≡ Some now
+      → Counts (disks was) (disks now) (IsErrOf result node.Device) (IsErrOf result node.Device → ⊥)
   pub rises : (was now : Disk) → old ≡ Some was → new ≡ Some now → RisesByOne (disks was) (disks now)
 
 -- how many messages a call may hand out at most: none where the node is down

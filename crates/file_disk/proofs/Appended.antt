@@ -4,7 +4,8 @@ use Rattle.std.specs.Io.KnownBytes.{Appends}
 use Rattle.std.proofs.Common.{ap, ◌∙◌}
 use Rattle.std.proofs.lemmas.List.{append_assoc, replicate-append-replicate}
 
-pub more_zeros : (old mid new : Option (List ℕ)) (m n all : ℕ) (piece : List ℕ) → piece ≡ replicate n 0 → m + n ≡ all → Appends old mid (replicate m 0) → Appends mid new piece → Appends old new (replicate all 0)
+pub more_zeros : (old mid new : Option (List ℕ)) (m n all : ℕ) (piece : List ℕ) → piece ≡ replicate n 0 → m + n ≡ all
+    → Appends old mid (replicate m 0) → Appends mid new piece → Appends old new (replicate all 0)
 more_zeros None mid new m n all piece zeros sum before more = tt
 more_zeros (Some xs) None new m n all piece zeros sum before more = absurd before
 more_zeros (Some xs) (Some ys) None m n all piece zeros sum before more = absurd more

@@ -1,5 +1,6 @@
 -- Which ids the words of sets have, whatever list they are given.
-use Rattle.std.proofs.Common.{◌≡◌, ◌≢◌, ℕ, zero, suc, ◌+◌, ◌<◌, Bool, true, false, ◌||◌, List, [], ◌∷◌, length, refl, sym, ◌∙◌, arith, cond, eqb, drop}
+use Rattle.std.proofs.Common.{◌≡◌, ◌≢◌, ℕ, zero, suc, ◌+◌, ◌<◌, Bool, true, false, ◌||◌, List, [], ◌∷◌, length, refl, sym, ◌∙◌, arith, cond}
+use Rattle.std.proofs.Common.{eqb, drop}
 use Rattle.std.proofs.lemmas.Bool.Decides.{nat_tests}
 use Rattle.std.specs.Prelude.{nat_lt}
 use Rattle.group_task.specs.Ids.{has, with_id, without_id, either_of, ids_below, RisesWithin, IsSet}
@@ -38,7 +39,8 @@ has_below (suc n) id = grind (arith, nat_tests, has-with_id n id (ids_below n), 
 pub none_others : (nodes self : ℕ) → AreOthers nodes self []
 none_others nodes self = record { not_self = refl; within = λ id h. absurd cc }
 
-pub with_others : (nodes self : ℕ) (ids : List ℕ) (other : ℕ) → self ≢ other → other < nodes → AreOthers nodes self ids → AreOthers nodes self (with_id ids other)
+pub with_others : (nodes self : ℕ) (ids : List ℕ) (other : ℕ) → self ≢ other → other < nodes → AreOthers nodes self ids
+    → AreOthers nodes self (with_id ids other)
 with_others nodes self ids other ne lt h = record {
   not_self = with_has_other ids other self ne h.not_self;
   within = λ id in_it. grown (eqb id other) (has ids id) id refl (sym (has-with_id other id ids) ∙ in_it) (h.within id);
@@ -58,7 +60,8 @@ without_others nodes self ids other h = record {
     left true c t f = absurd cc
     left false c t f = f t
 
-pub either_others : (nodes self : ℕ) (xs ys : List ℕ) → AreOthers nodes self xs → AreOthers nodes self ys → AreOthers nodes self (either_of xs ys)
+pub either_others : (nodes self : ℕ) (xs ys : List ℕ) → AreOthers nodes self xs → AreOthers nodes self ys
+    → AreOthers nodes self (either_of xs ys)
 either_others nodes self xs ys h k = record {
   not_self = either_has xs ys self h.not_self k.not_self;
   within = λ id in_it. of_one (has xs id) (has ys id) (sym (has-either_of id xs ys) ∙ in_it) (h.within id) (k.within id);
@@ -77,7 +80,8 @@ all_others nodes self = record {
 
 -- ---- how many other nodes there are
 
-narrow : (low high limit : ℕ) (ids : List ℕ) → RisesWithin low high ids → ((id : ℕ) → has ids id ≡ true → id < limit) → RisesWithin low limit ids
+narrow : (low high limit : ℕ) (ids : List ℕ) → RisesWithin low high ids → ((id : ℕ) → has ids id ≡ true → id < limit)
+    → RisesWithin low limit ids
 narrow low high limit [] r h = tt
 narrow low high limit (x ∷ xs) r h =
     (r.0, h x (grind (arith, nat_tests)), narrow (x + 1) high limit xs r.2 (λ id i. h id (grind (arith, nat_tests, i))))

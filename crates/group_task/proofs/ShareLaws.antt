@@ -1,5 +1,6 @@
 -- The queues go to the members in turn, so they are shared evenly.
-use Rattle.std.proofs.Common.{◌≡◌, ◌≢◌, ℕ, zero, suc, ◌+◌, ◌*◌, ◌/◌, ◌%◌, ◌<◌, ◌≤◌, Bool, true, false, cond, ltb, eqb, List, [], ◌∷◌, length, get_or, refl, sym, ap, ◌∙◌, arith, inl, inr, add-one, add-zero}
+use Rattle.std.proofs.Common.{◌≡◌, ◌≢◌, ℕ, zero, suc, ◌+◌, ◌*◌, ◌/◌, ◌%◌, ◌<◌, ◌≤◌, Bool, true, false, cond, ltb, eqb, List, [], ◌∷◌}
+use Rattle.std.proofs.Common.{length, get_or, refl, sym, ap, ◌∙◌, arith, inl, inr, add-one, add-zero}
 use Rattle.std.proofs.lemmas.Bool.{cases_lt, cases_order}
 use Rattle.std.proofs.lemmas.Bool.Decides.{nat_tests}
 use Rattle.std.proofs.lemmas.Nat.{div-mul-add, mod-mul-add, div-add-mod', mod_below}
@@ -29,7 +30,8 @@ later_is_greater low limit zero (suc j) (x ∷ xs) r lt within = omega (arith, a
 later_is_greater low limit (suc i) (suc j) (x ∷ xs) r lt within = later_is_greater (x + 1) limit i j xs r.2 (omega arith) (omega arith)
 
 -- two places hold the same id only where they are one place
-same_place : (low limit i j : ℕ) (xs : List ℕ) → RisesWithin low limit xs → i < length xs → j < length xs → eqb (get_or xs i 0) (get_or xs j 0) ≡ eqb i j
+same_place : (low limit i j : ℕ) (xs : List ℕ) → RisesWithin low limit xs → i < length xs → j < length xs
+    → eqb (get_or xs i 0) (get_or xs j 0) ≡ eqb i j
 same_place low limit i j xs r l m = elim (cases_order i j) [
   | inl same ↦ rw same (grind (arith, nat_tests))
   | inr (inl less) ↦ let e : get_or xs i 0 < get_or xs j 0 = later_is_greater low limit i j xs r less m in grind (arith, nat_tests)
@@ -54,7 +56,8 @@ has_place zero (x ∷ xs) lt = grind (arith, nat_tests)
 has_place (suc i) (x ∷ xs) lt = grind (arith, nat_tests, has_place i xs (omega arith))
 
 -- a rising list has an id once or not at all
-counted_once : (id low limit sum : ℕ) (xs : List ℕ) → RisesWithin low limit xs → fold (λ (s x : ℕ). s + cond (eqb id x) 1 0) sum xs ≡ sum + one_if (has xs id)
+counted_once : (id low limit sum : ℕ) (xs : List ℕ) → RisesWithin low limit xs
+    → fold (λ (s x : ℕ). s + cond (eqb id x) 1 0) sum xs ≡ sum + one_if (has xs id)
 counted_once id low limit sum [] r = omega arith
 counted_once id low limit sum (x ∷ xs) r =
     let rest = counted_once id (x + 1) limit (sum + cond (eqb id x) 1 0) xs r.2 in
@@ -141,7 +144,8 @@ counted_turns test n place from (suc many) sum same e =
     let moved : from + suc many ≡ from + 1 + many = omega arith in
     rw moved (counted_turns test n place (from + 1) many (sum + cond (test from) 1 0) same grown)
 
-queues_of_place : (members : List ℕ) (place : ℕ) → IsSet members → place < length members → queues_of members (get_or members place 0) ≡ turns QUEUES (length members) place
+queues_of_place : (members : List ℕ) (place : ℕ) → IsSet members → place < length members
+    → queues_of members (get_or members place 0) ≡ turns QUEUES (length members) place
 unfolding turns
 queues_of_place members place set lt =
     counted_turns (λ queue. eqb (owner_of members queue) (get_or members place 0)) (length members) place 0 QUEUES 0
@@ -152,6 +156,8 @@ pub even_shares : IsEven
 even_shares members a b set has_a has_b =
     let p = place_of a members has_a in
     let q = place_of b members has_b in
-    let e : queues_of members a ≡ turns QUEUES (length members) p.0 = ap (λ id. queues_of members id) (sym p.2) ∙ queues_of_place members p.0 set p.1 in
-    let f : queues_of members b ≡ turns QUEUES (length members) q.0 = ap (λ id. queues_of members id) (sym q.2) ∙ queues_of_place members q.0 set q.1 in
+    let e : queues_of members a ≡ turns QUEUES (length members) p.0 = ap (λ id. queues_of members id) (sym p.2)
+    ∙ queues_of_place members p.0 set p.1 in
+    let f : queues_of members b ≡ turns QUEUES (length members) q.0 = ap (λ id. queues_of members id) (sym q.2)
+    ∙ queues_of_place members q.0 set q.1 in
     omega (arith, e, f, even_turns QUEUES (length members) p.0 q.0 p.1 q.1)

@@ -36,7 +36,8 @@ word_of-ids_from : (n low w : ℕ) → w < 2 ^ n → word_of (ids_from n low w) 
 word_of-ids_from zero low w lt = let e : w ≡ 0 = omega arith in rw e (omega arith)
 word_of-ids_from (suc n) low w lt =
     let half : w / 2 < 2 ^ n = omega (arith, pow-suc 2 n) in
-    let ih : word_of (ids_from n (low + 1) (w / 2)) ≡ 2 ^ low * 2 * (w / 2) = word_of-ids_from n (low + 1) (w / 2) half ∙ ap (λ x. x * (w / 2)) (pow-add 2 low 1) in
+    let ih : word_of (ids_from n (low + 1) (w / 2)) ≡ 2 ^ low * 2 * (w / 2) = word_of-ids_from n (low + 1) (w / 2) half
+    ∙ ap (λ x. x * (w / 2)) (pow-add 2 low 1) in
     of_either (2 ^ low * w) (eqb (w % 2) 1) (low ∷ ids_from n (low + 1) (w / 2)) (ids_from n (low + 1) (w / 2))
     (λ e. ap (λ x. 2 ^ low + x) ih ∙ odd_word (2 ^ low) w (eqb-true (w % 2) 1 e))
     (λ e. ih ∙ even_word (2 ^ low) w (eqb-false (w % 2) 1 e))

@@ -1,5 +1,6 @@
 -- Elements of lists.
-use Rattle.std.proofs.Common.{◌≡◌, ◌⊎◌, ℕ, zero, suc, Bool, true, false, List, [], ◌∷◌, ◌++◌, refl, sym, inl, inr, subst, Some, slice_get, map}
+use Rattle.std.proofs.Common.{◌≡◌, ◌⊎◌, ℕ, zero, suc, Bool, true, false, List, [], ◌∷◌, ◌++◌, refl, sym, inl, inr, subst, Some, slice_get}
+use Rattle.std.proofs.Common.{map}
 use Rattle.std.specs.Prelude.{if◌then◌else◌}
 use Rattle.std.specs.List.{filter}
 use Rattle.job_model.specs.declared.job.Job.{Job}
@@ -21,7 +22,10 @@ among_right x (y ∷ xs) ys h = inr (among_right x xs ys h)
 
 pub among_either : {A : Type 0} (x : A) (xs ys : List A) → IsAmong x (xs ++ ys) → IsAmong x xs ⊎ IsAmong x ys
 among_either x [] ys h = inr h
-among_either x (y ∷ xs) ys h = elim h [ inl e ↦ inl (inl e) | inr i ↦ elim (among_either x xs ys i) [ inl l ↦ inl (inr l) | inr r ↦ inr r ] ]
+among_either x (y ∷ xs) ys h = elim h [
+  | inl e ↦ inl (inl e)
+  | inr i ↦ elim (among_either x xs ys i) [ inl l ↦ inl (inr l) | inr r ↦ inr r ]
+]
 
 -- what all send, one of them sends
 pub record SentBy (m : Envelope) (histories : List (List Entry)) : Type 0 where
@@ -37,9 +41,11 @@ sent_by_one m (h ∷ hs) i = elim (among_either m (sent_in h) (sent_by_all hs) i
   | inr r ↦ (let s = sent_by_one m hs r in record { node = suc s.node; history = s.history; at = s.at; sent = s.sent })
 ]
 
-pub sent_of_one : (m : Envelope) (hs : List (List Entry)) (n : ℕ) (h : List Entry) → slice_get hs n ≡ Some h → IsAmong m (sent_in h) → IsAmong m (sent_by_all hs)
+pub sent_of_one : (m : Envelope) (hs : List (List Entry)) (n : ℕ) (h : List Entry) → slice_get hs n ≡ Some h → IsAmong m (sent_in h)
+    → IsAmong m (sent_by_all hs)
 sent_of_one m [] n h at i = absurd cc
-sent_of_one m (x ∷ hs) zero h at i = among_left m (sent_in x) (sent_by_all hs) (let e : x ≡ h = cc (at) in subst (λ (y : List Entry). IsAmong m (sent_in y)) (sym e) i)
+sent_of_one m (x ∷ hs) zero h at i = among_left m (sent_in x) (sent_by_all hs)
+    (let e : x ≡ h = cc (at) in subst (λ (y : List Entry). IsAmong m (sent_in y)) (sym e) i)
 sent_of_one m (x ∷ hs) (suc n) h at i = among_right m (sent_in x) (sent_by_all hs) (sent_of_one m hs n h at i)
 
 -- ---- what holds of each element
@@ -73,7 +79,8 @@ by_test R true xs ys t f = t refl
 by_test R false xs ys t f = f refl
 
 -- of those that pass the test
-pub each_chosen : {A B : Type 0} (P : A → Type 0) (Q : B → Type 0) (f : A → B) (test : A → Bool) (xs : List A) → ((x : A) → test x ≡ true → P x → Q (f x)) → Each P xs → Each Q (map f (filter test xs))
+pub each_chosen : {A B : Type 0} (P : A → Type 0) (Q : B → Type 0) (f : A → B) (test : A → Bool) (xs : List A)
+    → ((x : A) → test x ≡ true → P x → Q (f x)) → Each P xs → Each Q (map f (filter test xs))
 each_chosen P Q f test [] g h = tt
 each_chosen P Q f test (x ∷ xs) g h =
     let rest = each_chosen P Q f test xs g h.1 in
@@ -81,7 +88,8 @@ each_chosen P Q f test (x ∷ xs) g h =
 
 pub each_left : {A : Type 0} (P : A → Type 0) (test : A → Bool) (xs : List A) → Each P xs → Each P (filter test xs)
 each_left P test [] h = tt
-each_left P test (x ∷ xs) h = by_test (λ ys. Each P ys) (test x) (x ∷ filter test xs) (filter test xs) (λ t. (h.0, each_left P test xs h.1)) (λ t. each_left P test xs h.1)
+each_left P test (x ∷ xs) h = by_test (λ ys. Each P ys) (test x) (x ∷ filter test xs) (filter test xs) (λ t. (h.0, each_left P test xs h.1))
+    (λ t. each_left P test xs h.1)
 
 -- of jobs in the order in which they are dispatched
 pub each_by_priority : (P : Job → Type 0) (jobs : List Job) → Each P jobs → Each P (by_priority jobs)

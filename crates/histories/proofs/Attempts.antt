@@ -16,18 +16,25 @@ use Rattle.histories.proofs.Wanted.{MayWant, wants_none, raises, puts, ends, may
 abbrev IsWhole : Option Work → Option Command → Type 0
 IsWhole work command = command_with work (option_map attempt_of command) ≡ command
 
-is_whole : (self : ℕ) (pending : List Job) (event : Event) (wants : Option Command) → MayWant self pending event wants → IsWhole (work_of event) wants
+is_whole : (self : ℕ) (pending : List Job) (event : Event) (wants : Option Command) → MayWant self pending event wants
+    → IsWhole (work_of event) wants
 is_whole self pending event wants (wants_none is) = rw is refl
 is_whole self pending event wants (raises is) = rw is refl
 is_whole self pending event wants (puts work of is) = rw (is, of) refl
 is_whole self pending event wants (ends id there why is) = rw is refl
 
 -- the command that an event wants has no work but that of the event
-pub wanted_whole : (self : ℕ) (pending : List Job) (event : Event) (s : State) → command_for event (option_map attempt_of (wants_of self pending event s)) ≡ wants_of self pending event s
+pub wanted_whole : (self : ℕ) (pending : List Job) (event : Event) (s : State)
+    → command_for event (option_map attempt_of (wants_of self pending event s)) ≡ wants_of self pending event s
 wanted_whole self pending event s = is_whole self pending event (wants_of self pending event s) (may_want self pending event s)
 
-pub tried_wanted : (self : ℕ) (pending : List Job) (event : Event) (s : State) (tried : Option CommandKind) → tried ≡ option_map attempt_of (wants_of self pending event s) → IsTriedAt event tried (wants_of self pending event s)
-tried_wanted self pending event s tried is = record { which = is; whole = ap (λ (t : Option CommandKind). command_for event t) is ∙ wanted_whole self pending event s }
+pub tried_wanted : (self : ℕ) (pending : List Job) (event : Event) (s : State) (tried : Option CommandKind)
+    → tried ≡ option_map attempt_of (wants_of self pending event s) → IsTriedAt event tried (wants_of self pending event s)
+tried_wanted self pending event s tried is = record {
+  which = is;
+  whole = ap (λ (t : Option CommandKind). command_for event t) is
+      ∙ wanted_whole self pending event s;
+}
 
 pub tried_raise : (event : Event) (tried : Option CommandKind) → tried ≡ Some attempt.Raise → IsTriedAt event tried (Some Raise)
 tried_raise event tried is = record { which = is; whole = ap (λ (t : Option CommandKind). command_for event t) is }

@@ -6,14 +6,16 @@ use Rattle.job_model.specs.Durable.{Durable}
 use Rattle.job_model.specs.Fold.{after_wanted}
 use Rattle.histories.specs.NodeState.{NodeState, opening, wants_at, settled}
 use Rattle.histories.specs.declared.history_event.HistoryEvent.{HistoryEvent}
-use Rattle.histories.specs.declared.history_event.HistoryEvent.TheVariants.{Did, Refused, Faulted, NoOp, Crashed, Recovered, MountFailed, RaiseFailed, RaiseRefused}
+use Rattle.histories.specs.declared.history_event.HistoryEvent.TheVariants.{Did, Refused, Faulted, NoOp, Crashed, Recovered, MountFailed}
+use Rattle.histories.specs.declared.history_event.HistoryEvent.TheVariants.{RaiseFailed, RaiseRefused}
 use Rattle.histories.specs.HistoryEvent.{Entry}
 use Rattle.histories.specs.After.{after, given_at, raised}
 use Rattle.histories.specs.History.{counts_given, replay}
 use Rattle.histories.specs.Rising.{Rises, EachBundleRises}
 use Rattle.histories.specs.Counts.{FewCounts}
 
-wanted_rises : (d : Durable) (wants : Option Command) (last : ℕ) (rest : List ℕ) → last ≤ d.counter → Rises (after_wanted d wants).counter rest
+wanted_rises : (d : Durable) (wants : Option Command) (last : ℕ) (rest : List ℕ) → last ≤ d.counter
+    → Rises (after_wanted d wants).counter rest
     → ((low high : ℕ) → low ≤ high → Rises high rest → Rises low rest) → Rises last (raised d wants ++ rest)
 wanted_rises d None last rest le h lower = lower last d.counter le h
 wanted_rises d (Some Raise) last rest le h lower = (omega arith, h)
@@ -34,7 +36,8 @@ pub settled_grows : (kept : Bool) (s : NodeState) → s.durable.counter ≤ (set
 settled_grows true s = wanted_grows s.durable s.doubt
 settled_grows false s = omega arith
 
-step_rises : (self nodes : ℕ) (s : NodeState) (what : HistoryEvent) (last : ℕ) (rest : List ℕ) → last ≤ s.durable.counter → Rises (after self nodes s what).durable.counter rest
+step_rises : (self nodes : ℕ) (s : NodeState) (what : HistoryEvent) (last : ℕ) (rest : List ℕ) → last ≤ s.durable.counter
+    → Rises (after self nodes s what).durable.counter rest
     → Rises last (given_at self nodes s what ++ rest)
 step_rises self nodes s (Did event) last rest le h = wanted_rises s.durable (wants_at self nodes s event) last rest le h (rises_lower rest)
 step_rises self nodes s (Refused event fault) last rest le h = rises_lower rest last s.durable.counter le h
@@ -43,10 +46,12 @@ step_rises self nodes s (Faulted event) last rest le h = rises_lower rest last s
 step_rises self nodes s Crashed last rest le h = rises_lower rest last s.durable.counter le h
 step_rises self nodes s (Recovered kept) last rest le h = (omega (arith, settled_grows kept s), h)
 step_rises self nodes s MountFailed last rest le h = rises_lower rest last s.durable.counter le h
-step_rises self nodes s (RaiseFailed kept) last rest le h = rises_lower rest last (settled kept s).counter (omega (arith, settled_grows kept s)) h
+step_rises self nodes s (RaiseFailed kept) last rest le h =
+    rises_lower rest last (settled kept s).counter (omega (arith, settled_grows kept s)) h
 step_rises self nodes s (RaiseRefused kept) last rest le h = rises_lower rest last s.durable.counter le h
 
-pub counts_rise : (self nodes : ℕ) (s : NodeState) (es : List Entry) (last : ℕ) → last ≤ s.durable.counter → Rises last (counts_given self nodes s es)
+pub counts_rise : (self nodes : ℕ) (s : NodeState) (es : List Entry) (last : ℕ) → last ≤ s.durable.counter
+    → Rises last (counts_given self nodes s es)
 counts_rise self nodes s [] last le = tt
 counts_rise self nodes s (e ∷ es) last le =
     step_rises self nodes s e.what last (counts_given self nodes (after self nodes s e.what) es) le
@@ -85,7 +90,11 @@ settled_highest true s = wanted_highest s.durable s.doubt
 settled_highest false s = omega arith
 
 pub highest_after : (self nodes : ℕ) (s : NodeState) (what : HistoryEvent) → highest (after self nodes s what) ≤ highest s + 1
-highest_after self nodes s (Did event) = omega (arith, wanted_highest s.durable (wants_at self nodes s event), raises_once (wants_at self nodes s event))
+highest_after self nodes s (Did event) = omega (
+  arith,
+  wanted_highest s.durable (wants_at self nodes s event),
+  raises_once (wants_at self nodes s event),
+)
 highest_after self nodes s (Refused event fault) = omega arith
 highest_after self nodes s (Faulted event) = omega (arith, raises_once (wants_at self nodes s event))
 highest_after self nodes s (NoOp why) = omega arith
@@ -100,4 +109,8 @@ highest_of self nodes s [] = omega arith
 highest_of self nodes s (e ∷ es) = omega (arith, highest_of self nodes (after self nodes s e.what) es, highest_after self nodes s e.what)
 
 pub few_counts : FewCounts
-few_counts self nodes h kept = omega (arith, highest_of self nodes (opening self) h, settled_highest kept (replay self nodes (opening self) h))
+few_counts self nodes h kept = omega (
+  arith,
+  highest_of self nodes (opening self) h,
+  settled_highest kept (replay self nodes (opening self) h),
+)

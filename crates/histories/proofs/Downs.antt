@@ -21,7 +21,8 @@ body_wants_none : (self from : ℕ) (pending : List Job) (body : Body) → deliv
 body_wants_none self from pending (Here group agreed) = refl
 body_wants_none self from pending body = refl
 
-pub down_wants_none : (self nodes : ℕ) (pending : List Job) (event : Event) → IsForNode (down self) event → refusal_of nodes self event (down self) ≡ None → wants_of self pending event (down self) ≡ None
+pub down_wants_none : (self nodes : ℕ) (pending : List Job) (event : Event) → IsForNode (down self) event
+    → refusal_of nodes self event (down self) ≡ None → wants_of self pending event (down self) ≡ None
 down_wants_none self nodes pending (Timer timer.Merge) up h = refl
 down_wants_none self nodes pending (Deliver m) up h = body_wants_none self m.sender pending m.body
 down_wants_none self nodes pending (Submit work) up h = absurd cc
@@ -35,14 +36,19 @@ pub record StaysDown (self nodes : ℕ) (s : NodeState) (event : Event) : Type 0
   pub sent : (effect_at self nodes s event).sent ≡ []
   pub wants : wants_at self nodes s event ≡ None
 
-pub at_down : (self nodes : ℕ) (s : NodeState) (event : Event) → s.state ≡ down self → IsForNode s.state event → refusal_of nodes self event s.state ≡ None → StaysDown self nodes s event
+pub at_down : (self nodes : ℕ) (s : NodeState) (event : Event) → s.state ≡ down self → IsForNode s.state event
+    → refusal_of nodes self event s.state ≡ None → StaysDown self nodes s event
 at_down self nodes s event is up taken =
     let for_down : IsForNode (down self) event = subst (λ (v : State). IsForNode v event) is up in
-    let taken_down : refusal_of nodes self event (down self) ≡ None = subst (λ (v : State). refusal_of nodes self event v ≡ None) is taken in
+    let taken_down : refusal_of nodes self event (down self) ≡ None =
+    subst (λ (v : State). refusal_of nodes self event v ≡ None) is taken in
     let still : effect_at self nodes s event ≡ quietly (down self) =
-    subst (λ (v : State). effect_of nodes self s.durable.pending event (answer_to s.durable (wants_of self s.durable.pending event v)) v ≡ quietly (down self)) (sym is)
-    (stays_down self nodes s.durable.pending event (answer_to s.durable (wants_of self s.durable.pending event (down self))) for_down taken_down) in record {
+    subst (λ (v : State). effect_of nodes self s.durable.pending event (answer_to s.durable (wants_of self s.durable.pending event v)) v
+    ≡ quietly (down self)) (sym is)
+    (stays_down self nodes s.durable.pending event (answer_to s.durable (wants_of self s.durable.pending event (down self))) for_down
+    taken_down) in record {
       state = ap (λ (e : Effect). e.state) still;
       sent = ap (λ (e : Effect). e.sent) still;
-      wants = subst (λ (v : State). wants_of self s.durable.pending event v ≡ None) (sym is) (down_wants_none self nodes s.durable.pending event for_down taken_down);
+      wants = subst (λ (v : State). wants_of self s.durable.pending event v ≡ None) (sym is)
+          (down_wants_none self nodes s.durable.pending event for_down taken_down);
     }

@@ -11,13 +11,15 @@ use Rattle.node_core.specs.declared.fault.CoreFault.{CoreFault}
 use Rattle.std.specs.Prelude.{not, if◌then◌else◌}
 use Rattle.histories.specs.NodeState.{NodeState, settled}
 use Rattle.histories.specs.declared.history_event.HistoryEvent.{HistoryEvent}
-use Rattle.histories.specs.declared.history_event.HistoryEvent.TheVariants.{Did, Refused, Faulted, NoOp, Crashed, Recovered, MountFailed, RaiseFailed, RaiseRefused}
+use Rattle.histories.specs.declared.history_event.HistoryEvent.TheVariants.{Did, Refused, Faulted, NoOp, Crashed, Recovered, MountFailed}
+use Rattle.histories.specs.declared.history_event.HistoryEvent.TheVariants.{RaiseFailed, RaiseRefused}
 use Rattle.histories.specs.Possible.{IsPossible}
 use Rattle.histories.proofs.Tests.{and_left, eq_nat}
 use Rattle.histories.proofs.Moves.{stays, falls, starts_alone, Enters}
 use Rattle.histories.proofs.Rows.{event_does}
 
-pub entry_does : (P : Group → Type 0) (J Q : ℕ → ℕ → Work → Type 0) (self nodes : ℕ) (s : NodeState) (what : HistoryEvent) → IsPossible self nodes s what → Enters P J Q self nodes s what
+pub entry_does : (P : Group → Type 0) (J Q : ℕ → ℕ → Work → Type 0) (self nodes : ℕ) (s : NodeState) (what : HistoryEvent)
+    → IsPossible self nodes s what → Enters P J Q self nodes s what
 entry_does P J Q self nodes s (Did event) may =
     let row = event_does P J Q self s.state s.durable nodes event may.1.by_core in record {
       made = row.made;
@@ -26,10 +28,39 @@ entry_does P J Q self nodes s (Did event) may =
       holds = λ now next. row.holds (record { before = now; after = next });
       says = λ k now next. row.says k (record { before = now; after = next });
     }
-entry_does P J Q self nodes s (Refused event fault) may = record { made = []; moves = stays refl refl refl refl refl refl; names = λ k. k.place; holds = λ now next w h. h; says = λ k now next. tt }
-entry_does P J Q self nodes s (Faulted event) may = record { made = []; moves = falls refl refl refl; names = λ k up. absurd (up refl); holds = λ now next w h. tt; says = λ k now next. tt }
-entry_does P J Q self nodes s (NoOp rest) may = record { made = []; moves = stays refl refl refl refl refl refl; names = λ k. k.place; holds = λ now next w h. h; says = λ k now next. tt }
-entry_does P J Q self nodes s Crashed may = record { made = []; moves = falls refl refl refl; names = λ k up. absurd (up refl); holds = λ now next w h. tt; says = λ k now next. tt }
+entry_does P J Q self nodes s (Refused event fault) may =
+    record {
+      made = [];
+      moves = stays refl refl refl refl refl refl;
+      names = λ k. k.place;
+      holds = λ now next w h. h;
+      says =
+          λ k now next. tt;
+    }
+entry_does P J Q self nodes s (Faulted event) may = record {
+  made = [];
+  moves = falls refl refl refl;
+  names =
+      λ k up. absurd (up refl);
+  holds = λ now next w h. tt;
+  says = λ k now next. tt;
+}
+entry_does P J Q self nodes s (NoOp rest) may = record {
+  made = [];
+  moves = stays refl refl refl refl refl refl;
+  names =
+      λ k. k.place;
+  holds = λ now next w h. h;
+  says = λ k now next. tt;
+}
+entry_does P J Q self nodes s Crashed may = record {
+  made = [];
+  moves = falls refl refl refl;
+  names = λ k up. absurd (up refl);
+  holds =
+      λ now next w h. tt;
+  says = λ k now next. tt;
+}
 entry_does P J Q self nodes s (Recovered kept) may = record {
   made = [];
   moves = starts_alone ((settled kept s).counter + 1) refl refl refl;
@@ -37,9 +68,30 @@ entry_does P J Q self nodes s (Recovered kept) may = record {
   holds = λ now next w h. tt;
   says = λ k now next. tt;
 }
-entry_does P J Q self nodes s MountFailed may = record { made = []; moves = stays refl refl refl refl refl refl; names = λ k. k.place; holds = λ now next w h. h; says = λ k now next. tt }
-entry_does P J Q self nodes s (RaiseFailed kept) may = record { made = []; moves = falls refl refl refl; names = λ k up. absurd (up refl); holds = λ now next w h. tt; says = λ k now next. tt }
-entry_does P J Q self nodes s (RaiseRefused kept) may = record { made = []; moves = stays refl refl refl refl refl refl; names = λ k. k.place; holds = λ now next w h. h; says = λ k now next. tt }
+entry_does P J Q self nodes s MountFailed may = record {
+  made = [];
+  moves = stays refl refl refl refl refl refl;
+  names =
+      λ k. k.place;
+  holds = λ now next w h. h;
+  says = λ k now next. tt;
+}
+entry_does P J Q self nodes s (RaiseFailed kept) may = record {
+  made = [];
+  moves = falls refl refl refl;
+  names =
+      λ k up. absurd (up refl);
+  holds = λ now next w h. tt;
+  says = λ k now next. tt;
+}
+entry_does P J Q self nodes s (RaiseRefused kept) may = record {
+  made = [];
+  moves = stays refl refl refl refl refl refl;
+  names =
+      λ k. k.place;
+  holds = λ now next w h. h;
+  says = λ k now next. tt;
+}
 
 -- ---- what isn't refused
 
@@ -55,5 +107,6 @@ held_if false false x y h = absurd cc
 pub addressed : (nodes self : ℕ) (m : Envelope) (s : State) → refusal_of nodes self (Deliver m) s ≡ None → m.receiver ≡ self
 addressed nodes self m s h = eq_nat m.receiver self (and_left _ _ (unless (is_known nodes self m) _ h))
 
-pub held_finish : (nodes self origin id : ℕ) (s : State) → refusal_of nodes self (Finish origin id) s ≡ None → (is_down s.phase ≡ false) × (holds s.hand origin id ≡ true)
+pub held_finish : (nodes self origin id : ℕ) (s : State) → refusal_of nodes self (Finish origin id) s ≡ None
+    → (is_down s.phase ≡ false) × (holds s.hand origin id ≡ true)
 held_finish nodes self origin id s h = held_if (is_down s.phase) (holds s.hand origin id) _ _ h

@@ -57,9 +57,11 @@ tested_nodes : (nodes : ℕ) (ids : List ℕ) → list_all (λ (id : ℕ). nat_l
 tested_nodes nodes [] h = tt
 tested_nodes nodes (x ∷ xs) h = (ltb-true x nodes (and_left _ _ h), tested_nodes nodes xs (and_right _ _ h))
 
-held_of_node : (nodes : ℕ) (hand : List InHand) (origin id : ℕ) → Each (λ (job : InHand). job.origin < nodes) hand → holds hand origin id ≡ true → origin < nodes
+held_of_node : (nodes : ℕ) (hand : List InHand) (origin id : ℕ) → Each (λ (job : InHand). job.origin < nodes) hand
+    → holds hand origin id ≡ true → origin < nodes
 held_of_node nodes [] origin id h is = absurd cc
-held_of_node nodes (job ∷ hand) origin id h is = by_first (job.origin == origin && job.id == id) (holds hand origin id) refl is (λ rest. held_of_node nodes hand origin id h.1 rest)
+held_of_node nodes (job ∷ hand) origin id h is = by_first (job.origin == origin && job.id == id)
+    (holds hand origin id) refl is (λ rest. held_of_node nodes hand origin id h.1 rest)
   where
     by_first : (b c : Bool) → (job.origin == origin && job.id == id) ≡ b → (b || c) ≡ true → (c ≡ true → origin < nodes) → origin < nodes
     by_first true c e t f = subst (λ (k : ℕ). k < nodes) (eq_nat job.origin origin (and_left _ _ e)) h.0
@@ -72,14 +74,18 @@ asked_inside nodes from (says.Coordinator agreed) lt = lt
 asked_inside nodes from (says.Accept group) lt = lt
 asked_inside nodes from body lt = tt
 
-brought_inside : (nodes self : ℕ) (s : State) (event : Event) → NamesNodes nodes s → refusal_of nodes self event s ≡ None → Brings (IsNode nodes) (IsNode nodes) (SaidTo nodes) event
+brought_inside : (nodes self : ℕ) (s : State) (event : Event) → NamesNodes nodes s → refusal_of nodes self event s ≡ None
+    → Brings (IsNode nodes) (IsNode nodes) (SaidTo nodes) event
 brought_inside nodes self s (on.Deliver m) h taken =
-    let known : Each (IsNode nodes) (m.sender ∷ ids_in m.body) = tested_nodes nodes (m.sender ∷ ids_in m.body) (and_right _ _ (unless (is_known nodes self m) _ taken)) in
+    let known : Each (IsNode nodes) (m.sender ∷ ids_in m.body) =
+    tested_nodes nodes (m.sender ∷ ids_in m.body) (and_right _ _ (unless (is_known nodes self m) _ taken)) in
     record { known = known.0; names = known.1; asks = asked_inside nodes m.sender m.body known.0 }
-brought_inside nodes self s (on.Finish origin id) h taken = held_of_node nodes s.hand origin id h.hand (held_finish nodes self origin id s taken).1
+brought_inside nodes self s (on.Finish origin id) h taken =
+    held_of_node nodes s.hand origin id h.hand (held_finish nodes self origin id s taken).1
 brought_inside nodes self s event h taken = tt
 
-event_inside : (nodes self : ℕ) (s : State) → self < nodes → NamesNodes nodes s → (pending : List Job) (event : Event) (answer : ℕ) → refusal_of nodes self event s ≡ None
+event_inside : (nodes self : ℕ) (s : State) → self < nodes → NamesNodes nodes s → (pending : List Job) (event : Event) (answer : ℕ)
+    → refusal_of nodes self event s ≡ None
     → Reaches (IsNode nodes) (IsNode nodes) (SaidTo nodes) self s (effect_of nodes self pending event answer s)
 event_inside nodes self s lt h pending event answer taken = event_reaches (IsNode nodes) (IsNode nodes) (SaidTo nodes) nodes self
     (record {
@@ -100,18 +106,23 @@ pub record IsInside (nodes self : ℕ) (s : NodeState) : Type 0 where
   pub node : self < nodes
   pub names : NamesNodes nodes s.state
 
-pub after_inside : (nodes self : ℕ) (s : NodeState) (what : HistoryEvent) → IsPossible self nodes s what → IsInside nodes self s → NamesNodes nodes (after self nodes s what).state
+pub after_inside : (nodes self : ℕ) (s : NodeState) (what : HistoryEvent) → IsPossible self nodes s what → IsInside nodes self s
+    → NamesNodes nodes (after self nodes s what).state
 after_inside nodes self s (Did event) may h =
-    (event_inside nodes self s.state h.node h.names s.durable.pending event (answer_to s.durable (wants_at self nodes s event)) may.1.by_core).state
+    (event_inside nodes self s.state h.node h.names s.durable.pending event (answer_to s.durable (wants_at self nodes s event))
+    may.1.by_core).state
 after_inside nodes self s (Faulted event) may h = down_inside nodes self h.node
 after_inside nodes self s Crashed may h = down_inside nodes self h.node
 after_inside nodes self s (Recovered kept) may h = alone_inside nodes self ((settled kept s).counter + 1) h.node
 after_inside nodes self s (RaiseFailed kept) may h = down_inside nodes self h.node
 after_inside nodes self s what may h = h.names
 
-pub sent_inside : (nodes self : ℕ) (s : NodeState) (what : HistoryEvent) → IsPossible self nodes s what → IsInside nodes self s → AreToNodes nodes (sent_at self nodes s what)
-sent_inside nodes self s (Did event) may h = each_more (Goes (SaidTo nodes) self) (λ (m : Envelope). m.receiver < nodes) (sent_at self nodes s (Did event)) (λ m goes. goes.1)
-    (event_inside nodes self s.state h.node h.names s.durable.pending event (answer_to s.durable (wants_at self nodes s event)) may.1.by_core).sent
+pub sent_inside : (nodes self : ℕ) (s : NodeState) (what : HistoryEvent) → IsPossible self nodes s what → IsInside nodes self s
+    → AreToNodes nodes (sent_at self nodes s what)
+sent_inside nodes self s (Did event) may h = each_more (Goes (SaidTo nodes) self) (λ (m : Envelope). m.receiver < nodes)
+    (sent_at self nodes s (Did event)) (λ m goes. goes.1)
+    (event_inside nodes self s.state h.node h.names s.durable.pending event (answer_to s.durable (wants_at self nodes s event))
+    may.1.by_core).sent
 sent_inside nodes self s what may h = tt
 
 -- ---- one history
@@ -119,9 +130,14 @@ sent_inside nodes self s what may h = tt
 pub opening_inside : (nodes self : ℕ) → self < nodes → IsInside nodes self (opening self)
 opening_inside nodes self lt = record { node = lt; names = alone_inside nodes self 1 lt }
 
-pub history_inside : (nodes self : ℕ) (s : NodeState) (es : List Entry) → Follows self nodes s es → IsInside nodes self s → AreToNodes nodes (sent_in es)
+pub history_inside : (nodes self : ℕ) (s : NodeState) (es : List Entry) → Follows self nodes s es → IsInside nodes self s
+    → AreToNodes nodes (sent_in es)
 history_inside nodes self s [] follows h = tt
 history_inside nodes self s (e ∷ es) follows h =
     each_append (λ (m : Envelope). m.receiver < nodes) e.sent (sent_in es)
     (subst (λ (ms : List Envelope). AreToNodes nodes ms) (sym follows.1) (sent_inside nodes self s e.what follows.0 h))
-    (history_inside nodes self (after self nodes s e.what) es follows.2 (record { node = h.node; names = after_inside nodes self s e.what follows.0 h }))
+    (history_inside nodes self (after self nodes s e.what) es follows.2 (record {
+      node = h.node;
+      names =
+          after_inside nodes self s e.what follows.0 h;
+    }))

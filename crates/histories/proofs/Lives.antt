@@ -1,5 +1,6 @@
 -- What one node's moves keep, along its whole history.
-use Rattle.std.proofs.Common.{◌≡◌, ◌⊎◌, ℕ, ◌+◌, ◌<◌, ◌≤◌, true, List, [], ◌∷◌, ◌++◌, refl, sym, ◌∙◌, ap, subst, inl, inr, arith, Option, Some}
+use Rattle.std.proofs.Common.{◌≡◌, ◌⊎◌, ℕ, ◌+◌, ◌<◌, ◌≤◌, true, List, [], ◌∷◌, ◌++◌, refl, sym, ◌∙◌, ap, subst, inl, inr, arith, Option}
+use Rattle.std.proofs.Common.{Some}
 use Rattle.job_model.specs.declared.work.Work.{Work}
 use Rattle.group_task.specs.Group.{Group}
 use Rattle.group_task.specs.Assignment.{Assignment}
@@ -54,7 +55,8 @@ Stands self Normal coordinator group task last led Told =
 abbrev pub StandsAt : ℕ → State → ℕ → List Assignment → (Assignment → Type 0) → Type 0
 StandsAt self v last led Told = Stands self v.phase v.coordinator v.group v.task last led Told
 
-pub ordered_of : (self : ℕ) (phase : Phase) (coordinator : ℕ) (group : Group) (task : Option Assignment) (last : ℕ) (led : List Assignment) (Told : Assignment → Type 0)
+pub ordered_of : (self : ℕ) (phase : Phase) (coordinator : ℕ) (group : Group) (task : Option Assignment) (last : ℕ) (led : List Assignment)
+    (Told : Assignment → Type 0)
     → Stands self phase coordinator group task last led Told → Ordered self (last + 1) led
 ordered_of self Down coordinator group task last led Told h = h
 ordered_of self Election coordinator group task last led Told h = ordered_below self last (last + 1) led (omega arith) h.2
@@ -62,7 +64,8 @@ ordered_of self Reorganization coordinator group task last led Told h = h.0
 ordered_of self Normal coordinator group task last led Told h = h.0
 
 -- where a move leads
-pub record Led (self : ℕ) (new : State) (made : List Assignment) (rest : List ℕ) (led : List Assignment) (Told : Assignment → Type 0) : Type 0 where
+pub record Led (self : ℕ) (new : State) (made : List Assignment) (rest : List ℕ) (led : List Assignment) (Told : Assignment → Type 0) :
+    Type 0 where
   pub last : ℕ
   pub all : List Assignment
   pub keeps : (t : Assignment) → IsAmong t led → IsAmong t all
@@ -77,8 +80,10 @@ Tells self tasks m = (t : Assignment) → m.body ≡ Ready t → (m.sender ≡ s
 abbrev pub AllTell : ℕ → List Assignment → List Envelope → Type 0
 AllTell self tasks ms = Each (Tells self tasks) ms
 
-pub says_tells : (P : Group → Type 0) (J : ℕ → ℕ → Work → Type 0) (self : ℕ) (made all : List Assignment) (event : Option Event) → ((t : Assignment) → IsAmong t made → IsAmong t all) → (m : Envelope) → Says P J self made event m → Tells self all m
-says_tells P J self made all event sub m h t is = let it : SaysIn P J self made event m.sender m.receiver (Ready t) = subst (λ (b : Body). SaysIn P J self made event m.sender m.receiver b) is h in (it.0, sub t it.1)
+pub says_tells : (P : Group → Type 0) (J : ℕ → ℕ → Work → Type 0) (self : ℕ) (made all : List Assignment) (event : Option Event)
+    → ((t : Assignment) → IsAmong t made → IsAmong t all) → (m : Envelope) → Says P J self made event m → Tells self all m
+says_tells P J self made all event sub m h t is = let it : SaysIn P J self made event m.sender m.receiver (Ready t) =
+    subst (λ (b : Body). SaysIn P J self made event m.sender m.receiver b) is h in (it.0, sub t it.1)
 
 -- what a Ready from the group's creator says is told
 abbrev pub IsTold : (Assignment → Type 0) → List Envelope → Type 0
@@ -88,7 +93,8 @@ IsTold Told came = (m : Envelope) (t : Assignment) → IsAmong m came → m.body
 none_made : (made led : List Assignment) → made ≡ [] → (t : Assignment) → IsAmong t made → IsAmong t led
 none_made made led none t i = let bad : IsAmong t [] = subst (λ (ts : List Assignment). IsAmong t ts) none i in absurd bad
 
-pub move_keeps : (self : ℕ) (old : State) (came : List Envelope) (given : List ℕ) (made : List Assignment) (new : State) (rest : List ℕ) (last : ℕ) (led : List Assignment) (Told : Assignment → Type 0)
+pub move_keeps : (self : ℕ) (old : State) (came : List Envelope) (given : List ℕ) (made : List Assignment) (new : State) (rest : List ℕ)
+    (last : ℕ) (led : List Assignment) (Told : Assignment → Type 0)
     → GroupMove self old came given made new → StandsAt self old last led Told → Rises last (given ++ rest) → IsTold Told came
     → Led self new made rest led Told
 move_keeps self old came given made new rest last led Told (stays phase coordinator group task none no_task) h rises told = record {
@@ -115,8 +121,11 @@ move_keeps self old came given made new rest last led Told (starts_alone k some 
       all = task ∷ led;
       keeps = λ t i. inr i;
       has_made = none_made made (task ∷ led) no_task;
-      stands = subst (λ (v : State). StandsAt self v k (task ∷ led) Told) (sym is)
-          ((refl, omega arith, ordered_below self (last + 1) k led (omega (arith, up.0)) ordered), refl, record { held = task; is_held = refl; in_group = refl; is_member = with_has_same [] self; known = inl (inl refl) });
+      stands = subst (λ (v : State). StandsAt self v k (task ∷ led) Told) (sym is) (
+        (refl, omega arith, ordered_below self (last + 1) k led (omega (arith, up.0)) ordered),
+        refl,
+        record { held = task; is_held = refl; in_group = refl; is_member = with_has_same [] self; known = inl (inl refl) },
+      );
       rises = up.1;
     }
 move_keeps self old came given made new rest last led Told (calls k some phase coordinator group no_task) h rises told =
@@ -134,7 +143,11 @@ move_keeps self old came given made new rest last led Told (joins group other ph
   all = led;
   keeps = λ t i. i;
   has_made = none_made made led no_task;
-  stands = rw (phase, coordinator, is) (ordered_of self old.phase old.coordinator old.group old.task last led Told h, refl, λ (e : group.creator ≡ self). absurd (other e));
+  stands = rw (phase, coordinator, is) (
+    ordered_of self old.phase old.coordinator old.group old.task last led Told h,
+    refl,
+    λ (e : group.creator ≡ self). absurd (other e),
+  );
   rises = subst (λ (ks : List ℕ). Rises last (ks ++ rest)) none rises;
 }
 move_keeps self old came given made new rest last led Told (assigns members phase self_in task coordinator group to none one) h rises told =
@@ -142,19 +155,30 @@ move_keeps self old came given made new rest last led Told (assigns members phas
     let new_task : Assignment = task_of old.group members in
     let count : old.group.count ≡ last = ap (λ (g : Group). g.count) at.1 in
     let creator : old.group.creator ≡ self = ap (λ (g : Group). g.creator) at.1 in
-    let ordered : Ordered self (last + 1) (new_task ∷ led) = (creator, omega (arith, count), subst (λ (n : ℕ). Ordered self n led) (sym count) at.2) in
+    let ordered : Ordered self (last + 1) (new_task ∷ led) =
+    (creator, omega (arith, count), subst (λ (n : ℕ). Ordered self n led) (sym count) at.2) in
     let leader : old.coordinator ≡ old.group.creator = at.0 ∙ sym creator in record {
       last = last;
       all = new_task ∷ led;
       keeps = λ t i. inr i;
-      has_made = λ t i. (let here : IsAmong t (new_task ∷ []) = subst (λ (ts : List Assignment). IsAmong t ts) one i in elim here [ inl e ↦ inl e | inr e ↦ absurd e ]);
+      has_made = λ t i. (let here : IsAmong t (new_task ∷ []) = subst (λ (ts : List Assignment). IsAmong t ts) one i in
+          elim here [ inl e ↦ inl e | inr e ↦ absurd e ]);
       stands = elim to [
-        | inl p ↦ rw (p, coordinator, group, task) (ordered, leader, λ e. record { held = new_task; is_held = refl; in_group = refl; is_member = self_in; known = inl refl })
-        | inr p ↦ rw (p, coordinator, group, task) (ordered, leader, record { held = new_task; is_held = refl; in_group = refl; is_member = self_in; known = inl (inl refl) })
+        | inl p ↦ rw (p, coordinator, group, task) (
+          ordered,
+          leader,
+          λ e. record { held = new_task; is_held = refl; in_group = refl; is_member = self_in; known = inl refl },
+        )
+        | inr p ↦ rw (p, coordinator, group, task) (
+          ordered,
+          leader,
+          record { held = new_task; is_held = refl; in_group = refl; is_member = self_in; known = inl (inl refl) },
+        )
       ];
       rises = subst (λ (ks : List ℕ). Rises last (ks ++ rest)) none rises;
     }
-move_keeps self old came given made new rest last led Told (takes m task phase brings body from in_group self_in is coordinator group to none no_task) h rises told =
+move_keeps self old came given made new rest last led Told
+    (takes m task phase brings body from in_group self_in is coordinator group to none no_task) h rises told =
     let at = subst (λ (p : Phase). Stands self p old.coordinator old.group old.task last led Told) phase h in
     let sender : m.sender ≡ task.group.creator = sym from ∙ (at.1 ∙ ap (λ (g : Group). g.creator) (sym in_group)) in
     let among : IsAmong m came = subst (λ (ms : List Envelope). IsAmong m ms) (sym brings) (inl refl) in record {
@@ -162,7 +186,18 @@ move_keeps self old came given made new rest last led Told (takes m task phase b
       all = led;
       keeps = λ t i. i;
       has_made = none_made made led no_task;
-      stands = rw (to, coordinator, group, is) (at.0, at.1, record { held = task; is_held = refl; in_group = in_group; is_member = self_in; known = inr (told m task among body sender) });
+      stands = rw (to, coordinator, group, is) (
+        at.0,
+        at.1,
+        record {
+          held = task;
+          is_held = refl;
+          in_group = in_group;
+          is_member =
+              self_in;
+          known = inr (told m task among body sender);
+        },
+      );
       rises = subst (λ (ks : List ℕ). Rises last (ks ++ rest)) none rises;
     }
 move_keeps self old came given made new rest last led Told (completes phase own is coordinator group to none no_task) h rises told =
@@ -172,7 +207,18 @@ move_keeps self old came given made new rest last led Told (completes phase own 
       all = led;
       keeps = λ t i. i;
       has_made = none_made made led no_task;
-      stands = rw (to, coordinator, group, is) (at.0, at.1, record { held = holds.held; is_held = holds.is_held; in_group = holds.in_group; is_member = holds.is_member; known = inl holds.known });
+      stands = rw (to, coordinator, group, is) (
+        at.0,
+        at.1,
+        record {
+          held = holds.held;
+          is_held = holds.is_held;
+          in_group =
+              holds.in_group;
+          is_member = holds.is_member;
+          known = inl holds.known;
+        },
+      );
       rises = subst (λ (ks : List ℕ). Rises last (ks ++ rest)) none rises;
     }
 
@@ -186,8 +232,10 @@ Placed self Normal coordinator group task all Told = (coordinator ≡ group.crea
 abbrev pub PlacedAt : ℕ → State → List Assignment → (Assignment → Type 0) → Type 0
 PlacedAt self v all Told = Placed self v.phase v.coordinator v.group v.task all Told
 
-stands_placed : (self : ℕ) (phase : Phase) (coordinator : ℕ) (group : Group) (task : Option Assignment) (last : ℕ) (led all : List Assignment) (Told : Assignment → Type 0)
-    → ((t : Assignment) → IsAmong t led → IsAmong t all) → Stands self phase coordinator group task last led Told → Placed self phase coordinator group task all Told
+stands_placed : (self : ℕ) (phase : Phase) (coordinator : ℕ) (group : Group) (task : Option Assignment) (last : ℕ)
+    (led all : List Assignment) (Told : Assignment → Type 0)
+    → ((t : Assignment) → IsAmong t led → IsAmong t all) → Stands self phase coordinator group task last led Told
+    → Placed self phase coordinator group task all Told
 stands_placed self Down coordinator group task last led all Told sub h = tt
 stands_placed self Election coordinator group task last led all Told sub h = tt
 stands_placed self Reorganization coordinator group task last led all Told sub h = h.1
@@ -212,7 +260,8 @@ pub record Life (self nodes : ℕ) (s : NodeState) (es : List Entry) (led : List
   pub moments : (v : State) → IsAmong v (vectors self nodes s es) → PlacedAt self v all Told
 
 pub life : (self nodes : ℕ) (s : NodeState) (es : List Entry) (last : ℕ) (led : List Assignment) (Told : Assignment → Type 0)
-    → Follows self nodes s es → Rises last (counts_given self nodes s es) → IsTold Told (brought_in es) → StandsAt self s.state last led Told
+    → Follows self nodes s es → Rises last (counts_given self nodes s es) → IsTold Told (brought_in es)
+    → StandsAt self s.state last led Told
     → Life self nodes s es led Told
 life self nodes s [] last led Told follows rises told h = record {
   last = last;
@@ -221,7 +270,8 @@ life self nodes s [] last led Told follows rises told h = record {
   ordered = ordered_of self s.state.phase s.state.coordinator s.state.group s.state.task last led Told h;
   tells = tt;
   moments = λ v i. elim i [
-    | inl e ↦ subst (λ (w : State). PlacedAt self w led Told) (sym e) (stands_placed self s.state.phase s.state.coordinator s.state.group s.state.task last led led Told (λ t j. j) h)
+    | inl e ↦ subst (λ (w : State). PlacedAt self w led Told) (sym e)
+        (stands_placed self s.state.phase s.state.coordinator s.state.group s.state.task last led led Told (λ t j. j) h)
     | inr e ↦ absurd e
   ];
 }
@@ -229,11 +279,13 @@ life self nodes s (e ∷ es) last led Told follows rises told h =
     let s' : NodeState = after self nodes s e.what in
     let row : Enters AnyGroup AnyWork AnyWork self nodes s e.what = entry_does AnyGroup AnyWork AnyWork self nodes s e.what follows.0 in
     let step : Led self s'.state row.made (counts_given self nodes s' es) led Told =
-    move_keeps self s.state (brought (event_of e.what)) (given_at self nodes s e.what) row.made s'.state (counts_given self nodes s' es) last led Told
+    move_keeps self s.state (brought (event_of e.what)) (given_at self nodes s e.what) row.made s'.state (counts_given self nodes s' es)
+    last led Told
     row.moves h rises (λ m t i. told m t (among_left m (brought (event_of e.what)) (brought_in es) i)) in
     let rest : Life self nodes s' es step.all Told = life self nodes s' es step.last step.all Told follows.2 step.rises
     (λ m t i. told m t (among_right m (brought (event_of e.what)) (brought_in es) i)) step.stands in
-    let said = row.says (knows_any self s.state (given_at self nodes s e.what) (brought (event_of e.what))) (any_pending self s.durable.pending) (any_pending self s'.durable.pending) in record {
+    let said = row.says (knows_any self s.state (given_at self nodes s e.what) (brought (event_of e.what)))
+    (any_pending self s.durable.pending) (any_pending self s'.durable.pending) in record {
       last = rest.last;
       all = rest.all;
       keeps = λ t i. rest.keeps t (step.keeps t i);
@@ -241,10 +293,12 @@ life self nodes s (e ∷ es) last led Told follows rises told h =
       tells = each_append (Tells self rest.all) e.sent (sent_in es)
           (subst (λ (ms : List Envelope). AllTell self rest.all ms) (sym follows.1)
           (each_more (Says AnyGroup AnyWork self row.made (event_of e.what)) (Tells self rest.all) (sent_at self nodes s e.what)
-          (says_tells AnyGroup AnyWork self row.made rest.all (event_of e.what) (λ t i. rest.keeps t (step.has_made t i))) said)) rest.tells;
+          (says_tells AnyGroup AnyWork self row.made rest.all (event_of e.what) (λ t i. rest.keeps t (step.has_made t i))) said))
+          rest.tells;
       moments = λ v i. elim i [
         | inl is ↦ subst (λ (w : State). PlacedAt self w rest.all Told) (sym is)
-            (stands_placed self s.state.phase s.state.coordinator s.state.group s.state.task last led rest.all Told (λ t j. rest.keeps t (step.keeps t j)) h)
+            (stands_placed self s.state.phase s.state.coordinator s.state.group s.state.task last led rest.all Told (λ t j.
+            rest.keeps t (step.keeps t j)) h)
         | inr j ↦ rest.moments v j
       ];
     }

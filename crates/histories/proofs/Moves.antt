@@ -30,16 +30,25 @@ use Rattle.histories.specs.Named.{AllHold, StateHolds}
 
 -- what happens to a node's place in a group: `given` are the counts that it gives, `made` the tasks that it makes
 pub data GroupMove (self : ℕ) (old : State) (came : List Envelope) (given : List ℕ) (made : List Assignment) (new : State) : Type 0 where
-  stays : new.phase ≡ old.phase → new.coordinator ≡ old.coordinator → new.group ≡ old.group → new.task ≡ old.task → given ≡ [] → made ≡ [] → GroupMove self old came given made new
+  stays : new.phase ≡ old.phase → new.coordinator ≡ old.coordinator → new.group ≡ old.group → new.task ≡ old.task → given ≡ [] → made ≡ []
+      → GroupMove self old came given made new
   falls : new.phase ≡ Down → given ≡ [] → made ≡ [] → GroupMove self old came given made new
   starts_alone : (k : ℕ) → given ≡ k ∷ [] → new ≡ alone self k → made ≡ [] → GroupMove self old came given made new
-  calls : (k : ℕ) → given ≡ k ∷ [] → new.phase ≡ Election → new.coordinator ≡ self → new.group ≡ own_group self k → made ≡ [] → GroupMove self old came given made new
-  joins : (group : Group) → group.creator ≢ self → new.phase ≡ Reorganization → new.coordinator ≡ group.creator → new.group ≡ group → given ≡ [] → made ≡ [] → GroupMove self old came given made new
-  assigns : (members : List ℕ) → old.phase ≡ Election → has members self ≡ true → new.task ≡ Some (task_of old.group members) → new.coordinator ≡ old.coordinator → new.group ≡ old.group → (new.phase ≡ Reorganization) ⊎ (new.phase ≡ Normal) → given ≡ [] → made ≡ task_of old.group members ∷ [] → GroupMove self old came given made new
-  takes : (m : Envelope) (task : Assignment) → old.phase ≡ Reorganization → came ≡ m ∷ [] → m.body ≡ Ready task → old.coordinator ≡ m.sender → task.group ≡ old.group → has task.members self ≡ true → new.task ≡ Some task → new.coordinator ≡ old.coordinator → new.group ≡ old.group → new.phase ≡ Normal → given ≡ [] → made ≡ [] → GroupMove self old came given made new
-  completes : old.phase ≡ Reorganization → old.coordinator ≡ self → new.task ≡ old.task → new.coordinator ≡ old.coordinator → new.group ≡ old.group → new.phase ≡ Normal → given ≡ [] → made ≡ [] → GroupMove self old came given made new
+  calls : (k : ℕ) → given ≡ k ∷ [] → new.phase ≡ Election → new.coordinator ≡ self → new.group ≡ own_group self k → made ≡ []
+      → GroupMove self old came given made new
+  joins : (group : Group) → group.creator ≢ self → new.phase ≡ Reorganization → new.coordinator ≡ group.creator → new.group ≡ group
+      → given ≡ [] → made ≡ [] → GroupMove self old came given made new
+  assigns : (members : List ℕ) → old.phase ≡ Election → has members self ≡ true → new.task ≡ Some (task_of old.group members)
+      → new.coordinator ≡ old.coordinator → new.group ≡ old.group → (new.phase ≡ Reorganization) ⊎ (new.phase ≡ Normal) → given ≡ []
+      → made ≡ task_of old.group members ∷ [] → GroupMove self old came given made new
+  takes : (m : Envelope) (task : Assignment) → old.phase ≡ Reorganization → came ≡ m ∷ [] → m.body ≡ Ready task → old.coordinator ≡ m.sender
+      → task.group ≡ old.group → has task.members self ≡ true → new.task ≡ Some task → new.coordinator ≡ old.coordinator
+      → new.group ≡ old.group → new.phase ≡ Normal → given ≡ [] → made ≡ [] → GroupMove self old came given made new
+  completes : old.phase ≡ Reorganization → old.coordinator ≡ self → new.task ≡ old.task → new.coordinator ≡ old.coordinator
+      → new.group ≡ old.group → new.phase ≡ Normal → given ≡ [] → made ≡ [] → GroupMove self old came given made new
 
--- what is said: P holds of each group that is named and J of each job that is sent out; a Ready names its true sender and a task that was made; a Done is of a Finish
+-- what is said: P holds of each group that is named and J of each job that is sent out; a Ready names its true sender and a task that was
+-- made; a Done is of a Finish
 abbrev pub SaysIn : (Group → Type 0) → (ℕ → ℕ → Work → Type 0) → ℕ → List Assignment → Option Event → ℕ → ℕ → Body → Type 0
 SaysIn P J self made event sender receiver (Ready task) = (sender ≡ self) × IsAmong task made × P task.group
 SaysIn P J self made event sender receiver (WorkMessage group id work) = P group × J sender id work
@@ -82,18 +91,22 @@ pub record KnowsJobs (J : ℕ → ℕ → Work → Type 0) (self : ℕ) (d : Dur
   pub after : JobsHold J self (after_wanted d wants).pending
 
 -- what an event with this command makes, as all laws need it
-pub record Does (P : Group → Type 0) (J Q : ℕ → ℕ → Work → Type 0) (self : ℕ) (s : State) (d : Durable) (event : Event) (wants : Option Command) (e : Effect) : Type 0 where
+pub record Does (P : Group → Type 0) (J Q : ℕ → ℕ → Work → Type 0) (self : ℕ) (s : State) (d : Durable) (event : Event)
+    (wants : Option Command) (e : Effect) : Type 0 where
   pub made : List Assignment
   pub moves : GroupMove self s (brought (Some event)) (raised d wants) made e.state
   pub names : Knows P self s (raised d wants) (brought (Some event)) → StateHolds P e.state
   pub holds : KnowsJobs Q self d wants → AllWork Q (brought (Some event)) → HandHolds Q self s → HandHolds Q self e.state
-  pub says : Knows P self s (raised d wants) (brought (Some event)) → KnowsJobs J self d wants → Each (Says P J self made (Some event)) e.sent
+  pub says : Knows P self s (raised d wants) (brought (Some event)) → KnowsJobs J self d wants
+      → Each (Says P J self made (Some event)) e.sent
 
 -- what an entry makes, as all laws need it
 pub record Enters (P : Group → Type 0) (J Q : ℕ → ℕ → Work → Type 0) (self nodes : ℕ) (s : NodeState) (what : HistoryEvent) : Type 0 where
   pub made : List Assignment
   pub moves : GroupMove self s.state (brought (event_of what)) (given_at self nodes s what) made (after self nodes s what).state
   pub names : Knows P self s.state (given_at self nodes s what) (brought (event_of what)) → StateHolds P (after self nodes s what).state
-  pub holds : JobsHold Q self s.durable.pending → JobsHold Q self (after self nodes s what).durable.pending → AllWork Q (brought (event_of what)) → HandHolds Q self s.state → HandHolds Q self (after self nodes s what).state
-  pub says : Knows P self s.state (given_at self nodes s what) (brought (event_of what)) → JobsHold J self s.durable.pending → JobsHold J self (after self nodes s what).durable.pending →
+  pub holds : JobsHold Q self s.durable.pending → JobsHold Q self (after self nodes s what).durable.pending
+      → AllWork Q (brought (event_of what)) → HandHolds Q self s.state → HandHolds Q self (after self nodes s what).state
+  pub says : Knows P self s.state (given_at self nodes s what) (brought (event_of what)) → JobsHold J self s.durable.pending
+      → JobsHold J self (after self nodes s what).durable.pending →
       Each (Says P J self made (event_of what)) (sent_at self nodes s what)

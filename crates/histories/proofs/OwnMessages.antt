@@ -12,7 +12,8 @@ use Rattle.histories.proofs.Among.{each_append, each_more}
 use Rattle.histories.proofs.Reaches.{AnySaid, Goes, any_reaches}
 
 entry_of : (self nodes : ℕ) (s : NodeState) (what : HistoryEvent) → AreOf self (sent_at self nodes s what)
-entry_of self nodes s (Did event) = each_more (Goes AnySaid self) (λ (m : Envelope). m.sender ≡ self) (sent_at self nodes s (Did event)) (λ m goes. goes.0)
+entry_of self nodes s (Did event) = each_more (Goes AnySaid self) (λ (m : Envelope). m.sender ≡ self) (sent_at self nodes s (Did event))
+    (λ m goes. goes.0)
     (any_reaches nodes self s.durable.pending event (answer_to s.durable (wants_at self nodes s event)) s.state).sent
 entry_of self nodes s what = tt
 

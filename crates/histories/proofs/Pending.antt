@@ -1,5 +1,6 @@
 -- Jobs of one id that are pending at two moments of a node are one job.
-use Rattle.std.proofs.Common.{◌≡◌, ◌⊎◌, ℕ, ◌+◌, ◌<◌, ◌≤◌, Bool, true, false, List, [], ◌∷◌, ◌++◌, refl, sym, ◌∙◌, subst, inl, inr, arith, Option, Some, None}
+use Rattle.std.proofs.Common.{◌≡◌, ◌⊎◌, ℕ, ◌+◌, ◌<◌, ◌≤◌, Bool, true, false, List, [], ◌∷◌, ◌++◌, refl, sym, ◌∙◌, subst, inl, inr, arith}
+use Rattle.std.proofs.Common.{Option, Some, None}
 use Rattle.std.specs.Prelude.{not, ◌==◌, if◌then◌else◌}
 use Rattle.std.specs.List.{filter}
 use Rattle.job_model.specs.declared.job.Job.{Job}
@@ -10,7 +11,8 @@ use Rattle.job_model.specs.Fold.{after_command, after_wanted, without_job}
 use Rattle.histories.specs.Lists.{IsAmong}
 use Rattle.histories.specs.NodeState.{NodeState, opening, wants_at, settled}
 use Rattle.histories.specs.declared.history_event.HistoryEvent.{HistoryEvent}
-use Rattle.histories.specs.declared.history_event.HistoryEvent.TheVariants.{Did, Refused, Faulted, NoOp, Crashed, Recovered, MountFailed, RaiseFailed, RaiseRefused}
+use Rattle.histories.specs.declared.history_event.HistoryEvent.TheVariants.{Did, Refused, Faulted, NoOp, Crashed, Recovered, MountFailed}
+use Rattle.histories.specs.declared.history_event.HistoryEvent.TheVariants.{RaiseFailed, RaiseRefused}
 use Rattle.histories.specs.HistoryEvent.{Entry}
 use Rattle.histories.specs.After.{after}
 use Rattle.histories.specs.History.{states}
@@ -28,7 +30,8 @@ pub record Goes (d e : Durable) : Type 0 where
   pub same : (a : Job) → IsAmong a e.pending → a.id < d.next → IsAmong a d.pending
   pub given : AreGiven d → AreGiven e
 
-kept_first : (b : Bool) (a job : Job) (jobs rest : List Job) → (IsAmong a rest → IsAmong a jobs) → IsAmong a (if b then job ∷ rest else rest) → IsAmong a (job ∷ jobs)
+kept_first : (b : Bool) (a job : Job) (jobs rest : List Job) → (IsAmong a rest → IsAmong a jobs)
+    → IsAmong a (if b then job ∷ rest else rest) → IsAmong a (job ∷ jobs)
 kept_first true a job jobs rest more i = elim i [ inl e ↦ inl e | inr j ↦ inr (more j) ]
 kept_first false a job jobs rest more i = inr (more i)
 
@@ -48,12 +51,20 @@ goes_on d e f first second = record {
 
 -- one of the jobs, or the new one
 one_of : (d : Durable) (new a : Job) → IsAmong a (d.pending ++ new ∷ []) → IsAmong a d.pending ⊎ (a ≡ new)
-one_of d new a i = elim (among_either a d.pending (new ∷ []) i) [ inl j ↦ inl j | inr j ↦ elim j [ inl e ↦ inr e | inr none ↦ absurd none ] ]
+one_of d new a i = elim (among_either a d.pending (new ∷ []) i) [
+  | inl j ↦ inl j
+  | inr j ↦ elim j [ inl e ↦ inr e | inr none ↦ absurd none ]
+]
 
 id_of_new : (d : Durable) (new a : Job) → new.id ≡ d.next → a ≡ new → a.id ≡ d.next
 id_of_new d new a fresh e = subst (λ (x : Job). x.id ≡ d.next) (sym e) fresh
 
-goes_put : (d : Durable) (new : Job) → new.id ≡ d.next → Goes d (record { counter = d.counter; next = d.next + 1; pending = d.pending ++ new ∷ [] })
+goes_put : (d : Durable) (new : Job) → new.id ≡ d.next → Goes d (record {
+  counter = d.counter;
+  next = d.next + 1;
+  pending =
+      d.pending ++ new ∷ [];
+})
 goes_put d new fresh = record {
   next = omega arith;
   same = λ a i lt. elim (one_of d new a i) [ inl j ↦ j | inr e ↦ absurd (omega (arith, lt, id_of_new d new a fresh e)) ];
@@ -76,7 +87,8 @@ goes_by : (d : Durable) (c : Command) → Goes d (after_command d c)
 goes_by d Raise = record { next = omega arith; same = λ a i lt. i; given = λ g. record { below = g.below; once = g.once } }
 goes_by d (Put work) = goes_put d (record { id = d.next; work = work }) refl
 goes_by d (Done id) =
-    let left : (a : Job) → IsAmong a (without_job d.pending id) → IsAmong a d.pending = among_filtered (λ (job : Job). not (job.id == id)) d.pending in record {
+    let left : (a : Job) → IsAmong a (without_job d.pending id)
+    → IsAmong a d.pending = among_filtered (λ (job : Job). not (job.id == id)) d.pending in record {
       next = omega arith;
       same = λ a i lt. left a i;
       given = λ g. record { below = λ a i. g.below a (left a i); once = λ a b i j same. g.once a b (left a i) (left b j) same };
@@ -103,29 +115,41 @@ goes_after self nodes s (RaiseRefused kept) = goes_nowhere s.durable
 
 -- each state of a history goes on from its first
 goes_to : (self nodes : ℕ) (s : NodeState) (es : List Entry) (t : NodeState) → IsAmong t (states self nodes s es) → Goes s.durable t.durable
-goes_to self nodes s [] t i = elim i [ inl e ↦ subst (λ (x : NodeState). Goes s.durable x.durable) (sym e) (goes_nowhere s.durable) | inr none ↦ absurd none ]
+goes_to self nodes s [] t i = elim i [
+  | inl e ↦ subst (λ (x : NodeState). Goes s.durable x.durable) (sym e) (goes_nowhere s.durable)
+  | inr none ↦ absurd none
+]
 goes_to self nodes s (e ∷ es) t i = elim i [
   | inl is ↦ subst (λ (x : NodeState). Goes s.durable x.durable) (sym is) (goes_nowhere s.durable)
-  | inr later ↦ goes_on s.durable (after self nodes s e.what).durable t.durable (goes_after self nodes s e.what) (goes_to self nodes (after self nodes s e.what) es t later)
+  | inr later ↦ goes_on s.durable (after self nodes s e.what).durable t.durable (goes_after self nodes s e.what)
+      (goes_to self nodes (after self nodes s e.what) es t later)
 ]
 
 -- a job of the first state, and one of a later state
 one_later : (d e : Durable) (a b : Job) → AreGiven d → Goes d e → IsAmong a d.pending → IsAmong b e.pending → a.id ≡ b.id → a ≡ b
 one_later d e a b g goes i j same = g.once a b i (goes.same b j (omega (arith, g.below a i, same))) same
 
-one_from : (self nodes : ℕ) (s : NodeState) (es : List Entry) → AreGiven s.durable → (t u : NodeState) → IsAmong t (states self nodes s es) → IsAmong u (states self nodes s es)
+one_from : (self nodes : ℕ) (s : NodeState) (es : List Entry) → AreGiven s.durable → (t u : NodeState) → IsAmong t (states self nodes s es)
+    → IsAmong u (states self nodes s es)
     → (a b : Job) → IsAmong a t.durable.pending → IsAmong b u.durable.pending → a.id ≡ b.id → a ≡ b
 one_from self nodes s [] g t u at of a b i j same = elim at [
-  | inl is ↦ one_later s.durable u.durable a b g (goes_to self nodes s [] u of) (subst (λ (x : NodeState). IsAmong a x.durable.pending) is i) j same
+  | inl is ↦ one_later s.durable u.durable a b g (goes_to self nodes s [] u of)
+      (subst (λ (x : NodeState). IsAmong a x.durable.pending) is i) j same
   | inr none ↦ absurd none
 ]
 one_from self nodes s (e ∷ es) g t u at of a b i j same = elim at [
-  | inl is ↦ one_later s.durable u.durable a b g (goes_to self nodes s (e ∷ es) u of) (subst (λ (x : NodeState). IsAmong a x.durable.pending) is i) j same
+  | inl is ↦ one_later s.durable u.durable a b g (goes_to self nodes s (e ∷ es) u of)
+      (subst (λ (x : NodeState). IsAmong a x.durable.pending) is i) j same
   | inr at' ↦ elim of [
-    | inl is ↦ sym (one_later s.durable t.durable b a g (goes_to self nodes s (e ∷ es) t (inr at')) (subst (λ (x : NodeState). IsAmong b x.durable.pending) is j) i (sym same))
+    | inl is ↦ sym (one_later s.durable t.durable b a g (goes_to self nodes s (e ∷ es) t (inr at'))
+        (subst (λ (x : NodeState). IsAmong b x.durable.pending) is j) i (sym same))
     | inr of' ↦ one_from self nodes (after self nodes s e.what) es ((goes_after self nodes s e.what).given g) t u at' of' a b i j same
   ]
 ]
 
 pub one_job : OneJob
-one_job self nodes h s t at of a b i j same = one_from self nodes (opening self) h (record { below = λ x k. absurd k; once = λ x y k l e. absurd k }) s t at of a b i j same
+one_job self nodes h s t at of a b i j same = one_from self nodes (opening self) h (record {
+  below = λ x k. absurd k;
+  once =
+      λ x y k l e. absurd k;
+}) s t at of a b i j same

@@ -1,7 +1,8 @@
 -- What proofs of other crates may cite of this one: its other lemmas are its own.
 
 -- Elements of lists.
-pub use Rattle.histories.proofs.Among.{among_either, among_left, among_right, each_append, each_at, each_more, each_of, each_split, sent_of_one}
+pub use Rattle.histories.proofs.Among.{among_either, among_left, among_right, each_append, each_at, each_more, each_of, each_split}
+pub use Rattle.histories.proofs.Among.{sent_of_one}
 -- Claims that hold of anything.
 pub use Rattle.histories.proofs.Anything.{AnyGroup, AnyWork, any_pending}
 -- Which command was tried is said without the work of a job, and with the event it is the whole command.
@@ -19,7 +20,8 @@ pub use Rattle.histories.proofs.Inside.{IsInside, after_inside, alone_inside, se
 -- What is kept step by step is kept, and so are the commands and mountings of every history.
 pub use Rattle.histories.proofs.Kepts.{DoubtIsDown, doubt_after, each_kept}
 -- What an event may do to a node: to its place in a group, to its work in hand, and what it may say.
-pub use Rattle.histories.proofs.Moves.{GivenHold, GroupMove, Knows, Says, SaysIn, assigns, calls, completes, falls, joins, starts_alone, stays, takes}
+pub use Rattle.histories.proofs.Moves.{GivenHold, GroupMove, Knows, Says, SaysIn, assigns, calls, completes, falls, joins, starts_alone}
+pub use Rattle.histories.proofs.Moves.{stays, takes}
 -- The tasks that all nodes made are one book, which agrees with all moments.
 pub use Rattle.histories.proofs.OneBooks.{one_book, one_coordinator, one_task}
 -- Each message that a node sends has the node as its sender.

@@ -1,5 +1,6 @@
 -- Each job that is pending was put.
-use Rattle.std.proofs.Common.{◌≡◌, ℕ, ◌+◌, Bool, true, false, List, [], ◌∷◌, ◌++◌, length, refl, sym, ◌∙◌, ap, subst, inl, inr, Option, Some, None, append_assoc}
+use Rattle.std.proofs.Common.{◌≡◌, ℕ, ◌+◌, Bool, true, false, List, [], ◌∷◌, ◌++◌, length, refl, sym, ◌∙◌, ap, subst, inl, inr, Option}
+use Rattle.std.proofs.Common.{Some, None, append_assoc}
 use Rattle.std.specs.Prelude.{not, ◌==◌}
 use Rattle.job_model.specs.declared.job.Job.{Job}
 use Rattle.job_model.specs.declared.work.Work.{Work}
@@ -10,7 +11,8 @@ use Rattle.job_model.specs.Fold.{after_wanted}
 use Rattle.histories.specs.Lists.{IsAmong}
 use Rattle.histories.specs.NodeState.{NodeState, opening, wants_at, settled}
 use Rattle.histories.specs.declared.history_event.HistoryEvent.{HistoryEvent}
-use Rattle.histories.specs.declared.history_event.HistoryEvent.TheVariants.{Did, Refused, Faulted, NoOp, Crashed, Recovered, MountFailed, RaiseFailed, RaiseRefused}
+use Rattle.histories.specs.declared.history_event.HistoryEvent.TheVariants.{Did, Refused, Faulted, NoOp, Crashed, Recovered, MountFailed}
+use Rattle.histories.specs.declared.history_event.HistoryEvent.TheVariants.{RaiseFailed, RaiseRefused}
 use Rattle.histories.specs.HistoryEvent.{Entry}
 use Rattle.histories.specs.After.{after}
 use Rattle.histories.specs.History.{states}
@@ -36,8 +38,10 @@ more_put ts us d doubt h = record {
 }
 
 -- the jobs after a command, which may be among these
-wanted_put : (ts us : List Attempt) (d : Durable) (wants : Option Command) → ((job : Job) → IsAmong job d.pending → WasPut ts job.id job.work)
-    → ((work : Work) → wants ≡ Some (Put work) → WasPut us d.next work) → (job : Job) → IsAmong job (after_wanted d wants).pending → WasPut (ts ++ us) job.id job.work
+wanted_put : (ts us : List Attempt) (d : Durable) (wants : Option Command)
+    → ((job : Job) → IsAmong job d.pending → WasPut ts job.id job.work)
+    → ((work : Work) → wants ≡ Some (Put work) → WasPut us d.next work) → (job : Job) → IsAmong job (after_wanted d wants).pending
+    → WasPut (ts ++ us) job.id job.work
 wanted_put ts us d None h new job i = put_left ts us job.id job.work (h job i)
 wanted_put ts us d (Some Raise) h new job i = put_left ts us job.id job.work (h job i)
 wanted_put ts us d (Some (Put work)) h new job i = elim (among_either job d.pending (record { id = d.next; work = work } ∷ []) i) [
@@ -48,28 +52,34 @@ wanted_put ts us d (Some (Put work)) h new job i = elim (among_either job d.pend
     | inr none ↦ absurd none
   ]
 ]
-wanted_put ts us d (Some (Done id)) h new job i = put_left ts us job.id job.work (h job (among_filtered (λ (x : Job). not (x.id == id)) d.pending job i))
+wanted_put ts us d (Some (Done id)) h new job i = put_left ts us job.id job.work
+    (h job (among_filtered (λ (x : Job). not (x.id == id)) d.pending job i))
 
-tried_put : (d : Durable) (wants : Option Command) (work : Work) → wants ≡ Some (Put work) → WasPut (commands_of (tried_marks d wants)) d.next work
+tried_put : (d : Durable) (wants : Option Command) (work : Work) → wants ≡ Some (Put work)
+    → WasPut (commands_of (tried_marks d wants)) d.next work
 tried_put d wants work is = rw is (record { command = Put work; acked = Some d.next }, inl refl, refl, (λ a e. cc (sym e)))
 
-failed_put : (wants : Option Command) (work : Work) → wants ≡ Some (Put work) → IsAmong (record { command = Put work; acked = None }) (commands_of (failed_marks wants))
+failed_put : (wants : Option Command) (work : Work) → wants ≡ Some (Put work)
+    → IsAmong (record { command = Put work; acked = None }) (commands_of (failed_marks wants))
 failed_put wants work is = rw is (inl refl)
 
 -- the doubt may be settled either way
-doubted_put : (ts : List Attempt) (d : Durable) (doubt : Option Command) → ArePut ts d doubt → (job : Job) → IsAmong job (after_wanted d doubt).pending → WasPut ts job.id job.work
+doubted_put : (ts : List Attempt) (d : Durable) (doubt : Option Command) → ArePut ts d doubt → (job : Job)
+    → IsAmong job (after_wanted d doubt).pending → WasPut ts job.id job.work
 doubted_put ts d None h job i = h.jobs job i
 doubted_put ts d (Some Raise) h job i = h.jobs job i
 doubted_put ts d (Some (Put work)) h job i = elim (among_either job d.pending (record { id = d.next; work = work } ∷ []) i) [
   | inl old ↦ h.jobs job old
   | inr last ↦ elim last [
-    | inl e ↦ subst (λ (x : Job). WasPut ts x.id x.work) (sym e) (record { command = Put work; acked = None }, h.doubted work refl, refl, (λ a is. absurd cc))
+    | inl e ↦ subst (λ (x : Job). WasPut ts x.id x.work) (sym e)
+        (record { command = Put work; acked = None }, h.doubted work refl, refl, (λ a is. absurd cc))
     | inr none ↦ absurd none
   ]
 ]
 doubted_put ts d (Some (Done id)) h job i = h.jobs job (among_filtered (λ (x : Job). not (x.id == id)) d.pending job i)
 
-settled_put : (ts : List Attempt) (kept : Bool) (s : NodeState) → ArePut ts s.durable s.doubt → (job : Job) → IsAmong job (settled kept s).pending → WasPut ts job.id job.work
+settled_put : (ts : List Attempt) (kept : Bool) (s : NodeState) → ArePut ts s.durable s.doubt → (job : Job)
+    → IsAmong job (settled kept s).pending → WasPut ts job.id job.work
 settled_put ts true s h job i = doubted_put ts s.durable s.doubt h job i
 settled_put ts false s h job i = h.jobs job i
 
@@ -99,7 +109,8 @@ entry_puts self nodes s n (RaiseFailed kept) ts h = record {
 }
 entry_puts self nodes s n (RaiseRefused kept) ts h = more_put ts [] s.durable s.doubt h
 
-all_put : (self nodes : ℕ) (s : NodeState) (n : ℕ) (es : List Entry) (ts : List Attempt) → ArePut ts s.durable s.doubt → (t : NodeState) → IsAmong t (states self nodes s es)
+all_put : (self nodes : ℕ) (s : NodeState) (n : ℕ) (es : List Entry) (ts : List Attempt) → ArePut ts s.durable s.doubt → (t : NodeState)
+    → IsAmong t (states self nodes s es)
     → (job : Job) → IsAmong job t.durable.pending → WasPut (ts ++ commands_of (marks_from self nodes s n es)) job.id job.work
 all_put self nodes s n [] ts h t at job i = elim at [
   | inl e ↦ put_left ts [] job.id job.work (h.jobs job (subst (λ (x : NodeState). IsAmong job x.durable.pending) e i))
@@ -110,11 +121,15 @@ all_put self nodes s n (e ∷ es) ts h t at job i =
     let next : ℕ = n + length (commands_of now) in
     let rest : List Mark = marks_from self nodes (after self nodes s e.what) next es in
     elim at [
-      | inl is ↦ put_left ts (commands_of (now ++ rest)) job.id job.work (h.jobs job (subst (λ (x : NodeState). IsAmong job x.durable.pending) is i))
-      | inr later ↦ subst (λ (us : List Attempt). WasPut us job.id job.work) (append_assoc ts (commands_of now) (commands_of rest) ∙ ap (λ (us : List Attempt). ts ++ us) (sym (commands_append now rest)))
-          (all_put self nodes (after self nodes s e.what) next es (ts ++ commands_of now) (entry_puts self nodes s n e.what ts h) t later job i)
+      | inl is ↦ put_left ts (commands_of (now ++ rest)) job.id job.work
+          (h.jobs job (subst (λ (x : NodeState). IsAmong job x.durable.pending) is i))
+      | inr later ↦ subst (λ (us : List Attempt). WasPut us job.id job.work)
+          (append_assoc ts (commands_of now) (commands_of rest) ∙ ap (λ (us : List Attempt). ts ++ us) (sym (commands_append now rest)))
+          (all_put self nodes (after self nodes s e.what) next es (ts
+          ++ commands_of now) (entry_puts self nodes s n e.what ts h) t later job i)
     ]
 
 pub pending_was_put : PendingWasPut
-pending_was_put self nodes h follows s at job i = (let it = all_put self nodes (opening self) 1 h [] (record { jobs = λ x j. absurd j; doubted = λ work is. absurd cc }) s at job i in
+pending_was_put self nodes h follows s at job i = (let it =
+    all_put self nodes (opening self) 1 h [] (record { jobs = λ x j. absurd j; doubted = λ work is. absurd cc }) s at job i in
     (it.0, inr it.1, it.2, it.3))

@@ -1,6 +1,7 @@
 -- Passes over the table: which nodes each row names, whom it writes to and in whose name; that a node that is up stays up; that
 -- nothing happens at one that is down.
-use Rattle.std.proofs.Common.{◌≡◌, ◌≢◌, ℕ, zero, suc, ◌%◌, Bool, true, false, not, ◌&&◌, List, [], ◌∷◌, ◌++◌, length, get_or, filter, refl, None}
+use Rattle.std.proofs.Common.{◌≡◌, ◌≢◌, ℕ, zero, suc, ◌%◌, Bool, true, false, not, ◌&&◌, List, [], ◌∷◌, ◌++◌, length, get_or, filter, refl}
+use Rattle.std.proofs.Common.{None}
 use Rattle.std.specs.Prelude.{if◌then◌else◌, ◌==◌, nat_lt}
 use Rattle.group_task.specs.Group.{Group, same_group}
 use Rattle.group_task.specs.Assignment.{Assignment}
@@ -110,7 +111,8 @@ module _ (C U : ℕ → Type 0) (R : ℕ → Body → Type 0) (nodes self : ℕ)
   same : Reaches C U R self s (quietly s)
   same = record { up = λ u. u; state = h; sent = tt }
 
-  by : (b : Bool) (x y : Effect) → (b ≡ true → Reaches C U R self s x) → (b ≡ false → Reaches C U R self s y) → Reaches C U R self s (if b then x else y)
+  by : (b : Bool) (x y : Effect) → (b ≡ true → Reaches C U R self s x) → (b ≡ false → Reaches C U R self s y)
+      → Reaches C U R self s (if b then x else y)
   by true x y t f = t refl
   by false x y t f = f refl
 
@@ -129,16 +131,29 @@ module _ (C U : ℕ → Type 0) (R : ℕ → Body → Type 0) (nodes self : ℕ)
   owner_known queue = read_each C (members_of s.task) (queue % length (members_of s.task)) w.first h.members
 
   recovers : (answer : ℕ) → Reaches C U R self s (quietly (alone self answer))
-  recovers answer = record { up = λ u. refl; state = record { coordinator = w.own; up = tt; found = tt; members = (w.own, tt); hand = tt }; sent = tt }
+  recovers answer = record {
+    up = λ u. refl;
+    state = record {
+      coordinator = w.own;
+      up = tt;
+      found = tt;
+      members = (w.own, tt);
+      hand =
+          tt;
+    };
+    sent = tt;
+  }
 
   passes : (group : Group) → Each (Goes R self) (to_each self (passed_on self group s) (says.Invitation group))
   passes group = by_lead (s.coordinator == self)
     where
       by_lead : (b : Bool) → Each (Goes R self) (to_each self (if b then without_id s.up group.creator else []) (says.Invitation group))
-      by_lead true = to_those (says.Invitation group) (λ id u. w.called id group u) (without_id s.up group.creator) (each_left U (λ (id : ℕ). not (id == group.creator)) s.up h.up)
+      by_lead true = to_those (says.Invitation group) (λ id u. w.called id group u) (without_id s.up group.creator)
+          (each_left U (λ (id : ℕ). not (id == group.creator)) s.up h.up)
       by_lead false = tt
 
-  tells : (from : ℕ) (task : Assignment) → C from → is_told self from task s ≡ true → Each (Goes R self) (letter self from (says.ReadyAck s.group) ∷ [])
+  tells : (from : ℕ) (task : Assignment) → C from → is_told self from task s ≡ true
+      → Each (Goes R self) (letter self from (says.ReadyAck s.group) ∷ [])
   tells from task known t = (goes from (says.ReadyAck s.group) known (not_true _ (and_right _ _ (and_left _ _ (and_left _ _ t)))), tt)
 
   -- with other work in hand
@@ -150,38 +165,69 @@ module _ (C U : ℕ → Type 0) (R : ℕ → Body → Type 0) (nodes self : ℕ)
 
   body_reaches : (from : ℕ) (body : Body) (answer : ℕ) → Comes C U R from body → Reaches C U R self s (delivered self from body answer s)
   unfolding delivered
-  body_reaches from says.AreYouCoordinator answer c = by (is_down s.phase) _ _ (λ t. same) (λ f. record { up = λ u. u; state = h; sent = ((refl, c.asks (leads_in Normal self s)), tt) })
+  body_reaches from says.AreYouCoordinator answer c = by (is_down s.phase) _ _ (λ t. same)
+      (λ f. record { up = λ u. u; state = h; sent = ((refl, c.asks (leads_in Normal self s)), tt) })
   body_reaches from (says.Coordinator agreed) answer c = when (agreed && merges self s) _ (λ t. record {
     up = λ u. u;
-    state = record { coordinator = h.coordinator; up = h.up; found = with_each U s.found from c.asks h.found; members = h.members; hand = h.hand };
+    state = record {
+      coordinator = h.coordinator;
+      up = h.up;
+      found = with_each U s.found from c.asks h.found;
+      members = h.members;
+      hand =
+          h.hand;
+    };
     sent = tt;
   })
   body_reaches from (says.AreYouThere group) answer c = by (is_down s.phase) _ _ (λ t. same)
-      (λ f. record { up = λ u. u; state = h; sent = ((refl, c.asks (same_group group s.group && s.coordinator == self && has s.up from)), tt) })
+      (λ f. record {
+        up = λ u. u;
+        state = h;
+        sent = (
+          (refl, c.asks (same_group group s.group && s.coordinator == self && has s.up from)),
+          tt,
+        );
+      })
   body_reaches from (says.Here group agreed) answer c = when (was_probed from group s) _ (λ t. by agreed _ _
       (λ a. record { up = λ u. u; state = h; sent = tt })
       (λ f. recovers answer))
   body_reaches from (says.Invitation group) answer c = when (takes_invitation self group s) _ (λ t. record {
     up = λ u. refl;
     state = record { coordinator = c.names.0; up = tt; found = tt; members = tt; hand = tt };
-    sent = each_append (Goes R self) (to_each self (passed_on self group s) (says.Invitation group)) (letter self group.creator (says.Accept group) ∷ [])
+    sent = each_append (Goes R self) (to_each self (passed_on self group s) (says.Invitation group))
+        (letter self group.creator (says.Accept group) ∷ [])
         (passes group) (goes group.creator (says.Accept group) c.names.0 (not_true _ (and_right _ _ (and_left _ _ t))), tt);
   })
-  body_reaches from (says.Accept group) answer c = when (in_phase Election s.phase && s.coordinator == self && same_group group s.group) _ (λ t. record {
-    up = λ u. u;
-    state = record { coordinator = h.coordinator; up = with_each U s.up from c.asks h.up; found = h.found; members = h.members; hand = h.hand };
-    sent = tt;
-  })
+  body_reaches from (says.Accept group) answer c = when (in_phase Election s.phase && s.coordinator == self
+      && same_group group s.group) _ (λ t. record {
+        up = λ u. u;
+        state = record {
+          coordinator = h.coordinator;
+          up = with_each U s.up from c.asks h.up;
+          found = h.found;
+          members = h.members;
+          hand =
+              h.hand;
+        };
+        sent = tt;
+      })
   body_reaches from (says.Ready task) answer c = by (is_told self from task s && in_phase Reorganization s.phase) _ _
       (λ t. record {
         up = λ u. refl;
         state = record { coordinator = h.coordinator; up = h.up; found = h.found; members = c.names.1; hand = h.hand };
         sent = tells from task c.known (and_left _ _ t);
       })
-      (λ f. when (is_told self from task s && in_phase Normal s.phase) _ (λ t. record { up = λ u. u; state = h; sent = tells from task c.known (and_left _ _ t) }))
-  body_reaches from (says.ReadyAck group) answer c = when (leads_in Reorganization self s && same_group group s.group) _ (λ t. record { up = λ u. either_up (is_empty (without_id s.unready from)); state = h; sent = tt })
+      (λ f. when (is_told self from task s && in_phase Normal s.phase) _ (λ t. record {
+        up = λ u. u;
+        state = h;
+        sent =
+            tells from task c.known (and_left _ _ t);
+      }))
+  body_reaches from (says.ReadyAck group) answer c = when (leads_in Reorganization self s
+      && same_group group s.group) _ (λ t. record { up = λ u. either_up (is_empty (without_id s.unready from)); state = h; sent = tt })
   body_reaches from (says.Work group id work) answer c =
-      when (in_phase Normal s.phase && same_group group s.group && has (members_of s.task) from && owner s work.queue == self && not (holds s.hand from id)) _ (λ t. record {
+      when (in_phase Normal s.phase && same_group group s.group && has (members_of s.task) from && owner s work.queue == self
+      && not (holds s.hand from id)) _ (λ t. record {
         up = λ u. u;
         state = with_more (record { origin = from; id = id; work = work } ∷ []) (c.known, tt);
         sent = tt;
@@ -201,12 +247,21 @@ module _ (C U : ℕ → Type 0) (R : ℕ → Body → Type 0) (nodes self : ℕ)
       (λ f. record {
         up = λ u. refl;
         state = record { coordinator = w.own; up = tt; found = tt; members = tt; hand = tt };
-        sent = to_those (says.Invitation (own_group self answer)) (λ id u. w.called id (own_group self answer) u) (either_of s.up s.found) (either_each U s.up s.found h.up h.found);
+        sent = to_those (says.Invitation (own_group self answer)) (λ id u. w.called id (own_group self answer) u) (either_of s.up s.found)
+            (either_each U s.up s.found h.up h.found);
       }))
   timer_reaches pending timer.Accept answer = when (in_phase Election s.phase && s.coordinator == self) _ (λ t. record {
     up = λ u. either_up (is_empty s.up);
-    state = record { coordinator = h.coordinator; up = h.up; found = h.found; members = with_each C s.up self w.own (each_more U C s.up w.within h.up); hand = h.hand };
-    sent = to_those (says.Ready (task_of s.group (with_id s.up self))) (λ id u. w.told id (task_of s.group (with_id s.up self)) u) s.up h.up;
+    state = record {
+      coordinator = h.coordinator;
+      up = h.up;
+      found = h.found;
+      members =
+          with_each C s.up self w.own (each_more U C s.up w.within h.up);
+      hand = h.hand;
+    };
+    sent = to_those (says.Ready (task_of s.group (with_id s.up self)))
+        (λ id u. w.told id (task_of s.group (with_id s.up self)) u) s.up h.up;
   })
   timer_reaches pending timer.Ready answer = when (leads_in Reorganization self s) _ (λ t. recovers answer)
   timer_reaches pending timer.Coord answer = when (follows self s) _ (λ t. by s.probing _ _ (λ p. recovers answer) (λ f. record {
@@ -217,17 +272,22 @@ module _ (C U : ℕ → Type 0) (R : ℕ → Body → Type 0) (nodes self : ℕ)
   timer_reaches pending timer.Dispatch answer = when (in_phase Normal s.phase) _ (λ t. record {
     up = λ u. u;
     state = with_more _
-        (each_map (λ (job : InHand). C job.origin) (λ (job : Job). record { origin = self; id = job.id; work = job.work }) (filter (λ job. owner s job.work.queue == self && not (holds s.hand self job.id)) (by_priority pending)) (λ job. w.own));
-    sent = each_chosen (λ (job : Job). Unit {0}) (Goes R self) (λ (job : Job). letter self (owner s job.work.queue) (says.Work s.group job.id job.work)) (λ (job : Job). not (owner s job.work.queue == self)) (by_priority pending)
+        (each_map (λ (job : InHand). C job.origin) (λ (job : Job). record { origin = self; id = job.id; work = job.work })
+        (filter (λ job. owner s job.work.queue == self && not (holds s.hand self job.id)) (by_priority pending)) (λ job. w.own));
+    sent = each_chosen (λ (job : Job). Unit {0}) (Goes R self)
+        (λ (job : Job). letter self (owner s job.work.queue) (says.Work s.group job.id job.work))
+        (λ (job : Job). not (owner s job.work.queue == self)) (by_priority pending)
         (λ job is u. goes (owner s job.work.queue) (says.Work s.group job.id job.work) (owner_known job.work.queue) (not_true _ is))
         (each_of (λ (job : Job). Unit {0}) (by_priority pending) (λ job i. tt));
   })
 
-  ends : (origin id : ℕ) → C origin → (b : Bool) → (origin == self) ≡ b → Each (Goes R self) (to_each self (if b then [] else origin ∷ []) (says.Done id))
+  ends : (origin id : ℕ) → C origin → (b : Bool) → (origin == self) ≡ b
+      → Each (Goes R self) (to_each self (if b then [] else origin ∷ []) (says.Done id))
   ends origin id known true is = tt
   ends origin id known false is = (goes origin (says.Done id) known is, tt)
 
-  pub event_reaches : (pending : List Job) (event : Event) (answer : ℕ) → Brings C U R event → Reaches C U R self s (effect_of nodes self pending event answer s)
+  pub event_reaches : (pending : List Job) (event : Event) (answer : ℕ) → Brings C U R event
+      → Reaches C U R self s (effect_of nodes self pending event answer s)
   event_reaches pending (on.Timer timer) answer c = timer_reaches pending timer answer
   event_reaches pending (on.Deliver m) answer c = body_reaches m.sender m.body answer c
   event_reaches pending (on.Submit work) answer c = by (owner s work.queue == self) _ _
@@ -236,7 +296,14 @@ module _ (C U : ℕ → Type 0) (R : ℕ → Body → Type 0) (nodes self : ℕ)
         state = with_more (record { origin = self; id = answer; work = work } ∷ []) (w.own, tt);
         sent = tt;
       })
-      (λ f. record { up = λ u. u; state = h; sent = (goes (owner s work.queue) (says.Work s.group answer work) (owner_known work.queue) f, tt) })
+      (λ f. record {
+        up = λ u. u;
+        state = h;
+        sent = (
+          goes (owner s work.queue) (says.Work s.group answer work) (owner_known work.queue) f,
+          tt,
+        );
+      })
   event_reaches pending (on.Finish origin id) answer c = record {
     up = λ u. u;
     state = with_hand _ (each_left (λ (job : InHand). C job.origin) (λ job. not (job.origin == origin && job.id == id)) s.hand h.hand);
@@ -265,10 +332,27 @@ any_brought : (event : Event) → Brings Any Any AnySaid event
 any_brought (on.Deliver m) = record { known = tt; names = each_any (ids_in m.body); asks = any_asked m.sender m.body }
 any_brought event = tt
 
-pub any_reaches : (nodes self : ℕ) (pending : List Job) (event : Event) (answer : ℕ) (s : State) → Reaches Any Any AnySaid self s (effect_of nodes self pending event answer s)
+pub any_reaches : (nodes self : ℕ) (pending : List Job) (event : Event) (answer : ℕ) (s : State)
+    → Reaches Any Any AnySaid self s (effect_of nodes self pending event answer s)
 any_reaches nodes self pending event answer s = event_reaches Any Any AnySaid nodes self
-    (record { own = tt; first = tt; all = each_any (ids_below nodes); within = λ id u. tt; other = λ id body c o. tt; called = λ id group u. tt; told = λ id task u. tt }) s
-    (record { coordinator = tt; up = each_any s.up; found = each_any s.found; members = each_any (members_of s.task); hand = each_any s.hand }) pending event answer (any_brought event)
+    (record {
+      own = tt;
+      first = tt;
+      all = each_any (ids_below nodes);
+      within = λ id u. tt;
+      other = λ id body c o. tt;
+      called =
+          λ id group u. tt;
+      told = λ id task u. tt;
+    }) s
+    (record {
+      coordinator = tt;
+      up = each_any s.up;
+      found = each_any s.found;
+      members = each_any (members_of s.task);
+      hand =
+          each_any s.hand;
+    }) pending event answer (any_brought event)
 
 -- ---- a node that is down
 
@@ -276,7 +360,8 @@ agreed_down : (self : ℕ) (agreed : Bool) (x : Effect) → (if agreed && false 
 agreed_down self true x = refl
 agreed_down self false x = refl
 
-told_down : (self from : ℕ) (task : Assignment) (b : Bool) (x y : Effect) → (if b && false then x else (if b && false then y else quietly (down self))) ≡ quietly (down self)
+told_down : (self from : ℕ) (task : Assignment) (b : Bool) (x y : Effect)
+    → (if b && false then x else (if b && false then y else quietly (down self))) ≡ quietly (down self)
 told_down self from task true x y = refl
 told_down self from task false x y = refl
 
@@ -286,12 +371,14 @@ body_down self from (says.Coordinator agreed) answer = agreed_down self agreed _
 body_down self from (says.Ready task) answer = told_down self from task (is_told self from task (down self)) _ _
 body_down self from body answer = refl
 
-timed_down : (self nodes : ℕ) (pending : List Job) (timer : Timer) (answer : ℕ) → timed nodes self pending timer answer (down self) ≡ quietly (down self)
+timed_down : (self nodes : ℕ) (pending : List Job) (timer : Timer) (answer : ℕ)
+    → timed nodes self pending timer answer (down self) ≡ quietly (down self)
 unfolding timed
 timed_down self nodes pending timer.Check answer = refl
 timed_down self nodes pending timer answer = refl
 
-pub stays_down : (self nodes : ℕ) (pending : List Job) (event : Event) (answer : ℕ) → IsForNode (down self) event → refusal_of nodes self event (down self) ≡ None
+pub stays_down : (self nodes : ℕ) (pending : List Job) (event : Event) (answer : ℕ) → IsForNode (down self) event
+    → refusal_of nodes self event (down self) ≡ None
     → effect_of nodes self pending event answer (down self) ≡ quietly (down self)
 stays_down self nodes pending (on.Timer timer) answer up h = timed_down self nodes pending timer answer
 stays_down self nodes pending (on.Deliver m) answer up h = body_down self m.sender m.body answer

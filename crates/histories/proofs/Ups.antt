@@ -6,5 +6,6 @@ use Rattle.node_core.specs.State.{State, is_down}
 use Rattle.node_core.specs.Effects.{effect_of}
 use Rattle.histories.proofs.Reaches.{any_reaches}
 
-pub stays_up : (nodes self : ℕ) (pending : List Job) (event : Event) (answer : ℕ) (s : State) → is_down s.phase ≡ false → is_down (effect_of nodes self pending event answer s).state.phase ≡ false
+pub stays_up : (nodes self : ℕ) (pending : List Job) (event : Event) (answer : ℕ) (s : State) → is_down s.phase ≡ false
+    → is_down (effect_of nodes self pending event answer s).state.phase ≡ false
 stays_up nodes self pending event answer s up = (any_reaches nodes self pending event answer s).up up

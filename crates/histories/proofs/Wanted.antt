@@ -32,13 +32,16 @@ by_raise : (self : ℕ) (pending : List Job) (event : Event) (b : Bool) → MayW
 by_raise self pending event true = raises refl
 by_raise self pending event false = wants_none refl
 
-by_end : (self : ℕ) (pending : List Job) (event : Event) (b : Bool) (id : ℕ) → (b ≡ true → is_pending pending id ≡ true) → (b ≡ true → Cause self event id) → MayWant self pending event (if b then Some (Done id) else None)
+by_end : (self : ℕ) (pending : List Job) (event : Event) (b : Bool) (id : ℕ) → (b ≡ true → is_pending pending id ≡ true)
+    → (b ≡ true → Cause self event id) → MayWant self pending event (if b then Some (Done id) else None)
 by_end self pending event true id is why = ends id (is refl) (why refl) refl
 by_end self pending event false id is why = wants_none refl
 
-body_wants : (self : ℕ) (pending : List Job) (m : Envelope) (body : Body) (s : State) → m.body ≡ body → MayWant self pending (Deliver m) (delivered_wants m.sender pending body s)
+body_wants : (self : ℕ) (pending : List Job) (m : Envelope) (body : Body) (s : State) → m.body ≡ body
+    → MayWant self pending (Deliver m) (delivered_wants m.sender pending body s)
 body_wants self pending m (Here group agreed) s is = by_raise self pending (Deliver m) _
-body_wants self pending m (DoneMessage id) s is = by_end self pending (Deliver m) (not (is_down s.phase) && is_pending pending id) id (λ t. and_right _ _ t) (λ t. inr (m, refl, is))
+body_wants self pending m (DoneMessage id) s is = by_end self pending (Deliver m)
+    (not (is_down s.phase) && is_pending pending id) id (λ t. and_right _ _ t) (λ t. inr (m, refl, is))
 body_wants self pending m body s is = wants_none refl
 
 pub may_want : (self : ℕ) (pending : List Job) (event : Event) (s : State) → MayWant self pending event (wants_of self pending event s)
@@ -47,7 +50,8 @@ may_want self pending (Timer timer.Ready) s = by_raise self pending (Timer timer
 may_want self pending (Timer timer.Coord) s = by_raise self pending (Timer timer.Coord) _
 may_want self pending (Deliver m) s = body_wants self pending m m.body s refl
 may_want self pending (Submit work) s = puts work refl refl
-may_want self pending (Finish origin id) s = by_end self pending (Finish origin id) (origin == self && is_pending pending id) id (λ t. and_right _ _ t)
+may_want self pending (Finish origin id) s = by_end self pending (Finish origin id)
+    (origin == self && is_pending pending id) id (λ t. and_right _ _ t)
     (λ t. inl (let own : origin ≡ self = eq_nat origin self (and_left _ _ t) in λ k. Finish (own k) id))
 may_want self pending Recover s = raises refl
 may_want self pending event s = wants_none refl
@@ -58,7 +62,8 @@ pub record Ends (self : ℕ) (pending : List Job) (event : Event) (id : ℕ) : T
   pub is_pending : is_pending pending id ≡ true
   pub cause : Cause self event id
 
-ends_by : (self : ℕ) (pending : List Job) (event : Event) (wants : Option Command) (id : ℕ) → MayWant self pending event wants → wants ≡ Some (Done id) → Ends self pending event id
+ends_by : (self : ℕ) (pending : List Job) (event : Event) (wants : Option Command) (id : ℕ) → MayWant self pending event wants
+    → wants ≡ Some (Done id) → Ends self pending event id
 ends_by self pending event wants id (wants_none none) is = (let both : None ≡ Some (Done id) = sym none ∙ is in absurd cc)
 ends_by self pending event wants id (raises raise) is = (let both : Some Raise ≡ Some (Done id) = sym raise ∙ is in absurd cc)
 ends_by self pending event wants id (puts work of put) is = (let both : Some (Put work) ≡ Some (Done id) = sym put ∙ is in absurd cc)
@@ -67,8 +72,11 @@ ends_by self pending event wants id (ends job there why done) is =
     let same : job ≡ id = cc both in
     subst (λ (k : ℕ). Ends self pending event k) same (record { is_pending = there; cause = why })
 
-pub wanted_pending : (self : ℕ) (pending : List Job) (event : Event) (s : State) (id : ℕ) → wants_of self pending event s ≡ Some (Done id) → is_pending pending id ≡ true
-wanted_pending self pending event s id h = (ends_by self pending event (wants_of self pending event s) id (may_want self pending event s) h).is_pending
+pub wanted_pending : (self : ℕ) (pending : List Job) (event : Event) (s : State) (id : ℕ) → wants_of self pending event s ≡ Some (Done id)
+    → is_pending pending id ≡ true
+wanted_pending self pending event s id h = (ends_by self pending event (wants_of self pending event s) id (may_want self pending event s)
+    h).is_pending
 
-pub causes : (self : ℕ) (pending : List Job) (event : Event) (s : State) (id : ℕ) → wants_of self pending event s ≡ Some (Done id) → Cause self event id
+pub causes : (self : ℕ) (pending : List Job) (event : Event) (s : State) (id : ℕ) → wants_of self pending event s ≡ Some (Done id)
+    → Cause self event id
 causes self pending event s id h = (ends_by self pending event (wants_of self pending event s) id (may_want self pending event s) h).cause

@@ -6,7 +6,8 @@ use Rattle.job_model.specs.declared.node_command.NodeCommand.TheVariants.{Raise,
 use Rattle.node_core.specs.declared.event.Event.{Event}
 use Rattle.node_core.specs.declared.event.Event.TheVariants.{Submit}
 use Rattle.histories.specs.declared.history_event.HistoryEvent.{HistoryEvent}
-use Rattle.histories.specs.declared.history_event.HistoryEvent.TheVariants.{Did, Refused, Faulted, Recovered, MountFailed, RaiseFailed, RaiseRefused}
+use Rattle.histories.specs.declared.history_event.HistoryEvent.TheVariants.{Did, Refused, Faulted, Recovered, MountFailed, RaiseFailed}
+use Rattle.histories.specs.declared.history_event.HistoryEvent.TheVariants.{RaiseRefused}
 use Rattle.histories.specs.declared.event_outcome.EventOutcome.{EventOutcome}
 use Rattle.histories.specs.declared.event_outcome.EventOutcome.TheVariants as event_outcome
 use Rattle.histories.specs.declared.command_kind.CommandKind.{CommandKind}

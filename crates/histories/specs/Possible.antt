@@ -10,7 +10,8 @@ use Rattle.node_core.specs.State.{State, is_down}
 use Rattle.node_core.specs.NodeStep.{IsFull, IsTaken, IsRefused}
 use Rattle.histories.specs.NodeState.{NodeState, wants_at, settled}
 use Rattle.histories.specs.declared.history_event.HistoryEvent.{HistoryEvent}
-use Rattle.histories.specs.declared.history_event.HistoryEvent.TheVariants.{Did, Refused, Faulted, NoOp, Crashed, Recovered, MountFailed, RaiseFailed, RaiseRefused}
+use Rattle.histories.specs.declared.history_event.HistoryEvent.TheVariants.{Did, Refused, Faulted, NoOp, Crashed, Recovered, MountFailed}
+use Rattle.histories.specs.declared.history_event.HistoryEvent.TheVariants.{RaiseFailed, RaiseRefused}
 use Rattle.histories.specs.declared.history_event.NoOpKind.{NoOpKind}
 use Rattle.histories.specs.declared.history_event.NoOpKind.TheVariants.{Nothing, CompactDown}
 

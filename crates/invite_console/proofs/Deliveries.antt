@@ -17,7 +17,8 @@ use Rattle.invite_console.specs.Session.{Delivers}
 pub delivers : (old planned new : Core) (pending : List Job) (m : Envelope) (plan : Plan) (sent : List Envelope) → pending ≡ []
     → planned ≡ record old { room = planned.room } → new ≡ record planned { state = new.state; room = new.room }
     → IsPlanFor planned pending (Deliver m) plan
-    → ((jobs : List Job) (event : Event) → IsPlanFor planned jobs event plan → effect_of planned.nodes planned.id jobs event next_count planned.state ≡ record { state = new.state; sent = sent })
+    → ((jobs : List Job) (event : Event) → IsPlanFor planned jobs event plan
+    → effect_of planned.nodes planned.id jobs event next_count planned.state ≡ record { state = new.state; sent = sent })
     → Delivers old m new sent
 delivers old planned new pending m plan sent empty kept same planned_for step = record {
   id = ap (λ c. c.id) same ∙ ap (λ c. c.id) kept;
@@ -29,4 +30,5 @@ delivers old planned new pending m plan sent empty kept same planned_for step = 
 }
 
 pub quiet_after : (old new : Core) (m : Envelope) (sent : List Envelope) → IsQuiet old.state → Delivers old m new sent → IsQuiet new.state
-quiet_after old new m sent quiet h = sym (ap (λ (e : Effect). e.state.probing) h.effect) ∙ stays_quiet old.id m.sender m.body next_count old.state quiet
+quiet_after old new m sent quiet h = sym (ap (λ (e : Effect). e.state.probing) h.effect)
+    ∙ stays_quiet old.id m.sender m.body next_count old.state quiet

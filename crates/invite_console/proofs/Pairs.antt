@@ -1,5 +1,6 @@
 -- Lines whose digits are decoded together.
-use Rattle.std.proofs.Common.{◌≡◌, ℕ, ◌+◌, ◌*◌, ◌%◌, ◌==◌, ◌&&◌, Bool, true, false, if◌then◌else◌, List, [], ◌∷◌, ◌++◌, length, Option, Some, None, Result, Ok, Err, refl, sym, ap, ap₂, ◌∙◌, append_assoc, append-nil, length-append, arith}
+use Rattle.std.proofs.Common.{◌≡◌, ℕ, ◌+◌, ◌*◌, ◌%◌, ◌==◌, ◌&&◌, Bool, true, false, if◌then◌else◌, List, [], ◌∷◌, ◌++◌, length, Option}
+use Rattle.std.proofs.Common.{Some, None, Result, Ok, Err, refl, sym, ap, ap₂, ◌∙◌, append_assoc, append-nil, length-append, arith}
 use Rattle.std.specs.Result.{result_ok}
 use Rattle.std.proofs.lemmas.Bool.Decides.{nat_tests}
 use Rattle.hex.specs.Hex.{decode_of, decode_pairs, digit_or_error, hex_digit_value, ◌>>=◌}
@@ -43,7 +44,8 @@ decoded i (digit ∷ []) = refl
 decoded i (high ∷ low ∷ rest) = step (hex_digit_value high) (hex_digit_value low) (decode_pairs (i + 2) rest) (decoded (i + 2) rest)
   where
     step : (a b : Option ℕ) (r : Result (List ℕ) FromHexError) → result_ok r ≡ pairs rest
-        → result_ok ((digit_or_error high i a >>= (λ h. digit_or_error low (i + 1) b >>= (λ l. Ok (h * 16 + l)))) >>= (λ byte. r >>= (λ bytes. Ok (byte ∷ bytes)))) ≡ pair_then a b (pairs rest)
+        → result_ok ((digit_or_error high i a >>= (λ h. digit_or_error low (i + 1) b >>= (λ l. Ok (h * 16 + l)))) >>= (λ byte.
+        r >>= (λ bytes. Ok (byte ∷ bytes)))) ≡ pair_then a b (pairs rest)
     step None b r is = refl
     step (Some h) None r is = refl
     step (Some h) (Some l) (Ok bytes) is = ap (pair_then (Some h) (Some l)) is
@@ -72,7 +74,8 @@ even_line (c ∷ d ∷ rest) even =
     let longer : (length (d ∷ rest) == 0) ≡ false = grind (arith, nat_tests) in
     tested (c == 45) (length (d ∷ rest) == 0) longer ∙ ap result_ok (decode_of-even (c ∷ d ∷ rest) even) ∙ decoded 0 (c ∷ d ∷ rest)
   where
-    tested : (a b : Bool) → b ≡ false → (if a && b then Some [] else result_ok (decode_of (c ∷ d ∷ rest))) ≡ result_ok (decode_of (c ∷ d ∷ rest))
+    tested : (a b : Bool) → b ≡ false → (if a && b then Some [] else result_ok (decode_of (c ∷ d ∷ rest)))
+        ≡ result_ok (decode_of (c ∷ d ∷ rest))
     tested true true e = absurd cc
     tested true false e = refl
     tested false b e = refl
@@ -81,7 +84,8 @@ pub line_added : (bytes digits line : List ℕ) → length digits % 2 ≡ 0 → 
     → then_bytes (Some bytes) (line_bytes (digits ++ line)) ≡ then_bytes (then_bytes (Some bytes) (line_bytes digits)) (line_bytes line)
 line_added bytes digits line even whole =
     let together : length (digits ++ line) % 2 ≡ 0 = omega (arith, length-append digits line, even, whole) in
-    ap (then_bytes (Some bytes)) (even_line (digits ++ line) together ∙ joined_pairs digits line even ∙ ap₂ then_bytes (sym (even_line digits even)) (sym (even_line line whole)))
+    ap (then_bytes (Some bytes)) (even_line (digits ++ line) together ∙ joined_pairs digits line even
+    ∙ ap₂ then_bytes (sym (even_line digits even)) (sym (even_line line whole)))
     ∙ sym (then_then (Some bytes) (line_bytes digits) (line_bytes line))
 
 -- a line of an odd number of bytes has none, unless it is a dash
@@ -106,7 +110,8 @@ pub all_read : (n : ℕ) (lines : List (List ℕ)) (bytes : List ℕ) → all_by
 all_read n [] bytes is = let same : [] ≡ bytes = cc in ap (λ (xs : List ℕ). Ok xs) same
 all_read n (line ∷ lines) bytes is = step (line_bytes line) (all_bytes lines) is (all_read (n + 1) lines)
   where
-    step : (o later : Option (List ℕ)) → then_bytes o later ≡ Some bytes → ((xs : List ℕ) → later ≡ Some xs → hex_lines_from (n + 1) lines ≡ Ok xs)
+    step : (o later : Option (List ℕ)) → then_bytes o later ≡ Some bytes
+        → ((xs : List ℕ) → later ≡ Some xs → hex_lines_from (n + 1) lines ≡ Ok xs)
         → joined n o (hex_lines_from (n + 1) lines) ≡ Ok bytes
     step None later is behind = absurd cc
     step (Some xs) None is behind = absurd cc

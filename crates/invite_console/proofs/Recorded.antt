@@ -46,11 +46,15 @@ even_steps (Takes n number what ∷ steps) = ap suc (even_steps steps)
 even_steps (Changes net ∷ steps) = even_steps steps
 even_steps (Denies n why ∷ steps) = even_steps steps
 
-pub can_be_written : (nodes slots : ℕ) (acts : List Act) (trace : List (List Claim)) (order : Order) → 1 ≤ nodes → IsRecordOf nodes slots acts trace order → IsWritable trace × IsEven (ordered_by order)
+pub can_be_written : (nodes slots : ℕ) (acts : List Act) (trace : List (List Claim)) (order : Order) → 1 ≤ nodes
+    → IsRecordOf nodes slots acts trace order → IsWritable trace × IsEven (ordered_by order)
 can_be_written nodes slots acts trace order some record_is =
     let steps = record_is.run.steps in
     let is = record_is.run.of_histories in
     let many = ap length is ∙ as_many 0 nodes nodes steps in (
-      record { some = omega (arith, some, many); named = subst (Each AreNamed) (sym is) (trace_named (histories_from 0 nodes nodes steps)) },
+      record {
+        some = omega (arith, some, many);
+        named = subst (Each AreNamed) (sym is) (trace_named (histories_from 0 nodes nodes steps));
+      },
       ap length record_is.turns.nodes ∙ even_steps steps ∙ sym (ap length record_is.turns.messages),
     )

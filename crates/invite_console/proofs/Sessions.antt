@@ -7,7 +7,8 @@ use Rattle.invite_console.specs.Answer.{answers, delivery, is_strange, message_l
 use Rattle.invite_console.specs.Session.{Progress, after_message, onward, TakesNext}
 
 answers_taken : (nodes self : ℕ) (s : State) (end : Printout) (m : Envelope) (rest : List Envelope) → is_strange nodes self m s ≡ false
-    → answers nodes self s end (m ∷ rest) ≡ before (message_lines (delivery nodes self m s).sent) (answers nodes self (delivery nodes self m s).state end rest)
+    → answers nodes self s end (m ∷ rest) ≡ before (message_lines (delivery nodes self m s).sent)
+    (answers nodes self (delivery nodes self m s).state end rest)
 unfolding answers
 answers_taken nodes self s end m rest known = rw known refl
 
@@ -39,7 +40,8 @@ pub onward_end : (p : Progress) (end : Printout) → onward p end [] ≡ before 
 onward_end p end = ap (before p.text) (answers_end p.nodes p.id p.state end)
 
 -- the next message was taken
-pub takes_taken : (old new : Progress) (m : Envelope) (taken : Bool) → is_strange old.nodes old.id m old.state ≡ not taken → taken ≡ true → new ≡ after_message old m → TakesNext old m new taken
+pub takes_taken : (old new : Progress) (m : Envelope) (taken : Bool) → is_strange old.nodes old.id m old.state ≡ not taken → taken ≡ true
+    → new ≡ after_message old m → TakesNext old m new taken
 takes_taken old new m true known on step end rest = onward_taken old end m rest known ∙ ap (λ p. onward p end rest) (sym step)
 takes_taken old new m false known on step end rest = absurd cc
 
@@ -47,4 +49,5 @@ takes_taken old new m false known on step end rest = absurd cc
 pub takes_refused : (old new : Progress) (m : Envelope) (taken : Bool) → is_strange old.nodes old.id m old.state ≡ not taken → taken ≡ false
     → new.text ≡ old.text ++ line (codes "refused Stranger") → TakesNext old m new taken
 takes_refused old new m true strange off written end rest = absurd cc
-takes_refused old new m false strange off written end rest = onward_refused old end m rest strange ∙ ap (λ (t : List ℕ). record { text = t; good = false }) (sym written)
+takes_refused old new m false strange off written end rest = onward_refused old end m rest strange
+    ∙ ap (λ (t : List ℕ). record { text = t; good = false }) (sym written)

@@ -1,5 +1,6 @@
 -- What is kept of a run until it is printed, and the text that it gives.
-use Rattle.std.specs.Prelude.{◌≡◌, ◌≤◌, ℕ, zero, suc, ◌-◌, List, [], ◌++◌, length, take, drop, slice_get, Bool, Option, Some, None, codes, decimal}
+use Rattle.std.specs.Prelude.{◌≡◌, ◌≤◌, ℕ, zero, suc, ◌-◌, List, [], ◌++◌, length, take, drop, slice_get, Bool, Option, Some, None, codes}
+use Rattle.std.specs.Prelude.{decimal}
 use Rattle.wire_msg.specs.Envelope.{Envelope}
 use Rattle.schedule.specs.declared.act.Act.{Act}
 use Rattle.runs.specs.declared.outcome.Outcome.{Outcome}
@@ -57,24 +58,29 @@ AreKept kept messages text = (i : ℕ) (k : ActEnd) → slice_get kept i ≡ Som
 -- what the text has since the last act that sent messages, which ends with the line of the next such act, and that one's messages
 abbrev pub lines_of : Bool → Option ActEnd → ℕ → ℕ → List ℕ → List Envelope → List ℕ
 lines_of names None sent written text messages = []
-lines_of names (Some k) sent written text messages = between written k.written text ++ (sent_text names sent (between sent k.sent messages) ++ codes "\n")
+lines_of names (Some k) sent written text messages = between written k.written text
+    ++ (sent_text names sent (between sent k.sent messages) ++ codes "\n")
 
 -- the lines up to this act among those that sent messages
 abbrev pub lines : Bool → List ActEnd → List ℕ → List Envelope → ℕ → List ℕ
 lines names kept text messages zero = []
-lines names kept text messages (suc i) = lines names kept text messages i ++ lines_of names (slice_get kept i) (sent_at kept i) (written_at kept i) text messages
+lines names kept text messages (suc i) = lines names kept text messages i ++ lines_of names (slice_get kept i) (sent_at kept i)
+    (written_at kept i) text messages
 
 -- the lines up to the last of them, and what the text has behind: the lines of further acts, and the nodes at their end
 abbrev pub run_text : Bool → List ActEnd → List ℕ → List Envelope → List ℕ
-run_text names kept text messages = lines names kept text messages (length kept) ++ between (written_at kept (length kept)) (length text) text
+run_text names kept text messages = lines names kept text messages (length kept) ++ between (written_at kept (length kept))
+    (length text) text
 
 -- this is kept of some run of these acts
-pub record IsRun (details : Details) (nodes slots : ℕ) (acts : List Act) (kept : List ActEnd) (text : List ℕ) (messages : List Envelope) : Type 0 where
+pub record IsRun (details : Details) (nodes slots : ℕ) (acts : List Act) (kept : List ActEnd) (text : List ℕ) (messages : List Envelope) :
+    Type 0 where
   pub are : AreKept kept (length messages) (length text)
   pub printed : PrintsRun details nodes slots acts (run_text details.names kept text messages)
 
 -- the acts so far were done, and this is kept of them
-pub record IsKeptSoFar (details : Details) (nodes slots : ℕ) (view : WorldView) (acts : List Act) (kept : List ActEnd) (text : List ℕ) : Type 0 where
+pub record IsKeptSoFar (details : Details) (nodes slots : ℕ) (view : WorldView) (acts : List Act) (kept : List ActEnd) (text : List ℕ) :
+    Type 0 where
   pub are : AreKept kept (length view.net.sent) (length text)
   pub all_sent : sent_at kept (length kept) ≡ length view.net.sent
   pub within : written_at kept (length kept) ≤ length text

@@ -40,7 +40,8 @@ hex_flaw = codes "neither pairs of hex digits nor a dash"
 abbrev pub stream_flaw : Printout → List ℕ
 stream_flaw printout =
     if printout.good then [] else
-    if ends_with (λ (a b : ℕ). a == b) printout.text (codes "malformed\n") then codes "a message can't be read" else codes "a message is for another node, or names one outside of the cluster"
+    if ends_with (λ (a b : ℕ). a == b) printout.text (codes "malformed\n") then codes "a message can't be read"
+    else codes "a message is for another node, or names one outside of the cluster"
 
 abbrev pub messages_flaw : (List ℕ → Printout) → Result (List ℕ) ℕ → List ℕ
 messages_flaw shown (Ok bytes) = stream_flaw (shown bytes)

@@ -63,7 +63,8 @@ pub record PrintsRun (details : Details) (nodes slots : ℕ) (acts : List Act) (
 
 abbrev pub PrintsScript : Details → Result Script ℕ → Printout → Type 0
 PrintsScript details (Err n) printout = printout ≡ refused (codes "bad line " ++ decimal n)
-PrintsScript details (Ok script) printout = (printout.good ≡ true) × PrintsRun details script.size.nodes script.size.slots script.acts printout.text
+PrintsScript details (Ok script) printout = (printout.good ≡ true)
+    × PrintsRun details script.size.nodes script.size.slots script.acts printout.text
 
 -- what `sim` prints for an input
 abbrev pub IsSimPrintout : Details → List ℕ → Printout → Type 0

@@ -1,5 +1,6 @@
 -- The pending jobs stay in order of id.
-use Rattle.std.proofs.Common.{◌≡◌, ℕ, zero, suc, ◌+◌, ◌<◌, ◌≤◌, Bool, true, false, not, cond, eqb, List, [], ◌∷◌, ◌++◌, length, sym, arith, ◌-◌}
+use Rattle.std.proofs.Common.{◌≡◌, ℕ, zero, suc, ◌+◌, ◌<◌, ◌≤◌, Bool, true, false, not, cond, eqb, List, [], ◌∷◌, ◌++◌, length, sym, arith}
+use Rattle.std.proofs.Common.{◌-◌}
 use Rattle.std.proofs.lemmas.Bool.{ltb-true, lt-ltb}
 use Rattle.std.specs.Prelude.{Some, slice_get, IsTrue, nat_lt, ◌↔◌}
 use Rattle.job_model.specs.declared.job.Job.{Job}
@@ -11,9 +12,14 @@ IdsRise-lower low high limit [] le r = tt
 IdsRise-lower low high limit (job ∷ jobs) le r = (omega (arith, r.0), r.1, r.2)
 
 -- one job more behind those that stand below it
-pub IdsRise-append : (low limit : ℕ) (jobs : List Job) (job : Job) → low ≤ job.id → job.id < limit → IdsRise low job.id jobs → IdsRise low limit (jobs ++ job ∷ [])
+pub IdsRise-append : (low limit : ℕ) (jobs : List Job) (job : Job) → low ≤ job.id → job.id < limit → IdsRise low job.id jobs
+    → IdsRise low limit (jobs ++ job ∷ [])
 IdsRise-append low limit [] job le lt r = (le, lt, tt)
-IdsRise-append low limit (x ∷ xs) job le lt r = (r.0, omega (arith, r.1), IdsRise-append (x.id + 1) limit xs job (omega (arith, r.1)) lt r.2)
+IdsRise-append low limit (x ∷ xs) job le lt r = (
+  r.0,
+  omega (arith, r.1),
+  IdsRise-append (x.id + 1) limit xs job (omega (arith, r.1)) lt r.2,
+)
 
 one_of : (low limit : ℕ) (b : Bool) (xs ys : List Job) → IdsRise low limit xs → IdsRise low limit ys → IdsRise low limit (cond b xs ys)
 one_of low limit true xs ys r s = r
@@ -29,7 +35,8 @@ IdsRise-without_job low limit (job ∷ jobs) id r =
 
 -- ---- the last job tells how far the ids go
 
-pub above_last : (low limit id k : ℕ) (jobs : List Job) (last : Job) → IdsRise low limit jobs → length jobs ≡ k + 1 → slice_get jobs k ≡ Some last → last.id < id → IdsRise low id jobs
+pub above_last : (low limit id k : ℕ) (jobs : List Job) (last : Job) → IdsRise low limit jobs → length jobs ≡ k + 1
+    → slice_get jobs k ≡ Some last → last.id < id → IdsRise low id jobs
 above_last low limit id k [] last r len e lt = tt
 above_last low limit id zero (x ∷ []) last r len e lt = let same : x ≡ last = cc in (r.0, rw same lt, tt)
 above_last low limit id (suc k) (x ∷ []) last r len e lt = absurd (omega arith)

@@ -1,6 +1,9 @@
 -- Payloads that are put together again, and rows whose payloads stay where more stand behind.
-use Rattle.std.proofs.Common.{◌≡◌, Bool, true, false, cond, if◌then◌else◌, ℕ, suc, ◌+◌, ◌-◌, ◌*◌, ◌<◌, ◌≤◌, List, [], ◌∷◌, ◌++◌, length, take, drop, map, All, refl, sym, ap, subst, ◌∙◌, arith}
-use Rattle.std.proofs.lemmas.List.{map-append, append_assoc, length-append, take-append-le, drop-append-le, drop-drop, length-drop, length-take, take_all, get_or-drop, take-map, drop-map, get_or-set_same, take-set, drop-set-lt, length-set}
+use Rattle.std.proofs.Common.{◌≡◌, Bool, true, false, cond, if◌then◌else◌, ℕ, suc, ◌+◌, ◌-◌, ◌*◌, ◌<◌, ◌≤◌, List, [], ◌∷◌, ◌++◌, length}
+use Rattle.std.proofs.Common.{take, drop, map, All, refl, sym, ap, subst, ◌∙◌, arith}
+use Rattle.std.proofs.lemmas.List.{map-append, append_assoc, length-append, take-append-le, drop-append-le, drop-drop, length-drop}
+use Rattle.std.proofs.lemmas.List.{length-take, take_all, get_or-drop, take-map, drop-map, get_or-set_same, take-set, drop-set-lt}
+use Rattle.std.proofs.lemmas.List.{length-set}
 use Rattle.std.proofs.Math.Seq.{drop-append_seam, take-suc}
 use Rattle.std.proofs.Math.ListN.{get_or, set}
 use Rattle.std.specs.List.{filter, slice_range}
@@ -20,12 +23,18 @@ payload_same p more row h =
 
 -- a row with this payload
 abbrev pub kept_with : PackedJob → List ℕ → KeptJob
-kept_with row payload = record { origin = row.origin; job = record { id = row.id; work = record { queue = row.queue; priority = row.priority; payload = payload } } }
+kept_with row payload = record {
+  origin = row.origin;
+  job =
+      record { id = row.id; work = record { queue = row.queue; priority = row.priority; payload = payload } };
+}
 
-pub rows_same : (p more : List ℕ) (rows : List PackedJob) → All (HasPayload (length p)) rows → map (kept_in (p ++ more)) rows ≡ map (kept_in p) rows
+pub rows_same : (p more : List ℕ) (rows : List PackedJob) → All (HasPayload (length p)) rows
+    → map (kept_in (p ++ more)) rows ≡ map (kept_in p) rows
 rows_same p more [] h = refl
 rows_same p more (row ∷ rows) h =
-    ap (λ (xs : List ℕ). kept_with row xs ∷ map (kept_in (p ++ more)) rows) (payload_same p more row (All-head (HasPayload (length p)) row rows h))
+    ap (λ (xs : List ℕ). kept_with row xs ∷ map (kept_in (p ++ more)) rows)
+    (payload_same p more row (All-head (HasPayload (length p)) row rows h))
     ∙ ap (λ (ks : List KeptJob). kept_in p row ∷ ks) (rows_same p more rows (All-tail (HasPayload (length p)) row rows h))
 
 pub payload_again : (p payload : List ℕ) → take (length payload) (drop (length p) (p ++ payload)) ≡ payload
@@ -39,14 +48,16 @@ pub all_longer : (p more : List ℕ) (rows : List PackedJob) → All (HasPayload
 all_longer p more rows h = All-weaker (HasPayload (length p)) (HasPayload (length (p ++ more))) (longer p more) rows h
 
 -- one row more, whose payload comes behind all others
-pub rows_more : (p payload : List ℕ) (rows : List PackedJob) (row : PackedJob) → All (HasPayload (length p)) rows → row.start ≡ length p → row.len ≡ length payload
+pub rows_more : (p payload : List ℕ) (rows : List PackedJob) (row : PackedJob) → All (HasPayload (length p)) rows → row.start ≡ length p
+    → row.len ≡ length payload
     → map (kept_in (p ++ payload)) (rows ++ row ∷ []) ≡ map (kept_in p) rows ++ kept_with row payload ∷ []
 rows_more p payload rows row h start len =
     map-append (kept_in (p ++ payload)) rows (row ∷ [])
     ∙ ap (λ (ks : List KeptJob). ks ++ kept_in (p ++ payload) row ∷ []) (rows_same p payload rows h)
     ∙ ap (λ (xs : List ℕ). map (kept_in p) rows ++ kept_with row xs ∷ []) (rw (start, len) (payload_again p payload))
 
-pub all_more : (p payload : List ℕ) (rows : List PackedJob) (row : PackedJob) → All (HasPayload (length p)) rows → row.start ≡ length p → row.len ≡ length payload
+pub all_more : (p payload : List ℕ) (rows : List PackedJob) (row : PackedJob) → All (HasPayload (length p)) rows → row.start ≡ length p
+    → row.len ≡ length payload
     → length payload ≤ PAYLOAD_CAPACITY → All (HasPayload (length (p ++ payload))) (rows ++ row ∷ [])
 all_more p payload rows row h start len few =
     All-push (HasPayload (length (p ++ payload))) rows row (all_longer p payload rows h)
@@ -68,25 +79,45 @@ moved_to row start = record { id = row.id; start = start; len = row.len; queue =
 same_at : (items rows : List PackedJob) (i : ℕ) (d : PackedJob) → drop i items ≡ drop i rows → get_or items i d ≡ get_or rows i d
 same_at items rows i d same =
     let at : i + 0 ≡ i = omega arith in
-    ap (λ k. get_or items k d) (sym at) ∙ sym (get_or-drop i items 0 d) ∙ ap (λ xs. get_or xs 0 d) same ∙ get_or-drop i rows 0 d ∙ ap (λ k. get_or rows k d) at
+    ap (λ k. get_or items k d) (sym at) ∙ sym (get_or-drop i items 0 d) ∙ ap (λ xs. get_or xs 0 d) same ∙ get_or-drop i rows 0 d
+    ∙ ap (λ k. get_or rows k d) at
 
-pub row_there : (before after : List ℕ) (rows items : List PackedJob) (i : ℕ) (d : PackedJob) → All (HasPayload (length before)) rows → IsRepacking before after rows items i → i < length items
+pub row_there : (before after : List ℕ) (rows items : List PackedJob) (i : ℕ) (d : PackedJob) → All (HasPayload (length before)) rows
+    → IsRepacking before after rows items i → i < length items
     → HasPayload (length before) (get_or items i d)
 row_there before after rows items i d all p within =
-    subst (HasPayload (length before)) (sym (same_at items rows i d p.left)) (All-get_or (HasPayload (length before)) rows i d (omega (arith, within, p.count)) all)
+    subst (HasPayload (length before)) (sym (same_at items rows i d p.left))
+    (All-get_or (HasPayload (length before)) rows i d (omega (arith, within, p.count)) all)
 
-pub is_behind : (before after : List ℕ) (rows items : List PackedJob) (i : ℕ) → IsRepacking before after rows items i → length before ≤ length after
-is_behind before after rows items i p = omega (arith, ap (λ (xs : List ℕ). length xs) p.front, length-append before (drop (length before) after))
+pub is_behind : (before after : List ℕ) (rows items : List PackedJob) (i : ℕ) → IsRepacking before after rows items i
+    → length before ≤ length after
+is_behind before after rows items i p = omega (
+  arith,
+  ap (λ (xs : List ℕ). length xs) p.front,
+  length-append before (drop (length before) after),
+)
 
 -- what the row says is there
-pub reads_within : (before after : List ℕ) (rows items : List PackedJob) (i : ℕ) (d : PackedJob) → All (HasPayload (length before)) rows → IsRepacking before after rows items i → i < length items
+pub reads_within : (before after : List ℕ) (rows items : List PackedJob) (i : ℕ) (d : PackedJob) → All (HasPayload (length before)) rows
+    → IsRepacking before after rows items i → i < length items
     → (get_or items i d).start + (get_or items i d).len ≤ length after
-reads_within before after rows items i d all p within = omega (arith, (row_there before after rows items i d all p within).within, is_behind before after rows items i p)
+reads_within before after rows items i d all p within = omega (
+  arith,
+  (row_there before after rows items i d all p within).within,
+  is_behind before after rows items i p,
+)
 
 -- there is room for one payload more
-pub reads_few : (before after : List ℕ) (rows items : List PackedJob) (i : ℕ) (d : PackedJob) → All (HasPayload (length before)) rows → IsRepacking before after rows items i → i < length items
+pub reads_few : (before after : List ℕ) (rows items : List PackedJob) (i : ℕ) (d : PackedJob) → All (HasPayload (length before)) rows
+    → IsRepacking before after rows items i → i < length items
     → length after + (get_or items i d).len ≤ length before + PAYLOAD_CAPACITY * length rows
-reads_few before after rows items i d all p within = omega (arith, (row_there before after rows items i d all p within).fits, p.few, p.count, within)
+reads_few before after rows items i d all p within = omega (
+  arith,
+  (row_there before after rows items i d all p within).fits,
+  p.few,
+  p.count,
+  within,
+)
 
 range_is : (before after : List ℕ) (row : PackedJob) → after ≡ before ++ drop (length before) after → HasPayload (length before) row
     → slice_range after row.start (row.start + row.len) ≡ payload_in before row
@@ -99,8 +130,10 @@ range_is before after row front h =
 payload_long : (before : List ℕ) (row : PackedJob) → HasPayload (length before) row → row.len ≡ length (payload_in before row)
 payload_long before row h = omega (arith, h.within, length-take row.len (drop row.start before), length-drop row.start before)
 
-pub repacked_more : (before after : List ℕ) (rows items : List PackedJob) (i : ℕ) (d : PackedJob) → All (HasPayload (length before)) rows → IsRepacking before after rows items i → i < length items
-    → IsRepacking before (after ++ slice_range after (get_or items i d).start ((get_or items i d).start + (get_or items i d).len)) rows (set items i (moved_to (get_or items i d) (length after - length before))) (i + 1)
+pub repacked_more : (before after : List ℕ) (rows items : List PackedJob) (i : ℕ) (d : PackedJob) → All (HasPayload (length before)) rows
+    → IsRepacking before after rows items i → i < length items
+    → IsRepacking before (after ++ slice_range after (get_or items i d).start ((get_or items i d).start + (get_or items i d).len)) rows
+    (set items i (moved_to (get_or items i d) (length after - length before))) (i + 1)
 repacked_more before after rows items i d all p within =
     let x = get_or items i d in
     let m = drop (length before) after in
@@ -110,7 +143,8 @@ repacked_more before after rows items i d all p within =
     let range : slice_range after x.start (x.start + x.len) ≡ xs = range_is before after x p.front hx in
     let len : y.len ≡ length xs = payload_long before x hx in
     let start : y.start ≡ length m = sym (length-drop (length before) after) in
-    let behind : drop (length before) (after ++ xs) ≡ m ++ xs = drop-append-le (length before) after xs (is_behind before after rows items i p) in
+    let behind : drop (length before) (after ++ xs) ≡ m ++ xs =
+    drop-append-le (length before) after xs (is_behind before after rows items i p) in
     let next : i + 1 ≡ suc i = omega arith in
     let taken : take (i + 1) (set items i y) ≡ take i items ++ y ∷ [] =
     ap (λ k. take k (set items i y)) next
@@ -138,8 +172,10 @@ repacked_more before after rows items i d all p within =
       count = length-set items i y ∙ p.count;
     })
 
-pub repacked_as : (before after new : List ℕ) (rows items : List PackedJob) (i n s : ℕ) (d : PackedJob) → All (HasPayload (length before)) rows → IsRepacking before after rows items i → i < length items
-    → new ≡ after ++ slice_range after (get_or items i d).start ((get_or items i d).start + n) → n ≡ (get_or items i d).len → s ≡ length after - length before
+pub repacked_as : (before after new : List ℕ) (rows items : List PackedJob) (i n s : ℕ) (d : PackedJob)
+    → All (HasPayload (length before)) rows → IsRepacking before after rows items i → i < length items
+    → new ≡ after ++ slice_range after (get_or items i d).start ((get_or items i d).start + n) → n ≡ (get_or items i d).len
+    → s ≡ length after - length before
     → IsRepacking before new rows (set items i (moved_to (get_or items i d) s)) (i + 1)
 repacked_as before after new rows items i n s d all p within is len start =
     let x = get_or items i d in
@@ -149,7 +185,8 @@ repacked_as before after new rows items i n s d all p within is len start =
     (repacked_more before after rows items i d all p within))
 
 -- the jobs of a list, with one more behind them
-pub pushed : (p payload bytes : List ℕ) (rows more : List PackedJob) (row : PackedJob) (first : ℕ) → All (HasPayload (length p)) (drop first rows) → first ≤ length rows
+pub pushed : (p payload bytes : List ℕ) (rows more : List PackedJob) (row : PackedJob) (first : ℕ)
+    → All (HasPayload (length p)) (drop first rows) → first ≤ length rows
     → more ≡ rows ++ row ∷ [] → bytes ≡ p ++ payload → row.start ≡ length p → row.len ≡ length payload
     → map (kept_in bytes) (drop first more) ≡ map (kept_in p) (drop first rows) ++ kept_with row payload ∷ []
 pushed p payload bytes rows more row first all within is long start len =
@@ -168,11 +205,13 @@ removed f xs left place is =
     ∙ ap (λ ys. take place (map f xs) ++ ys) (sym (drop-map f (place + 1) xs))
 
 -- the jobs of the rows that a test leaves
-pub filtered : (p : List ℕ) (q : KeptJob → Bool) (rows : List PackedJob) → map (kept_in p) (filter (λ row. q (kept_in p row)) rows) ≡ filter q (map (kept_in p) rows)
+pub filtered : (p : List ℕ) (q : KeptJob → Bool) (rows : List PackedJob)
+    → map (kept_in p) (filter (λ row. q (kept_in p row)) rows) ≡ filter q (map (kept_in p) rows)
 filtered p q [] = refl
 filtered p q (row ∷ rows) = one (q (kept_in p row)) (filtered p q rows)
   where
     one : (b : Bool) → map (kept_in p) (filter (λ row. q (kept_in p row)) rows) ≡ filter q (map (kept_in p) rows)
-        → map (kept_in p) (cond b (row ∷ filter (λ row. q (kept_in p row)) rows) (filter (λ row. q (kept_in p row)) rows)) ≡ cond b (kept_in p row ∷ filter q (map (kept_in p) rows)) (filter q (map (kept_in p) rows))
+        → map (kept_in p) (cond b (row ∷ filter (λ row. q (kept_in p row)) rows) (filter (λ row. q (kept_in p row)) rows))
+        ≡ cond b (kept_in p row ∷ filter q (map (kept_in p) rows)) (filter q (map (kept_in p) rows))
     one true rest = ap (λ ks. kept_in p row ∷ ks) rest
     one false rest = rest

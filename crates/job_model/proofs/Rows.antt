@@ -1,5 +1,6 @@
 -- Rows whose ids rise: a job's place is that of its row.
-use Rattle.std.proofs.Common.{◌≡◌, ℕ, ◌+◌, ◌-◌, ◌<◌, ◌≤◌, true, false, eqb, ltb, List, [], ◌∷◌, ◌++◌, length, take, drop, map, ◌∙◌, sym, subst, ap, refl, arith}
+use Rattle.std.proofs.Common.{◌≡◌, ℕ, ◌+◌, ◌-◌, ◌<◌, ◌≤◌, true, false, eqb, ltb, List, [], ◌∷◌, ◌++◌, length, take, drop, map, ◌∙◌, sym}
+use Rattle.std.proofs.Common.{subst, ap, refl, arith}
 use Rattle.std.specs.Prelude.{Some, None, slice_get, option_map, IsTrue, nat_lt, ◌↔◌}
 use Rattle.std.specs.List.Sorted.{IsNonDecreasingBy, IsPartitionPoint}
 use Rattle.std.proofs.Math.ListN.{get_or}
@@ -30,13 +31,16 @@ jobs_map p rows = map-map job_of (kept_in p) rows
 jobs_long : (p : List ℕ) (rows : List PackedJob) → length (jobs_in p rows) ≡ length rows
 jobs_long p rows = ap (λ (jobs : List Job). length jobs) (jobs_map p rows) ∙ length-map rows (job_in p)
 
-job_at : (p : List ℕ) (rows : List PackedJob) (k : ℕ) (d : PackedJob) (e : Job) → k < length rows → get_or (jobs_in p rows) k e ≡ job_in p (get_or rows k d)
+job_at : (p : List ℕ) (rows : List PackedJob) (k : ℕ) (d : PackedJob) (e : Job) → k < length rows
+    → get_or (jobs_in p rows) k e ≡ job_in p (get_or rows k d)
 job_at p rows k d e less = ap (λ jobs. get_or jobs k e) (jobs_map p rows) ∙ get_or-map (job_in p) rows k d e less
 
-id_at : (p : List ℕ) (rows : List PackedJob) (k : ℕ) (d : PackedJob) (e : Job) → k < length rows → (get_or (jobs_in p rows) k e).id ≡ (get_or rows k d).id
+id_at : (p : List ℕ) (rows : List PackedJob) (k : ℕ) (d : PackedJob) (e : Job) → k < length rows
+    → (get_or (jobs_in p rows) k e).id ≡ (get_or rows k d).id
 id_at p rows k d e less = ap (λ (job : Job). job.id) (job_at p rows k d e less)
 
-pub rows_rise : (p : List ℕ) (rows : List PackedJob) (limit : ℕ) → IsInOrder (jobs_in p rows) limit → IsNonDecreasingBy (λ (row : PackedJob). row.id) rows
+pub rows_rise : (p : List ℕ) (rows : List PackedJob) (limit : ℕ) → IsInOrder (jobs_in p rows) limit
+    → IsNonDecreasingBy (λ (row : PackedJob). row.id) rows
 rows_rise p rows limit r = λ i j d le less.
     let up = rises 0 limit (jobs_in p rows) i j (job_in p d) r le (omega (arith, less, jobs_long p rows)) in
     omega (arith, up, id_at p rows i d (job_in p d) (omega (arith, le, less)), id_at p rows j d (job_in p d) less)
@@ -48,13 +52,15 @@ IsEnd rows id at = IsPartitionPoint (λ (row : PackedJob). ltb row.id id ≡ tru
 jobs_end : (p : List ℕ) (rows : List PackedJob) (id at : ℕ) → at ≤ length rows → IsEnd rows id at
     → IsPartitionPoint (λ (job : Job). ltb job.id id ≡ true) (λ (job : Job). ltb job.id id ≡ false) (jobs_in p rows) at
 jobs_end p rows id at within point = (
-  λ k e low less. subst (λ n. ltb n id ≡ true) (sym (id_at p rows k some_row e (omega (arith, less, within)))) (point.0 k some_row low less),
+  λ k e low less. subst (λ n. ltb n id ≡ true) (sym (id_at p rows k some_row e (omega (arith, less, within))))
+      (point.0 k some_row low less),
   λ k e low less.
       let there : k < length rows = omega (arith, less, jobs_long p rows) in
       subst (λ n. ltb n id ≡ false) (sym (id_at p rows k some_row e there)) (point.1 k some_row low there),
 )
 
-pub found : (p : List ℕ) (rows : List PackedJob) (id at next : ℕ) (d : PackedJob) → IsInOrder (jobs_in p rows) next → at < length rows → (get_or rows at d).id ≡ id
+pub found : (p : List ℕ) (rows : List PackedJob) (id at next : ℕ) (d : PackedJob) → IsInOrder (jobs_in p rows) next → at < length rows
+    → (get_or rows at d).id ≡ id
     → IsPlaceOf (jobs_in p rows) id (Some at)
 found p rows id at next d r there is =
     let jobs = jobs_in p rows in
@@ -81,7 +87,8 @@ missing p rows id at next r within point differs =
       pending = sym (pending_other jobs id other);
     }
 
-pub above_rows : (p : List ℕ) (rows : List PackedJob) (id next : ℕ) (last : PackedJob) → IsInOrder (jobs_in p rows) next → Some last ≡ slice_get rows (length rows - 1)
+pub above_rows : (p : List ℕ) (rows : List PackedJob) (id next : ℕ) (last : PackedJob) → IsInOrder (jobs_in p rows) next
+    → Some last ≡ slice_get rows (length rows - 1)
     → IsTrue (nat_lt last.id id) ↔ IsInOrder (jobs_in p rows) id
 above_rows p rows id next last r e =
     above_is_past_last next id (jobs_in p rows) (job_in p last) r
@@ -93,5 +100,6 @@ above_rows p rows id next last r e =
 pub jobs_more : (kept : List KeptJob) (more : KeptJob) → jobs_of (kept ++ more ∷ []) ≡ jobs_of kept ++ more.job ∷ []
 jobs_more kept more = map-append job_of kept (more ∷ [])
 
-pub jobs_left : (kept : List KeptJob) (id place : ℕ) → IsPlaceOf (jobs_of kept) id (Some place) → jobs_of (take place kept ++ drop (place + 1) kept) ≡ without_job (jobs_of kept) id
+pub jobs_left : (kept : List KeptJob) (id place : ℕ) → IsPlaceOf (jobs_of kept) id (Some place)
+    → jobs_of (take place kept ++ drop (place + 1) kept) ≡ without_job (jobs_of kept) id
 jobs_left kept id place there = removed job_of kept (take place kept ++ drop (place + 1) kept) place refl ∙ sym there.at_place.1

@@ -6,4 +6,5 @@ use Rattle.job_model.specs.declared.work.Work.{Work}
 
 -- whether two are one: their queues, their priorities, and their payloads byte for byte
 abbrev pub same_work : Work → Work → Bool
-same_work = eq_of_both (on (λ (w : Work). w.queue) nat_eq) (eq_of_both (on (λ (w : Work). w.priority) nat_eq) (on (λ (w : Work). w.payload) (pointwise nat_eq)))
+same_work = eq_of_both (on (λ (w : Work). w.queue) nat_eq)
+    (eq_of_both (on (λ (w : Work). w.priority) nat_eq) (on (λ (w : Work). w.payload) (pointwise nat_eq)))

@@ -1,5 +1,6 @@
 -- The records of a journal, each the bytes of one sector.
-use Rattle.std.specs.Prelude.{ℕ, ◌≡◌, ◌+◌, ◌^◌, ◌<◌, ◌≤◌, ◌==◌, ◌&&◌, ◌⊎◌, nat_lt, nat_le, List, ◌∷◌, ◌++◌, take, drop, length, replicate, get_or, Option, Some, None, option_map, if◌then◌else◌}
+use Rattle.std.specs.Prelude.{ℕ, ◌≡◌, ◌+◌, ◌^◌, ◌<◌, ◌≤◌, ◌==◌, ◌&&◌, ◌⊎◌, nat_lt, nat_le, List, ◌∷◌, ◌++◌, take, drop, length, replicate}
+use Rattle.std.specs.Prelude.{get_or, Option, Some, None, option_map, if◌then◌else◌}
 use Rattle.std.specs.Int.{from_be_bytes, to_be_bytes, w64, w16}
 use Rattle.disk_layout.specs.Blank.{is_blank}
 use Rattle.job_model.specs.declared.job.Job.{Job}

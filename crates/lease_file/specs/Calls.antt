@@ -32,5 +32,6 @@ IsOneOf before after old new = Each old new (λ c. (kept_in c ≡ Some before) �
 
 -- each image since a process began to begin keeps what was there, the same with its time, or that and one block more
 abbrev pub IsOneOfThree : Kept → ℕ → DiskState → DiskState → Type 0
-IsOneOfThree before keeps old new = Each old new (λ c. (kept_in c ≡ Some before) ⊎ (kept_in c ≡ Some (kept before.count (max before.keeps keeps)))
+IsOneOfThree before keeps old new = Each old new (λ c. (kept_in c ≡ Some before)
+    ⊎ (kept_in c ≡ Some (kept before.count (max before.keeps keeps)))
     ⊎ (kept_in c ≡ Some (kept (before.count + 1) (max before.keeps keeps))))

@@ -1,5 +1,6 @@
 -- What a call leaves of each name.
-use Rattle.std.proofs.Common.{◌≡◌, ◌≢◌, ℕ, ◌+◌, ◌≤◌, ◌<◌, Bool, true, false, cond, List, [], ◌∷◌, ◌++◌, length, get_or, refl, sym, ap, subst, ◌∙◌, inl, inr, arith}
+use Rattle.std.proofs.Common.{◌≡◌, ◌≢◌, ℕ, ◌+◌, ◌≤◌, ◌<◌, Bool, true, false, cond, List, [], ◌∷◌, ◌++◌, length, get_or, refl, sym, ap}
+use Rattle.std.proofs.Common.{subst, ◌∙◌, inl, inr, arith}
 use Rattle.std.specs.Prelude.{◌&&◌, All, IfSome, IsNone, is_none, Option, Some, None, option_map, map, set}
 use Rattle.std.proofs.lemmas.List.{length-append, length-map, length-set}
 use Rattle.std.proofs.lemmas.List.Elements.{All-get_or, All-head, All-map, All-push, All-set, All-tail, All-weaker}
@@ -21,7 +22,9 @@ use Rattle.lease_machine.specs.Kept.{IsEntry, IsOwn, AreKept}
 use Rattle.lease_machine.specs.Claims.{Acts, IsSameClaim, Relies}
 use Rattle.lease_machine.specs.Machine.{AllStay, IsForgotten, Stays, claim_in, unknown, voter_at, voter_in}
 use Rattle.lease_machine.specs.declared.state.LeaseMachine.{LeaseMachine}
-use Rattle.lease_machine.proofs.Names.{IsFound, placed, dead_placed, same_name, self_same, set_found, unlike, AreApart, apart_from, apart_to, IsAt, at_get, found, set_other, set_gone, IsFitting, set_apart, push_apart, map_of, map_apart}
+use Rattle.lease_machine.proofs.Names.{IsFound, placed, dead_placed, same_name, self_same, set_found, unlike, AreApart, apart_from}
+use Rattle.lease_machine.proofs.Names.{apart_to, IsAt, at_get, found, set_other, set_gone, IsFitting, set_apart, push_apart, map_of}
+use Rattle.lease_machine.proofs.Names.{map_apart}
 
 -- ---- voters by what is shown of them
 
@@ -50,17 +53,22 @@ raised_is v w bound step =
 
 -- ---- one name more
 
-pub kept_pushed : (terms : LeaseTerms) (process claims began bound floor : ℕ) (es after : List NameEntry) (x : NameEntry) → AreKept terms process claims began bound floor es
-    → IsEntry terms process claims began bound x → entry_of x.name es ≡ None → length es < NAMES → after ≡ es ++ x ∷ [] → AreKept terms process claims began bound floor after
-kept_pushed terms process claims began bound floor es after x kept fits none less is = subst (AreKept terms process claims began bound floor) (sym is) (record {
-  entries = All-push (IsEntry terms process claims began bound) es x kept.entries fits;
-  apart = apart_to (es ++ x ∷ []) (push_apart x es (apart_from es kept.apart) none);
-  few = omega (arith, less, length-append es (x ∷ []));
-  floor_allowed = kept.floor_allowed;
-})
+pub kept_pushed : (terms : LeaseTerms) (process claims began bound floor : ℕ) (es after : List NameEntry) (x : NameEntry)
+    → AreKept terms process claims began bound floor es
+    → IsEntry terms process claims began bound x → entry_of x.name es ≡ None → length es < NAMES → after ≡ es ++ x ∷ []
+    → AreKept terms process claims began bound floor after
+kept_pushed terms process claims began bound floor es after x kept fits none less is =
+    subst (AreKept terms process claims began bound floor) (sym is) (record {
+      entries = All-push (IsEntry terms process claims began bound) es x kept.entries fits;
+      apart = apart_to (es ++ x ∷ []) (push_apart x es (apart_from es kept.apart) none);
+      few = omega (arith, less, length-append es (x ∷ []));
+      floor_allowed = kept.floor_allowed;
+    })
 
-pub kept_set : (terms : LeaseTerms) (process claims began bound floor raised : ℕ) (es : List NameEntry) (k : ℕ) (d x : NameEntry) → AreKept terms process claims began bound floor es
-    → IsAt k d es → IsEntry terms process claims began bound x → IsFitting d x es → raised ≤ bound → AreKept terms process claims began bound raised (set es k x)
+pub kept_set : (terms : LeaseTerms) (process claims began bound floor raised : ℕ) (es : List NameEntry) (k : ℕ) (d x : NameEntry)
+    → AreKept terms process claims began bound floor es
+    → IsAt k d es → IsEntry terms process claims began bound x → IsFitting d x es → raised ≤ bound
+    → AreKept terms process claims began bound raised (set es k x)
 kept_set terms process claims began bound floor raised es k d x kept at fits fitting allowed = record {
   entries = All-set (IsEntry terms process claims began bound) es k x fits kept.entries;
   apart = apart_to (set es k x) (set_apart k d x es at (apart_from es kept.apart) fitting);
@@ -68,7 +76,8 @@ kept_set terms process claims began bound floor raised es k d x kept at fits fit
   floor_allowed = allowed;
 }
 
-pub entry_at : (terms : LeaseTerms) (process claims began bound floor : ℕ) (es : List NameEntry) (k : ℕ) (d : NameEntry) → AreKept terms process claims began bound floor es
+pub entry_at : (terms : LeaseTerms) (process claims began bound floor : ℕ) (es : List NameEntry) (k : ℕ) (d : NameEntry)
+    → AreKept terms process claims began bound floor es
     → IsAt k d es → IsEntry terms process claims began bound d
 entry_at terms process claims began bound floor es k d kept at =
     let h = at_get k d es d at in
@@ -86,15 +95,18 @@ dead_parts now d h = parts d.claim (is_free now d.voter) h
 abbrev pub IsLeft : ℕ → LeaseVoter → LeaseVoter → Option NameEntry → Option NameEntry → Type 0
 IsLeft now none none' old new = Stays now (voter_in none old) (voter_in none' new) × (claim_in new ≡ claim_in old)
 
-pub same_left : (now : ℕ) (none none' : LeaseVoter) (old new : Option NameEntry) → Stays now none none' → new ≡ old → IsLeft now none none' old new
+pub same_left : (now : ℕ) (none none' : LeaseVoter) (old new : Option NameEntry) → Stays now none none' → new ≡ old
+    → IsLeft now none none' old new
 same_left now none none' old new stays same = subst (λ (e : Option NameEntry). IsLeft now none none' old e) (sym same) (by_entry old)
   where
     by_entry : (e : Option NameEntry) → IsLeft now none none' e e
     by_entry None = (stays, refl)
     by_entry (Some e) = (inl refl, refl)
 
-pub replaced_left : (now : ℕ) (none none' : LeaseVoter) (es : List NameEntry) (k : ℕ) (d x : NameEntry) (other : List ℕ) → IsAt k d es → AreApart es → entry_of x.name es ≡ None → is_dead now d ≡ true
-    → other ≢ x.name → Stays now none none' → (is_free now d.voter ≡ true → IsForgotten now d.voter none') → IsLeft now none none' (entry_of other es) (entry_of other (set es k x))
+pub replaced_left : (now : ℕ) (none none' : LeaseVoter) (es : List NameEntry) (k : ℕ) (d x : NameEntry) (other : List ℕ) → IsAt k d es
+    → AreApart es → entry_of x.name es ≡ None → is_dead now d ≡ true
+    → other ≢ x.name → Stays now none none' → (is_free now d.voter ≡ true → IsForgotten now d.voter none')
+    → IsLeft now none none' (entry_of other es) (entry_of other (set es k x))
 replaced_left now none none' es k d x other at apart new dead differ stays forgot = by_test (is_same d.name other) refl
   where
     gone : other ≡ d.name → IsLeft now none none' (entry_of other es) (entry_of other (set es k x))
@@ -106,7 +118,8 @@ replaced_left now none none' es k d x other at apart new dead differ stays forgo
         (inr (forgot parts.1), sym parts.0)))
 
     by_test : (b : Bool) → is_same d.name other ≡ b → IsLeft now none none' (entry_of other es) (entry_of other (set es k x))
-    by_test false away = same_left now none none' (entry_of other es) (entry_of other (set es k x)) stays (set_other k d x other es at away (unlike x.name other (λ s. differ (sym s))))
+    by_test false away = same_left now none none' (entry_of other es)
+        (entry_of other (set es k x)) stays (set_other k d x other es at away (unlike x.name other (λ s. differ (sym s))))
     by_test true same = gone (sym (same_name d.name other same))
 
 -- a place that was found
@@ -122,11 +135,15 @@ place_found place es test f =
     let at = subst (λ (n : ℕ). IsAt n f.d es) is f.at in
     record { d = f.d; at = at; passes = f.passes; within = (at_get place f.d es f.d at).0 }
 
-pub dead_found : (now place : ℕ) (seen es : List NameEntry) (r : Option ℕ) → seen ≡ es → r ≡ dead_from 0 now seen → r ≡ Some place → IsPlace place es (is_dead now)
-dead_found now place seen es r same is some = place_found place es (is_dead now) (dead_placed 0 now es place (ap (dead_from 0 now) (sym same) ∙ sym is ∙ some))
+pub dead_found : (now place : ℕ) (seen es : List NameEntry) (r : Option ℕ) → seen ≡ es → r ≡ dead_from 0 now seen → r ≡ Some place
+    → IsPlace place es (is_dead now)
+dead_found now place seen es r same is some = place_found place es (is_dead now)
+    (dead_placed 0 now es place (ap (dead_from 0 now) (sym same) ∙ sym is ∙ some))
 
-pub name_found : (name : List ℕ) (place : ℕ) (seen es : List NameEntry) (r : Option ℕ) → seen ≡ es → r ≡ place_from 0 name seen → r ≡ Some place → IsPlace place es (λ e. is_same e.name name)
-name_found name place seen es r same is some = place_found place es (λ e. is_same e.name name) (placed 0 name es place (ap (place_from 0 name) (sym same) ∙ sym is ∙ some))
+pub name_found : (name : List ℕ) (place : ℕ) (seen es : List NameEntry) (r : Option ℕ) → seen ≡ es → r ≡ place_from 0 name seen
+    → r ≡ Some place → IsPlace place es (λ e. is_same e.name name)
+name_found name place seen es r same is some = place_found place es (λ e. is_same e.name name)
+    (placed 0 name es place (ap (place_from 0 name) (sym same) ∙ sym is ∙ some))
 
 -- a name that is kept needs no room
 pub kept_needs_none : {e : NameEntry} (o : Option NameEntry) → o ≡ Some e → o ≡ None → ⊥
@@ -139,7 +156,8 @@ pub record IsRead (name : List ℕ) (es : List NameEntry) (place : ℕ) (e x : N
   pub new : entry_of name (set es place x) ≡ Some x
   pub others : (other : List ℕ) → other ≢ name → entry_of other (set es place x) ≡ entry_of other es
 
-pub is_read : (name : List ℕ) (es : List NameEntry) (place : ℕ) (e x : NameEntry) → IsPlace place es (λ y. is_same y.name name) → are_apart es ≡ true → e ≡ get_or es place e → x.name ≡ e.name
+pub is_read : (name : List ℕ) (es : List NameEntry) (place : ℕ) (e x : NameEntry) → IsPlace place es (λ y. is_same y.name name)
+    → are_apart es ≡ true → e ≡ get_or es place e → x.name ≡ e.name
     → IsRead name es place e x
 is_read name es place e x p apart read same =
     let is : e ≡ p.d = read ∙ (at_get place p.d es e p.at).1 in
@@ -150,14 +168,17 @@ is_read name es place e x p apart read same =
       at = at;
       old = subst (λ (n : List ℕ). entry_of n es ≡ Some e) named (found place e es at all);
       new = subst (λ (n : List ℕ). entry_of n (set es place x) ≡ Some x) named (set_found place e x es at all same);
-      others = λ other differ. set_other place e x other es at (unlike e.name other (λ s. differ (sym s ∙ named))) (unlike x.name other (λ s. differ (sym s ∙ same ∙ named)));
+      others = λ other differ. set_other place e x other es at (unlike e.name other (λ s. differ (sym s ∙ named)))
+          (unlike x.name other (λ s. differ (sym s ∙ same ∙ named)));
     }
 
 pub step_of : (v w v' w' : LeaseVoter) (now : ℕ) (what : VoterEvent) → v' ≡ v → w' ≡ w → IsStep v w now what → IsStep v' w' now what
-step_of v w v' w' now what p q step = subst (λ (x : LeaseVoter). IsStep x w' now what) (sym p) (subst (λ (x : LeaseVoter). IsStep v x now what) (sym q) step)
+step_of v w v' w' now what p q step = subst (λ (x : LeaseVoter). IsStep x w' now what) (sym p)
+    (subst (λ (x : LeaseVoter). IsStep v x now what) (sym q) step)
 
 -- one name's voter is another one
-pub entry_with : (terms : LeaseTerms) (process claims began bound : ℕ) (e : NameEntry) (w : LeaseVoter) → IsEntry terms process claims began bound e → w.keeps ≡ e.voter.keeps → w.began ≡ e.voter.began
+pub entry_with : (terms : LeaseTerms) (process claims began bound : ℕ) (e : NameEntry) (w : LeaseVoter)
+    → IsEntry terms process claims began bound e → w.keeps ≡ e.voter.keeps → w.began ≡ e.voter.began
     → w.bound ≡ e.voter.bound → w.last ≤ bound → IsEntry terms process claims began bound (record e { voter = w })
 entry_with terms process claims began bound e w fits keeps since allowed last =
     record { keeps = keeps ∙ fits.keeps; since = since ∙ fits.since; allowed = allowed ∙ fits.allowed; last = last; claim = fits.claim }
@@ -172,45 +193,79 @@ pub record IsLike (v w : LeaseVoter) : Type 0 where
 like_same : (v w : LeaseVoter) → w ≡ v → IsLike v w
 like_same v w is = subst (λ (x : LeaseVoter). IsLike v x) (sym is) (record { keeps = refl; began = refl; bound = refl; last = λ h. h })
 
-pub asked_like : (v w : LeaseVoter) (now : ℕ) (client : ClientId) (epoch : ℕ) (b : Bool) → (b ≡ true → (number sent : ℕ) → IsStep v w now (grants (ask_of client number epoch sent))) → (b ≡ false → w ≡ v) → IsLike v w
+pub asked_like : (v w : LeaseVoter) (now : ℕ) (client : ClientId) (epoch : ℕ) (b : Bool)
+    → (b ≡ true → (number sent : ℕ) → IsStep v w now (grants (ask_of client number epoch sent))) → (b ≡ false → w ≡ v) → IsLike v w
 asked_like v w now client epoch false granted same = like_same v w (same refl)
 asked_like v w now client epoch true granted same =
     let h = granted refl 0 0 (λ boot at. now) 0 0 refl in
-    record { keeps = h.2; began = ap (λ (x : Voter). x.began) h.1; bound = ap (λ (x : Voter). x.bound) h.1; last = λ _. omega (arith, h.0.1, ap (λ (x : Voter). x.last) h.1) }
+    record {
+      keeps = h.2;
+      began = ap (λ (x : Voter). x.began) h.1;
+      bound = ap (λ (x : Voter). x.bound) h.1;
+      last =
+          λ _. omega (arith, h.0.1, ap (λ (x : Voter). x.last) h.1);
+    }
 
-pub released_like : (v w : LeaseVoter) (client : ClientId) (epoch : ℕ) (b : Bool) → (b ≡ true → (now : ℕ) → IsStep v w now (releases (client_of client) epoch)) → (b ≡ false → w ≡ v) → IsLike v w
+pub released_like : (v w : LeaseVoter) (client : ClientId) (epoch : ℕ) (b : Bool)
+    → (b ≡ true → (now : ℕ) → IsStep v w now (releases (client_of client) epoch)) → (b ≡ false → w ≡ v) → IsLike v w
 released_like v w client epoch false freed same = like_same v w (same refl)
 released_like v w client epoch true freed same =
     let h = freed refl 0 (λ boot at. 0) 0 0 refl in
-    record { keeps = h.2; began = ap (λ (x : Voter). x.began) h.1; bound = ap (λ (x : Voter). x.bound) h.1; last = λ less. omega (arith, less, ap (λ (x : Voter). x.last) h.1) }
+    record {
+      keeps = h.2;
+      began = ap (λ (x : Voter). x.began) h.1;
+      bound = ap (λ (x : Voter). x.bound) h.1;
+      last =
+          λ less. omega (arith, less, ap (λ (x : Voter). x.last) h.1);
+    }
 
-pub kept_like : (terms : LeaseTerms) (process claims began bound floor : ℕ) (es : List NameEntry) (place : ℕ) (e : NameEntry) (w : LeaseVoter) → AreKept terms process claims began bound floor es → IsAt place e es
+pub kept_like : (terms : LeaseTerms) (process claims began bound floor : ℕ) (es : List NameEntry) (place : ℕ) (e : NameEntry)
+    (w : LeaseVoter) → AreKept terms process claims began bound floor es → IsAt place e es
     → IsLike e.voter w → AreKept terms process claims began bound floor (set es place (record e { voter = w }))
 kept_like terms process claims began bound floor es place e w kept at like =
     let fits = entry_at terms process claims began bound floor es place e kept at in
     kept_set terms process claims began bound floor floor es place e (record e { voter = w }) kept at
-    (entry_with terms process claims began bound e w fits like.keeps like.began like.bound (omega (arith, fits.allowed, like.last (omega (arith, fits.allowed, fits.last))))) (inl refl) kept.floor_allowed
+    (entry_with terms process claims began bound e w fits like.keeps like.began like.bound (omega (
+      arith,
+      fits.allowed,
+      like.last (omega (arith, fits.allowed, fits.last)),
+    ))) (inl refl) kept.floor_allowed
 
 -- ---- all voters are raised
 
-pub allowed_before : (terms : LeaseTerms) (process claims began bound floor higher : ℕ) (es : List NameEntry) → AreKept terms process claims began bound floor es → bound ≤ higher → All (λ e. e.voter.bound ≤ higher) es
+pub allowed_before : (terms : LeaseTerms) (process claims began bound floor higher : ℕ) (es : List NameEntry)
+    → AreKept terms process claims began bound floor es → bound ≤ higher → All (λ e. e.voter.bound ≤ higher) es
 allowed_before terms process claims began bound floor higher es kept less =
-    All-weaker (IsEntry terms process claims began bound) (λ e. e.voter.bound ≤ higher) (λ e fits. omega (arith, fits.allowed, less)) es kept.entries
+    All-weaker (IsEntry terms process claims began bound) (λ e. e.voter.bound ≤ higher)
+    (λ e fits. omega (arith, fits.allowed, less)) es kept.entries
 
-pub kept_raised : (terms : LeaseTerms) (process claims began bound floor higher : ℕ) (es after : List NameEntry) → AreKept terms process claims began bound floor es → bound ≤ higher → after ≡ map (raised higher) es
+pub kept_raised : (terms : LeaseTerms) (process claims began bound floor higher : ℕ) (es after : List NameEntry)
+    → AreKept terms process claims began bound floor es → bound ≤ higher → after ≡ map (raised higher) es
     → AreKept terms process claims began higher floor after
-kept_raised terms process claims began bound floor higher es after kept less is = subst (AreKept terms process claims began higher floor) (sym is) (record {
-  entries = All-map (IsEntry terms process claims began higher) (raised higher) es (All-weaker (IsEntry terms process claims began bound) (λ e. IsEntry terms process claims began higher (raised higher e))
-      (λ e fits. record { keeps = fits.keeps; since = fits.since; allowed = refl; last = omega (arith, fits.last, less); claim = fits.claim }) es kept.entries);
-  apart = apart_to (map (raised higher) es) (map_apart (raised higher) (λ e. refl) es (apart_from es kept.apart));
-  few = omega (arith, kept.few, length-map es (raised higher));
-  floor_allowed = omega (arith, kept.floor_allowed, less);
-})
+kept_raised terms process claims began bound floor higher es after kept less is =
+    subst (AreKept terms process claims began higher floor) (sym is) (record {
+      entries = All-map (IsEntry terms process claims began higher)
+          (raised higher) es (All-weaker (IsEntry terms process claims began bound) (λ e.
+          IsEntry terms process claims began higher (raised higher e))
+          (λ e fits. record {
+            keeps = fits.keeps;
+            since = fits.since;
+            allowed = refl;
+            last = omega (arith, fits.last, less);
+            claim =
+                fits.claim;
+          }) es kept.entries);
+      apart = apart_to (map (raised higher) es) (map_apart (raised higher) (λ e. refl) es (apart_from es kept.apart));
+      few = omega (arith, kept.few, length-map es (raised higher));
+      floor_allowed = omega (arith, kept.floor_allowed, less);
+    })
 
-pub raised_entry : (name : List ℕ) (es after : List NameEntry) (higher : ℕ) → after ≡ map (raised higher) es → entry_of name after ≡ option_map (raised higher) (entry_of name es)
+pub raised_entry : (name : List ℕ) (es after : List NameEntry) (higher : ℕ) → after ≡ map (raised higher) es
+    → entry_of name after ≡ option_map (raised higher) (entry_of name es)
 raised_entry name es after higher is = ap (entry_of name) is ∙ map_of (raised higher) (λ e. refl) name es
 
-pub raised_claim : (name : List ℕ) (es after : List NameEntry) (higher : ℕ) → after ≡ map (raised higher) es → claim_in (entry_of name after) ≡ claim_in (entry_of name es)
+pub raised_claim : (name : List ℕ) (es after : List NameEntry) (higher : ℕ) → after ≡ map (raised higher) es
+    → claim_in (entry_of name after) ≡ claim_in (entry_of name es)
 raised_claim name es after higher is = ap claim_in (raised_entry name es after higher is) ∙ by_entry (entry_of name es)
   where
     by_entry : (o : Option NameEntry) → claim_in (option_map (raised higher) o) ≡ claim_in o
@@ -232,18 +287,27 @@ of_found P name (e ∷ es) d all h = by_test (is_same e.name name) (All-head P e
 raises_from : (v : LeaseVoter) (higher now : ℕ) → v.bound ≤ higher → IsStep v (record v { bound = higher }) now (raises higher)
 raises_from v higher now less clock boot at shows = (less, refl, refl)
 
-pub raises_step : (name : List ℕ) (u : LeaseVoter) (es : List NameEntry) (o : Option NameEntry) (now bound higher : ℕ) → All (λ e. e.voter.bound ≡ bound) es → u.bound ≡ bound → bound ≤ higher
-    → o ≡ option_map (raised higher) (entry_of name es) → IsStep (voter_in u (entry_of name es)) (voter_in (record u { bound = higher }) o) now (raises higher)
+pub raises_step : (name : List ℕ) (u : LeaseVoter) (es : List NameEntry) (o : Option NameEntry) (now bound higher : ℕ)
+    → All (λ e. e.voter.bound ≡ bound) es → u.bound ≡ bound → bound ≤ higher
+    → o ≡ option_map (raised higher) (entry_of name es) → IsStep (voter_in u (entry_of name es))
+    (voter_in (record u { bound = higher }) o) now (raises higher)
 raises_step name u es o now bound higher all mine less is =
-    subst (λ (x : Option NameEntry). IsStep (voter_in u (entry_of name es)) (voter_in (record u { bound = higher }) x) now (raises higher)) (sym is) (by_entry (entry_of name es) refl)
+    subst (λ (x : Option NameEntry). IsStep (voter_in u (entry_of name es)) (voter_in (record u { bound = higher }) x) now (raises higher))
+    (sym is) (by_entry (entry_of name es) refl)
   where
-    by_entry : (x : Option NameEntry) → entry_of name es ≡ x → IsStep (voter_in u x) (voter_in (record u { bound = higher }) (option_map (raised higher) x)) now (raises higher)
+    by_entry : (x : Option NameEntry) → entry_of name es ≡ x
+        → IsStep (voter_in u x) (voter_in (record u { bound = higher }) (option_map (raised higher) x)) now (raises higher)
     by_entry None e = raises_from u higher now (omega (arith, mine, less))
-    by_entry (Some e) found = raises_from e.voter higher now (omega (arith, of_found (λ x. x.voter.bound ≡ bound) name es e all found, less))
+    by_entry (Some e) found = raises_from e.voter higher now (omega (
+      arith,
+      of_found (λ x. x.voter.bound ≡ bound) name es e all found,
+      less,
+    ))
 
 -- ---- who asks
 
-pub same_own : (terms : LeaseTerms) (process claims : ℕ) (c d : LeaseCandidate) → IsOwn terms process claims c → HasTerms c.client c.voters c.relies_for d → IsOwn terms process claims d
+pub same_own : (terms : LeaseTerms) (process claims : ℕ) (c d : LeaseCandidate) → IsOwn terms process claims c
+    → HasTerms c.client c.voters c.relies_for d → IsOwn terms process claims d
 same_own terms process claims c d own same =
     let client = same.same_client in
     record {
@@ -257,13 +321,17 @@ same_own terms process claims c d own same =
 pub the_claim : (a b : Claim) → Some a ≡ Some b → a ≡ b
 the_claim a b e = cc
 
-pub acted_own : (terms : LeaseTerms) (process claims : ℕ) (old new : Option Claim) → ForSome old (λ c. IsOwn terms process claims c.candidate)
+pub acted_own : (terms : LeaseTerms) (process claims : ℕ) (old new : Option Claim)
+    → ForSome old (λ c. IsOwn terms process claims c.candidate)
     → (c d : Claim) → old ≡ Some c → new ≡ Some d → IsSameClaim c d → ForSome new (λ c. IsOwn terms process claims c.candidate)
 acted_own terms process claims old new own c d was is same x found =
-    subst (λ (y : Claim). IsOwn terms process claims y.candidate) (the_claim d x (sym is ∙ found)) (same_own terms process claims c.candidate d.candidate (own c was) same.terms)
+    subst (λ (y : Claim). IsOwn terms process claims y.candidate) (the_claim d x (sym is ∙ found))
+    (same_own terms process claims c.candidate d.candidate (own c was) same.terms)
 
-pub kept_asked : (terms : LeaseTerms) (process claims began bound floor : ℕ) (es : List NameEntry) (place : ℕ) (e x : NameEntry) → AreKept terms process claims began bound floor es → IsAt place e es
-    → x.name ≡ e.name → x.voter ≡ e.voter → ForSome x.claim (λ c. IsOwn terms process claims c.candidate) → AreKept terms process claims began bound floor (set es place x)
+pub kept_asked : (terms : LeaseTerms) (process claims began bound floor : ℕ) (es : List NameEntry) (place : ℕ) (e x : NameEntry)
+    → AreKept terms process claims began bound floor es → IsAt place e es
+    → x.name ≡ e.name → x.voter ≡ e.voter → ForSome x.claim (λ c. IsOwn terms process claims c.candidate)
+    → AreKept terms process claims began bound floor (set es place x)
 kept_asked terms process claims began bound floor es place e x kept at named voted own =
     let fits = entry_at terms process claims began bound floor es place e kept at in
     kept_set terms process claims began bound floor floor es place e x kept at (record {
@@ -275,56 +343,73 @@ kept_asked terms process claims began bound floor es place e x kept at named vot
     }) (inl named) kept.floor_allowed
 
 -- where the entry that is written is as it was
-pub unchanged : (name : List ℕ) (es : List NameEntry) (place : ℕ) (e x : NameEntry) (u : LeaseVoter) → IsRead name es place e x → x ≡ e → (other : List ℕ)
-    → (voter_in u (entry_of other (set es place x)) ≡ voter_in u (entry_of other es)) × (claim_in (entry_of other (set es place x)) ≡ claim_in (entry_of other es))
+pub unchanged : (name : List ℕ) (es : List NameEntry) (place : ℕ) (e x : NameEntry) (u : LeaseVoter) → IsRead name es place e x → x ≡ e
+    → (other : List ℕ)
+    → (voter_in u (entry_of other (set es place x)) ≡ voter_in u (entry_of other es))
+    × (claim_in (entry_of other (set es place x)) ≡ claim_in (entry_of other es))
 unchanged name es place e x u r same other = by_test (is_same other name) refl
   where
     not_both : (b : Bool) → b ≡ false → b ≡ true → ⊥
     not_both b p q = cc
 
     here : other ≡ name → entry_of other (set es place x) ≡ entry_of other es
-    here is = subst (λ (n : List ℕ). entry_of n (set es place x) ≡ entry_of n es) (sym is) (r.new ∙ ap (λ (y : NameEntry). Some y) same ∙ sym r.old)
+    here is = subst (λ (n : List ℕ). entry_of n (set es place x) ≡ entry_of n es) (sym is)
+        (r.new ∙ ap (λ (y : NameEntry). Some y) same ∙ sym r.old)
 
     both : entry_of other (set es place x) ≡ entry_of other es
-        → (voter_in u (entry_of other (set es place x)) ≡ voter_in u (entry_of other es)) × (claim_in (entry_of other (set es place x)) ≡ claim_in (entry_of other es))
+        → (voter_in u (entry_of other (set es place x)) ≡ voter_in u (entry_of other es))
+        × (claim_in (entry_of other (set es place x)) ≡ claim_in (entry_of other es))
     both h = (ap (voter_in u) h, ap claim_in h)
 
     by_test : (b : Bool) → is_same other name ≡ b
-        → (voter_in u (entry_of other (set es place x)) ≡ voter_in u (entry_of other es)) × (claim_in (entry_of other (set es place x)) ≡ claim_in (entry_of other es))
+        → (voter_in u (entry_of other (set es place x)) ≡ voter_in u (entry_of other es))
+        × (claim_in (entry_of other (set es place x)) ≡ claim_in (entry_of other es))
     by_test true is = both (here (same_name other name is))
     by_test false away = both (r.others other (λ s. absurd (not_both (is_same other name) away (self_same other name s))))
 
 pub at_claims : (P : Option Claim → Option Claim → Type 0) (o n o' n' : Option Claim) → o' ≡ o → n' ≡ n → P o n → P o' n'
 at_claims P o n o' n' p q h = subst (λ (x : Option Claim). P x n') (sym p) (subst (λ (x : Option Claim). P o x) (sym q) h)
 
-pub same_entry_own : (terms : LeaseTerms) (process claims : ℕ) (e x : NameEntry) → ForSome e.claim (λ c. IsOwn terms process claims c.candidate) → x ≡ e → ForSome x.claim (λ c. IsOwn terms process claims c.candidate)
-same_entry_own terms process claims e x own same = subst (λ (y : NameEntry). ForSome y.claim (λ c. IsOwn terms process claims c.candidate)) (sym same) own
+pub same_entry_own : (terms : LeaseTerms) (process claims : ℕ) (e x : NameEntry)
+    → ForSome e.claim (λ c. IsOwn terms process claims c.candidate) → x ≡ e → ForSome x.claim (λ c. IsOwn terms process claims c.candidate)
+same_entry_own terms process claims e x own same = subst (λ (y : NameEntry). ForSome y.claim (λ c. IsOwn terms process claims c.candidate))
+    (sym same) own
 
 -- by an answer that says whether anything changed
-pub own_by : (terms : LeaseTerms) (process claims : ℕ) (e x : NameEntry) (b : Bool) → ForSome e.claim (λ c. IsOwn terms process claims c.candidate)
-    → (b ≡ true → (c : Claim) × (d : Claim) × (e.claim ≡ Some c) × (x.claim ≡ Some d) × IsSameClaim c d) → (b ≡ false → x ≡ e) → ForSome x.claim (λ c. IsOwn terms process claims c.candidate)
+pub own_by : (terms : LeaseTerms) (process claims : ℕ) (e x : NameEntry) (b : Bool)
+    → ForSome e.claim (λ c. IsOwn terms process claims c.candidate)
+    → (b ≡ true → (c : Claim) × (d : Claim) × (e.claim ≡ Some c) × (x.claim ≡ Some d) × IsSameClaim c d) → (b ≡ false → x ≡ e)
+    → ForSome x.claim (λ c. IsOwn terms process claims c.candidate)
 own_by terms process claims e x false own changed same = same_entry_own terms process claims e x own (same refl)
-own_by terms process claims e x true own changed same = let h = changed refl in acted_own terms process claims e.claim x.claim own h.0 h.1 h.2 h.3 h.4
+own_by terms process claims e x true own changed same = let h = changed refl in
+    acted_own terms process claims e.claim x.claim own h.0 h.1 h.2 h.3 h.4
 
-pub own_asked : {A : Type 0} (terms : LeaseTerms) (process claims : ℕ) (e x : NameEntry) (r : Option A) (P : A → Type 0) → ForSome e.claim (λ c. IsOwn terms process claims c.candidate)
-    → IfSome r P → ((y : A) → P y → (c : Claim) × (d : Claim) × (e.claim ≡ Some c) × (x.claim ≡ Some d) × IsSameClaim c d) → (IsNone r → x ≡ e) → ForSome x.claim (λ c. IsOwn terms process claims c.candidate)
+pub own_asked : {A : Type 0} (terms : LeaseTerms) (process claims : ℕ) (e x : NameEntry) (r : Option A) (P : A → Type 0)
+    → ForSome e.claim (λ c. IsOwn terms process claims c.candidate)
+    → IfSome r P → ((y : A) → P y → (c : Claim) × (d : Claim) × (e.claim ≡ Some c) × (x.claim ≡ Some d) × IsSameClaim c d)
+    → (IsNone r → x ≡ e) → ForSome x.claim (λ c. IsOwn terms process claims c.candidate)
 own_asked terms process claims e x None P own h changed same = same_entry_own terms process claims e x own (same refl)
-own_asked terms process claims e x (Some y) P own h changed same = let g = changed y h in acted_own terms process claims e.claim x.claim own g.0 g.1 g.2 g.3 g.4
+own_asked terms process claims e x (Some y) P own h changed same = let g = changed y h in
+    acted_own terms process claims e.claim x.claim own g.0 g.1 g.2 g.3 g.4
 
 pub asked_made : (o n : Option Claim) (c d : Claim) (now epoch : ℕ) (r : Option Request) → o ≡ Some c → n ≡ Some d → IsSameClaim c d
-    → IfSome r (λ q. (q.epoch ≡ epoch) × (q.sent ≡ now) × IsActed c.candidate d.candidate now (λ at. asks (ask_of c.candidate.client q.number epoch at)))
+    → IfSome r (λ q. (q.epoch ≡ epoch) × (q.sent ≡ now) × IsActed c.candidate d.candidate now (λ at.
+    asks (ask_of c.candidate.client q.number epoch at)))
     → IfSome r (λ q. (q.epoch ≡ epoch) × (q.sent ≡ now) × Acts o n now (λ client at. asks (ask_of client q.number epoch at)))
 asked_made o n c d now epoch None was is same h = tt
 asked_made o n c d now epoch (Some q) was is same h = (h.0, h.1, record { c = c; d = d; was = was; is = is; same = same; acted = h.2 })
 
-pub held_made : (o : Option Claim) (c : Claim) (now : ℕ) (r : Option Request) → o ≡ Some c → IfSome r (λ q. (c.candidate.lease ≡ Some q) × (now < q.sent + c.candidate.relies_for)) → IfSome r (λ q. Relies o now q)
+pub held_made : (o : Option Claim) (c : Claim) (now : ℕ) (r : Option Request) → o ≡ Some c
+    → IfSome r (λ q. (c.candidate.lease ≡ Some q) × (now < q.sent + c.candidate.relies_for)) → IfSome r (λ q. Relies o now q)
 held_made o c now None is h = tt
 held_made o c now (Some q) is h = record { c = c; is = is; lease = h.0; in_time = h.1 }
 
 -- a name of which nothing was kept, once an entry was added, or not
-pub added_voter : (b : Bool) (old new : LeaseMachine) (name : List ℕ) (x : NameEntry) → (b ≡ true → entry_of name new.names.items ≡ Some x) → (b ≡ false → new ≡ old) → entry_of name old.names.items ≡ None
+pub added_voter : (b : Bool) (old new : LeaseMachine) (name : List ℕ) (x : NameEntry) → (b ≡ true → entry_of name new.names.items ≡ Some x)
+    → (b ≡ false → new ≡ old) → entry_of name old.names.items ≡ None
     → x.voter ≡ unknown old → voter_at new name ≡ voter_at old name
-added_voter true old new name x added same none voted = ap (voter_in (unknown new)) (added refl) ∙ voted ∙ sym (ap (voter_in (unknown old)) none)
+added_voter true old new name x added same none voted = ap (voter_in (unknown new)) (added refl) ∙ voted
+    ∙ sym (ap (voter_in (unknown old)) none)
 added_voter false old new name x added same none voted = ap (λ (m : LeaseMachine). voter_at m name) (same refl)
 
 pub all_stay : (old new : LeaseMachine) → new ≡ old → AllStay old new

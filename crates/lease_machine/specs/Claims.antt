@@ -63,4 +63,5 @@ pub record Relies (claim : Option Claim) (now : ℕ) (request : Request) : Type 
 
 -- it relies by none
 abbrev pub ReliesNot : Option Claim → ℕ → Type 0
-ReliesNot claim now = (c : Claim) → claim ≡ Some c → (request : Request) → c.candidate.lease ≡ Some request → request.sent + c.candidate.relies_for ≤ now
+ReliesNot claim now = (c : Claim) → claim ≡ Some c → (request : Request) → c.candidate.lease ≡ Some request
+    → request.sent + c.candidate.relies_for ≤ now

@@ -47,11 +47,13 @@ Stays now old new = (new ≡ old) ⊎ IsForgotten now old new
 
 -- every other name, where nothing is forgotten
 abbrev pub OthersSame : List ℕ → LeaseMachine → LeaseMachine → Type 0
-OthersSame name old new = (other : List ℕ) → other ≢ name → (voter_at new other ≡ voter_at old other) × (claim_at new other ≡ claim_at old other)
+OthersSame name old new = (other : List ℕ) → other ≢ name
+    → (voter_at new other ≡ voter_at old other) × (claim_at new other ≡ claim_at old other)
 
 -- every other name, where another one may be given room
 abbrev pub OthersStay : ℕ → List ℕ → LeaseMachine → LeaseMachine → Type 0
-OthersStay now name old new = (other : List ℕ) → other ≢ name → Stays now (voter_at old other) (voter_at new other) × (claim_at new other ≡ claim_at old other)
+OthersStay now name old new = (other : List ℕ) → other ≢ name
+    → Stays now (voter_at old other) (voter_at new other) × (claim_at new other ≡ claim_at old other)
 
 -- the same process, which has counted no fewer clients, with the same bound
 pub record GoesOn (old new : LeaseMachine) : Type 0 where

@@ -4,7 +4,8 @@ use Rattle.lease_runs.specs.declared.voter.LeaseVoter.{LeaseVoter}
 use Rattle.lease_runs.specs.Voter.{Voter}
 use Rattle.lease_runs.specs.Code.{view}
 
--- The voter of the model forgot nothing: its last grant has ended by this time, and was of no greater epoch than the last that the code knows of.
+-- The voter of the model forgot nothing: its last grant has ended by this time, and was of no greater epoch than the last that the code
+-- knows of.
 pub record IsBehind (boot now : ℕ) (c : LeaseVoter) (v : Voter) : Type 0 where
   pub bound : v.bound ≡ c.bound
   pub booted : v.boot ≡ boot

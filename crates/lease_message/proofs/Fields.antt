@@ -1,5 +1,6 @@
 -- A field that is read is the field that was written, and what was written is read again.
-use Rattle.std.proofs.Common.{◌≡◌, ℕ, ◌^◌, ◌<◌, ◌≤◌, Bool, true, false, cond, ltb, eqb, List, [], ◌∷◌, ◌++◌, length, take, drop, refl, sym, ap, subst, ◌∙◌, append_assoc, arith}
+use Rattle.std.proofs.Common.{◌≡◌, ℕ, ◌^◌, ◌<◌, ◌≤◌, Bool, true, false, cond, ltb, eqb, List, [], ◌∷◌, ◌++◌, length, take, drop, refl, sym}
+use Rattle.std.proofs.Common.{ap, subst, ◌∙◌, append_assoc, arith}
 use Rattle.std.specs.Prelude.{Option, Some, None}
 use Rattle.std.specs.Int.{Width, w64, byte_len, from_be_bytes, to_be_bytes}
 use Rattle.std.proofs.lemmas.Bool.{ltb-false, ltb-true, lt-ltb, le-ltb, eqb-true}
@@ -39,19 +40,26 @@ pub record Takes (bytes text rest : List ℕ) : Type 0 where
   pub rest_fits : IsBytes rest
 
 pub Takes-then : (a x b y c : List ℕ) → Takes a x b → Takes b y c → Takes a (x ++ y) c
-Takes-then a x b y c p q = record { parts = p.parts ∙ ap (λ (t : List ℕ). x ++ t) q.parts ∙ sym (append_assoc x y c); rest_fits = q.rest_fits }
+Takes-then a x b y c p q = record {
+  parts = p.parts ∙ ap (λ (t : List ℕ). x ++ t) q.parts ∙ sym (append_assoc x y c);
+  rest_fits =
+      q.rest_fits;
+}
 
 pub byte_takes : (bytes : List ℕ) (x : ℕ × List ℕ) → IsBytes bytes → byte_at bytes ≡ Some x → Takes bytes (x.0 ∷ []) x.1
 byte_takes [] x fits e = absurd cc
 byte_takes (b ∷ bytes) x fits e =
-    subst (λ (y : ℕ × List ℕ). Takes (b ∷ bytes) (y.0 ∷ []) y.1) (some_is (b, bytes) x e) (record { parts = refl; rest_fits = IsBytes-rest b bytes fits })
+    subst (λ (y : ℕ × List ℕ). Takes (b ∷ bytes) (y.0 ∷ []) y.1) (some_is (b, bytes) x e)
+    (record { parts = refl; rest_fits = IsBytes-rest b bytes fits })
 
-pub below_takes : (limit : ℕ) (bytes : List ℕ) (x : ℕ × List ℕ) → IsBytes bytes → below_at limit bytes ≡ Some x → Takes bytes (x.0 ∷ []) x.1 × (x.0 < limit)
+pub below_takes : (limit : ℕ) (bytes : List ℕ) (x : ℕ × List ℕ) → IsBytes bytes → below_at limit bytes ≡ Some x
+    → Takes bytes (x.0 ∷ []) x.1 × (x.0 < limit)
 unfolding below_at
 below_takes limit bytes x fits e =
     let a = bind_some (byte_at bytes) (λ b. cond (ltb b.0 limit) (Some b) None) x e in
     let g = went_in (ltb a.0.0 limit) (Some a.0) x a.2 in
-    subst (λ (y : ℕ × List ℕ). Takes bytes (y.0 ∷ []) y.1 × (y.0 < limit)) (some_is a.0 x g.1) (byte_takes bytes a.0 fits a.1, ltb-true a.0.0 limit g.0)
+    subst (λ (y : ℕ × List ℕ). Takes bytes (y.0 ∷ []) y.1 × (y.0 < limit)) (some_is a.0 x g.1)
+    (byte_takes bytes a.0 fits a.1, ltb-true a.0.0 limit g.0)
 
 pub below_again : (limit b : ℕ) (rest : List ℕ) → b < limit → below_at limit (b ∷ rest) ≡ Some (b, rest)
 unfolding below_at
@@ -71,23 +79,30 @@ wide64 = record {
   below = λ bytes fits. omega (arith, fits 0, fits 1, fits 2, fits 3, fits 4, fits 5, fits 6, fits 7);
 }
 
-wide_takes : (w : Width) (limit : ℕ) (wide : IsWide w limit) (bytes : List ℕ) (x : ℕ × List ℕ) → IsBytes bytes → number_at w bytes ≡ Some x → Takes bytes (to_be_bytes w x.0) x.1 × (x.0 < limit)
+wide_takes : (w : Width) (limit : ℕ) (wide : IsWide w limit) (bytes : List ℕ) (x : ℕ × List ℕ) → IsBytes bytes → number_at w bytes ≡ Some x
+    → Takes bytes (to_be_bytes w x.0) x.1 × (x.0 < limit)
 wide_takes w limit wide bytes x fits e =
     let front = take (byte_len w) bytes in
     let rest = drop (byte_len w) bytes in
     let g = went_on (ltb (length bytes) (byte_len w)) (Some (from_be_bytes w front, rest)) x e in
     let long : byte_len w ≤ length bytes = ltb-false _ _ g.0 in
-    let back : to_be_bytes w (from_be_bytes w front) ≡ front = wide.back front (omega (arith, length-take (byte_len w) bytes)) (IsBytes-take (byte_len w) bytes fits) in
-    let taken : Takes bytes (to_be_bytes w (from_be_bytes w front)) rest = record { parts = rw back (sym (take-append-drop (byte_len w) bytes)); rest_fits = IsBytes-drop (byte_len w) bytes fits } in
-    subst (λ (y : ℕ × List ℕ). Takes bytes (to_be_bytes w y.0) y.1 × (y.0 < limit)) (some_is (from_be_bytes w front, rest) x g.1) (taken, wide.below front (IsBytes-take (byte_len w) bytes fits))
+    let back : to_be_bytes w (from_be_bytes w front) ≡ front =
+    wide.back front (omega (arith, length-take (byte_len w) bytes)) (IsBytes-take (byte_len w) bytes fits) in
+    let taken : Takes bytes (to_be_bytes w (from_be_bytes w front)) rest =
+    record { parts = rw back (sym (take-append-drop (byte_len w) bytes)); rest_fits = IsBytes-drop (byte_len w) bytes fits } in
+    subst (λ (y : ℕ × List ℕ). Takes bytes (to_be_bytes w y.0) y.1 × (y.0 < limit)) (some_is (from_be_bytes w front, rest) x g.1)
+    (taken, wide.below front (IsBytes-take (byte_len w) bytes fits))
 
-wide_again : (w : Width) (limit : ℕ) (wide : IsWide w limit) (n : ℕ) (rest : List ℕ) → n < limit → number_at w (to_be_bytes w n ++ rest) ≡ Some (n, rest)
+wide_again : (w : Width) (limit : ℕ) (wide : IsWide w limit) (n : ℕ) (rest : List ℕ) → n < limit
+    → number_at w (to_be_bytes w n ++ rest) ≡ Some (n, rest)
 wide_again w limit wide n rest lt =
     let len = wide.len n in
-    let long : ltb (length (to_be_bytes w n ++ rest)) (byte_len w) ≡ false = le-ltb _ _ (omega (arith, length-append (to_be_bytes w n) rest)) in
+    let long : ltb (length (to_be_bytes w n ++ rest)) (byte_len w) ≡ false =
+    le-ltb _ _ (omega (arith, length-append (to_be_bytes w n) rest)) in
     rw (long, take_at (to_be_bytes w n) rest (byte_len w) len, drop_at (to_be_bytes w n) rest (byte_len w) len, wide.again n lt) refl
 
-pub number_takes : (bytes : List ℕ) (x : ℕ × List ℕ) → IsBytes bytes → number_at w64 bytes ≡ Some x → Takes bytes (number x.0) x.1 × (x.0 < 2 ^ 64)
+pub number_takes : (bytes : List ℕ) (x : ℕ × List ℕ) → IsBytes bytes → number_at w64 bytes ≡ Some x
+    → Takes bytes (number x.0) x.1 × (x.0 < 2 ^ 64)
 number_takes = wide_takes w64 (2 ^ 64) wide64
 
 pub number_again : (n : ℕ) (rest : List ℕ) → n < 2 ^ 64 → number_at w64 (number n ++ rest) ≡ Some (n, rest)
@@ -102,37 +117,49 @@ kind_takes bytes x fits e =
     let t1 = byte_takes a.0.1 x t0.rest_fits g.1 in
     subst (λ (n : ℕ). Takes bytes (n ∷ x.0 ∷ []) x.1) (eqb-true a.0.0 1 g.0) (Takes-then bytes (a.0.0 ∷ []) a.0.1 (x.0 ∷ []) x.1 t0 t1)
 
-pub client_takes : (bytes : List ℕ) (x : LeaseClient × List ℕ) → IsBytes bytes → client_at bytes ≡ Some x → Takes bytes (client_bytes x.0) x.1 × IsClient x.0
+pub client_takes : (bytes : List ℕ) (x : LeaseClient × List ℕ) → IsBytes bytes → client_at bytes ≡ Some x
+    → Takes bytes (client_bytes x.0) x.1 × IsClient x.0
 unfolding client_at
 client_takes bytes x fits e =
-    let made = λ (machine process n : ℕ) (rest : List ℕ). just {A = LeaseClient × List ℕ} (record { machine = machine; process = process; number = n }, rest) in
-    let a = bind_some (below_at NODES bytes) (λ machine. number_at w64 machine.1 >>= λ process. number_at w64 process.1 >>= λ n. made machine.0 process.0 n.0 n.1) x e in
+    let made = λ (machine process n : ℕ) (rest : List ℕ). just {A = LeaseClient
+    × List ℕ} (record { machine = machine; process = process; number = n }, rest) in
+    let a = bind_some (below_at NODES bytes) (λ machine. number_at w64 machine.1 >>= λ process. number_at w64 process.1 >>= λ n.
+    made machine.0 process.0 n.0 n.1) x e in
     let b = bind_some (number_at w64 a.0.1) (λ process. number_at w64 process.1 >>= λ n. made a.0.0 process.0 n.0 n.1) x a.2 in
     let c = bind_some (number_at w64 b.0.1) (λ n. made a.0.0 b.0.0 n.0 n.1) x b.2 in
     let t0 = below_takes NODES bytes a.0 fits a.1 in
     let t1 = number_takes a.0.1 b.0 t0.0.rest_fits b.1 in
     let t2 = number_takes b.0.1 c.0 t1.0.rest_fits c.1 in
-    let taken = Takes-then bytes (a.0.0 ∷ []) a.0.1 (number b.0.0 ++ number c.0.0) c.0.1 t0.0 (Takes-then a.0.1 (number b.0.0) b.0.1 (number c.0.0) c.0.1 t1.0 t2.0) in
-    subst (λ (y : LeaseClient × List ℕ). Takes bytes (client_bytes y.0) y.1 × IsClient y.0) (some_is (record { machine = a.0.0; process = b.0.0; number = c.0.0 }, c.0.1) x c.2)
+    let taken = Takes-then bytes (a.0.0 ∷ []) a.0.1 (number b.0.0
+    ++ number c.0.0) c.0.1 t0.0 (Takes-then a.0.1 (number b.0.0) b.0.1 (number c.0.0) c.0.1 t1.0 t2.0) in
+    subst (λ (y : LeaseClient × List ℕ). Takes bytes (client_bytes y.0) y.1 × IsClient y.0)
+    (some_is (record { machine = a.0.0; process = b.0.0; number = c.0.0 }, c.0.1) x c.2)
     (taken, record { machine = t0.1; process = t1.1; number = t2.1 })
 
 pub client_again : (c : LeaseClient) (rest : List ℕ) → IsClient c → client_at (client_bytes c ++ rest) ≡ Some (c, rest)
 unfolding client_at
 client_again c rest fits =
     let tail = number c.number ++ rest in
-    let regrouped : client_bytes c ++ rest ≡ c.machine ∷ (number c.process ++ tail) = ap (λ (t : List ℕ). c.machine ∷ t) (append_assoc (number c.process) (number c.number) rest) in
-    ap client_at regrouped ∙ rw (below_again NODES c.machine (number c.process ++ tail) fits.machine, number_again c.process tail fits.process, number_again c.number rest fits.number) refl
+    let regrouped : client_bytes c ++ rest ≡ c.machine ∷ (number c.process ++ tail) =
+    ap (λ (t : List ℕ). c.machine ∷ t) (append_assoc (number c.process) (number c.number) rest) in
+    ap client_at regrouped ∙ rw (
+      below_again NODES c.machine (number c.process ++ tail) fits.machine,
+      number_again c.process tail fits.process,
+      number_again c.number rest fits.number,
+    ) refl
 
 numbered_is : (n : ℕ) (why : Reason) → reason_numbered n ≡ Some why → n ≡ reason_number why
 numbered_is n why e = grind arith
 
-pub reason_takes : (bytes : List ℕ) (x : Reason × List ℕ) → IsBytes bytes → reason_at bytes ≡ Some x → Takes bytes (reason_number x.0 ∷ []) x.1
+pub reason_takes : (bytes : List ℕ) (x : Reason × List ℕ) → IsBytes bytes → reason_at bytes ≡ Some x
+    → Takes bytes (reason_number x.0 ∷ []) x.1
 unfolding reason_at
 reason_takes bytes x fits e =
     let a = bind_some (byte_at bytes) (λ n. reason_numbered n.0 >>= λ why. Some (why, n.1)) x e in
     let b = bind_some (reason_numbered a.0.0) (λ why. Some (why, a.0.1)) x a.2 in
     let t = byte_takes bytes a.0 fits a.1 in
-    subst (λ (y : Reason × List ℕ). Takes bytes (reason_number y.0 ∷ []) y.1) (some_is (b.0, a.0.1) x b.2) (subst (λ (n : ℕ). Takes bytes (n ∷ []) a.0.1) (numbered_is a.0.0 b.0 b.1) t)
+    subst (λ (y : Reason × List ℕ). Takes bytes (reason_number y.0 ∷ []) y.1) (some_is (b.0, a.0.1) x b.2)
+    (subst (λ (n : ℕ). Takes bytes (n ∷ []) a.0.1) (numbered_is a.0.0 b.0 b.1) t)
 
 pub reason_again : (why : Reason) (rest : List ℕ) → reason_at (reason_number why ∷ rest) ≡ Some (why, rest)
 unfolding reason_at

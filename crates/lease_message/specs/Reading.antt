@@ -1,5 +1,6 @@
 -- Reading from left to right: each reader answers what stands at the front, and the bytes after it.
-use Rattle.std.specs.Prelude.{ℕ, List, [], ◌∷◌, length, take, drop, Option, Some, None, option_and_then, option_map, nat_lt, ◌==◌, ◌||◌, if◌then◌else◌}
+use Rattle.std.specs.Prelude.{ℕ, List, [], ◌∷◌, length, take, drop, Option, Some, None, option_and_then, option_map, nat_lt, ◌==◌, ◌||◌}
+use Rattle.std.specs.Prelude.{if◌then◌else◌}
 use Rattle.std.specs.Int.{Width, w64, byte_len, from_be_bytes}
 use Rattle.group_task.specs.declared.node.TheConstants.{NODES}
 use Rattle.lease_message.specs.declared.lease_name.TheConstants.{NAME_CAPACITY}
@@ -23,7 +24,8 @@ byte_at [] = None
 byte_at (b ∷ rest) = Some (b, rest)
 
 abbrev pub number_at : Width → List ℕ → Option (ℕ × List ℕ)
-number_at w bytes = if nat_lt (length bytes) (byte_len w) then None else Some (from_be_bytes w (take (byte_len w) bytes), drop (byte_len w) bytes)
+number_at w bytes = if nat_lt (length bytes) (byte_len w) then None
+    else Some (from_be_bytes w (take (byte_len w) bytes), drop (byte_len w) bytes)
 
 -- a byte below a limit
 unfoldable pub below_at : ℕ → List ℕ → Option (ℕ × List ℕ)

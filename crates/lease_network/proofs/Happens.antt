@@ -196,13 +196,31 @@ abbrev l31 : List Step
 l31 = s31 ∷ l30
 
 n1 : IsNext terms [] s1
-n1 = record { time = omega arith; running = fresh ann [] refl; may = λ name. (let le = bounded terms 0 [] 0 name refl in omega (arith, le)); sent = tt }
+n1 = record {
+  time = omega arith;
+  running = fresh ann [] refl;
+  may =
+      λ name. (let le = bounded terms 0 [] 0 name refl in omega (arith, le));
+  sent = tt;
+}
 
 n2 : IsNext terms l1 s2
-n2 = record { time = omega arith; running = fresh bob l1 refl; may = λ name. (let le = bounded terms 0 l1 1 name refl in omega (arith, le)); sent = tt }
+n2 = record {
+  time = omega arith;
+  running = fresh bob l1 refl;
+  may =
+      λ name. (let le = bounded terms 0 l1 1 name refl in omega (arith, le));
+  sent = tt;
+}
 
 n3 : IsNext terms l2 s3
-n3 = record { time = omega arith; running = fresh cid l2 refl; may = λ name. (let le = bounded terms 0 l2 2 name refl in omega (arith, le)); sent = tt }
+n3 = record {
+  time = omega arith;
+  running = fresh cid l2 refl;
+  may =
+      λ name. (let le = bounded terms 0 l2 2 name refl in omega (arith, le));
+  sent = tt;
+}
 
 n4 : IsNext terms l3 s4
 n4 = record { time = omega arith; running = refl; may = λ name. (let le = bounded terms 8 l3 0 name refl in omega (arith, le)); sent = tt }
@@ -214,10 +232,22 @@ n6 : IsNext terms l5 s6
 n6 = record { time = omega arith; running = refl; may = (refl, refl, omega arith, omega arith); sent = tt }
 
 n7 : IsNext terms l6 s7
-n7 = record { time = omega arith; running = refl; may = (omega arith, omega arith, inl (omega arith, inl refl)); sent = (s6, inl refl, refl) }
+n7 = record {
+  time = omega arith;
+  running = refl;
+  may = (omega arith, omega arith, inl (omega arith, inl refl));
+  sent =
+      (s6, inl refl, refl);
+}
 
 n8 : IsNext terms l7 s8
-n8 = record { time = omega arith; running = refl; may = (omega arith, omega arith, inl (omega arith, inl refl)); sent = (s6, inr (inl refl), refl) }
+n8 = record {
+  time = omega arith;
+  running = refl;
+  may = (omega arith, omega arith, inl (omega arith, inl refl));
+  sent =
+      (s6, inr (inl refl), refl);
+}
 
 n9 : IsNext terms l8 s9
 n9 = record { time = omega arith; running = refl; may = (refl, omega arith); sent = (s7, inr (inl refl), (refl, (1, refl))) }
@@ -229,10 +259,22 @@ n11 : IsNext terms l10 s11
 n11 = record { time = omega arith; running = refl; may = (refl, refl, omega arith, omega arith); sent = tt }
 
 n12 : IsNext terms l11 s12
-n12 = record { time = omega arith; running = refl; may = (omega arith, omega arith, inl (omega arith, inl refl)); sent = (s11, inl refl, refl) }
+n12 = record {
+  time = omega arith;
+  running = refl;
+  may = (omega arith, omega arith, inl (omega arith, inl refl));
+  sent =
+      (s11, inl refl, refl);
+}
 
 n13 : IsNext terms l12 s13
-n13 = record { time = omega arith; running = refl; may = (omega arith, omega arith, inl (omega arith, inl refl)); sent = (s11, inr (inl refl), refl) }
+n13 = record {
+  time = omega arith;
+  running = refl;
+  may = (omega arith, omega arith, inl (omega arith, inl refl));
+  sent =
+      (s11, inr (inl refl), refl);
+}
 
 n14 : IsNext terms l13 s14
 n14 = record { time = omega arith; running = refl; may = (refl, omega arith); sent = (s12, inr (inl refl), (refl, (2, refl))) }
@@ -253,10 +295,22 @@ n19 : IsNext terms l18 s19
 n19 = record { time = omega arith; running = refl; may = (refl, refl, omega arith, omega arith); sent = tt }
 
 n20 : IsNext terms l19 s20
-n20 = record { time = omega arith; running = refl; may = (omega arith, omega arith, inl (omega arith, inl refl)); sent = (s19, inl refl, refl) }
+n20 = record {
+  time = omega arith;
+  running = refl;
+  may = (omega arith, omega arith, inl (omega arith, inl refl));
+  sent =
+      (s19, inl refl, refl);
+}
 
 n21 : IsNext terms l20 s21
-n21 = record { time = omega arith; running = refl; may = (omega arith, omega arith, inl (omega arith, inl refl)); sent = (s19, inr (inl refl), refl) }
+n21 = record {
+  time = omega arith;
+  running = refl;
+  may = (omega arith, omega arith, inl (omega arith, inl refl));
+  sent =
+      (s19, inr (inl refl), refl);
+}
 
 n22 : IsNext terms l21 s22
 n22 = record { time = omega arith; running = refl; may = (refl, omega arith); sent = (s20, inr (inl refl), (refl, (2, refl))) }
@@ -265,22 +319,52 @@ n23 : IsNext terms l22 s23
 n23 = record { time = omega arith; running = refl; may = (refl, omega arith); sent = (s21, inr (inl refl), (refl, (2, refl))) }
 
 n24 : IsNext terms l23 s24
-n24 = record { time = omega arith; running = fresh new l23 refl; may = λ name. (let le = bounded terms 8 l23 1 name refl in omega (arith, le)); sent = tt }
+n24 = record {
+  time = omega arith;
+  running = fresh new l23 refl;
+  may =
+      λ name. (let le = bounded terms 8 l23 1 name refl in omega (arith, le));
+  sent = tt;
+}
 
 n25 : IsNext terms l24 s25
-n25 = record { time = omega arith; running = refl; may = λ name. (let le = bounded terms 16 l24 1 name refl in omega (arith, le)); sent = tt }
+n25 = record {
+  time = omega arith;
+  running = refl;
+  may = λ name. (let le = bounded terms 16 l24 1 name refl in omega (arith, le));
+  sent =
+      tt;
+}
 
 n26 : IsNext terms l25 s26
-n26 = record { time = omega arith; running = refl; may = λ name. (let le = bounded terms 16 l25 0 name refl in omega (arith, le)); sent = tt }
+n26 = record {
+  time = omega arith;
+  running = refl;
+  may = λ name. (let le = bounded terms 16 l25 0 name refl in omega (arith, le));
+  sent =
+      tt;
+}
 
 n27 : IsNext terms l26 s27
 n27 = record { time = omega arith; running = refl; may = (refl, refl, omega arith, omega arith); sent = tt }
 
 n28 : IsNext terms l27 s28
-n28 = record { time = omega arith; running = refl; may = (omega arith, omega arith, inl (omega arith, inr (inl (omega arith)))); sent = (s27, inl refl, refl) }
+n28 = record {
+  time = omega arith;
+  running = refl;
+  may = (omega arith, omega arith, inl (omega arith, inr (inl (omega arith))));
+  sent =
+      (s27, inl refl, refl);
+}
 
 n29 : IsNext terms l28 s29
-n29 = record { time = omega arith; running = refl; may = (omega arith, omega arith, inl (omega arith, inl refl)); sent = (s27, inr (inl refl), refl) }
+n29 = record {
+  time = omega arith;
+  running = refl;
+  may = (omega arith, omega arith, inl (omega arith, inl refl));
+  sent =
+      (s27, inr (inl refl), refl);
+}
 
 n30 : IsNext terms l29 s30
 n30 = record { time = omega arith; running = refl; may = (refl, omega arith); sent = (s28, inr (inl refl), (refl, (9, refl))) }
@@ -289,7 +373,52 @@ n31 : IsNext terms l30 s31
 n31 = record { time = omega arith; running = refl; may = (refl, omega arith); sent = (s29, inr (inl refl), (refl, (9, refl))) }
 
 are : AreSteps terms l31
-are = (((((((((((((((((((((((((((((((tt, n1), n2), n3), n4), n5), n6), n7), n8), n9), n10), n11), n12), n13), n14), n15), n16), n17), n18), n19), n20), n21), n22), n23), n24), n25), n26), n27), n28), n29), n30), n31)
+are = (
+  (
+    (
+      (
+        (
+          (
+            (
+              (
+                (
+                  (
+                    (
+                      (
+                        (
+                          (
+                            (
+                              ((((((((((((((((tt, n1), n2), n3), n4), n5), n6), n7), n8), n9), n10), n11), n12), n13), n14), n15), n16),
+                              n17,
+                            ),
+                            n18,
+                          ),
+                          n19,
+                        ),
+                        n20,
+                      ),
+                      n21,
+                    ),
+                    n22,
+                  ),
+                  n23,
+                ),
+                n24,
+              ),
+              n25,
+            ),
+            n26,
+          ),
+          n27,
+        ),
+        n28,
+      ),
+      n29,
+    ),
+    n30,
+  ),
+  n31,
+)
 
 clocks : AreClocks terms
 clocks = record { rates = λ machine boot s t le. (omega (arith, le), omega (arith, le)); margin = omega arith }

@@ -12,7 +12,8 @@ use Rattle.lease_network.specs.Projection.{StepsAreRuns, acts, run_of}
 use Rattle.lease_network.proofs.Runs.{was_sent}
 use Rattle.lease_network.proofs.Clients.{act_of_moment, clients, cut, moment_of_act, moments, moments_before}
 
-pub holds : (terms : Terms) (steps : List Step) → AreSteps terms steps → (name : Name) (time : ℕ) (client : Client) (ask : Ask) → Holds terms steps name time client ask
+pub holds : (terms : Terms) (steps : List Step) → AreSteps terms steps → (name : Name) (time : ℕ) (client : Client) (ask : Ask)
+    → Holds terms steps name time client ask
     → one_name.Holds (run_of terms name steps) client time ask
 holds terms steps are name time client ask h =
     let c = cut terms steps name client time steps are in
@@ -21,7 +22,8 @@ holds terms steps are name time client ask h =
     let all = moments client (acts steps name steps) in
     let whole = clients terms steps name client steps are in
     let now = clients terms steps name client kept c.are in
-    let leaves : left terms.nodes terms.relies_for (terms.clock client.machine client.boot) beginning past ≡ (machines terms kept client.machine).candidate client.number name =
+    let leaves : left terms.nodes terms.relies_for (terms.clock client.machine client.boot) beginning past
+    ≡ (machines terms kept client.machine).candidate client.number name =
     now.clients.leaves ∙ now.runs h.running in record {
       past = past;
       later = c.later;
@@ -39,11 +41,13 @@ holds terms steps are name time client ask h =
 pub one_holder : StepsAreRuns → OneHolds → OneHolder
 one_holder runs law terms steps are clocks name time c d a b first second =
     let is = runs terms steps are name in
-    law (run_of terms name steps) is.0 (is.1 clocks) time c d a b (holds terms steps are name time c a first) (holds terms steps are name time d b second)
+    law (run_of terms name steps) is.0 (is.1 clocks) time c d a b (holds terms steps are name time c a first)
+    (holds terms steps are name time d b second)
 
 pub epochs_rise : StepsAreRuns → HeldEpochsRise → EpochsRise
 epochs_rise runs law terms steps are name time_a time_b c d a b first second later =
-    law (run_of terms name steps) (runs terms steps are name).0 time_a time_b c d a b (holds terms steps are name time_a c a first) (holds terms steps are name time_b d b second) later
+    law (run_of terms name steps) (runs terms steps are name).0 time_a time_b c d a b (holds terms steps are name time_a c a first)
+    (holds terms steps are name time_b d b second) later
 
 pub one_epoch : StepsAreRuns → HolderRelies → run_laws.OneClient → OneEpoch
 one_epoch runs relies law terms steps are name time_a time_b c d a b first second same =

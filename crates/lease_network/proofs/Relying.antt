@@ -21,7 +21,8 @@ steps_kept : (terms : Terms) (later kept : List Step) → AreSteps terms (later 
 steps_kept terms [] kept are = are
 steps_kept terms (s ∷ later) kept are = steps_kept terms later kept are.0
 
-acts_more : (all : List Step) (name : Name) (later kept : List Step) → (more : List Act) × (acts all name (later ++ kept) ≡ acts all name kept ++ more)
+acts_more : (all : List Step) (name : Name) (later kept : List Step)
+    → (more : List Act) × (acts all name (later ++ kept) ≡ acts all name kept ++ more)
 acts_more all name [] kept = ([], sym (append-nil (acts all name kept)))
 acts_more all name (s ∷ later) kept =
     let rest = acts_more all name later kept in
@@ -30,7 +31,8 @@ acts_more all name (s ∷ later) kept =
 
 -- ---- what was held
 
-kept_lease : (terms : Terms) (steps : List Step) → AreSteps terms steps → (name : Name) (time : ℕ) (client : Client) (ask : Ask) → Held terms steps name time client ask
+kept_lease : (terms : Terms) (steps : List Step) → AreSteps terms steps → (name : Name) (time : ℕ) (client : Client) (ask : Ask)
+    → Held terms steps name time client ask
     → KeptLease (run_of terms name steps) client time ask
 kept_lease terms steps are name time client ask h =
     let are_kept = steps_kept terms h.later h.kept (subst (λ (l : List Step). AreSteps terms l) h.parts are) in
@@ -42,7 +44,8 @@ kept_lease terms steps are name time client ask h =
     ∙ (ap (λ (x : List Act). moments client x) more.1 ∙ moments_more client (acts steps name h.kept) more.0) in
     let whole = clients terms steps name client steps are in
     let now = clients terms steps name client h.kept are_kept in
-    let leaves : left terms.nodes terms.relies_for (terms.clock client.machine client.boot) beginning past ≡ (machines terms h.kept client.machine).candidate client.number name =
+    let leaves : left terms.nodes terms.relies_for (terms.clock client.machine client.boot) beginning past
+    ≡ (machines terms h.kept client.machine).candidate client.number name =
     now.clients.leaves ∙ now.runs h.running in record {
       past = past;
       later = later;
@@ -55,23 +58,27 @@ kept_lease terms steps are name time client ask h =
       lease = ap (λ (x : Candidate). x.lease) leaves ∙ h.lease;
     }
 
-was_granted : StepsAreRuns → KeptWasGranted → (terms : Terms) (steps : List Step) → AreSteps terms steps → (name : Name) (time : ℕ) (client : Client) (ask : Ask)
+was_granted : StepsAreRuns → KeptWasGranted → (terms : Terms) (steps : List Step) → AreSteps terms steps
+    → (name : Name) (time : ℕ) (client : Client) (ask : Ask)
     → Held terms steps name time client ask → WasGranted (run_of terms name steps) time ask × (ask.client ≡ client)
 was_granted runs granted terms steps are name time client ask h =
     granted (run_of terms name steps) (runs terms steps are name).0 client time ask (kept_lease terms steps are name time client ask h)
 
 -- ---- who may rely relies
 
-relies : StepsAreRuns → KeptWasGranted → (terms : Terms) (steps : List Step) → AreSteps terms steps → (name : Name) (time : ℕ) (client : Client) (ask : Ask)
+relies : StepsAreRuns → KeptWasGranted → (terms : Terms) (steps : List Step) → AreSteps terms steps
+    → (name : Name) (time : ℕ) (client : Client) (ask : Ask)
     → MayRely terms steps name time client ask → Relies (run_of terms name steps) time ask × (ask.client ≡ client)
 relies runs granted terms steps are name time client ask h =
     let clock = terms.clock client.machine client.boot in
     let was = was_granted runs granted terms steps are name time client ask h.held in (
       record {
         granted = was.0;
-        lasts = subst (λ (c : Client). terms.clock c.machine c.boot time < terms.clock c.machine c.boot ask.sent + terms.relies_for) (sym was.1)
+        lasts = subst (λ (c : Client). terms.clock c.machine c.boot time < terms.clock c.machine c.boot ask.sent + terms.relies_for)
+            (sym was.1)
             (ltb-true (clock time) (clock ask.sent + terms.relies_for) h.lasts);
-        goes_on = λ at epoch does covers. behind at epoch covers (subst (λ (c : Client). Does (run_of terms name steps) at c (stops epoch)) was.1 does);
+        goes_on = λ at epoch does covers. behind at epoch covers
+            (subst (λ (c : Client). Does (run_of terms name steps) at c (stops epoch)) was.1 does);
       },
       was.1,
     )

@@ -102,13 +102,31 @@ abbrev l15 : List Step
 l15 = s15 ∷ l14
 
 n1 : IsNext terms [] s1
-n1 = record { time = omega arith; running = fresh ann [] refl; may = λ name. (let le = bounded terms 0 [] 0 name refl in omega (arith, le)); sent = tt }
+n1 = record {
+  time = omega arith;
+  running = fresh ann [] refl;
+  may =
+      λ name. (let le = bounded terms 0 [] 0 name refl in omega (arith, le));
+  sent = tt;
+}
 
 n2 : IsNext terms l1 s2
-n2 = record { time = omega arith; running = fresh bob l1 refl; may = λ name. (let le = bounded terms 0 l1 1 name refl in omega (arith, le)); sent = tt }
+n2 = record {
+  time = omega arith;
+  running = fresh bob l1 refl;
+  may =
+      λ name. (let le = bounded terms 0 l1 1 name refl in omega (arith, le));
+  sent = tt;
+}
 
 n3 : IsNext terms l2 s3
-n3 = record { time = omega arith; running = fresh cid l2 refl; may = λ name. (let le = bounded terms 0 l2 2 name refl in omega (arith, le)); sent = tt }
+n3 = record {
+  time = omega arith;
+  running = fresh cid l2 refl;
+  may =
+      λ name. (let le = bounded terms 0 l2 2 name refl in omega (arith, le));
+  sent = tt;
+}
 
 n4 : IsNext terms l3 s4
 n4 = record { time = omega arith; running = refl; may = λ name. (let le = bounded terms 8 l3 1 name refl in omega (arith, le)); sent = tt }
@@ -120,10 +138,22 @@ n6 : IsNext terms l5 s6
 n6 = record { time = omega arith; running = refl; may = (refl, refl, omega arith, omega arith); sent = tt }
 
 n7 : IsNext terms l6 s7
-n7 = record { time = omega arith; running = refl; may = (omega arith, omega arith, inl (omega arith, inl refl)); sent = (s6, inl refl, refl) }
+n7 = record {
+  time = omega arith;
+  running = refl;
+  may = (omega arith, omega arith, inl (omega arith, inl refl));
+  sent =
+      (s6, inl refl, refl);
+}
 
 n8 : IsNext terms l7 s8
-n8 = record { time = omega arith; running = refl; may = (omega arith, omega arith, inl (omega arith, inl refl)); sent = (s6, inr (inl refl), refl) }
+n8 = record {
+  time = omega arith;
+  running = refl;
+  may = (omega arith, omega arith, inl (omega arith, inl refl));
+  sent =
+      (s6, inr (inl refl), refl);
+}
 
 n9 : IsNext terms l8 s9
 n9 = record { time = omega arith; running = refl; may = (refl, omega arith); sent = (s7, inr (inl refl), (refl, (1, refl))) }
@@ -135,10 +165,22 @@ n11 : IsNext terms l10 s11
 n11 = record { time = omega arith; running = refl; may = (refl, refl, omega arith, omega arith); sent = tt }
 
 n12 : IsNext terms l11 s12
-n12 = record { time = omega arith; running = refl; may = (omega arith, omega arith, inl (omega arith, inr (inl (omega arith)))); sent = (s11, inl refl, refl) }
+n12 = record {
+  time = omega arith;
+  running = refl;
+  may = (omega arith, omega arith, inl (omega arith, inr (inl (omega arith))));
+  sent =
+      (s11, inl refl, refl);
+}
 
 n13 : IsNext terms l12 s13
-n13 = record { time = omega arith; running = refl; may = (omega arith, omega arith, inl (omega arith, inr (inl (omega arith)))); sent = (s11, inr (inl refl), refl) }
+n13 = record {
+  time = omega arith;
+  running = refl;
+  may = (omega arith, omega arith, inl (omega arith, inr (inl (omega arith))));
+  sent =
+      (s11, inr (inl refl), refl);
+}
 
 n14 : IsNext terms l13 s14
 n14 = record { time = omega arith; running = refl; may = (refl, omega arith); sent = (s12, inr (inl refl), (refl, (2, refl))) }

@@ -4,7 +4,8 @@ use Rattle.std.specs.Prelude.{◌==◌, ◌&&◌, not, leb, if◌then◌else◌}
 use Rattle.std.specs.Str.{bytes_eq}
 use Rattle.std.proofs.lemmas.Bool.{eq-eqb, leb-true}
 use Rattle.lease_runs.specs.Voter.{Client}
-use Rattle.lease_network.specs.Network.{Name, request, grant, release, Event, begins, reserves, sends, takes, Step, Terms, Machine, done, machines}
+use Rattle.lease_network.specs.Network.{Name, request, grant, release, Event, begins, reserves, sends, takes, Step, Terms, Machine, done}
+use Rattle.lease_network.specs.Network.{machines}
 use Rattle.lease_network.proofs.Steps.{IsUnborn, both}
 
 -- ---- what a process allows, and that it is new
@@ -20,7 +21,8 @@ abbrev pub all_at_most : ℕ → List Step → Bool
 all_at_most most [] = true
 all_at_most most (s ∷ past) = allows_at_most most s.what && all_at_most most past
 
-bounded_by : (terms : Terms) (most : ℕ) (self : Client) (m : Machine) (at : ℕ) (what : Event) (name : Name) → allows_at_most most what ≡ true → (m.voter name).bound ≤ most
+bounded_by : (terms : Terms) (most : ℕ) (self : Client) (m : Machine) (at : ℕ) (what : Event) (name : Name)
+    → allows_at_most most what ≡ true → (m.voter name).bound ≤ most
     → ((done terms self m at what).voter name).bound ≤ most
 bounded_by terms most self m at (begins floor) name is old = leb-true floor most is
 bounded_by terms most self m at (reserves bound) name is old = leb-true bound most is
@@ -28,7 +30,12 @@ bounded_by terms most self m at (sends (request n client number epoch)) name is 
 bounded_by terms most self m at (sends (grant n client number voter)) name is old = old
 bounded_by terms most self m at (sends (release n client epoch)) name is old = old
 bounded_by terms most self m at (takes (request n client number epoch)) name is old = by_test (bytes_eq n name) where
-  by_test : (b : Bool) → (if b then record (m.voter name) { last = epoch; holder = Some client; ends = terms.clock self.machine (m.voter name).boot at + terms.keeps } else m.voter name).bound ≤ most
+  by_test : (b : Bool) → (if b then record (m.voter name) {
+    last = epoch;
+    holder = Some client;
+    ends =
+        terms.clock self.machine (m.voter name).boot at + terms.keeps;
+  } else m.voter name).bound ≤ most
   by_test true = old
   by_test false = old
 bounded_by terms most self m at (takes (grant n client number voter)) name is old = old
@@ -37,14 +44,17 @@ bounded_by terms most self m at (takes (release n client epoch)) name is old = b
   by_test true = old
   by_test false = old
 
-pub bounded : (terms : Terms) (most : ℕ) (steps : List Step) (n : ℕ) (name : Name) → all_at_most most steps ≡ true → ((machines terms steps n).voter name).bound ≤ most
+pub bounded : (terms : Terms) (most : ℕ) (steps : List Step) (n : ℕ) (name : Name) → all_at_most most steps ≡ true
+    → ((machines terms steps n).voter name).bound ≤ most
 bounded terms most [] n name is = omega arith
-bounded terms most (s ∷ past) n name is = by_machine (s.by.machine == n) (bounded terms most past s.by.machine name parts.1) (bounded terms most past n name parts.1)
+bounded terms most (s ∷ past) n name is = by_machine (s.by.machine == n) (bounded terms most past s.by.machine name parts.1)
+    (bounded terms most past n name parts.1)
   where
     parts : (allows_at_most most s.what ≡ true) × (all_at_most most past ≡ true)
     parts = both (allows_at_most most s.what) (all_at_most most past) is
 
-    by_machine : (b : Bool) → ((machines terms past s.by.machine).voter name).bound ≤ most → ((machines terms past n).voter name).bound ≤ most
+    by_machine : (b : Bool) → ((machines terms past s.by.machine).voter name).bound ≤ most
+        → ((machines terms past n).voter name).bound ≤ most
         → ((if b then done terms s.by (machines terms past s.by.machine) s.at s.what else machines terms past n).voter name).bound ≤ most
     by_machine true here there = bounded_by terms most s.by (machines terms past s.by.machine) s.at s.what name parts.0 here
     by_machine false here there = there
@@ -59,10 +69,12 @@ is_unused self (s ∷ past) = is_of_another self s && is_unused self past
 
 not_another : (self : Client) (s : Step) → is_of_another self s ≡ true → s.by.machine ≡ self.machine → s.by.boot ≡ self.boot → ⊥
 not_another self s is machine boot =
-    by_tests (s.by.machine == self.machine) (s.by.boot == self.boot) (eq-eqb s.by.machine self.machine machine) (eq-eqb s.by.boot self.boot boot) is
+    by_tests (s.by.machine == self.machine) (s.by.boot == self.boot) (eq-eqb s.by.machine self.machine machine)
+    (eq-eqb s.by.boot self.boot boot) is
   where
     by_tests : (x y : Bool) → x ≡ true → y ≡ true → not (x && y) ≡ true → ⊥
-    by_tests x y a b no_other = (let bad : not (true && true) ≡ true = subst (λ (z : Bool). not (z && true) ≡ true) a (subst (λ (z : Bool). not (x && z) ≡ true) b no_other) in cc)
+    by_tests x y a b no_other = (let bad : not (true && true) ≡ true =
+        subst (λ (z : Bool). not (z && true) ≡ true) a (subst (λ (z : Bool). not (x && z) ≡ true) b no_other) in cc)
 
 pub fresh : (self : Client) (past : List Step) → is_unused self past ≡ true → IsUnborn past self
 fresh self [] is s i machine boot = i

@@ -10,15 +10,18 @@ use Rattle.lease_runs.specs.Candidate.{Candidate, beginning, MayAct, after_act}
 abbrev pub Name : Type 0
 Name = List ℕ
 
--- What goes from machine to machine: a client asks for the lease of a name, or for its renewal, by a request of this number, under this epoch; a client's request of
+-- What goes from machine to machine: a client asks for the lease of a name, or for its renewal, by a request of this number, under this
+-- epoch; a client's request of
 -- this number was granted by this voter; a client relies on no epoch of the name up to this one any more.
 pub data Message : Type 0 where
   request : Name → Client → ℕ → ℕ → Message
   grant : Name → Client → ℕ → ℕ → Message
   release : Name → Client → ℕ → Message
 
--- What a process does: it begins, with the floor that its disk gives it, in place of the one before it on its machine; its durable count is raised, so that epochs up to
--- this one may be granted, of all names; one of its clients sends a message: it asks, or it stops relying and says so; a message came: a request is granted, and the
+-- What a process does: it begins, with the floor that its disk gives it, in place of the one before it on its machine; its durable count is
+-- raised, so that epochs up to
+-- this one may be granted, of all names; one of its clients sends a message: it asks, or it stops relying and says so; a message came: a
+-- request is granted, and the
 -- grant is sent, a grant is counted, a release frees the name. What is refused or passed over changes nothing, and is no event.
 pub data Event : Type 0 where
   begins : ℕ → Event
@@ -26,14 +29,16 @@ pub data Event : Type 0 where
   sends : Message → Event
   takes : Message → Event
 
--- A true time, a client, and what it, or the process that it is of, did then. A process is a machine's, and is told by `boot`, a number that no other process of the
+-- A true time, a client, and what it, or the process that it is of, did then. A process is a machine's, and is told by `boot`, a number
+-- that no other process of the
 -- machine has; `number` tells its clients apart.
 pub record Step : Type 0 where
   pub at : ℕ
   pub by : Client
   pub what : Event
 
--- What stays the same: how many voters there are, the machines below this number; how long a voter keeps a grant, and how long a holder may rely on it; what the clock
+-- What stays the same: how many voters there are, the machines below this number; how long a voter keeps a grant, and how long a holder may
+-- rely on it; what the clock
 -- of a machine shows one of its processes, at a true time; how much readings may be off by rounding, in parts of 32 of the unit of time.
 pub record Terms : Type 0 where
   pub nodes : ℕ
@@ -64,7 +69,8 @@ abbrev pub MayAsk : Terms → Client → Machine → ℕ → ClientEvent → Nam
 MayAsk terms self m at what name = MayAct terms.nodes self (m.candidate self.number name) at what
 
 abbrev pub candidate_then : Terms → Client → Machine → ℕ → ClientEvent → Name → Candidate
-candidate_then terms self m at what name = after_act terms.nodes terms.relies_for (terms.clock self.machine self.boot) (m.candidate self.number name) at what
+candidate_then terms self m at what name = after_act terms.nodes terms.relies_for (terms.clock self.machine self.boot)
+    (m.candidate self.number name) at what
 
 -- what may be done on its machine: a start and a raise are of all names, whose epochs one count on the disk bounds
 abbrev pub MayDo : Terms → Client → Machine → ℕ → Event → Type 0
@@ -88,17 +94,26 @@ at_client number new old other name = if number == other then new name else old 
 -- what the machine keeps then
 abbrev pub acted : Terms → Client → Machine → ℕ → Name → ClientEvent → Machine
 acted terms self m at name what =
-    record m { candidate = at_client self.number (at_name name (candidate_then terms self m at what) (m.candidate self.number)) m.candidate }
+    record m {
+      candidate = at_client self.number (at_name name (candidate_then terms self m at what) (m.candidate self.number)) m.candidate;
+    }
 
 abbrev pub done : Terms → Client → Machine → ℕ → Event → Machine
-done terms self m at (begins floor) = record { process = Some self.boot; voter = voter_then terms self m at (restarts self.boot floor); candidate = λ number name. beginning }
+done terms self m at (begins floor) = record {
+  process = Some self.boot;
+  voter =
+      voter_then terms self m at (restarts self.boot floor);
+  candidate = λ number name. beginning;
+}
 done terms self m at (reserves bound) = record m { voter = voter_then terms self m at (raises bound) }
 done terms self m at (sends (request name client number epoch)) = acted terms self m at name (asks (ask_at client number epoch at))
 done terms self m at (sends (grant name client number voter)) = m
 done terms self m at (sends (release name client epoch)) = acted terms self m at name (stops epoch)
-done terms self m at (takes (request name client number epoch)) = record m { voter = at_name name (voter_then terms self m at (grants (ask_at client number epoch at))) m.voter }
+done terms self m at (takes (request name client number epoch)) =
+    record m { voter = at_name name (voter_then terms self m at (grants (ask_at client number epoch at))) m.voter }
 done terms self m at (takes (grant name client number voter)) = acted terms self m at name (hears voter (ask_at client number 0 at))
-done terms self m at (takes (release name client epoch)) = record m { voter = at_name name (voter_then terms self m at (releases client epoch)) m.voter }
+done terms self m at (takes (release name client epoch)) =
+    record m { voter = at_name name (voter_then terms self m at (releases client epoch)) m.voter }
 
 -- what the machines keep after these steps, the newest of which is the first
 abbrev pub machines : Terms → List Step → ℕ → Machine

@@ -19,7 +19,8 @@ use Rattle.lease_processes.specs.Processes.{here, begins}
 pub new_sound : (a : At) → IsNew a.process.terms a.process.start [] a → IsSound a
 new_sound a new = record {
   goes_on = λ off. new.6;
-  reserved = subst (λ (o : Option LeaseMachine). bound_by a.process.start o ≤ max a.reserved a.process.start.floor) (sym new.3) (omega arith);
+  reserved = subst (λ (o : Option LeaseMachine). bound_by a.process.start o ≤ max a.reserved a.process.start.floor) (sym new.3)
+      (omega arith);
   holders = λ none. subst (λ (o : Option LeaseMachine). AreHoldersTold o a.process.told.items) (sym new.3) tt;
 }
 

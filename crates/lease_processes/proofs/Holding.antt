@@ -1,5 +1,6 @@
 -- A machine that is alone, and whose user comes to hold a lease.
-use Rattle.std.proofs.Common.{◌≡◌, ℕ, ◌<◌, Bool, List, [], ◌∷◌, ◌++◌, length, Option, Some, None, inl, inr, refl, sym, ◌∙◌, ap, subst, arith}
+use Rattle.std.proofs.Common.{◌≡◌, ℕ, ◌<◌, Bool, List, [], ◌∷◌, ◌++◌, length, Option, Some, None, inl, inr, refl, sym, ◌∙◌, ap, subst}
+use Rattle.std.proofs.Common.{arith}
 use Rattle.std.specs.Prelude.{◌⊎◌, ◌==◌, if◌then◌else◌, codes}
 use Rattle.std.proofs.lemmas.Bool.{eq-eqb}
 use Rattle.line_words.specs.Lines.{lines_of}
@@ -29,7 +30,16 @@ record Tells (marks : List Mark) : Type 0 where
 
 behind : (mark : Mark) (marks : List Mark) → Tells marks → Tells (mark ∷ marks)
 behind mark marks t =
-    record { name = t.name; user = t.user; epoch = t.epoch; until = t.until; front = mark ∷ t.front; back = t.back; parts = ap (λ (l : List Mark). mark ∷ l) t.parts }
+    record {
+      name = t.name;
+      user = t.user;
+      epoch = t.epoch;
+      until = t.until;
+      front = mark ∷ t.front;
+      back = t.back;
+      parts =
+          ap (λ (l : List Mark). mark ∷ l) t.parts;
+    }
 
 none_of_none : (name : Name) (ts : List Told) → 0 < length (without name ts) → 0 < length ts
 none_of_none name [] some = some
@@ -37,20 +47,44 @@ none_of_none name (t ∷ ts) some = omega arith
 
 told_by : (ts : List Told) (marks : List Mark) → 0 < length (told_after ts marks) → (0 < length ts) ⊎ Tells marks
 told_by ts [] some = inl some
-told_by ts (did by what ∷ marks) some = elim (told_by ts marks some) [ inl before ↦ inl before | inr t ↦ inr (behind (did by what) marks t) ]
-told_by ts (wrote (send to message bytes) ∷ marks) some = elim (told_by ts marks some) [ inl before ↦ inl before | inr t ↦ inr (behind (wrote (send to message bytes)) marks t) ]
-told_by ts (wrote (held name user epoch until) ∷ marks) some = inr (record { name = name; user = user; epoch = epoch; until = until; front = []; back = marks; parts = refl })
+told_by ts (did by what ∷ marks) some = elim (told_by ts marks some) [
+  | inl before ↦ inl before
+  | inr t ↦ inr (behind (did by what) marks t)
+]
+told_by ts (wrote (send to message bytes) ∷ marks) some =
+    elim (told_by ts marks some) [ inl before ↦ inl before | inr t ↦ inr (behind (wrote (send to message bytes)) marks t) ]
+told_by ts (wrote (held name user epoch until) ∷ marks) some =
+    inr (record { name = name; user = user; epoch = epoch; until = until; front = []; back = marks; parts = refl })
 told_by ts (wrote (lost name epoch) ∷ marks) some =
-    elim (told_by (without name ts) marks some) [ inl before ↦ inl (none_of_none name ts before) | inr t ↦ inr (behind (wrote (lost name epoch)) marks t) ]
-told_by ts (wrote (refused why) ∷ marks) some = elim (told_by ts marks some) [ inl before ↦ inl before | inr t ↦ inr (behind (wrote (refused why)) marks t) ]
+    elim (told_by (without name ts) marks some) [
+      | inl before ↦ inl (none_of_none name ts before)
+      | inr t ↦ inr (behind (wrote (lost name epoch)) marks t)
+    ]
+told_by ts (wrote (refused why) ∷ marks) some = elim (told_by ts marks some) [
+  | inl before ↦ inl before
+  | inr t ↦ inr (behind (wrote (refused why)) marks t)
+]
 told_by ts (wrote (unserved why name user) ∷ marks) some =
     elim (told_by ts marks some) [ inl before ↦ inl before | inr t ↦ inr (behind (wrote (unserved why name user)) marks t) ]
-told_by ts (wrote (next time) ∷ marks) some = elim (told_by ts marks some) [ inl before ↦ inl before | inr t ↦ inr (behind (wrote (next time)) marks t) ]
-told_by ts (wrote fault ∷ marks) some = elim (told_by ts marks some) [ inl before ↦ inl before | inr t ↦ inr (behind (wrote fault) marks t) ]
+told_by ts (wrote (next time) ∷ marks) some = elim (told_by ts marks some) [
+  | inl before ↦ inl before
+  | inr t ↦ inr (behind (wrote (next time)) marks t)
+]
+told_by ts (wrote fault ∷ marks) some = elim (told_by ts marks some) [
+  | inl before ↦ inl before
+  | inr t ↦ inr (behind (wrote fault) marks t)
+]
 
-tells_line : (machine at : ℕ) (line : List ℕ) (old new : At) (marks : List Mark) → Tells marks → HasHeldLine (record { at = at; machine = machine; what = told line old marks new })
+tells_line : (machine at : ℕ) (line : List ℕ) (old new : At) (marks : List Mark) → Tells marks
+    → HasHeldLine (record { at = at; machine = machine; what = told line old marks new })
 tells_line machine at line old new marks t =
-    record { name = t.name; epoch = t.epoch; until = t.until; line = record { user = t.user; front = t.front; back = t.back; parts = t.parts } }
+    record {
+      name = t.name;
+      epoch = t.epoch;
+      until = t.until;
+      line =
+          record { user = t.user; front = t.front; back = t.back; parts = t.parts };
+    }
 
 none_told : (ts : List Told) → ts ≡ [] → 0 < length ts → ⊥
 none_told ts none some = absurd (omega (arith, some, ap (λ (l : List Told). length l) none))
@@ -67,16 +101,19 @@ abbrev asks : List ℕ
 asks = codes "acquire 9000 a 1"
 
 -- the whole lines of a text of two
-two_are : (first second : List ℕ) (lines : List (List ℕ)) (rest : List ℕ) → first ∷ second ∷ [] ∷ [] ≡ lines ++ rest ∷ [] → lines ≡ first ∷ second ∷ []
+two_are : (first second : List ℕ) (lines : List (List ℕ)) (rest : List ℕ) → first ∷ second ∷ [] ∷ [] ≡ lines ++ rest ∷ []
+    → lines ≡ first ∷ second ∷ []
 two_are first second [] rest e = absurd cc
 two_are first second (a ∷ []) rest e = absurd cc
 two_are first second (a ∷ b ∷ []) rest e = cc
 two_are first second (a ∷ b ∷ c ∷ []) rest e = absurd cc
 two_are first second (a ∷ b ∷ c ∷ d ∷ lines) rest e = absurd cc
 
-pub somebody_holds : LinesAreSteps → {terms : LeaseTerms} {start : Start} {kept : List ℕ} (old new : At) (rest : List ℕ) → IsNew terms start kept old → kept ≡ []
+pub somebody_holds : LinesAreSteps → {terms : LeaseTerms} {start : Start} {kept : List ℕ} (old new : At) (rest : List ℕ)
+    → IsNew terms start kept old → kept ≡ []
     → Fed kept (codes "tick 0\nacquire 9000 a 1\n") rest old new → 0 < length new.process.told.items → SomebodyHolds
-somebody_holds law old new rest begun none fed some = two (subst (λ (ls : List (List ℕ)). AreAnswered ls old new) (two_are ticks asks fed.lines rest cut) fed.answered)
+somebody_holds law old new rest begun none fed some = two
+    (subst (λ (ls : List (List ℕ)). AreAnswered ls old new) (two_are ticks asks fed.lines rest cut) fed.answered)
   where
     cut : ticks ∷ asks ∷ [] ∷ [] ≡ fed.lines ++ rest ∷ []
     cut = ap (λ (k : List ℕ). lines_of (k ++ codes "tick 0\nacquire 9000 a 1\n")) (sym none) ∙ fed.cut
@@ -112,13 +149,30 @@ somebody_holds law old new rest begun none fed some = two (subst (λ (ls : List 
           },
         ),
         omega arith,
-        record { before = old; runs = here_is machine old None; same = refl; clock = refl; brought = λ message may. absurd may; answered = first },
+        record {
+          before = old;
+          runs = here_is machine old None;
+          same = refl;
+          clock = refl;
+          brought = λ message may. absurd may;
+          answered =
+              first;
+        },
       ),
       omega arith,
-      record { before = mid; runs = here_is machine mid (here (first_moment ∷ []) machine); same = refl; clock = refl; brought = λ message may. absurd may; answered = second },
+      record {
+        before = mid;
+        runs = here_is machine mid (here (first_moment ∷ []) machine);
+        same = refl;
+        clock = refl;
+        brought =
+            λ message may. absurd may;
+        answered = second;
+      },
     )
 
-    at_first : (mid last : At) (marks more : List Mark) → IsAnswered marks ticks old mid → IsAnswered more asks mid last → Tells marks → SomebodyHolds
+    at_first : (mid last : At) (marks more : List Mark) → IsAnswered marks ticks old mid → IsAnswered more asks mid last → Tells marks
+        → SomebodyHolds
     at_first mid last marks more first second t = record {
       terms = true_time old.process.terms;
       all = other mid more last ∷ one marks mid ∷ first_moment ∷ [];
@@ -129,7 +183,8 @@ somebody_holds law old new rest begun none fed some = two (subst (λ (ls : List 
       holds = tells_line machine 0 ticks old mid marks t;
     }
 
-    at_second : (mid last : At) (marks more : List Mark) → IsAnswered marks ticks old mid → IsAnswered more asks mid last → Tells more → SomebodyHolds
+    at_second : (mid last : At) (marks more : List Mark) → IsAnswered marks ticks old mid → IsAnswered more asks mid last → Tells more
+        → SomebodyHolds
     at_second mid last marks more first second t = record {
       terms = true_time old.process.terms;
       all = other mid more last ∷ one marks mid ∷ first_moment ∷ [];

@@ -1,12 +1,14 @@
 -- What is true of the processes of all machines behind their moments.
-use Rattle.std.proofs.Common.{◌≡◌, ◌≢◌, ◌⊎◌, ℕ, ◌≤◌, Bool, true, false, cond, List, [], ◌∷◌, ◌++◌, Option, Some, None, refl, sym, ◌∙◌, ap, subst, inl, inr, arith}
+use Rattle.std.proofs.Common.{◌≡◌, ◌≢◌, ◌⊎◌, ℕ, ◌≤◌, Bool, true, false, cond, List, [], ◌∷◌, ◌++◌, Option, Some, None, refl, sym, ◌∙◌, ap}
+use Rattle.std.proofs.Common.{subst, inl, inr, arith}
 use Rattle.std.specs.Prelude.{All, ◌==◌, if◌then◌else◌}
 use Rattle.std.proofs.lemmas.Bool.{eq-eqb, eqb-true}
 use Rattle.std.proofs.lemmas.List.Elements.{All-head, All-tail}
 use Rattle.lease_runs.specs.Lists.{IsAmong}
 use Rattle.lease_runs.specs.Voter.{Client, Voter}
 use Rattle.lease_runs.specs.declared.voter.LeaseVoter.{LeaseVoter}
-use Rattle.lease_network.specs.Network.{Name, Message, request, grant, release, Event, begins as starts, reserves, sends, takes, Step, Terms, Machine, AreSteps, done, last_time, machines}
+use Rattle.lease_network.specs.Network.{Name, Message, request, grant, release, Event, begins as starts, reserves, sends, takes, Step}
+use Rattle.lease_network.specs.Network.{Terms, Machine, AreSteps, done, last_time, machines}
 use Rattle.lease_message.specs.declared.message.LeaseMessage.{LeaseMessage}
 use Rattle.lease_machine.specs.declared.name_entry.NameEntry.{NameEntry}
 use Rattle.lease_machine.specs.declared.state.LeaseMachine.{LeaseMachine}
@@ -24,7 +26,8 @@ use Rattle.lease_session.specs.Steps.{Adds, IsSound, MayCome, RunsOrIsNew, Tells
 use Rattle.lease_session.specs.Marks.{Mark, did, wrote}
 use Rattle.lease_session.specs.Own.{bound_by}
 use Rattle.lease_session.specs.Turns.{who, IsAt, Stood}
-use Rattle.lease_processes.specs.Processes.{Turned, begins, told, Moment, AreProcesses, HasBegun, IsTold, MayBegin, MayTurn, WasHandedOut, bound_of, here, last_moment, left_by, marks_of, steps_of}
+use Rattle.lease_processes.specs.Processes.{Turned, begins, told, Moment, AreProcesses, HasBegun, IsTold, MayBegin, MayTurn, WasHandedOut}
+use Rattle.lease_processes.specs.Processes.{bound_of, here, last_moment, left_by, marks_of, steps_of}
 use Rattle.lease_processes.proofs.Alone.{new_sound}
 
 -- ---- steps
@@ -41,9 +44,13 @@ steps_over at past (did by what ∷ marks) = behind (steps_over at (record { at 
     one_more [] s = refl
     one_more (x ∷ more) s = ap (λ (l : List Step). x ∷ l) (one_more more s)
 
-    behind : (more : List Step) × (steps_with at (record { at = at; by = by; what = what } ∷ past) marks ≡ more ++ (record { at = at; by = by; what = what } ∷ past))
+    behind : (more : List Step) × (steps_with at (record { at = at; by = by; what = what } ∷ past) marks
+        ≡ more ++ (record { at = at; by = by; what = what } ∷ past))
         → (more : List Step) × (steps_with at (record { at = at; by = by; what = what } ∷ past) marks ≡ more ++ past)
-    behind (more, is) = (more ++ record { at = at; by = by; what = what } ∷ [], is ∙ one_more more (record { at = at; by = by; what = what }))
+    behind (more, is) = (
+      more ++ record { at = at; by = by; what = what } ∷ [],
+      is ∙ one_more more (record { at = at; by = by; what = what }),
+    )
 steps_over at past (wrote row ∷ marks) = steps_over at past marks
 
 among_right : {A : Type 0} (x : A) (xs ys : List A) → IsAmong x ys → IsAmong x (xs ++ ys)
@@ -71,7 +78,8 @@ of_more : (s : Step) (steps : List Step) (n p : ℕ) → IsOf steps n p → IsOf
 of_more s steps n p h = record { made = h.made; among = inr h.among; machine = h.machine; boot = h.boot }
 
 -- what a step leaves as the process is what was there, or its own
-process_then : (terms : Terms) (by : Client) (m : Machine) (at : ℕ) (what : Event) → ((done terms by m at what).process ≡ m.process) ⊎ ((done terms by m at what).process ≡ Some by.boot)
+process_then : (terms : Terms) (by : Client) (m : Machine) (at : ℕ) (what : Event)
+    → ((done terms by m at what).process ≡ m.process) ⊎ ((done terms by m at what).process ≡ Some by.boot)
 process_then terms by m at (starts floor) = inr refl
 process_then terms by m at (reserves bound) = inl refl
 process_then terms by m at (sends (request name client number epoch)) = inl refl
@@ -81,19 +89,28 @@ process_then terms by m at (takes (request name client number epoch)) = inl refl
 process_then terms by m at (takes (grant name client number voter)) = inl refl
 process_then terms by m at (takes (release name client epoch)) = inl refl
 
-made_step : (terms : Terms) (s : Step) (steps : List Step) (n p : ℕ) → ((k : ℕ) → (machines terms steps k).process ≡ Some p → IsOf steps k p)
+made_step : (terms : Terms) (s : Step) (steps : List Step) (n p : ℕ)
+    → ((k : ℕ) → (machines terms steps k).process ≡ Some p → IsOf steps k p)
     → (machines terms (s ∷ steps) n).process ≡ Some p → IsOf (s ∷ steps) n p
 made_step terms s steps n p rest is = by_test (s.by.machine == n) refl is
   where
-    by_kind : (s.by.machine == n) ≡ true → ((done terms s.by (machines terms steps s.by.machine) s.at s.what).process ≡ (machines terms steps s.by.machine).process)
+    by_kind : (s.by.machine == n) ≡ true → ((done terms s.by (machines terms steps s.by.machine) s.at s.what).process
+        ≡ (machines terms steps s.by.machine).process)
         ⊎ ((done terms s.by (machines terms steps s.by.machine) s.at s.what).process ≡ Some s.by.boot)
         → (done terms s.by (machines terms steps s.by.machine) s.at s.what).process ≡ Some p → IsOf (s ∷ steps) n p
     by_kind same (inl still) is =
         of_more s steps n p (subst (λ (k : ℕ). IsOf steps k p) (eqb-true s.by.machine n same) (rest s.by.machine (sym still ∙ is)))
-    by_kind same (inr own) is = record { made = s; among = inl refl; machine = eqb-true s.by.machine n same; boot = some_same s.by.boot p (sym own ∙ is) }
+    by_kind same (inr own) is = record {
+      made = s;
+      among = inl refl;
+      machine = eqb-true s.by.machine n same;
+      boot =
+          some_same s.by.boot p (sym own ∙ is);
+    }
 
     by_test : (b : Bool) → (s.by.machine == n) ≡ b
-        → (if b then done terms s.by (machines terms steps s.by.machine) s.at s.what else machines terms steps n).process ≡ Some p → IsOf (s ∷ steps) n p
+        → (if b then done terms s.by (machines terms steps s.by.machine) s.at s.what else machines terms steps n).process ≡ Some p
+        → IsOf (s ∷ steps) n p
     by_test true same is = by_kind same (process_then terms s.by (machines terms steps s.by.machine) s.at s.what) is
     by_test false other is = of_more s steps n p (rest n is)
 
@@ -123,7 +140,8 @@ begun_more : (m : Moment) (past : List Moment) (n p : ℕ) → HasBegun past n p
 begun_more m past n p h = record { moment = h.moment; among = inr h.among; machine = h.machine; numbered = h.numbered }
 
 -- the machine of the moment, or another one
-here_is : (P : Option At → Type 0) (m : Moment) (past : List Moment) (n : ℕ) → (m.machine ≡ n → P (Some (left_by m.what))) → (m.machine ≢ n → P (here past n)) → P (here (m ∷ past) n)
+here_is : (P : Option At → Type 0) (m : Moment) (past : List Moment) (n : ℕ) → (m.machine ≡ n → P (Some (left_by m.what)))
+    → (m.machine ≢ n → P (here past n)) → P (here (m ∷ past) n)
 here_is P m past n own other = by_test (m.machine == n) refl
   where
     by_test : (b : Bool) → (m.machine == n) ≡ b → P (if b then Some (left_by m.what) else here past n)
@@ -138,25 +156,32 @@ some_at a b e = cc
 new_before : (terms : Terms) (past : List Moment) (n : ℕ) (new : At) → Stand terms past → MayBegin terms past n new
     → IsAt terms new.told new.process (machines terms (steps_of past) new.process.terms.machine)
 new_before terms past n new s b =
-    subst (λ (o : Option LeaseMachine). Stood new.process.terms new.process.start o terms new.told (machines terms (steps_of past) new.process.terms.machine)) (sym b.is_new.3) (record {
+    subst (λ (o : Option LeaseMachine). Stood new.process.terms new.process.start o terms new.told
+    (machines terms (steps_of past) new.process.terms.machine)) (sym b.is_new.3) (record {
       are = b.of_terms;
-      no_process = λ running. b.own_number (was_begun (made_it terms (steps_of past) new.process.terms.machine new.process.start.process running));
+      no_process = λ running. b.own_number (was_begun (made_it terms (steps_of past) new.process.terms.machine new.process.start.process
+          running));
       floor = λ name. (let less = here_bound name in let floor = b.floor in omega (arith, less, floor));
     })
   where
     was_begun : IsOf (steps_of past) new.process.terms.machine new.process.start.process → HasBegun past n new.process.start.process
-    was_begun h = subst (λ (p : ℕ). HasBegun past n p) h.boot (subst (λ (k : ℕ). HasBegun past k h.made.by.boot) (h.machine ∙ b.machine) (s.own h.made h.among))
+    was_begun h = subst (λ (p : ℕ). HasBegun past n p) h.boot (subst (λ (k : ℕ). HasBegun past k h.made.by.boot) (h.machine
+        ∙ b.machine) (s.own h.made h.among))
 
     here_bound : (name : Name) → ((machines terms (steps_of past) new.process.terms.machine).voter name).bound ≤ bound_of (here past n)
-    here_bound name = subst (λ (k : ℕ). ((machines terms (steps_of past) k).voter name).bound ≤ bound_of (here past n)) (sym b.machine) (s.bounds n name)
+    here_bound name = subst (λ (k : ℕ). ((machines terms (steps_of past) k).voter name).bound ≤ bound_of (here past n)) (sym b.machine)
+        (s.bounds n name)
 
-begin_stands : (terms : Terms) (past : List Moment) (at n : ℕ) (new : At) → Stand terms past → last_moment past ≤ at → MayBegin terms past n new
+begin_stands : (terms : Terms) (past : List Moment) (at n : ℕ) (new : At) → Stand terms past → last_moment past ≤ at
+    → MayBegin terms past n new
     → Stand terms (record { at = at; machine = n; what = begins new } ∷ past)
 begin_stands terms past at n new s le b = record {
   are = s.are;
   last = (let last = s.last in omega (arith, last, le));
-  fits = λ k a is. here_is (λ (o : Option At). o ≡ Some a → Fits terms (m ∷ past) k a) m past k (λ same e. own_fits k a same (some_at new a e)) (λ other e. old_fits k a (s.fits k a e)) is;
-  bounds = λ k name. here_is (λ (o : Option At). ((machines terms (steps_of past) k).voter name).bound ≤ bound_of o) m past k (λ same. own_bound k name same) (λ other. s.bounds k name);
+  fits = λ k a is. here_is (λ (o : Option At). o ≡ Some a → Fits terms (m ∷ past) k a) m past k (λ same e.
+      own_fits k a same (some_at new a e)) (λ other e. old_fits k a (s.fits k a e)) is;
+  bounds = λ k name. here_is (λ (o : Option At). ((machines terms (steps_of past) k).voter name).bound ≤ bound_of o) m past k (λ same.
+      own_bound k name same) (λ other. s.bounds k name);
   own = λ x i. begun_more m past x.by.machine x.by.boot (s.own x i);
   handed = λ message h. by_line message h.moment h.among h.to h.bytes h.line;
 }
@@ -175,16 +200,35 @@ begin_stands terms past at n new s le b = record {
     })
 
     old_fits : (k : ℕ) (a : At) → Fits terms past k a → Fits terms (m ∷ past) k a
-    old_fits k a f = record { machine = f.machine; begun = begun_more m past k a.process.start.process f.begun; runs = f.runs; stands = f.stands; sound = f.sound }
+    old_fits k a f = record {
+      machine = f.machine;
+      begun = begun_more m past k a.process.start.process f.begun;
+      runs = f.runs;
+      stands =
+          f.stands;
+      sound = f.sound;
+    }
 
-    own_bound : (k : ℕ) (name : Name) → n ≡ k → ((machines terms (steps_of past) k).voter name).bound ≤ bound_by new.process.start new.process.machine
-    own_bound k name same = subst (λ (o : Option LeaseMachine). ((machines terms (steps_of past) k).voter name).bound ≤ bound_by new.process.start o) (sym b.is_new.3)
-        (let less = subst (λ (j : ℕ). ((machines terms (steps_of past) j).voter name).bound ≤ bound_of (here past n)) same (s.bounds n name) in let floor = b.floor in omega (arith, less, floor))
+    own_bound : (k : ℕ) (name : Name) → n ≡ k → ((machines terms (steps_of past) k).voter name).bound ≤ bound_by new.process.start
+        new.process.machine
+    own_bound k name same = subst (λ (o : Option LeaseMachine).
+        ((machines terms (steps_of past) k).voter name).bound ≤ bound_by new.process.start o) (sym b.is_new.3)
+        (let less = subst (λ (j : ℕ). ((machines terms (steps_of past) j).voter name).bound ≤ bound_of (here past n)) same (s.bounds n name)
+        in let floor = b.floor in omega (arith, less, floor))
 
-    by_line : (message : LeaseMessage) (o : Moment) → IsAmong o (m ∷ past) → (to : ℕ) (bytes : List ℕ) → IsAmong (wrote (send to message bytes)) (marks_of o.what)
+    by_line : (message : LeaseMessage) (o : Moment) → IsAmong o (m ∷ past) → (to : ℕ) (bytes : List ℕ)
+        → IsAmong (wrote (send to message bytes)) (marks_of o.what)
         → (x : Message) → IsAmong x (said message) → WasSentIn (steps_of past) x
-    by_line message o (inl e) to bytes line x i = absurd (subst (λ (p : Moment). IsAmong (wrote (send to message bytes)) (marks_of p.what)) e line)
-    by_line message o (inr among) to bytes line x i = s.handed message (record { moment = o; among = among; to = to; bytes = bytes; line = line }) x i
+    by_line message o (inl e) to bytes line x i = absurd (subst (λ (p : Moment). IsAmong (wrote (send to message bytes)) (marks_of p.what))
+        e line)
+    by_line message o (inr among) to bytes line x i = s.handed message (record {
+      moment = o;
+      among = among;
+      to = to;
+      bytes = bytes;
+      line =
+          line;
+    }) x i
 
 -- ---- a process is told a line
 
@@ -192,7 +236,8 @@ abbrev same_but : At → LeaseProcess → At
 same_but a p = record a { process = record a.process { text = p.text } }
 
 -- the process fits, with the text that it keeps
-kept_fits : (terms : Terms) (past : List Moment) (n : ℕ) (before old : At) → old ≡ same_but before old.process → Fits terms past n before → Fits terms past n old
+kept_fits : (terms : Terms) (past : List Moment) (n : ℕ) (before old : At) → old ≡ same_but before old.process → Fits terms past n before
+    → Fits terms past n old
 kept_fits terms past n before old same f = subst (λ (a : At). Fits terms past n a) (sym same)
     (record {
       machine = f.machine;
@@ -202,7 +247,8 @@ kept_fits terms past n before old same f = subst (λ (a : At). Fits terms past n
       sound = record { goes_on = f.sound.goes_on; reserved = f.sound.reserved; holders = f.sound.holders };
     })
 
-may_come : (terms : Terms) (past : List Moment) (at n : ℕ) (line : List ℕ) (old : At) (marks : List Mark) (new : At) → Stand terms past → last_moment past ≤ at
+may_come : (terms : Terms) (past : List Moment) (at n : ℕ) (line : List ℕ) (old : At) (marks : List Mark) (new : At) → Stand terms past
+    → last_moment past ≤ at
     → (t : IsTold terms past at n line old marks new) → Fits terms past n old → MayCome terms at (steps_of past) line old
 may_come terms past at n line old marks new s le t f = record {
   clock = subst (λ (k : ℕ). TellsTime (terms.clock k old.process.start.process at) (meaning_of line)) (sym f.machine)
@@ -239,23 +285,28 @@ stands_bound : (boot now : ℕ) (c : LeaseVoter) (v : Voter) → Stands boot now
 stands_bound boot now c v (inl same) = ap (λ (x : Voter). x.bound) (sym same)
 stands_bound boot now c v (inr behind) = behind.bound
 
-bounded : (terms : Terms) (now : ℕ) (p : LeaseProcess) (m : Machine) (name : Name) → IsAt terms now p m → (m.voter name).bound ≤ bound_by p.start p.machine
+bounded : (terms : Terms) (now : ℕ) (p : LeaseProcess) (m : Machine) (name : Name) → IsAt terms now p m
+    → (m.voter name).bound ≤ bound_by p.start p.machine
 bounded terms now p m name is = by_machine p.machine is
   where
     by_machine : (o : Option LeaseMachine) → Stood p.terms p.start o terms now m → (m.voter name).bound ≤ bound_by p.start o
     by_machine None before = before.floor name
     by_machine (Some c) stands =
-        (let first = stands_bound c.process now (voter_at c name) (m.voter name) (stands.voters name) in let second = bound_at c name in omega (arith, first, second))
+        (let first = stands_bound c.process now (voter_at c name) (m.voter name) (stands.voters name) in let second = bound_at c name in
+        omega (arith, first, second))
 
 -- ---- behind a line
 
-told_stands : (terms : Terms) (past : List Moment) (at n : ℕ) (line : List ℕ) (old : At) (marks : List Mark) (new : At) → Stand terms past → last_moment past ≤ at
+told_stands : (terms : Terms) (past : List Moment) (at n : ℕ) (line : List ℕ) (old : At) (marks : List Mark) (new : At) → Stand terms past
+    → last_moment past ≤ at
     → IsTold terms past at n line old marks new → Stand terms (record { at = at; machine = n; what = told line old marks new } ∷ past)
 told_stands terms past at n line old marks new s le t = record {
   are = adds.are;
   last = adds.last;
-  fits = λ k a is. here_is (λ (o : Option At). o ≡ Some a → Fits terms (m ∷ past) k a) m past k (λ same e. own_fits k a same (some_at new a e)) (λ other e. old_fits k a other (s.fits k a e)) is;
-  bounds = λ k name. here_is (λ (o : Option At). ((machines terms steps k).voter name).bound ≤ bound_of o) m past k (λ same. own_bound k name same) (λ other. old_bound k name other);
+  fits = λ k a is. here_is (λ (o : Option At). o ≡ Some a → Fits terms (m ∷ past) k a) m past k (λ same e.
+      own_fits k a same (some_at new a e)) (λ other e. old_fits k a other (s.fits k a e)) is;
+  bounds = λ k name. here_is (λ (o : Option At). ((machines terms steps k).voter name).bound ≤ bound_of o) m past k (λ same.
+      own_bound k name same) (λ other. old_bound k name other);
   own = λ x i. elim (adds.own x i) [
     | inl j ↦ begun_more m past x.by.machine x.by.boot (s.own x j)
     | inr its ↦ begun_more m past x.by.machine x.by.boot (its_process x its.0 its.1)
@@ -272,7 +323,8 @@ told_stands terms past at n line old marks new s le t = record {
     f : Fits terms past n old
     f = kept_fits terms past n t.before old t.same (s.fits n t.before t.runs)
 
-    went : Adds terms (who old.process) at (steps_of past) marks [] × IsAt terms new.told new.process (machines terms steps old.process.terms.machine)
+    went : Adds terms (who old.process) at (steps_of past) marks []
+        × IsAt terms new.told new.process (machines terms steps old.process.terms.machine)
     went = t.answered.goes terms at (steps_of past) (may_come terms past at n line old marks new s le t f)
 
     adds : Adds terms (who old.process) at (steps_of past) marks []
@@ -290,7 +342,8 @@ told_stands terms past at n line old marks new s le t = record {
       begun = subst (λ (p : ℕ). HasBegun (m ∷ past) k p) (sym numbered) (begun_more m past k old.process.start.process
           (subst (λ (j : ℕ). HasBegun past j old.process.start.process) same f.begun));
       runs = subst (λ (c : Client). RunsOrIsNew steps c (machines terms steps c.machine).process)
-          (ap (λ (k : ℕ). self_of k old.process.start.process) (sym of_machine) ∙ ap (λ (p : ℕ). self_of new.process.terms.machine p) (sym numbered)) adds.runs;
+          (ap (λ (k : ℕ). self_of k old.process.start.process) (sym of_machine)
+          ∙ ap (λ (p : ℕ). self_of new.process.terms.machine p) (sym numbered)) adds.runs;
       stands = subst (λ (j : ℕ). IsAt terms new.told new.process (machines terms steps j)) (sym of_machine) went.1;
       sound = t.answered.sound;
     })
@@ -305,7 +358,10 @@ told_stands terms past at n line old marks new s le t = record {
     old_fits k a other g = record {
       machine = g.machine;
       begun = begun_more m past k a.process.start.process g.begun;
-      runs = elim g.runs [ inl runs ↦ inl (ap (λ (x : Machine). x.process) there ∙ runs) | inr none ↦ inr (λ x i. none_of x (adds.own x i) (none x)) ];
+      runs = elim g.runs [
+        | inl runs ↦ inl (ap (λ (x : Machine). x.process) there ∙ runs)
+        | inr none ↦ inr (λ x i. none_of x (adds.own x i) (none x))
+      ];
       stands = subst (λ (x : Machine). IsAt terms a.told a.process x) (sym there) g.stands;
       sound = g.sound;
     }
@@ -313,7 +369,8 @@ told_stands terms past at n line old marks new s le t = record {
         there : machines terms steps a.process.terms.machine ≡ machines terms (steps_of past) a.process.terms.machine
         there = else_where a.process.terms.machine (λ same. other (same ∙ g.machine))
 
-        none_of : (x : Step) → IsAmong x (steps_of past) ⊎ ((x.by.machine ≡ old.process.terms.machine) × (x.by.boot ≡ old.process.start.process))
+        none_of : (x : Step) → IsAmong x (steps_of past) ⊎ ((x.by.machine ≡ old.process.terms.machine)
+            × (x.by.boot ≡ old.process.start.process))
             → (IsAmong x (steps_of past) → x.by.machine ≡ a.process.terms.machine → x.by.boot ≡ a.process.start.process → ⊥)
             → x.by.machine ≡ a.process.terms.machine → x.by.boot ≡ a.process.start.process → ⊥
         none_of x (inl j) none machine boot = none j machine boot
@@ -324,20 +381,27 @@ told_stands terms past at n line old marks new s le t = record {
         (subst (λ (j : ℕ). IsAt terms new.told new.process (machines terms steps j)) (f.machine ∙ same) went.1)
 
     old_bound : (k : ℕ) (name : Name) → n ≢ k → ((machines terms steps k).voter name).bound ≤ bound_of (here past k)
-    old_bound k name other = subst (λ (x : Machine). (x.voter name).bound ≤ bound_of (here past k)) (sym (else_where k other)) (s.bounds k name)
+    old_bound k name other = subst (λ (x : Machine). (x.voter name).bound ≤ bound_of (here past k)) (sym (else_where k other))
+        (s.bounds k name)
 
-    its_process : (x : Step) → x.by.machine ≡ old.process.terms.machine → x.by.boot ≡ old.process.start.process → HasBegun past x.by.machine x.by.boot
-    its_process x machine boot = subst (λ (p : ℕ). HasBegun past x.by.machine p) (sym boot) (subst (λ (j : ℕ). HasBegun past j old.process.start.process) (sym (machine ∙ f.machine)) f.begun)
+    its_process : (x : Step) → x.by.machine ≡ old.process.terms.machine → x.by.boot ≡ old.process.start.process
+        → HasBegun past x.by.machine x.by.boot
+    its_process x machine boot = subst (λ (p : ℕ). HasBegun past x.by.machine p) (sym boot)
+        (subst (λ (j : ℕ). HasBegun past j old.process.start.process) (sym (machine ∙ f.machine)) f.begun)
 
-    by_line : (message : LeaseMessage) (o : Moment) → IsAmong o (m ∷ past) → (to : ℕ) (bytes : List ℕ) → IsAmong (wrote (send to message bytes)) (marks_of o.what)
+    by_line : (message : LeaseMessage) (o : Moment) → IsAmong o (m ∷ past) → (to : ℕ) (bytes : List ℕ)
+        → IsAmong (wrote (send to message bytes)) (marks_of o.what)
         → (x : Message) → IsAmong x (said message) → WasSentIn steps x
-    by_line message o (inl e) to bytes line x i = adds.handed to message bytes (subst (λ (p : Moment). IsAmong (wrote (send to message bytes)) (marks_of p.what)) e line) x i
+    by_line message o (inl e) to bytes line x i = adds.handed to message bytes
+        (subst (λ (p : Moment). IsAmong (wrote (send to message bytes)) (marks_of p.what)) e line) x i
     by_line message o (inr among) to bytes line x i =
-        sent_still at (steps_of past) marks x (s.handed message (record { moment = o; among = among; to = to; bytes = bytes; line = line }) x i)
+        sent_still at (steps_of past) marks x (s.handed message (record { moment = o; among = among; to = to; bytes = bytes; line = line })
+        x i)
 
 -- ---- all of them
 
-moment_stands : (terms : Terms) (past : List Moment) (at n : ℕ) (what : Turned) → Stand terms past → last_moment past ≤ at → MayTurn terms past at n what
+moment_stands : (terms : Terms) (past : List Moment) (at n : ℕ) (what : Turned) → Stand terms past → last_moment past ≤ at
+    → MayTurn terms past at n what
     → Stand terms (record { at = at; machine = n; what = what } ∷ past)
 moment_stands terms past at n (begins new) s le b = begin_stands terms past at n new s le b
 moment_stands terms past at n (told line old marks new) s le t = told_stands terms past at n line old marks new s le t
@@ -354,7 +418,8 @@ stand terms [] are = record {
 stand terms (m ∷ past) are = moment_stands terms past m.at m.machine m.what (stand terms past are.0) are.1 are.2
 
 -- behind a line, what its marks add
-pub added : (terms : Terms) (past : List Moment) (at n : ℕ) (line : List ℕ) (old : At) (marks : List Mark) (new : At) → Stand terms past → last_moment past ≤ at
+pub added : (terms : Terms) (past : List Moment) (at n : ℕ) (line : List ℕ) (old : At) (marks : List Mark) (new : At) → Stand terms past
+    → last_moment past ≤ at
     → IsTold terms past at n line old marks new → Adds terms (who old.process) at (steps_of past) marks [] × (old.process.terms.machine ≡ n)
 added terms past at n line old marks new s le t =
     let f = kept_fits terms past n t.before old t.same (s.fits n t.before t.runs) in

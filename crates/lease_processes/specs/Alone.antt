@@ -19,13 +19,21 @@ true_time t = record { nodes = t.machines; keeps = t.keeps; relies_for = t.relie
 -- its process begins, and is told a line at the time that the line tells
 abbrev pub alone : ℕ → List ℕ → At → List Mark → At → List Moment
 alone time line old marks new =
-    record { at = time; machine = old.process.terms.machine; what = told line old marks new } ∷ record { at = 0; machine = old.process.terms.machine; what = begins old } ∷ []
+    record { at = time; machine = old.process.terms.machine; what = told line old marks new } ∷ record {
+      at = 0;
+      machine =
+          old.process.terms.machine;
+      what = begins old;
+    } ∷ []
 
--- Whatever process begins, and whatever line it is told first that brings no message, over clocks that show the true time: the premises are met.
+-- Whatever process begins, and whatever line it is told first that brings no message, over clocks that show the true time: the premises are
+-- met.
 abbrev pub PremisesAreMet : Type 0
-PremisesAreMet = (line : List ℕ) (time : ℕ) (old new : At) → IsNew old.process.terms old.process.start [] old → Answers line old new → TellsTime time (meaning_of line)
+PremisesAreMet = (line : List ℕ) (time : ℕ) (old new : At) → IsNew old.process.terms old.process.start [] old → Answers line old new
+    → TellsTime time (meaning_of line)
     → ((message : LeaseMessage) → MayBring old.process (meaning_of line) message → ⊥)
-    → AreClocks (true_time old.process.terms) × ((marks : List Mark) × AreProcesses (true_time old.process.terms) (alone time line old marks new))
+    → AreClocks (true_time old.process.terms) × ((marks : List Mark)
+    × AreProcesses (true_time old.process.terms) (alone time line old marks new))
 
 -- ---- one that holds
 

@@ -13,7 +13,8 @@ use Rattle.lease_session.specs.Marks.{Mark, wrote}
 
 -- ---- what happens
 
--- A process begins on its machine, in place of the one before it, and is here then. Or the one that began last is told a line, where it is, answers it with these steps
+-- A process begins on its machine, in place of the one before it, and is here then. Or the one that began last is told a line, where it is,
+-- answers it with these steps
 -- and lines, and is here then.
 pub data Turned : Type 0 where
   begins : At → Turned
@@ -70,7 +71,8 @@ abbrev pub reserved_of : Option At → ℕ
 reserved_of None = 0
 reserved_of (Some a) = max a.reserved a.process.start.floor
 
--- A process that begins was told nothing yet. Its file gave it a number that no process of the machine had, and a floor at or above each epoch that the one before it may
+-- A process that begins was told nothing yet. Its file gave it a number that no process of the machine had, and a floor at or above each
+-- epoch that the one before it may
 -- have granted; all processes have the same terms.
 pub record MayBegin (terms : Terms) (past : List Moment) (n : ℕ) (new : At) : Type 0 where
   pub is_new : IsNew new.process.terms new.process.start [] new
@@ -89,7 +91,8 @@ pub record WasHandedOut (past : List Moment) (message : LeaseMessage) : Type 0 w
   pub bytes : List ℕ
   pub line : IsAmong (wrote (send to message bytes)) (marks_of moment.what)
 
--- The process that began last on the machine is told a line, with any text of earlier answers that wasn't cleared. The time in the line is what the machine's clock shows
+-- The process that began last on the machine is told a line, with any text of earlier answers that wasn't cleared. The time in the line is
+-- what the machine's clock shows
 -- the process then, and what it delivers was handed out before.
 pub record IsTold (terms : Terms) (past : List Moment) (at n : ℕ) (line : List ℕ) (old : At) (marks : List Mark) (new : At) : Type 0 where
   pub before : At
@@ -103,7 +106,8 @@ abbrev pub MayTurn : Terms → List Moment → ℕ → ℕ → Turned → Type 0
 MayTurn terms past at n (begins new) = MayBegin terms past n new
 MayTurn terms past at n (told line old marks new) = IsTold terms past at n line old marks new
 
--- Each of these moments may follow those before it. So of each machine one process runs at a time; it may end at any moment, whatever it was told.
+-- Each of these moments may follow those before it. So of each machine one process runs at a time; it may end at any moment, whatever it
+-- was told.
 abbrev pub AreProcesses : Terms → List Moment → Type 0
 AreProcesses terms [] = Unit {0}
 AreProcesses terms (m ∷ past) = AreProcesses terms past × (last_moment past ≤ m.at) × MayTurn terms past m.at m.machine m.what

@@ -18,7 +18,11 @@ abbrev second : Ask
 second = record { client = bob; number = 0; epoch = 2; sent = 219 }
 
 abbrev moments : List Moment
-moments = record { at = 0; what = raises 8 } ∷ record { at = 200; what = grants first } ∷ record { at = 211; what = releases ann 1 } ∷ record { at = 220; what = grants second } ∷ []
+moments = record { at = 0; what = raises 8 } ∷ record { at = 200; what = grants first } ∷ record {
+  at = 211;
+  what =
+      releases ann 1;
+} ∷ record { at = 220; what = grants second } ∷ []
 
 abbrev actions : List Act
 actions =
@@ -32,7 +36,16 @@ actions =
     ∷ []
 
 abbrev run : Run
-run = record { nodes = 3; keeps = 160; relies_for = 150; clock = λ machine boot t. t; grain = 5; history = λ voter. moments; acts = actions }
+run = record {
+  nodes = 3;
+  keeps = 160;
+  relies_for = 150;
+  clock = λ machine boot t. t;
+  grain = 5;
+  history = λ voter. moments;
+  acts =
+      actions;
+}
 
 follows : Follows 160 (λ boot t. t) 0 (opening (λ boot t. t)) moments
 follows = (
@@ -115,13 +128,15 @@ abbrev Answered : ℕ → Ask → Type 0
 Answered time ask = (at : ℕ) × (at ≤ time) × IsAmong (granted at ask) moments
 
 heard_first : (time voter n : ℕ) (client : Client) (ask : Ask)
-    → (let act : Act = record { at = time; client = client; what = hears voter ask } in act ≡ record { at = 201; client = ann; what = hears n first }) → Answered time ask
+    → (let act : Act = record { at = time; client = client; what = hears voter ask } in
+    act ≡ record { at = 201; client = ann; what = hears n first }) → Answered time ask
 heard_first time voter n client ask e =
     let t : time ≡ 201 = ap (λ (x : Act). x.at) e in
     (200, omega (arith, t), inr (inl (ap (λ (x : Act). granted 200 (heard_of x.what ask)) e)))
 
 heard_second : (time voter n : ℕ) (client : Client) (ask : Ask)
-    → (let act : Act = record { at = time; client = client; what = hears voter ask } in act ≡ record { at = 221; client = bob; what = hears n second }) → Answered time ask
+    → (let act : Act = record { at = time; client = client; what = hears voter ask } in
+    act ≡ record { at = 221; client = bob; what = hears n second }) → Answered time ask
 heard_second time voter n client ask e =
     let t : time ≡ 221 = ap (λ (x : Act). x.at) e in
     (220, omega (arith, t), inr (inr (inr (inl (ap (λ (x : Act). granted 220 (heard_of x.what ask)) e)))))
@@ -136,7 +151,8 @@ was_answered time voter client ask (inr (inr (inr (inr (inr (inl e)))))) = heard
 was_answered time voter client ask (inr (inr (inr (inr (inr (inr (inl e))))))) = heard_second time voter 2 client ask e
 was_answered time voter client ask (inr (inr (inr (inr (inr (inr (inr i))))))) = absurd i
 
-was_stopped : (time : ℕ) (client : Client) (epoch : ℕ) → Releases run 0 time client epoch → (at : ℕ) × (at ≤ time) × Does run at client (stops epoch)
+was_stopped : (time : ℕ) (client : Client) (epoch : ℕ) → Releases run 0 time client epoch
+    → (at : ℕ) × (at ≤ time) × Does run at client (stops epoch)
 was_stopped time client epoch (inl e) = absurd (subst (λ (m : Moment). IsRelease m.what) e tt)
 was_stopped time client epoch (inr (inl e)) = absurd (subst (λ (m : Moment). IsRelease m.what) e tt)
 was_stopped time client epoch (inr (inr (inl e))) =

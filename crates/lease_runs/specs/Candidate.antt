@@ -1,5 +1,6 @@
 -- The lease of one name at one client: what the client keeps, what it may do, and when it relies.
-use Rattle.std.specs.Prelude.{ℕ, ◌≡◌, ◌+◌, ◌*◌, ◌<◌, ◌≤◌, ◌==◌, ◌&&◌, not, ltb, leb, max, Bool, true, false, if◌then◌else◌, List, [], ◌∷◌, Option, Some, None}
+use Rattle.std.specs.Prelude.{ℕ, ◌≡◌, ◌+◌, ◌*◌, ◌<◌, ◌≤◌, ◌==◌, ◌&&◌, not, ltb, leb, max, Bool, true, false, if◌then◌else◌, List, [], ◌∷◌}
+use Rattle.std.specs.Prelude.{Option, Some, None}
 use Rattle.lease_runs.specs.Lists.{IsAmong, count}
 use Rattle.lease_runs.specs.Voter.{Client, Ask}
 use Rattle.lease_runs.specs.Run.{ClientEvent, asks, hears, stops, Run, Does}
@@ -9,7 +10,8 @@ pub record ClientMoment : Type 0 where
   pub at : ℕ
   pub what : ClientEvent
 
--- What a client keeps: the number of its last request; the greatest epoch that it gave up, with all smaller ones; its last request, where it isn't given up, and who
+-- What a client keeps: the number of its last request; the greatest epoch that it gave up, with all smaller ones; its last request, where
+-- it isn't given up, and who
 -- granted it; the request by which it relies, until its time is over.
 pub record Candidate : Type 0 where
   pub number : ℕ
@@ -42,7 +44,8 @@ with_vote voter votes n = if n == voter then true else votes n
 
 -- it relies by its last request once more than half of the voters granted it, in time; a lease that is over isn't revived
 abbrev pub is_taken : ℕ → ℕ → (ℕ → ℕ) → ℕ → (ℕ → Bool) → Ask → Option Ask → Bool
-is_taken nodes relies_for clock at votes ask lease = is_most nodes votes && (is_in_time relies_for clock at ask && not (is_too_late relies_for clock at ask lease))
+is_taken nodes relies_for clock at votes ask lease = is_most nodes votes
+    && (is_in_time relies_for clock at ask && not (is_too_late relies_for clock at ask lease))
 
 abbrev pub taken : ℕ → ℕ → (ℕ → ℕ) → ℕ → (ℕ → Bool) → Ask → Option Ask → Option Ask
 taken nodes relies_for clock at votes ask lease = if is_taken nodes relies_for clock at votes ask lease then Some ask else lease
@@ -63,9 +66,15 @@ above epoch (Some ask) = if leb ask.epoch epoch then None else Some ask
 abbrev pub after_act : ℕ → ℕ → (ℕ → ℕ) → Candidate → ℕ → ClientEvent → Candidate
 after_act nodes relies_for clock c at (asks ask) = record c { number = ask.number; asked = Some ask; votes = no_votes }
 after_act nodes relies_for clock c at (hears voter ask) = voted nodes relies_for clock at voter ask.number c c.asked
-after_act nodes relies_for clock c at (stops epoch) = record c { given_up = max c.given_up epoch; asked = above epoch c.asked; lease = above epoch c.lease }
+after_act nodes relies_for clock c at (stops epoch) = record c {
+  given_up = max c.given_up epoch;
+  asked = above epoch c.asked;
+  lease =
+      above epoch c.lease;
+}
 
--- what a client may do: a request has a number that none before it had, and an epoch that isn't given up; an answer is one of a voter, to a request of its own
+-- what a client may do: a request has a number that none before it had, and an epoch that isn't given up; an answer is one of a voter, to a
+-- request of its own
 abbrev pub MayAct : ℕ → Client → Candidate → ℕ → ClientEvent → Type 0
 MayAct nodes self c at (asks ask) = (ask.client ≡ self) × (ask.sent ≡ at) × (c.number < ask.number) × (c.given_up < ask.epoch)
 MayAct nodes self c at (hears voter ask) = (ask.client ≡ self) × (voter < nodes)
@@ -75,7 +84,8 @@ MayAct nodes self c at (stops epoch) = Unit {0}
 abbrev pub FollowsFrom : ℕ → ℕ → (ℕ → ℕ) → Client → ℕ → Candidate → List ClientMoment → Type 0
 FollowsFrom nodes relies_for clock self time c [] = Unit {0}
 FollowsFrom nodes relies_for clock self time c (m ∷ ms) =
-    (time ≤ m.at) × MayAct nodes self c m.at m.what × FollowsFrom nodes relies_for clock self m.at (after_act nodes relies_for clock c m.at m.what) ms
+    (time ≤ m.at) × MayAct nodes self c m.at m.what × FollowsFrom nodes relies_for clock self m.at
+    (after_act nodes relies_for clock c m.at m.what) ms
 
 -- what they leave
 abbrev pub left : ℕ → ℕ → (ℕ → ℕ) → Candidate → List ClientMoment → Candidate

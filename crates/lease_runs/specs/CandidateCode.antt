@@ -40,7 +40,8 @@ IsActed old new now what = (clock : ℕ → ℕ) (at : ℕ) (v : Candidate) → 
 
 -- it heard that the voter granted the request of this number
 abbrev pub IsHeard : LeaseCandidate → LeaseCandidate → ℕ → ℕ → ℕ → Type 0
-IsHeard old new now voter number = (ask : Ask) → ask.client ≡ client_of old.client → ask.number ≡ number → IsActed old new now (λ at. hears voter ask)
+IsHeard old new now voter number = (ask : Ask) → ask.client ≡ client_of old.client → ask.number ≡ number
+    → IsActed old new now (λ at. hears voter ask)
 
 -- what the code keeps as its lease
 abbrev pub lease_by_clock : LeaseCandidate → Option Ask
@@ -49,4 +50,5 @@ lease_by_clock c = option_map (by_clock (client_of c.client)) c.lease
 -- by this request, with these votes, the client relies from now on, as the model judges where the clock is the time
 abbrev pub takes : LeaseCandidate → ℕ → List Bool → Request → Bool
 takes c now votes request =
-    is_taken c.voters c.relies_for (λ t. t) now (λ voter. get_or votes voter false) (by_clock (client_of c.client) request) (lease_by_clock c)
+    is_taken c.voters c.relies_for (λ t. t) now (λ voter. get_or votes voter false) (by_clock (client_of c.client) request)
+    (lease_by_clock c)

@@ -3,7 +3,8 @@ use Rattle.std.specs.Prelude.{ℕ, ◌≡◌, ◌+◌, ◌*◌, ◌<◌, ◌≤�
 use Rattle.lease_runs.specs.Lists.{IsAmong, count}
 use Rattle.lease_runs.specs.Voter.{Client, Ask, Moment, grants, releases, opening, Follows}
 
--- What a client does: it sends this request to the voters; it hears that this voter granted this request, which the answer names; it stops relying on this epoch, and
+-- What a client does: it sends this request to the voters; it hears that this voter granted this request, which the answer names; it stops
+-- relying on this epoch, and
 -- on smaller ones, for good.
 pub data ClientEvent : Type 0 where
   asks : Ask → ClientEvent
@@ -63,14 +64,16 @@ pub record IsRun (run : Run) : Type 0 where
   -- each voter keeps the rules
   pub voters : (voter : ℕ) → voter < run.nodes → Follows run.keeps (run.clock voter) 0 (opening (run.clock voter)) (run.history voter)
   -- what a voter grants was asked before, when the request says
-  pub asked : (voter : ℕ) → voter < run.nodes → (at : ℕ) (ask : Ask) → Grants run voter at ask → (ask.sent ≤ at) × Does run ask.sent ask.client (asks ask)
+  pub asked : (voter : ℕ) → voter < run.nodes → (at : ℕ) (ask : Ask) → Grants run voter at ask
+      → (ask.sent ≤ at) × Does run ask.sent ask.client (asks ask)
   -- what a client hears that a voter granted, the voter granted before
   pub answered : (voter : ℕ) → voter < run.nodes → (time : ℕ) (client : Client) (ask : Ask) → Does run time client (hears voter ask) →
       (at : ℕ) × (at ≤ time) × Grants run voter at ask
 
 -- in any stretch of true time a clock moves by 31/32 of it at least, and by 33/32 of it at most, but for rounding
 abbrev pub KeepsRate : ℕ → (ℕ → ℕ) → Type 0
-KeepsRate grain clock = (s t : ℕ) → s ≤ t → (31 * t + 32 * clock s ≤ 32 * clock t + 31 * s + grain) × (32 * clock t + 33 * s ≤ 32 * clock s + 33 * t + grain)
+KeepsRate grain clock = (s t : ℕ) → s ≤ t → (31 * t + 32 * clock s ≤ 32 * clock t + 31 * s + grain)
+    × (32 * clock t + 33 * s ≤ 32 * clock s + 33 * t + grain)
 
 -- and what clocks are needed for
 pub record IsTimed (run : Run) : Type 0 where

@@ -29,7 +29,8 @@ bound_at c name = by_entry (entry_of name c.names.items) refl
     by_entry None is = refl
     by_entry (Some e) is = (of_found (IsEntry c.terms c.process c.claims c.began c.bound) name c.names.items e c.kept.entries is).allowed
 
-pub granted_last : (now epoch : ℕ) (client : ClientId) (old new : LeaseVoter) → ((number sent : ℕ) → IsStep old new now (grants (ask_of client number epoch sent)))
+pub granted_last : (now epoch : ℕ) (client : ClientId) (old new : LeaseVoter)
+    → ((number sent : ℕ) → IsStep old new now (grants (ask_of client number epoch sent)))
     → IsLastGrant new now (client_of client) epoch
 granted_last now epoch client old new step =
     let h = step 0 0 (λ boot at. at) 0 now refl in
@@ -40,23 +41,27 @@ granted_last now epoch client old new step =
     }
 
 -- what it may not grant stays so, since a refusal changes nothing
-pub refused_so : (now epoch : ℕ) (client : ClientId) (x y : LeaseMachine) (name : Name) → AllStay x y → (CanGrant (voter_at x name) now client epoch → ⊥) → epoch ≤ x.bound
+pub refused_so : (now epoch : ℕ) (client : ClientId) (x y : LeaseMachine) (name : Name) → AllStay x y
+    → (CanGrant (voter_at x name) now client epoch → ⊥) → epoch ≤ x.bound
     → IsGrantable (voter_at y name) now (client_of client) epoch → ⊥
 refused_so now epoch client x y name still never fits may =
     let it = subst (λ (v : LeaseVoter). IsGrantable v now (client_of client) epoch) (still name).0 may in
     never (it.0, subst (λ (b : ℕ). epoch ≤ b) (sym (bound_at x name)) fits, it.1)
 
 -- nor does one for want of room
-pub crowded_so : (now epoch : ℕ) (client : ClientId) (x y : LeaseMachine) (name : Name) → y ≡ x → HasNoRoom now name x → CanGrant (voter_at x name) now client epoch
+pub crowded_so : (now epoch : ℕ) (client : ClientId) (x y : LeaseMachine) (name : Name) → y ≡ x → HasNoRoom now name x
+    → CanGrant (voter_at x name) now client epoch
     → IsGrantable (voter_at y name) now (client_of client) epoch × HasNoRoom now name y
 crowded_so now epoch client x y name same none can =
-    subst (λ (m : LeaseMachine). IsGrantable (voter_at m name) now (client_of client) epoch × HasNoRoom now name m) (sym same) ((can.0, can.2), none)
+    subst (λ (m : LeaseMachine). IsGrantable (voter_at m name) now (client_of client) epoch × HasNoRoom now name m) (sym same)
+    ((can.0, can.2), none)
 
 pub still_same : (x y : LeaseMachine) → y ≡ x → AllStay x y
 still_same x y same = subst (λ (m : LeaseMachine). AllStay x m) (sym same) (λ name. (refl, refl))
 
 -- another reason than `Full`
-pub forbidden : {machine : Option LeaseMachine} {now : ℕ} {name : Name} {client : Client} {epoch : ℕ} (reason : Reason) → (reason ≡ Full → ⊥) → IsForbidden machine now name client epoch
+pub forbidden : {machine : Option LeaseMachine} {now : ℕ} {name : Name} {client : Client} {epoch : ℕ} (reason : Reason)
+    → (reason ≡ Full → ⊥) → IsForbidden machine now name client epoch
     → IsRefusedFor reason machine now name client epoch
 forbidden reason other never = record { full = λ is. absurd (other is); not_full = λ is. never }
 
@@ -66,13 +71,15 @@ the_id machine boot number = record { machine = machine; boot = boot; number = n
 same_id : (a b : ClientId) → client_of a ≡ client_of b → a ≡ b
 unfolding the_id
 same_id a b e = ap (λ (n : ℕ). the_id n a.boot a.number) (ap (λ (c : Client). c.machine) e)
-    ∙ (ap (λ (n : ℕ). the_id b.machine n a.number) (ap (λ (c : Client). c.boot) e) ∙ ap (λ (n : ℕ). the_id b.machine b.boot n) (ap (λ (c : Client). c.number) e))
+    ∙ (ap (λ (n : ℕ). the_id b.machine n a.number) (ap (λ (c : Client). c.boot) e)
+    ∙ ap (λ (n : ℕ). the_id b.machine b.boot n) (ap (λ (c : Client). c.number) e))
 
 some_client : (a b : Client) → Some a ≡ Some b → a ≡ b
 some_client a b e = cc
 
 -- while another client has the grant nothing is granted
-pub held_out : (now epoch : ℕ) (client : ClientId) (v : LeaseVoter) (holder : ClientId) → v.holder ≡ Some holder → (holder ≡ client → ⊥) → now < v.ends
+pub held_out : (now epoch : ℕ) (client : ClientId) (v : LeaseVoter) (holder : ClientId) → v.holder ≡ Some holder → (holder ≡ client → ⊥)
+    → now < v.ends
     → IsGrantable v now (client_of client) epoch → ⊥
 held_out now epoch client v holder has other lasts may = by_rule may.1
   where
@@ -93,14 +100,19 @@ held_out now epoch client v holder has other lasts may = by_rule may.1
 
 -- ---- what a message asks for
 
-pub right_granted : (now : ℕ) (a b : LeaseProcess) {it : Answer} {client : Client} (m : LeaseMessage) → it ≡ answer.Granted → client ≡ asker m.client → b.machine ≡ a.machine
+pub right_granted : (now : ℕ) (a b : LeaseProcess) {it : Answer} {client : Client} (m : LeaseMessage) → it ≡ answer.Granted
+    → client ≡ asker m.client → b.machine ≡ a.machine
     → IsRightVote it a.machine now m.name client m.epoch → IsGrantedBy b.machine now m.name (asker m.client) m.epoch
 right_granted now a b {client = client} m is same kept right =
     subst (λ (o : Option LeaseMachine). IsGrantedBy o now m.name (asker m.client) m.epoch) (sym kept)
-    (subst (λ (k : Client). IsGrantedBy a.machine now m.name k m.epoch) same (subst (λ (x : Answer). IsRightVote x a.machine now m.name client m.epoch) is right))
+    (subst (λ (k : Client). IsGrantedBy a.machine now m.name k m.epoch) same
+    (subst (λ (x : Answer). IsRightVote x a.machine now m.name client m.epoch) is right))
 
-pub right_refused : (now : ℕ) (a b : LeaseProcess) {lasts : ℕ} {it : Answer} {client : Client} {reason : Reason} (m : LeaseMessage) → it ≡ answer.Refused reason lasts
-    → client ≡ asker m.client → b.machine ≡ a.machine → IsRightVote it a.machine now m.name client m.epoch → IsRefusedFor reason b.machine now m.name (asker m.client) m.epoch
+pub right_refused : (now : ℕ) (a b : LeaseProcess) {lasts : ℕ} {it : Answer} {client : Client} {reason : Reason} (m : LeaseMessage)
+    → it ≡ answer.Refused reason lasts
+    → client ≡ asker m.client → b.machine ≡ a.machine → IsRightVote it a.machine now m.name client m.epoch
+    → IsRefusedFor reason b.machine now m.name (asker m.client) m.epoch
 right_refused now a b {client = client} {reason = reason} m is same kept right =
     subst (λ (o : Option LeaseMachine). IsRefusedFor reason o now m.name (asker m.client) m.epoch) (sym kept)
-    (subst (λ (k : Client). IsRefusedFor reason a.machine now m.name k m.epoch) same (subst (λ (x : Answer). IsRightVote x a.machine now m.name client m.epoch) is right))
+    (subst (λ (k : Client). IsRefusedFor reason a.machine now m.name k m.epoch) same
+    (subst (λ (x : Answer). IsRightVote x a.machine now m.name client m.epoch) is right))

@@ -1,5 +1,6 @@
 -- The leases that clients of a machine keep, behind its calls.
-use Rattle.std.proofs.Common.{◌≡◌, ◌≢◌, ◌⊎◌, ℕ, ◌+◌, ◌<◌, ◌≤◌, Bool, true, false, List, [], ◌∷◌, ◌++◌, Option, Some, None, refl, sym, ◌∙◌, ap, subst, inl, inr, arith}
+use Rattle.std.proofs.Common.{◌≡◌, ◌≢◌, ◌⊎◌, ℕ, ◌+◌, ◌<◌, ◌≤◌, Bool, true, false, List, [], ◌∷◌, ◌++◌, Option, Some, None, refl, sym, ◌∙◌}
+use Rattle.std.proofs.Common.{ap, subst, inl, inr, arith}
 use Rattle.std.specs.Prelude.{◌==◌, ◌&&◌, not, get_or, if◌then◌else◌, leb, ltb, nat_eq, option_map}
 use Rattle.std.specs.Str.{bytes_eq}
 use Rattle.std.specs.Cmp.Lexicographic.{pointwise}
@@ -8,7 +9,8 @@ use Rattle.lease_runs.specs.declared.client_id.ClientId.{ClientId}
 use Rattle.lease_runs.specs.declared.candidate.LeaseCandidate.{LeaseCandidate}
 use Rattle.lease_runs.specs.declared.candidate.Request.{Request}
 use Rattle.lease_runs.specs.Voter.{Ask, Client}
-use Rattle.lease_runs.specs.Candidate.{Candidate, above, after_act, beginning, is_in_time, is_most, is_taken, is_too_late, taken, voted, with_vote}
+use Rattle.lease_runs.specs.Candidate.{Candidate, above, after_act, beginning, is_in_time, is_most, is_taken, is_too_late, taken, voted}
+use Rattle.lease_runs.specs.Candidate.{with_vote}
 use Rattle.lease_runs.specs.CandidateCode.{IsActed, IsSent, Shows, by_clock, shown}
 use Rattle.lease_runs.specs.Code.{ask_of, client_of}
 use Rattle.lease_runs.specs.Run.{ClientEvent, asks, hears, stops}
@@ -33,7 +35,8 @@ pub record Keeps (x : LeaseMachine) (name : Name) (user relies_for : ℕ) (r : R
 
 -- each lease of the name was one before
 abbrev pub KeptOf : LeaseMachine → LeaseMachine → Name → Type 0
-KeptOf x y name = (d : Claim) (r : Request) → claim_at y name ≡ Some d → d.candidate.lease ≡ Some r → Keeps x name d.user d.candidate.relies_for r
+KeptOf x y name = (d : Claim) (r : Request) → claim_at y name ≡ Some d → d.candidate.lease ≡ Some r
+    → Keeps x name d.user d.candidate.relies_for r
 
 -- so it is of each name
 abbrev pub LeasesKept : LeaseMachine → LeaseMachine → Type 0
@@ -49,7 +52,8 @@ same_name name other = test (bytes_eq name other) refl
 abbrev pub the_news : ℕ → ℕ → Name → ℕ → ℕ → Told
 the_news user relies_for name epoch sent = record { name = name; user = user; epoch = epoch; until = sent + relies_for }
 
-pub keeps_news : {x : LeaseMachine} {user relies_for : ℕ} {r : Request} (name : Name) (ts : List Told) → Keeps x name user relies_for r → IsHolderTold name x ts
+pub keeps_news : {x : LeaseMachine} {user relies_for : ℕ} {r : Request} (name : Name) (ts : List Told) → Keeps x name user relies_for r
+    → IsHolderTold name x ts
     → last_told name ts ≡ Some (the_news user relies_for name r.epoch r.sent)
 keeps_news {user = user} {r = r} name ts k told =
     told k.claim r k.is k.lease
@@ -109,7 +113,8 @@ the_request number epoch sent = record { number = number; epoch = epoch; sent = 
 same_request : (a b : Request) (j k : Client) → by_clock j a ≡ by_clock k b → a ≡ b
 unfolding the_request
 same_request a b j k e = ap (λ (n : ℕ). the_request n a.epoch a.sent) (ap (λ (x : Ask). x.number) e)
-    ∙ (ap (λ (n : ℕ). the_request b.number n a.sent) (ap (λ (x : Ask). x.epoch) e) ∙ ap (λ (n : ℕ). the_request b.number b.epoch n) (ap (λ (x : Ask). x.sent) e))
+    ∙ (ap (λ (n : ℕ). the_request b.number n a.sent) (ap (λ (x : Ask). x.epoch) e)
+    ∙ ap (λ (n : ℕ). the_request b.number b.epoch n) (ap (λ (x : Ask). x.sent) e))
 
 some_ask : (a b : Ask) → Some a ≡ Some b → a ≡ b
 some_ask a b e = cc
@@ -118,16 +123,19 @@ some_request : (a b : Request) → Some a ≡ Some b → a ≡ b
 some_request a b e = cc
 
 -- the request that the model keeps is the one that the code does
-was_request : (j k : Client) (o : Option Request) (r : Request) → option_map (shown (λ t. t)) (option_map (by_clock j) o) ≡ Some (by_clock k r) → o ≡ Some r
+was_request : (j k : Client) (o : Option Request) (r : Request)
+    → option_map (shown (λ t. t)) (option_map (by_clock j) o) ≡ Some (by_clock k r) → o ≡ Some r
 was_request j k None r e = absurd cc
 was_request j k (Some q) r e = ap (λ (p : Request). Some p) (same_request q r j k (some_ask (by_clock j q) (by_clock k r) e))
 
 -- a client that asks keeps its lease
-pub asks_kept : {now epoch number : ℕ} (c d : LeaseCandidate) (r : Request) → IsActed c d now (λ at. asks (ask_of c.client number epoch at)) → d.lease ≡ Some r → c.lease ≡ Some r
+pub asks_kept : {now epoch number : ℕ} (c d : LeaseCandidate) (r : Request) → IsActed c d now (λ at. asks (ask_of c.client number epoch at))
+    → d.lease ≡ Some r → c.lease ≡ Some r
 unfolding model
 asks_kept {now = now} c d r acted is =
     was_request (client_of c.client) (client_of d.client) c.lease r
-    ((acted (λ t. t) now (model c) refl (shows_model c)).1.lease ∙ ap (λ (o : Option Request). option_map (by_clock (client_of d.client)) o) is)
+    ((acted (λ t. t) now (model c) refl (shows_model c)).1.lease
+    ∙ ap (λ (o : Option Request). option_map (by_clock (client_of d.client)) o) is)
 
 above_was : (epoch : ℕ) (o : Option Ask) (a : Ask) → option_map (shown (λ t. t)) (above epoch o) ≡ Some a → (o ≡ Some a) × (epoch < a.epoch)
 above_was epoch None a e = absurd cc
@@ -136,20 +144,24 @@ above_was epoch (Some q) a e = by_test (leb q.epoch epoch) refl e
     less : leb q.epoch epoch ≡ false → epoch < q.epoch
     less is = grind (arith, is)
 
-    by_test : (b : Bool) → leb q.epoch epoch ≡ b → option_map (shown (λ t. t)) (if b then None else Some q) ≡ Some a → (Some q ≡ Some a) × (epoch < a.epoch)
+    by_test : (b : Bool) → leb q.epoch epoch ≡ b → option_map (shown (λ t. t)) (if b then None else Some q) ≡ Some a
+        → (Some q ≡ Some a) × (epoch < a.epoch)
     by_test true is e = absurd cc
     by_test false is e = (e, subst (λ (k : Ask). epoch < k.epoch) (some_ask q a e) (less is))
 
 -- one that gives up keeps a greater one
-pub stops_kept : {now epoch : ℕ} (c d : LeaseCandidate) (r : Request) → IsActed c d now (λ at. stops epoch) → d.lease ≡ Some r → (c.lease ≡ Some r) × (epoch < r.epoch)
+pub stops_kept : {now epoch : ℕ} (c d : LeaseCandidate) (r : Request) → IsActed c d now (λ at. stops epoch) → d.lease ≡ Some r
+    → (c.lease ≡ Some r) × (epoch < r.epoch)
 unfolding model
 stops_kept {now = now} {epoch = epoch} c d r acted is =
     let was = above_was epoch (option_map (by_clock (client_of c.client)) c.lease) (by_clock (client_of d.client) r)
-    ((acted (λ t. t) now (model c) refl (shows_model c)).1.lease ∙ ap (λ (o : Option Request). option_map (by_clock (client_of d.client)) o) is) in
+    ((acted (λ t. t) now (model c) refl (shows_model c)).1.lease
+    ∙ ap (λ (o : Option Request). option_map (by_clock (client_of d.client)) o) is) in
     (was_request (client_of c.client) (client_of d.client) c.lease r (ap (λ (o : Option Ask). option_map (shown (λ t. t)) o) was.0), was.1)
 
 -- with one vote more it keeps what it did, or a request in time
-lease_voted : (nodes relies_for : ℕ) (clock : ℕ → ℕ) (at voter number : ℕ) (v : Candidate) (o : Option Ask) → ((voted nodes relies_for clock at voter number v o).lease ≡ v.lease)
+lease_voted : (nodes relies_for : ℕ) (clock : ℕ → ℕ) (at voter number : ℕ) (v : Candidate) (o : Option Ask)
+    → ((voted nodes relies_for clock at voter number v o).lease ≡ v.lease)
     ⊎ ((a : Ask) × ((voted nodes relies_for clock at voter number v o).lease ≡ Some a) × (is_in_time relies_for clock at a ≡ true))
 lease_voted nodes relies_for clock at voter number v None = inl refl
 lease_voted nodes relies_for clock at voter number v (Some a) = by_number (a.number == number) refl
@@ -164,12 +176,18 @@ lease_voted nodes relies_for clock at voter number v (Some a) = by_number (a.num
 
     by_taken : (b : Bool) → is_taken nodes relies_for clock at votes a v.lease ≡ b → ((if b then Some a else v.lease) ≡ v.lease)
         ⊎ ((q : Ask) × ((if b then Some a else v.lease) ≡ Some q) × (is_in_time relies_for clock at q ≡ true))
-    by_taken true is = inr (a, refl, by_parts (is_most nodes votes) (is_in_time relies_for clock at a) (is_too_late relies_for clock at a v.lease) is)
+    by_taken true is = inr (
+      a,
+      refl,
+      by_parts (is_most nodes votes) (is_in_time relies_for clock at a)
+          (is_too_late relies_for clock at a v.lease) is,
+    )
     by_taken false is = inl refl
 
     by_number : (b : Bool) → (a.number == number) ≡ b
         → ((if b then record v { votes = votes; lease = taken nodes relies_for clock at votes a v.lease } else v).lease ≡ v.lease)
-        ⊎ ((q : Ask) × ((if b then record v { votes = votes; lease = taken nodes relies_for clock at votes a v.lease } else v).lease ≡ Some q) × (is_in_time relies_for clock at q ≡ true))
+        ⊎ ((q : Ask) × ((if b then record v { votes = votes; lease = taken nodes relies_for clock at votes a v.lease } else v).lease
+        ≡ Some q) × (is_in_time relies_for clock at q ≡ true))
     by_number true is = by_taken (is_taken nodes relies_for clock at votes a v.lease) refl
     by_number false is = inl refl
 
@@ -177,13 +195,15 @@ lease_voted nodes relies_for clock at voter number v (Some a) = by_number (a.num
 pub hears_kept : {now voter : ℕ} (a : Ask) (c d : LeaseCandidate) (r : Request) → IsActed c d now (λ at. hears voter a) → d.lease ≡ Some r
     → (c.lease ≡ Some r) ⊎ (now < r.sent + c.relies_for)
 unfolding model
-hears_kept {now = now} {voter = voter} a c d r acted is = by_voted (lease_voted c.voters c.relies_for (λ t. t) now voter a.number (model c) (model c).asked)
+hears_kept {now = now} {voter = voter} a c d r acted is =
+    by_voted (lease_voted c.voters c.relies_for (λ t. t) now voter a.number (model c) (model c).asked)
   where
     after : Candidate
     after = voted c.voters c.relies_for (λ t. t) now voter a.number (model c) (model c).asked
 
     shows : option_map (shown (λ t. t)) after.lease ≡ Some (by_clock (client_of d.client) r)
-    shows = (acted (λ t. t) now (model c) refl (shows_model c)).1.lease ∙ ap (λ (o : Option Request). option_map (by_clock (client_of d.client)) o) is
+    shows = (acted (λ t. t) now (model c) refl (shows_model c)).1.lease
+        ∙ ap (λ (o : Option Request). option_map (by_clock (client_of d.client)) o) is
 
     in_time : (q : Ask) → is_in_time c.relies_for (λ t. t) now q ≡ true → q.sent ≡ r.sent → now < r.sent + c.relies_for
     in_time q less same = grind (arith, less, same)
@@ -191,7 +211,8 @@ hears_kept {now = now} {voter = voter} a c d r acted is = by_voted (lease_voted 
     by_voted : (after.lease ≡ (model c).lease) ⊎ ((q : Ask) × (after.lease ≡ Some q) × (is_in_time c.relies_for (λ t. t) now q ≡ true))
         → (c.lease ≡ Some r) ⊎ (now < r.sent + c.relies_for)
     by_voted (inl same) =
-        inl (was_request (client_of c.client) (client_of d.client) c.lease r (ap (λ (o : Option Ask). option_map (shown (λ t. t)) o) (sym same) ∙ shows))
+        inl (was_request (client_of c.client) (client_of d.client) c.lease r
+        (ap (λ (o : Option Ask). option_map (shown (λ t. t)) o) (sym same) ∙ shows))
     by_voted (inr (q, took, less)) =
         inr (in_time q less (ap (λ (k : Ask). k.sent) (some_ask (shown (λ t. t) q) (by_clock (client_of d.client) r)
         (ap (λ (o : Option Ask). option_map (shown (λ t. t)) o) (sym took) ∙ shows))))
@@ -201,7 +222,8 @@ hears_kept {now = now} {voter = voter} a c d r acted is = by_voted (lease_voted 
 the_claim : (a b : Claim) → Some a ≡ Some b → a ≡ b
 the_claim a b e = cc
 
-pub kept_asking : (x y : LeaseMachine) {now epoch number : ℕ} (name : Name) → Acts (claim_at x name) (claim_at y name) now (λ client at. asks (ask_of client number epoch at))
+pub kept_asking : (x y : LeaseMachine) {now epoch number : ℕ} (name : Name)
+    → Acts (claim_at x name) (claim_at y name) now (λ client at. asks (ask_of client number epoch at))
     → KeptOf x y name
 kept_asking x y name a d r is lease = of_it (the_claim a.d d (sym a.is ∙ is))
   where
@@ -214,8 +236,10 @@ kept_asking x y name a d r is lease = of_it (the_claim a.d d (sym a.is ∙ is))
       lease = asks_kept a.c.candidate a.d.candidate r a.acted (ap (λ (k : Claim). k.candidate.lease) e ∙ lease);
     })
 
-pub kept_stopping : (x y : LeaseMachine) {now epoch : ℕ} (name : Name) → Acts (claim_at x name) (claim_at y name) now (λ client at. stops epoch)
-    → (d : Claim) (r : Request) → claim_at y name ≡ Some d → d.candidate.lease ≡ Some r → Keeps x name d.user d.candidate.relies_for r × (epoch < r.epoch)
+pub kept_stopping : (x y : LeaseMachine) {now epoch : ℕ} (name : Name)
+    → Acts (claim_at x name) (claim_at y name) now (λ client at. stops epoch)
+    → (d : Claim) (r : Request) → claim_at y name ≡ Some d → d.candidate.lease ≡ Some r
+    → Keeps x name d.user d.candidate.relies_for r × (epoch < r.epoch)
 kept_stopping x y {epoch = epoch} name a d r is lease = of_it (the_claim a.d d (sym a.is ∙ is))
   where
     of_it : a.d ≡ d → Keeps x name d.user d.candidate.relies_for r × (epoch < r.epoch)
@@ -231,8 +255,10 @@ kept_stopping x y {epoch = epoch} name a d r is lease = of_it (the_claim a.d d (
           was.1,
         )
 
-pub kept_hearing : (x y : LeaseMachine) {client : ClientId} {now voter number : ℕ} (name : Name) → Hears (claim_at x name) (claim_at y name) client now voter number
-    → (d : Claim) (r : Request) → claim_at y name ≡ Some d → d.candidate.lease ≡ Some r → Keeps x name d.user d.candidate.relies_for r ⊎ (now < r.sent + d.candidate.relies_for)
+pub kept_hearing : (x y : LeaseMachine) {client : ClientId} {now voter number : ℕ} (name : Name)
+    → Hears (claim_at x name) (claim_at y name) client now voter number
+    → (d : Claim) (r : Request) → claim_at y name ≡ Some d → d.candidate.lease ≡ Some r
+    → Keeps x name d.user d.candidate.relies_for r ⊎ (now < r.sent + d.candidate.relies_for)
 kept_hearing x y {now = now} {number = number} name a d r is lease = of_it (the_claim a.d d (sym a.is ∙ is))
   where
     q : Ask
@@ -246,11 +272,14 @@ kept_hearing x y {now = now} {number = number} name a d r is lease = of_it (the_
         ])
 
 -- who begins to ask keeps none
-pub kept_begun : (x y : LeaseMachine) {process number user : ℕ} (name : Name) → IsBegun x.terms process number user (claim_at y name) → KeptOf x y name
-kept_begun x y name b d r is lease = absurd (none_sent d r lease (subst (λ (k : Claim). Shows (λ t. t) k.candidate beginning) (the_claim b.c d (sym b.is ∙ is)) (b.new.begins (λ t. t))))
+pub kept_begun : (x y : LeaseMachine) {process number user : ℕ} (name : Name) → IsBegun x.terms process number user (claim_at y name)
+    → KeptOf x y name
+kept_begun x y name b d r is lease = absurd (none_sent d r lease
+    (subst (λ (k : Claim). Shows (λ t. t) k.candidate beginning) (the_claim b.c d (sym b.is ∙ is)) (b.new.begins (λ t. t))))
   where
     none_sent : (d : Claim) (r : Request) → d.candidate.lease ≡ Some r → Shows (λ t. t) d.candidate beginning → ⊥
-    none_sent d r lease s = absurd (let bad = s.lease ∙ ap (λ (o : Option Request). option_map (by_clock (client_of d.candidate.client)) o) lease in cc)
+    none_sent d r lease s = absurd (let bad = s.lease ∙ ap (λ (o : Option Request). option_map (by_clock (client_of d.candidate.client)) o)
+        lease in cc)
 
 pub kept_nobody : (x y : LeaseMachine) (name : Name) → claim_at y name ≡ None → KeptOf x y name
 kept_nobody x y name none d r is lease = absurd (let bad : None ≡ Some d = sym none ∙ is in cc)

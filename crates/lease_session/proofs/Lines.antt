@@ -1,5 +1,6 @@
 -- Answers to lines, as steps over a network.
-use Rattle.std.proofs.Common.{◌≡◌, ℕ, ◌≤◌, Bool, true, false, List, [], ◌∷◌, ◌++◌, Option, Some, None, refl, sym, ◌∙◌, ap, subst, append_assoc, arith}
+use Rattle.std.proofs.Common.{◌≡◌, ℕ, ◌≤◌, Bool, true, false, List, [], ◌∷◌, ◌++◌, Option, Some, None, refl, sym, ◌∙◌, ap, subst}
+use Rattle.std.proofs.Common.{append_assoc, arith}
 use Rattle.std.specs.Prelude.{◌&&◌, ◌^◌, leb, ltb}
 use Rattle.std.proofs.lemmas.List.{append-nil}
 use Rattle.line_words.specs.Lines.{bytes_of}
@@ -15,7 +16,8 @@ use Rattle.lease_session.specs.declared.refusing.Halt.TheVariants.{Device, NoMem
 use Rattle.lease_session.specs.declared.refusing.Refusal.{Refusal as Refused}
 use Rattle.lease_session.specs.declared.refusing.Refusal.TheVariants as why
 use Rattle.lease_session.specs.Feeding.{AnswersBy, At, IsReserved}
-use Rattle.lease_session.specs.Lines.{Comes, ComesBy, ComesOf, DeliversBy, DeliversIt, IsEnded, IsHalted, Refuses, brought_by, goes_on, last_row}
+use Rattle.lease_session.specs.Lines.{Comes, ComesBy, ComesOf, DeliversBy, DeliversIt, IsEnded, IsHalted, Refuses, brought_by, goes_on}
+use Rattle.lease_session.specs.Lines.{last_row}
 use Rattle.lease_session.specs.Opening.{BringsBy}
 use Rattle.lease_session.specs.Reading.{Meaning, Bad, Tick, Deliver, Acquire, Release, meaning_of}
 use Rattle.lease_session.specs.Rows.{refused, row_text}
@@ -39,7 +41,8 @@ still_ended b c e = record {
   told = ap (λ (p : LeaseProcess). p.told) e.same;
 }
 
-tells_last : (stops : Bool) (due : Option ℕ) (terms : Terms) (w : Who) (at : ℕ) (m : Machine) (sent : List Message) → Tells terms w at m sent (last_row stops due)
+tells_last : (stops : Bool) (due : Option ℕ) (terms : Terms) (w : Who) (at : ℕ) (m : Machine) (sent : List Message)
+    → Tells terms w at m sent (last_row stops due)
 tells_last true due terms w at m sent = tt
 tells_last false due terms w at m sent = tt
 
@@ -55,9 +58,13 @@ not_out : (stops : Bool) (halt : Option Halt) → IsHalted stops halt → halt �
 not_out true halt is out = absurd (let bad : Some Device ≡ Some NoMemory = sym is ∙ out in cc)
 not_out false halt is out = absurd (let bad : None ≡ Some NoMemory = sym is ∙ out in cc)
 
-pub ended_turn : {brought : List Message} {now : ℕ} {due : Option ℕ} {stops : Bool} (a b c : LeaseProcess) → Turn [] brought now a b → IsEnded due stops b c → Turn [] brought now a c
+pub ended_turn : {brought : List Message} {now : ℕ} {due : Option ℕ} {stops : Bool} (a b c : LeaseProcess) → Turn [] brought now a b
+    → IsEnded due stops b c → Turn [] brought now a c
 ended_turn {due = due} {stops = stops} a b c t e =
-    then t (written (last_row stops due) (quiet_of (still_ended b c e)) (λ out. halt_ended b c e ∙ out) (λ none. sym (halt_ended b c e) ∙ none) e.text (ap (λ t. t.items) (still_ended b c e).told ∙ sym (told_last stops due b.told.items)) (told_last stops due b.told.items) (λ terms at m clock is. tells_last stops due terms (who b) at m []))
+    then t (written (last_row stops due) (quiet_of (still_ended b c e)) (λ out. halt_ended b c e ∙ out) (λ none. sym (halt_ended b c e)
+    ∙ none) e.text (ap (λ t. t.items) (still_ended b c e).told
+    ∙ sym (told_last stops due b.told.items)) (told_last stops due b.told.items) (λ terms at m clock is.
+    tells_last stops due terms (who b) at m []))
 
 sound_by : (stops : Bool) (b c : LeaseProcess) → IsHalted stops b.halt → c.halt ≡ b.halt → stops ≡ false → c.halt ≡ None
 sound_by true b c is same off = absurd cc
@@ -65,7 +72,8 @@ sound_by false b c is same off = same ∙ is
 
 -- ---- time that passes
 
-at_later : StandsOn → (terms : Terms) (told now : ℕ) (p : LeaseProcess) (m : Machine) → told ≤ now → IsAt terms told p m → IsAt terms now p m
+at_later : StandsOn → (terms : Terms) (told now : ℕ) (p : LeaseProcess) (m : Machine) → told ≤ now → IsAt terms told p m
+    → IsAt terms now p m
 at_later later terms told now p m less is = by_machine p.machine is
   where
     by_machine : (o : Option LeaseMachine) → Stood p.terms p.start o terms told m → Stood p.terms p.start o terms now m
@@ -99,9 +107,11 @@ Given line old meaning = (terms : Terms) (at : ℕ) (past : List Step) → MayCo
 
 abbrev WasBrought : List ℕ → At → ℕ → List Message → Type 0
 WasBrought line old now brought = (terms : Terms) (at : ℕ) (past : List Step) → MayCome terms at past line old
-    → (terms.clock old.process.terms.machine old.process.start.process at ≡ now) × ((message : Message) → IsAmong message brought → WasSentIn past message)
+    → (terms.clock old.process.terms.machine old.process.start.process at ≡ now)
+    × ((message : Message) → IsAmong message brought → WasSentIn past message)
 
-turned : {due : Option ℕ} (later : StandsOn) (now : ℕ) (brought : List Message) (line : List ℕ) (old new : At) (behind : LeaseProcess) → IsKept old new → old.told ≤ now → WasBrought line old now brought
+turned : {due : Option ℕ} (later : StandsOn) (now : ℕ) (brought : List Message) (line : List ℕ) (old new : At) (behind : LeaseProcess)
+    → IsKept old new → old.told ≤ now → WasBrought line old now brought
     → Turn [] brought now old.process behind → new.told ≡ now → IsEnded due new.stopped behind new.process → Marked line old new
 turned later now brought line old new behind within less given t then_now e =
     let whole = ended_turn old.process behind new.process t e in (
@@ -121,12 +131,16 @@ turned later now brought line old new behind within less given t then_now e =
         goes = λ terms at past m.
             let g = given terms at past m in
             let added = turn_goes_on terms at now past brought old.process new.process whole g.0 m.are m.last m.runs g.1
-            (at_later later terms old.told now old.process (machines terms past old.process.terms.machine) less m.stands) in
-            (added.0, subst (λ (time : ℕ). IsAt terms time new.process (machines terms (steps_with at past whole.marks) old.process.terms.machine)) (sym then_now) added.1);
+            (at_later later terms old.told now old.process (machines terms past old.process.terms.machine) less m.stands) in (
+              added.0,
+              subst (λ (time : ℕ). IsAt terms time new.process
+                  (machines terms (steps_with at past whole.marks) old.process.terms.machine)) (sym then_now) added.1,
+            );
       },
     )
 
-refuses : {due : Option ℕ} (reason : Refused) (line : List ℕ) (old new : At) (behind : LeaseProcess) → IsKept old new → old.process.halt ≡ None
+refuses : {due : Option ℕ} (reason : Refused) (line : List ℕ) (old new : At) (behind : LeaseProcess) → IsKept old new
+    → old.process.halt ≡ None
     → Refuses reason old.told new.told old.process behind → IsEnded due new.stopped behind new.process → Marked line old new
 refuses {due = due} reason line old new behind within going r e =
     let rows : List Mark = wrote (refused reason) ∷ wrote (last_row new.stopped due) ∷ [] in
@@ -136,7 +150,8 @@ refuses {due = due} reason line old new behind within going r e =
       record {
         text = e.text ∙ (ap (λ (t : List ℕ). t ++ row_text (last_row new.stopped due)) says.1
             ∙ (append_assoc old.process.text.items (row_text (refused reason)) (row_text (last_row new.stopped due))
-            ∙ ap (λ (t : List ℕ). old.process.text.items ++ (row_text (refused reason) ++ t)) (sym (append-nil (row_text (last_row new.stopped due))))));
+            ∙ ap (λ (t : List ℕ). old.process.text.items ++ (row_text (refused reason) ++ t))
+            (sym (append-nil (row_text (last_row new.stopped due))))));
         terms = last.terms ∙ r.0.terms;
         start = last.start ∙ r.0.start;
         key = last.key ∙ r.0.key;
@@ -145,7 +160,8 @@ refuses {due = due} reason line old new behind within going r e =
         sound = record {
           goes_on = λ off. sound_by new.stopped behind new.process e.halted (halt_ended behind new.process e) off;
           reserved = within.0;
-          holders = λ none. holders_still behind new.process last.machine (ap (λ t. t.items) last.told) (holders_still old.process behind r.0.machine (ap (λ t. t.items) r.0.told) within.1);
+          holders = λ none. holders_still behind new.process last.machine (ap (λ t. t.items) last.told)
+              (holders_still old.process behind r.0.machine (ap (λ t. t.items) r.0.told) within.1);
         };
         goes = λ terms at past m.
             let here = machines terms past old.process.terms.machine in (
@@ -157,7 +173,8 @@ refuses {due = due} reason line old new behind within going r e =
       },
     )
 
-timed : {due : Option ℕ} (later : StandsOn) (now : ℕ) (line : List ℕ) (old new : At) (behind : LeaseProcess) → IsKept old new → old.process.halt ≡ None → WasBrought line old now []
+timed : {due : Option ℕ} (later : StandsOn) (now : ℕ) (line : List ℕ) (old new : At) (behind : LeaseProcess) → IsKept old new
+    → old.process.halt ≡ None → WasBrought line old now []
     → Comes now [] old.told new.told old.process behind → IsEnded due new.stopped behind new.process → Marked line old new
 timed later now line old new behind within going given came e = by_time (goes_on old.told now) refl came
   where
@@ -166,7 +183,8 @@ timed later now line old new behind within going given came e = by_time (goes_on
     by_time false off c = refuses why.Time line old new behind within going c e
 
 -- the message that came was sent, if one came
-was_brought : (past : List Step) (p : LeaseProcess) (now : ℕ) (word : List ℕ) (it : Came) → IsDelivered past p (Deliver now word) → BringsBy p.seal (bytes_of word) (Some it)
+was_brought : (past : List Step) (p : LeaseProcess) (now : ℕ) (word : List ℕ) (it : Came) → IsDelivered past p (Deliver now word)
+    → BringsBy p.seal (bytes_of word) (Some it)
     → (x : Message) → IsAmong x (brought_by it) → WasSentIn past x
 was_brought past p now word came.Nothing had brings x i = absurd i
 was_brought past p now word (came.Message message) had brings x i = had message brings x i
@@ -174,29 +192,40 @@ was_brought past p now word (came.Unsealed why) had brings x i = absurd i
 was_brought past p now word (came.Acquire name user) had brings x i = absurd i
 was_brought past p now word (came.Release name user) had brings x i = absurd i
 
-delivered : {due : Option ℕ} (later : StandsOn) (now : ℕ) (word line : List ℕ) (old new : At) (behind : LeaseProcess) → IsKept old new → old.process.halt ≡ None → Given line old (Deliver now word)
+delivered : {due : Option ℕ} (later : StandsOn) (now : ℕ) (word line : List ℕ) (old new : At) (behind : LeaseProcess) → IsKept old new
+    → old.process.halt ≡ None → Given line old (Deliver now word)
     → ComesOf (Deliver now word) old.told new.told old.process behind → IsEnded due new.stopped behind new.process → Marked line old new
 delivered later now word line old new behind within going given came e = by_time (goes_on old.told now) refl came
   where
-    by_brought : (it : Option Came) → old.told ≤ now → BringsBy old.process.seal (bytes_of word) it → DeliversIt it now old.told new.told old.process behind → Marked line old new
+    by_brought : (it : Option Came) → old.told ≤ now → BringsBy old.process.seal (bytes_of word) it
+        → DeliversIt it now old.told new.told old.process behind → Marked line old new
     by_brought None less brings c = refuses why.Bad line old new behind within going c e
     by_brought (Some it) less brings c =
-        turned later now (brought_by it) line old new behind within less (λ terms at past m. (let g = given terms at past m in (g.0, was_brought past old.process now word it g.1 brings))) c.0 c.1 e
+        turned later now (brought_by it) line old new behind within less (λ terms at past m. (let g = given terms at past m in
+        (g.0, was_brought past old.process now word it g.1 brings))) c.0 c.1 e
 
     by_time : (b : Bool) → goes_on old.told now ≡ b → DeliversBy b now word old.told new.told old.process behind → Marked line old new
-    by_time true on c = let d = c (λ out. not_out new.stopped behind.halt e.halted out) in by_brought d.0 (told_before old.told now on) d.1 d.2
+    by_time true on c = let d = c (λ out. not_out new.stopped behind.halt e.halted out) in
+        by_brought d.0 (told_before old.told now on) d.1 d.2
     by_time false off c = refuses why.Time line old new behind within going c e
 
 -- a line that brings nothing
-brings_none : (line : List ℕ) (old : At) (now : ℕ) (meaning : Meaning) → ((time : ℕ) → TellsTime time meaning → time ≡ now) → Given line old meaning → WasBrought line old now []
+brings_none : (line : List ℕ) (old : At) (now : ℕ) (meaning : Meaning) → ((time : ℕ) → TellsTime time meaning → time ≡ now)
+    → Given line old meaning → WasBrought line old now []
 brings_none line old now meaning tells given =
-    λ terms at past m. (tells (terms.clock old.process.terms.machine old.process.start.process at) (given terms at past m).0, λ message i. absurd i)
+    λ terms at past m. (
+      tells (terms.clock old.process.terms.machine old.process.start.process at) (given terms at past m).0,
+      λ message i. absurd i,
+    )
 
-by_meaning : {due : Option ℕ} (later : StandsOn) (line : List ℕ) (old new : At) (behind : LeaseProcess) (meaning : Meaning) → IsKept old new → old.process.halt ≡ None → Given line old meaning
+by_meaning : {due : Option ℕ} (later : StandsOn) (line : List ℕ) (old new : At) (behind : LeaseProcess) (meaning : Meaning) → IsKept old new
+    → old.process.halt ≡ None → Given line old meaning
     → ComesOf meaning old.told new.told old.process behind → IsEnded due new.stopped behind new.process → Marked line old new
 by_meaning later line old new behind Bad within going given came e = refuses why.Bad line old new behind within going came e
-by_meaning later line old new behind (Tick now) within going given came e = timed later now line old new behind within going (brings_none line old now (Tick now) (λ time t. t) given) came e
-by_meaning later line old new behind (Deliver now word) within going given came e = delivered later now word line old new behind within going given came e
+by_meaning later line old new behind (Tick now) within going given came e =
+    timed later now line old new behind within going (brings_none line old now (Tick now) (λ time t. t) given) came e
+by_meaning later line old new behind (Deliver now word) within going given came e =
+    delivered later now word line old new behind within going given came e
 by_meaning later line old new behind (Acquire now name user) within going given came e =
     timed later now line old new behind within going (brings_none line old now (Acquire now name user) (λ time t. t) given) came.0 e
 by_meaning later line old new behind (Release now name user) within going given came e =
@@ -214,14 +243,19 @@ silent line old new same sound = subst (λ (b : At). Marked line old b) (sym sam
     told = refl;
     careful = tt;
     sound = sound;
-    goes = λ terms at past m. (go terms (who old.process) at past [] [] [] m.are m.last m.runs (λ x i. absurd i) (λ x i. absurd i) tt, m.stands);
+    goes = λ terms at past m. (
+      go terms (who old.process) at past [] [] [] m.are m.last m.runs (λ x i. absurd i) (λ x i. absurd i) tt,
+      m.stands,
+    );
   },
 )
 
 pub lines : StandsOn → LinesAreSteps
 lines later line old new answers sound = by_stopped old.stopped refl line answers (λ terms at past m. (m.clock, m.brought))
   where
-    by_stopped : (b : Bool) → old.stopped ≡ b → (line : List ℕ) → AnswersBy b line old new → Given line old (meaning_of line) → Marked line old new
+    by_stopped : (b : Bool) → old.stopped ≡ b → (line : List ℕ) → AnswersBy b line old new → Given line old (meaning_of line)
+        → Marked line old new
     by_stopped true is line same given = silent line old new same sound
     by_stopped false is [] same given = silent [] old new same sound
-    by_stopped false is (c ∷ line) a given = by_meaning later (c ∷ line) old new a.behind (meaning_of (c ∷ line)) (a.reserved, sound.holders (sound.goes_on is)) (sound.goes_on is) given a.came a.ended
+    by_stopped false is (c ∷ line) a given = by_meaning later (c ∷ line) old new a.behind (meaning_of (c ∷ line))
+        (a.reserved, sound.holders (sound.goes_on is)) (sound.goes_on is) given a.came a.ended

@@ -35,13 +35,16 @@ own_at c name k = by_entry (entry_of name c.names.items) refl
   where
     by_entry : (o : Option NameEntry) → entry_of name c.names.items ≡ o → claim_in o ≡ Some k → IsOwn c.terms c.process c.claims k.candidate
     by_entry None is claimed = absurd cc
-    by_entry (Some e) is claimed = (of_found (IsEntry c.terms c.process c.claims c.began c.bound) name c.names.items e c.kept.entries is).claim k claimed
+    by_entry (Some e) is claimed = (of_found (IsEntry c.terms c.process c.claims c.began c.bound) name c.names.items e c.kept.entries
+        is).claim k claimed
 
-pub same_clock : (old new : LeaseMachine) (terms : Terms) → new.terms ≡ old.terms → new.process ≡ old.process → clock_of terms old ≡ clock_of terms new
+pub same_clock : (old new : LeaseMachine) (terms : Terms) → new.terms ≡ old.terms → new.process ≡ old.process
+    → clock_of terms old ≡ clock_of terms new
 same_clock old new terms same process =
     ap (λ (t : LeaseTerms). terms.clock t.machine old.process) (sym same) ∙ ap (λ (p : ℕ). terms.clock new.terms.machine p) (sym process)
 
-pub shows_still : (old new : LeaseMachine) (terms : Terms) (c : LeaseCandidate) (v : Candidate) → new.terms ≡ old.terms → new.process ≡ old.process
+pub shows_still : (old new : LeaseMachine) (terms : Terms) (c : LeaseCandidate) (v : Candidate) → new.terms ≡ old.terms
+    → new.process ≡ old.process
     → Shows (clock_of terms old) c v → Shows (clock_of terms new) c v
 shows_still old new terms c v same process shows = subst (λ (k : ℕ → ℕ). Shows k c v) (same_clock old new terms same process) shows
 
@@ -53,7 +56,8 @@ not_same a b differ same = absurd (let bad : true ≡ false = sym (eq-eqb a b sa
 pub not_name : (n name : Name) → bytes_eq n name ≡ false → name ≢ n
 not_name n name other is = absurd (let bad : true ≡ false = sym ((bytes_eq-Decides n name).1 (sym is)) ∙ other in cc)
 
-pub by_name : {A : Type 0} (P : A → Type 0) (name other : Name) (new old : Name → A) → (name ≡ other → P (new other)) → (other ≢ name → P (old other))
+pub by_name : {A : Type 0} (P : A → Type 0) (name other : Name) (new old : Name → A) → (name ≡ other → P (new other))
+    → (other ≢ name → P (old other))
     → P (at_name name new old other)
 by_name P name other new old same different = test (bytes_eq name other) refl
   where
@@ -61,7 +65,8 @@ by_name P name other new old same different = test (bytes_eq name other) refl
     test true is = same ((bytes_eq-Decides name other).0 is)
     test false is = different (not_name name other is)
 
-pub by_client : (P : Candidate → Type 0) (number other : ℕ) (new : Name → Candidate) (old : ℕ → Name → Candidate) (name : Name) → (number ≡ other → P (new name))
+pub by_client : (P : Candidate → Type 0) (number other : ℕ) (new : Name → Candidate) (old : ℕ → Name → Candidate) (name : Name)
+    → (number ≡ other → P (new name))
     → ((number ≡ other → ⊥) → P (old other name)) → P (at_client number new old other name)
 by_client P number other new old name same different = test (number == other) refl
   where

@@ -1,5 +1,6 @@
 -- What users were told last.
-use Rattle.std.proofs.Common.{◌≡◌, ◌≢◌, ◌⊎◌, ℕ, ◌+◌, ◌<◌, ◌≤◌, Bool, true, false, List, [], ◌∷◌, ◌++◌, Option, Some, None, refl, sym, ◌∙◌, ap, subst, arith}
+use Rattle.std.proofs.Common.{◌≡◌, ◌≢◌, ◌⊎◌, ℕ, ◌+◌, ◌<◌, ◌≤◌, Bool, true, false, List, [], ◌∷◌, ◌++◌, Option, Some, None, refl, sym, ◌∙◌}
+use Rattle.std.proofs.Common.{ap, subst, arith}
 use Rattle.std.specs.Prelude.{not, if◌then◌else◌, nat_eq}
 use Rattle.std.specs.Cmp.Lexicographic.{pointwise}
 use Rattle.std.specs.Str.{bytes_eq}
@@ -18,11 +19,13 @@ none_without name (t ∷ ts) = by_test (pointwise nat_eq t.name name) refl (none
     by_test true is rest = rest
     by_test false is rest = ap (λ (c : Bool). if c then Some t else last_told name (without name ts)) is ∙ rest
 
-behind_none : (name : Name) (ts : List Told) (last : Told) → last_told name ts ≡ None → last_told name (ts ++ last ∷ []) ≡ last_told name (last ∷ [])
+behind_none : (name : Name) (ts : List Told) (last : Told) → last_told name ts ≡ None
+    → last_told name (ts ++ last ∷ []) ≡ last_told name (last ∷ [])
 behind_none name [] last none = refl
 behind_none name (t ∷ ts) last none = by_test (pointwise nat_eq t.name name) none (behind_none name ts last)
   where
-    by_test : (b : Bool) → (if b then Some t else last_told name ts) ≡ None → (last_told name ts ≡ None → last_told name (ts ++ last ∷ []) ≡ last_told name (last ∷ []))
+    by_test : (b : Bool) → (if b then Some t else last_told name ts) ≡ None
+        → (last_told name ts ≡ None → last_told name (ts ++ last ∷ []) ≡ last_told name (last ∷ []))
         → (if b then Some t else last_told name (ts ++ last ∷ [])) ≡ last_told name (last ∷ [])
     by_test true none rest = absurd cc
     by_test false none rest = rest none
@@ -49,15 +52,18 @@ other_without name other (t ∷ ts) apart = by_test (pointwise nat_eq t.name oth
     by_test : (b : Bool) → pointwise nat_eq t.name other ≡ b → last_told name (without other ts) ≡ last_told name ts
         → last_told name (if not b then t ∷ without other ts else without other ts) ≡ last_told name (t ∷ ts)
     by_test true is rest =
-        rest ∙ sym (ap (λ (c : Bool). if c then Some t else last_told name ts) (differ_is t.name name (λ same. apart (sym ((bytes_eq-Decides t.name other).0 is) ∙ same))))
+        rest ∙ sym (ap (λ (c : Bool). if c then Some t else last_told name ts)
+        (differ_is t.name name (λ same. apart (sym ((bytes_eq-Decides t.name other).0 is) ∙ same))))
     by_test false is rest = ap (λ (o : Option Told). if pointwise nat_eq t.name name then Some t else o) rest
 
 behind_other : (name : Name) (ts : List Told) (last : Told) → (last.name ≡ name → ⊥) → last_told name (ts ++ last ∷ []) ≡ last_told name ts
 behind_other name [] last apart = ap (λ (c : Bool). if c then Some last else None) (differ_is last.name name apart)
-behind_other name (t ∷ ts) last apart = ap (λ (o : Option Told). if pointwise nat_eq t.name name then Some t else o) (behind_other name ts last apart)
+behind_other name (t ∷ ts) last apart = ap (λ (o : Option Told). if pointwise nat_eq t.name name then Some t else o)
+    (behind_other name ts last apart)
 
 -- and of other names nothing
-pub told_other : (name : Name) (ts : List Told) (t : Told) → (t.name ≡ name → ⊥) → last_told name (without t.name ts ++ t ∷ []) ≡ last_told name ts
+pub told_other : (name : Name) (ts : List Told) (t : Told) → (t.name ≡ name → ⊥)
+    → last_told name (without t.name ts ++ t ∷ []) ≡ last_told name ts
 told_other name ts t apart = behind_other name (without t.name ts) t apart ∙ other_without name t.name ts apart
 
 -- the epoch that was told
@@ -68,7 +74,8 @@ epoch_told name (s ∷ ts) t is = by_test (pointwise nat_eq s.name name) is (epo
     some_told : (a b : Told) → Some a ≡ Some b → a ≡ b
     some_told a b e = cc
 
-    by_test : (b : Bool) → (if b then Some s else last_told name ts) ≡ Some t → (last_told name ts ≡ Some t → told_of name ts ≡ Some t.epoch)
+    by_test : (b : Bool) → (if b then Some s else last_told name ts) ≡ Some t
+        → (last_told name ts ≡ Some t → told_of name ts ≡ Some t.epoch)
         → (if b then Some s.epoch else told_of name ts) ≡ Some t.epoch
     by_test true is rest = ap (λ (k : Told). Some k.epoch) (some_told s t is)
     by_test false is rest = rest is

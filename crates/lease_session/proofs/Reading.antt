@@ -1,5 +1,6 @@
 -- Words of lines.
-use Rattle.std.proofs.Common.{◌≡◌, ℕ, ◌<◌, ◌≤◌, ◌↔◌, List, [], ◌∷◌, length, Bool, true, false, Option, Some, None, refl, sym, ap, ◌∙◌, arith}
+use Rattle.std.proofs.Common.{◌≡◌, ℕ, ◌<◌, ◌≤◌, ◌↔◌, List, [], ◌∷◌, length, Bool, true, false, Option, Some, None, refl, sym, ap, ◌∙◌}
+use Rattle.std.proofs.Common.{arith}
 use Rattle.std.specs.Prelude.{IfSome, IsNone, nat_le, ◌&&◌, if◌then◌else◌}
 use Rattle.std.specs.List.{list_all}
 use Rattle.lease_network.specs.Network.{Name}
@@ -36,10 +37,13 @@ fits_not word fits name =
     let both : has_length word ≡ true = and_true (of_le 1 (length word) name.some) (of_le (length word) NAME_CAPACITY name.fits) in
     absurd (let bad : true ≡ false = sym both ∙ fits in cc)
 
-pub name_is : (word : List ℕ) (r : Option Name) → list_all is_printable word ≡ true → IfSome r (λ n. n ≡ word) → (IsNone r ↔ (IsName word → ⊥)) → r ≡ name_of word
-name_is word r all some none = by_length (has_length word) refl r some none ∙ ap (λ (b : Bool). if b then (if has_length word then Some word else None) else None) (sym all)
+pub name_is : (word : List ℕ) (r : Option Name) → list_all is_printable word ≡ true → IfSome r (λ n. n ≡ word)
+    → (IsNone r ↔ (IsName word → ⊥)) → r ≡ name_of word
+name_is word r all some none = by_length (has_length word) refl r some none
+    ∙ ap (λ (b : Bool). if b then (if has_length word then Some word else None) else None) (sym all)
   where
-    by_length : (b : Bool) → has_length word ≡ b → (r : Option Name) → IfSome r (λ n. n ≡ word) → (IsNone r ↔ (IsName word → ⊥)) → r ≡ (if b then Some word else None)
+    by_length : (b : Bool) → has_length word ≡ b → (r : Option Name) → IfSome r (λ n. n ≡ word) → (IsNone r ↔ (IsName word → ⊥))
+        → r ≡ (if b then Some word else None)
     by_length true is None some none = absurd (none.0 refl (fits_so word is))
     by_length true is (Some n) some none = ap (λ (x : Name). Some x) some
     by_length false is None some none = refl

@@ -57,16 +57,20 @@ as_brought {messages = messages} {a = a} t = record {
       (follow_more terms (who a) at [] [] messages [] m t.marks (λ x i. absurd i) (λ x i. i) h.0, h.1);
 }
 
-pub voted_behind : {r s : Vote} {name : Name} {client : Client} {number epoch now : ℕ} {a b c : LeaseProcess} → r ≡ s → Turn [] [] now a b → Voted r name client number epoch now b c
+pub voted_behind : {r s : Vote} {name : Name} {client : Client} {number epoch now : ℕ} {a b c : LeaseProcess} → r ≡ s → Turn [] [] now a b
+    → Voted r name client number epoch now b c
     → Voted s name client number epoch now a c
 voted_behind {name = name} {client = client} {number = number} {a = a} same t v = record {
   turn = then_had (as_brought t) v.turn (λ x i. absurd i) (λ x i. inl i);
-  grants = λ now_granted. subst (λ (l : List Message). IsAmong (grant name client number a.terms.machine) l) (sym (sent_both [] t.marks v.turn.marks))
+  grants = λ now_granted. subst (λ (l : List Message). IsAmong (grant name client number a.terms.machine) l)
+      (sym (sent_both [] t.marks v.turn.marks))
       (sent_more [] (sent_in [] t.marks) v.turn.marks (λ x i. absurd i) (grant name client number a.terms.machine)
-      (subst (λ (n : ℕ). IsAmong (grant name client number n) (sent_in [] v.turn.marks)) (ap (λ (x : LeaseTerms). x.machine) t.terms) (v.grants (same ∙ now_granted))));
+      (subst (λ (n : ℕ). IsAmong (grant name client number n) (sent_in [] v.turn.marks)) (ap (λ (x : LeaseTerms). x.machine) t.terms)
+      (v.grants (same ∙ now_granted))));
 }
 
-pub voted_nothing : {r : Vote} {name : Name} {client : Client} {number epoch now : ℕ} {a b c : LeaseProcess} → Turn [] [] now a b → Voted r name client number epoch now b c
+pub voted_nothing : {r : Vote} {name : Name} {client : Client} {number epoch now : ℕ} {a b c : LeaseProcess} → Turn [] [] now a b
+    → Voted r name client number epoch now b c
     → Voted vote.Refused name client number epoch now a c
 voted_nothing t v = record { turn = then_had (as_brought t) v.turn (λ x i. absurd i) (λ x i. inl i); grants = λ refused. absurd cc }
 
@@ -74,41 +78,52 @@ pub then_voted : {name : Name} {asks : ClientId} {number epoch now : ℕ} {a b c
     → Turn (request name (client_of asks) number epoch ∷ []) [] now b c → Turn [] [] now a c
 then_voted r t = then_had r.turn t (one_of (sent_in [] r.turn.marks) r.sends) (nothing_had [] (sent_in [] r.turn.marks))
 
-pub own_granted : {r : Vote} {name : Name} {client : Client} {number epoch now : ℕ} {a b c : LeaseProcess} (voter : ℕ) → voter ≡ a.terms.machine → r ≡ vote.Granted
-    → Voted r name client number epoch now a b → Turn [] (grant name client number voter ∷ []) now b c → Turn (request name client number epoch ∷ []) [] now a c
+pub own_granted : {r : Vote} {name : Name} {client : Client} {number epoch now : ℕ} {a b c : LeaseProcess} (voter : ℕ)
+    → voter ≡ a.terms.machine → r ≡ vote.Granted
+    → Voted r name client number epoch now a b → Turn [] (grant name client number voter ∷ []) now b c
+    → Turn (request name client number epoch ∷ []) [] now a c
 own_granted {name = name} {client = client} {number = number} {epoch = epoch} {a = a} voter own granted v t =
     let sent = request name client number epoch ∷ [] in
     then_had (as_sent v.turn) t (λ x i. absurd i)
     (λ x i. inr (one_of (sent_in sent v.turn.marks) (sent_more [] sent v.turn.marks (λ y j. absurd j) (grant name client number voter)
     (subst (λ (n : ℕ). IsAmong (grant name client number n) (sent_in [] v.turn.marks)) (sym own) (v.grants granted))) x i))
 
-pub own_refused : {r : Vote} {name : Name} {client : Client} {number epoch now : ℕ} {a b c : LeaseProcess} → Voted r name client number epoch now a b → Turn [] [] now b c
+pub own_refused : {r : Vote} {name : Name} {client : Client} {number epoch now : ℕ} {a b c : LeaseProcess}
+    → Voted r name client number epoch now a b → Turn [] [] now b c
     → Turn (request name client number epoch ∷ []) [] now a c
 own_refused v t = then (as_sent v.turn) t
 
 -- ---- what a message brought
 
-pub said_is : {a b : LeaseProcess} {now : ℕ} {messages : List Message} (m : LeaseMessage) → said m ≡ messages → Turn [] messages now a b → Turn [] (said m) now a b
+pub said_is : {a b : LeaseProcess} {now : ℕ} {messages : List Message} (m : LeaseMessage) → said m ≡ messages → Turn [] messages now a b
+    → Turn [] (said m) now a b
 said_is {a = a} {b = b} {now = now} m same t = subst (λ (l : List Message). Turn [] l now a b) (sym same) t
 
-pub grant_said : (m : LeaseMessage) (number : ℕ) → m.body ≡ body.Grant number → (client : Client) → client ≡ asker m.client → said m ≡ grant m.name client number m.voter ∷ []
-grant_said m number is client same = ap (λ (b : LeaseBody). said_by m b) is ∙ ap (λ (c : Client). grant m.name c number m.voter ∷ []) (sym same)
+pub grant_said : (m : LeaseMessage) (number : ℕ) → m.body ≡ body.Grant number → (client : Client) → client ≡ asker m.client
+    → said m ≡ grant m.name client number m.voter ∷ []
+grant_said m number is client same = ap (λ (b : LeaseBody). said_by m b) is
+    ∙ ap (λ (c : Client). grant m.name c number m.voter ∷ []) (sym same)
 
-pub request_said : (m : LeaseMessage) (number keeps list : ℕ) → m.body ≡ body.Request number keeps list → (client : Client) → client ≡ asker m.client
+pub request_said : (m : LeaseMessage) (number keeps list : ℕ) → m.body ≡ body.Request number keeps list → (client : Client)
+    → client ≡ asker m.client
     → said m ≡ request m.name client number m.epoch ∷ []
-request_said m number keeps list is client same = ap (λ (b : LeaseBody). said_by m b) is ∙ ap (λ (c : Client). request m.name c number m.epoch ∷ []) (sym same)
+request_said m number keeps list is client same = ap (λ (b : LeaseBody). said_by m b) is
+    ∙ ap (λ (c : Client). request m.name c number m.epoch ∷ []) (sym same)
 
 -- a grant that is answered
-pub answered : {r : Vote} {number now : ℕ} {a b c : LeaseProcess} (m : LeaseMessage) (client : Client) → client ≡ asker m.client → m.voter ≡ a.terms.machine → r ≡ vote.Granted
+pub answered : {r : Vote} {number now : ℕ} {a b c : LeaseProcess} (m : LeaseMessage) (client : Client) → client ≡ asker m.client
+    → m.voter ≡ a.terms.machine → r ≡ vote.Granted
     → Voted r m.name client number m.epoch now a b → Turn (grant m.name (asker m.client) number m.voter ∷ []) [] now b c
     → Turn [] (request m.name client number m.epoch ∷ []) now a c
 answered {number = number} {a = a} m client same voter granted v t =
     let is : grant m.name client number a.terms.machine ≡ grant m.name (asker m.client) number m.voter =
     ap (λ (c : Client). grant m.name c number a.terms.machine) same ∙ ap (λ (n : ℕ). grant m.name (asker m.client) number n) (sym voter) in
-    then_had v.turn t (one_of (sent_in [] v.turn.marks) (subst (λ (x : Message). IsAmong x (sent_in [] v.turn.marks)) is (v.grants granted)))
+    then_had v.turn t (one_of (sent_in [] v.turn.marks) (subst (λ (x : Message). IsAmong x (sent_in [] v.turn.marks)) is
+    (v.grants granted)))
     (nothing_had (request m.name client number m.epoch ∷ []) (sent_in [] v.turn.marks))
 
-pub brought_is : {a b : LeaseProcess} {now : ℕ} (x : Came) {y : Came} → x ≡ y → Turn [] (brought_by y) now a b → Turn [] (brought_by x) now a b
+pub brought_is : {a b : LeaseProcess} {now : ℕ} (x : Came) {y : Came} → x ≡ y → Turn [] (brought_by y) now a b
+    → Turn [] (brought_by x) now a b
 brought_is {a = a} {b = b} {now = now} x same t = subst (λ (c : Came). Turn [] (brought_by c) now a b) (sym same) t
 
 -- ---- who asks
@@ -138,11 +153,13 @@ pub asks_behind : {name : Name} {user now : ℕ} {a b c : LeaseProcess} → Turn
 asks_behind t (inl q) = inl (record { kept = q.kept; by_then = then t q.by_then; free = q.free; asks = asked_behind t q.asks })
 asks_behind t (inr q) = inr (record { kept = q.kept; by_then = then t q.by_then; reason = q.reason; right = q.right; told = q.told })
 
-pub releases_behind : {name : Name} {user now : ℕ} {a b c : LeaseProcess} → Turn [] [] now a b → Releases name user now b c → Releases name user now a c
+pub releases_behind : {name : Name} {user now : ℕ} {a b c : LeaseProcess} → Turn [] [] now a b → Releases name user now b c
+    → Releases name user now a c
 releases_behind t q = record { kept = q.kept; by_then = then t q.by_then; done = q.done }
 
 -- who asks is free to, and asks, or finds no number or epoch left
-pub asked_free : {name other : Name} {user also now : ℕ} {a b c : LeaseProcess} → other ≡ name → also ≡ user → IsFreeIn a.machine now name → Turn [] [] now a b
+pub asked_free : {name other : Name} {user also now : ℕ} {a b c : LeaseProcess} → other ≡ name → also ≡ user → IsFreeIn a.machine now name
+    → Turn [] [] now a b
     → AsksOrEnds other also now b c → Asks name user now a c
 asked_free {name = name} {user = user} {also = also} {now = now} {a = a} {b = b} {c = c} named used free t q =
     by (subst (λ (u : ℕ). AsksOrEnds name u now b c) used (subst (λ (n : Name). AsksOrEnds n also now b c) named q))

@@ -8,7 +8,8 @@ use Rattle.lease_session.specs.Reading.{Meaning, meaning_of}
 use Rattle.lease_session.specs.Lines.{ComesOf, IsEnded}
 use Rattle.lease_session.specs.Own.{IsWithin}
 
--- where a process is between two lines: with the time that the last one told, whether its device failed, and up to which epoch its store says that it reserved
+-- where a process is between two lines: with the time that the last one told, whether its device failed, and up to which epoch its store
+-- says that it reserved
 pub record At : Type 0 where
   pub process : LeaseProcess
   pub told : ℕ
@@ -25,7 +26,8 @@ IsReserved a = IsWithin a.reserved a.process.start a.process.machine
 -- a process that was told nothing yet
 abbrev pub IsNew : LeaseTerms → Start → List ℕ → At → Type 0
 IsNew terms start kept a =
-    (kept ≡ []) × (a.stopped ≡ false) × (a.told ≡ 0) × (a.process.machine ≡ None) × (a.process.terms ≡ terms) × (a.process.start ≡ start) × (a.process.halt ≡ None) × (a.process.told.items ≡ [])
+    (kept ≡ []) × (a.stopped ≡ false) × (a.told ≡ 0) × (a.process.machine ≡ None) × (a.process.terms ≡ terms) × (a.process.start ≡ start)
+    × (a.process.halt ≡ None) × (a.process.told.items ≡ [])
 
 -- what comes of a line, and behind it the line that ends the answer; then no epoch is granted above what is reserved
 pub record IsAnswer (meaning : Meaning) (old new : At) : Type 0 where
@@ -57,4 +59,5 @@ pub record Fed (kept piece rest : List ℕ) (old new : At) : Type 0 where
 
 -- what was fed decides what is answered, and not how it was cut
 abbrev pub AnyCutting : Type 0
-AnyCutting = (kept first second rest last : List ℕ) (old mid new : At) → Fed kept first rest old mid → Fed rest second last mid new → Fed kept (first ++ second) last old new
+AnyCutting = (kept first second rest last : List ℕ) (old mid new : At) → Fed kept first rest old mid → Fed rest second last mid new
+    → Fed kept (first ++ second) last old new

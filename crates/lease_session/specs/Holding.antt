@@ -19,7 +19,8 @@ news_of name c r = record { name = name; user = c.user; epoch = r.epoch; until =
 
 -- the user of the name was told last of what its client keeps as its lease
 abbrev pub IsHolderTold : Name → LeaseMachine → List Told → Type 0
-IsHolderTold name x ts = (c : Claim) (r : Request) → claim_at x name ≡ Some c → c.candidate.lease ≡ Some r → last_told name ts ≡ Some (news_of name c r)
+IsHolderTold name x ts = (c : Claim) (r : Request) → claim_at x name ≡ Some c → c.candidate.lease ≡ Some r
+    → last_told name ts ≡ Some (news_of name c r)
 
 -- so it is of each name
 abbrev pub AreHoldersTold : Option LeaseMachine → List Told → Type 0
@@ -30,4 +31,5 @@ AreHoldersTold (Some x) ts = (name : Name) → IsHolderTold name x ts
 abbrev pub IsToldNow : ℕ → Name → Option LeaseMachine → List Told → Type 0
 IsToldNow now name None ts = Unit {0}
 IsToldNow now name (Some x) ts =
-    (c : Claim) (r : Request) → claim_at x name ≡ Some c → c.candidate.lease ≡ Some r → now < r.sent + c.candidate.relies_for → last_told name ts ≡ Some (news_of name c r)
+    (c : Claim) (r : Request) → claim_at x name ≡ Some c → c.candidate.lease ≡ Some r → now < r.sent + c.candidate.relies_for
+    → last_told name ts ≡ Some (news_of name c r)

@@ -32,7 +32,8 @@ Says row old new = old.halt ≡ None → (IsOut new → ⊥) → (new.halt ≡ N
 abbrev pub Refuses : Refused → ℕ → ℕ → LeaseProcess → LeaseProcess → Type 0
 Refuses reason told then old new = IsStill old new × (then ≡ told) × Says (refused reason) old new
 
--- A line that tells a time: the process makes its steps at that time of the clock, and takes no other message than the line brought. Where an earlier line told a later
+-- A line that tells a time: the process makes its steps at that time of the clock, and takes no other message than the line brought. Where
+-- an earlier line told a later
 -- time, it does nothing.
 abbrev pub ComesBy : Bool → ℕ → List Message → ℕ → ℕ → LeaseProcess → LeaseProcess → Type 0
 ComesBy true now brought told then old new = Turn [] brought now old new × (then ≡ now)
@@ -48,7 +49,8 @@ DeliversIt None now told then old new = Refuses why.Bad told then old new
 DeliversIt (Some it) now told then old new = Turn [] (brought_by it) now old new × (then ≡ now) × RepliesTo old.terms now it new
 
 abbrev pub DeliversBy : Bool → ℕ → List ℕ → ℕ → ℕ → LeaseProcess → LeaseProcess → Type 0
-DeliversBy true now word told then old new = (IsOut new → ⊥) → (it : Option Came) × BringsBy old.seal (bytes_of word) it × DeliversIt it now told then old new
+DeliversBy true now word told then old new = (IsOut new → ⊥)
+    → (it : Option Came) × BringsBy old.seal (bytes_of word) it × DeliversIt it now told then old new
 DeliversBy false now word told then old new = Refuses why.Time told then old new
 
 abbrev pub Delivers : ℕ → List ℕ → ℕ → ℕ → LeaseProcess → LeaseProcess → Type 0
@@ -61,7 +63,8 @@ ComesOf Bad told then old new = Refuses why.Bad told then old new
 ComesOf (Tick now) told then old new = Comes now [] told then old new
 ComesOf (Deliver now word) told then old new = Delivers now word told then old new
 ComesOf (Acquire now name user) told then old new = Comes now [] told then old new × (goes_on told now ≡ true → Asks name user now old new)
-ComesOf (Release now name user) told then old new = Comes now [] told then old new × (goes_on told now ≡ true → Releases name user now old new)
+ComesOf (Release now name user) told then old new = Comes now [] told then old new
+    × (goes_on told now ≡ true → Releases name user now old new)
 
 -- ---- how its answer ends
 

@@ -7,7 +7,8 @@ use Rattle.lease_message.specs.declared.lease_name.TheConstants.{NAME_CAPACITY}
 use Rattle.lease_session.specs.declared.asked.Asked.{Asked}
 use Rattle.lease_session.specs.declared.asked.Asked.TheVariants as ask
 
--- It can't be read; or it tells a time of the machine's clock, and of nothing else, of a message that came, of a user that asks for the lease of a name, or of one
+-- It can't be read; or it tells a time of the machine's clock, and of nothing else, of a message that came, of a user that asks for the
+-- lease of a name, or of one
 -- that asks no more.
 pub data Meaning : Type 0 where
   Bad : Meaning
@@ -53,7 +54,8 @@ user_asks name now lease user =
 
 abbrev pub three_fields : List ℕ → List ℕ → List ℕ → List ℕ → Meaning
 three_fields name time lease user =
-    meant_with (λ now. meant_with (λ lease. meant_with (λ user. user_asks name now lease user) (number_of user)) (name_of lease)) (number_of time)
+    meant_with (λ now. meant_with (λ lease. meant_with (λ user. user_asks name now lease user) (number_of user)) (name_of lease))
+    (number_of time)
 
 abbrev pub meaning_words : List (List ℕ) → Meaning
 meaning_words [] = Bad

@@ -49,7 +49,8 @@ abbrev pub IsRight : LeaseTerms → Option LeaseMachine → ℕ → LeaseMessage
 IsRight t machine now m keeps list (Request n k l) = ⊥
 IsRight t machine now m keeps list (Grant n) = (keeps ≡ t.keeps) × (list ≡ t.list) × IsGrantedBy machine now m.name (asker m.client) m.epoch
 IsRight t machine now m keeps list (Refusal n reason lasts) =
-    IsOfOtherTerms t keeps list reason ⊎ ((keeps ≡ t.keeps) × (list ≡ t.list) × IsRefusedFor reason machine now m.name (asker m.client) m.epoch)
+    IsOfOtherTerms t keeps list reason ⊎ ((keeps ≡ t.keeps) × (list ≡ t.list)
+    × IsRefusedFor reason machine now m.name (asker m.client) m.epoch)
 IsRight t machine now m keeps list Release = ⊥
 
 -- the text ends with the line that answers the request, as is right by what the machine keeps then
@@ -60,7 +61,8 @@ pub record IsReplied (t : LeaseTerms) (now : ℕ) (m : LeaseMessage) (number kee
   pub right : IsRight t p.machine now m keeps list body
 
 abbrev pub RepliesBy : LeaseTerms → ℕ → LeaseMessage → LeaseProcess → LeaseBody → Type 0
-RepliesBy t now m p (Request number keeps list) = is_for t.machine t.machines m ≡ true → p.halt ≡ None → IsReplied t now m number keeps list p
+RepliesBy t now m p (Request number keeps list) = is_for t.machine t.machines m ≡ true → p.halt ≡ None
+    → IsReplied t now m number keeps list p
 RepliesBy t now m p other = Unit {0}
 
 -- a request to this voter is answered, as long as the process goes on

@@ -28,7 +28,8 @@ said m = said_by m m.body
 
 -- ---- lines
 
--- A message to a machine, with the bytes that it is sent as; a user holds the lease of a name under an epoch until a time of the own clock; it holds it no more; a
+-- A message to a machine, with the bytes that it is sent as; a user holds the lease of a name under an epoch until a time of the own clock;
+-- it holds it no more; a
 -- line, or what it brings, isn't taken; what a user asks isn't; when something is due next, if anything is; the device failed.
 pub data Row : Type 0 where
   send : ℕ → LeaseMessage → List ℕ → Row
@@ -57,7 +58,8 @@ time_text (Some time) = codes " " ++ decimal time
 
 abbrev pub row_text : Row → List ℕ
 row_text (send to message bytes) = codes "send " ++ decimal to ++ codes " " ++ encode_lower bytes ++ codes "\n"
-row_text (held name user epoch until) = codes "held " ++ name ++ codes " " ++ decimal user ++ codes " " ++ decimal epoch ++ codes " " ++ decimal until ++ codes "\n"
+row_text (held name user epoch until) = codes "held " ++ name ++ codes " " ++ decimal user ++ codes " " ++ decimal epoch ++ codes " "
+    ++ decimal until ++ codes "\n"
 row_text (lost name epoch) = codes "lost " ++ name ++ codes " " ++ decimal epoch ++ codes "\n"
 row_text (refused why) = codes "refused " ++ refusal_word why ++ codes "\n"
 row_text (unserved why name user) = codes "refused " ++ refusal_word why ++ codes " " ++ name ++ codes " " ++ decimal user ++ codes "\n"

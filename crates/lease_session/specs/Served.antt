@@ -22,9 +22,11 @@ IsAnsweredBy line old new text = Answers line old new × (new.process.text.items
 abbrev pub AreAnsweredBy : List (List ℕ) → At → At → List ℕ → Type 0
 AreAnsweredBy [] old new text = HasOtherText old new × (text ≡ [])
 AreAnsweredBy (line ∷ lines) old new text =
-    (from : At) × HasOtherText old from × (mid : At) × (first : List ℕ) × IsAnsweredBy line from mid first × (rest : List ℕ) × AreAnsweredBy lines mid new rest × (text ≡ first ++ rest)
+    (from : At) × HasOtherText old from × (mid : At) × (first : List ℕ) × IsAnsweredBy line from mid first × (rest : List ℕ)
+    × AreAnsweredBy lines mid new rest × (text ≡ first ++ rest)
 
--- These bytes came behind what was kept of the input, in any pieces: each line that is whole then is answered, by this text in all, and what is behind the last is kept.
+-- These bytes came behind what was kept of the input, in any pieces: each line that is whole then is answered, by this text in all, and
+-- what is behind the last is kept.
 pub record IsToldAll (kept bytes rest : List ℕ) (old new : At) (text : List ℕ) : Type 0 where
   pub lines : List (List ℕ)
   pub cut : lines_of (kept ++ bytes) ≡ lines ++ rest ∷ []
@@ -37,7 +39,8 @@ FedIsTold = (kept piece rest : List ℕ) (old new : At) → Fed kept piece rest 
 
 -- what was answered may be written and forgotten between two pieces
 abbrev pub AnyClearing : Type 0
-AnyClearing = (kept first second rest last : List ℕ) (old mid cleared new : At) (text more : List ℕ) → IsToldAll kept first rest old mid text → HasOtherText mid cleared
+AnyClearing = (kept first second rest last : List ℕ) (old mid cleared new : At) (text more : List ℕ)
+    → IsToldAll kept first rest old mid text → HasOtherText mid cleared
     → IsToldAll rest second last cleared new more → IsToldAll kept (first ++ second) last old new (text ++ more)
 
 -- what a process says before it reads anything: its number
@@ -68,7 +71,8 @@ pub record IsBegun (terms : LeaseTerms) (start : Start) (seal : Option LeaseSeal
   pub silent : a.process.text.items ≡ []
 
 -- It says its number, and then all that is read is fed to it, and just the answers are written.
-pub record IsServed (terms : LeaseTerms) (start : Start) (seal : Option LeaseSeal) (reserved : ℕ) (input rest before behind : Option (List ℕ)) (how : LeaseEnd) : Type 0 where
+pub record IsServed (terms : LeaseTerms) (start : Start) (seal : Option LeaseSeal) (reserved : ℕ)
+    (input rest before behind : Option (List ℕ)) (how : LeaseEnd) : Type 0 where
   pub old : At
   pub begun : IsBegun terms start seal reserved old
   pub numbered : Option (List ℕ)

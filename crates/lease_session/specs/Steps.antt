@@ -29,9 +29,11 @@ WasSentIn steps message = (s : Step) × IsAmong s steps × Sends s message
 
 -- the process runs on its machine, or no step is one of its own
 abbrev pub RunsOrIsNew : List Step → Client → Option ℕ → Type 0
-RunsOrIsNew past self process = (process ≡ Some self.boot) ⊎ ((s : Step) → IsAmong s past → s.by.machine ≡ self.machine → s.by.boot ≡ self.boot → ⊥)
+RunsOrIsNew past self process = (process ≡ Some self.boot)
+    ⊎ ((s : Step) → IsAmong s past → s.by.machine ≡ self.machine → s.by.boot ≡ self.boot → ⊥)
 
--- a client of this process holds the lease over these steps, by a request of this epoch, until so long after it was sent as a client relies on it
+-- a client of this process holds the lease over these steps, by a request of this epoch, until so long after it was sent as a client relies
+-- on it
 pub record IsHolder (terms : Terms) (w : Who) (at : ℕ) (past : List Step) (name : Name) (epoch until : ℕ) : Type 0 where
   pub client : Client
   pub ask : Ask
@@ -53,7 +55,8 @@ AreHeld terms w at past [] = Unit {0}
 AreHeld terms w at past (did by what ∷ marks) = AreHeld terms w at (record { at = at; by = by; what = what } ∷ past) marks
 AreHeld terms w at past (wrote row ∷ marks) = HoldsThen terms w at past row × AreHeld terms w at past marks
 
--- what a turn adds to the steps of all: steps of its own process, and of its own machine alone; the messages in its `send` lines were sent by it, or had been before
+-- what a turn adds to the steps of all: steps of its own process, and of its own machine alone; the messages in its `send` lines were sent
+-- by it, or had been before
 pub record Adds (terms : Terms) (w : Who) (at : ℕ) (past : List Step) (marks : List Mark) (sent : List Message) : Type 0 where
   pub are : AreSteps terms (steps_with at past marks)
   pub kept : machines terms (steps_with at past marks) w.self.machine ≡ after_marks terms at (machines terms past w.self.machine) marks
@@ -61,29 +64,36 @@ pub record Adds (terms : Terms) (w : Who) (at : ℕ) (past : List Step) (marks :
   pub sends : (message : Message) → IsAmong message (sent_in sent marks) → WasSentIn (steps_with at past marks) message
   pub runs : RunsOrIsNew (steps_with at past marks) w.self (machines terms (steps_with at past marks) w.self.machine).process
   pub held : AreHeld terms w at past marks
-  pub own : (s : Step) → IsAmong s (steps_with at past marks) → IsAmong s past ⊎ ((s.by.machine ≡ w.self.machine) × (s.by.boot ≡ w.self.boot))
+  pub own : (s : Step) → IsAmong s (steps_with at past marks)
+      → IsAmong s past ⊎ ((s.by.machine ≡ w.self.machine) × (s.by.boot ≡ w.self.boot))
   pub others : (n : ℕ) → n ≢ w.self.machine → machines terms (steps_with at past marks) n ≡ machines terms past n
-  pub handed : (to : ℕ) (message : LeaseMessage) (bytes : List ℕ) → IsAmong (wrote (send to message bytes)) marks → (x : Message) → IsAmong x (said message)
+  pub handed : (to : ℕ) (message : LeaseMessage) (bytes : List ℕ) → IsAmong (wrote (send to message bytes)) marks → (x : Message)
+      → IsAmong x (said message)
       → WasSentIn (steps_with at past marks) x
 
 -- Where what a line brought was sent by steps before, and no step came later, the steps of a turn may follow those of all before.
 abbrev pub TurnsAreSteps : Type 0
-TurnsAreSteps = (terms : Terms) (w : Who) (at : ℕ) (past : List Step) (brought : List Message) (marks : List Mark) → AreSteps terms past → last_time past ≤ at
-    → RunsOrIsNew past w.self (machines terms past w.self.machine).process → ((message : Message) → IsAmong message brought → WasSentIn past message)
+TurnsAreSteps = (terms : Terms) (w : Who) (at : ℕ) (past : List Step) (brought : List Message) (marks : List Mark) → AreSteps terms past
+    → last_time past ≤ at
+    → RunsOrIsNew past w.self (machines terms past w.self.machine).process
+    → ((message : Message) → IsAmong message brought → WasSentIn past message)
     → Follow terms w at brought [] (machines terms past w.self.machine) marks → Adds terms w at past marks []
 
 -- And so do those of a process that makes the turn, which then stands for what its machine keeps over all steps.
 abbrev pub TurnGoesOn : Type 0
-TurnGoesOn = (terms : Terms) (at now : ℕ) (past : List Step) (brought : List Message) (old new : LeaseProcess) (turn : Turn [] brought now old new)
+TurnGoesOn = (terms : Terms) (at now : ℕ) (past : List Step) (brought : List Message) (old new : LeaseProcess)
+    (turn : Turn [] brought now old new)
     → terms.clock old.terms.machine old.start.process at ≡ now → AreSteps terms past → last_time past ≤ at
-    → RunsOrIsNew past (who old).self (machines terms past old.terms.machine).process → ((message : Message) → IsAmong message brought → WasSentIn past message)
+    → RunsOrIsNew past (who old).self (machines terms past old.terms.machine).process
+    → ((message : Message) → IsAmong message brought → WasSentIn past message)
     → IsAt terms now old (machines terms past old.terms.machine)
     → Adds terms (who old) at past turn.marks [] × IsAt terms now new (machines terms (steps_with at past turn.marks) old.terms.machine)
 
 -- Who is told to hold a lease holds it, over all steps up to then, under that epoch and until that time of the clock.
 abbrev pub HeldLinesHold : Type 0
 HeldLinesHold = (terms : Terms) (w : Who) (at : ℕ) (past : List Step) (name : Name) (user epoch until : ℕ) → last_time past ≤ at
-    → AreSteps terms past → IsHeld terms w at (machines terms past w.self.machine) name epoch until → IsHolder terms w at past name epoch until
+    → AreSteps terms past → IsHeld terms w at (machines terms past w.self.machine) name epoch until
+    → IsHolder terms w at past name epoch until
 
 -- ---- lines
 
@@ -105,7 +115,8 @@ MayBring p (Release now name user) message = ⊥
 
 -- what a line may bring was sent by a step before
 abbrev pub IsDelivered : List Step → LeaseProcess → Meaning → Type 0
-IsDelivered past p meaning = (message : LeaseMessage) → MayBring p meaning message → (x : Message) → IsAmong x (said message) → WasSentIn past x
+IsDelivered past p meaning = (message : LeaseMessage) → MayBring p meaning message → (x : Message) → IsAmong x (said message)
+    → WasSentIn past x
 
 -- a line is answered only while the process goes on, no epoch is granted above what is reserved, and who holds a lease was told so
 pub record IsSound (a : At) : Type 0 where
@@ -113,7 +124,8 @@ pub record IsSound (a : At) : Type 0 where
   pub reserved : IsReserved a
   pub holders : a.process.halt ≡ None → AreHoldersTold a.process.machine a.process.told.items
 
--- A line may be answered at a true time, behind these steps of all machines: what it tells is the clock's time then, what it brings was sent before, and its process stands
+-- A line may be answered at a true time, behind these steps of all machines: what it tells is the clock's time then, what it brings was
+-- sent before, and its process stands
 -- for what its machine keeps over all steps.
 pub record MayCome (terms : Terms) (at : ℕ) (past : List Step) (line : List ℕ) (old : At) : Type 0 where
   pub clock : TellsTime (terms.clock old.process.terms.machine old.process.start.process at) (meaning_of line)
@@ -133,7 +145,8 @@ pub record IsAnswered (marks : List Mark) (line : List ℕ) (old new : At) : Typ
   pub careful : AreTold old.process.told.items marks
   pub sound : IsSound new
   pub goes : (terms : Terms) (at : ℕ) (past : List Step) → MayCome terms at past line old
-      → Adds terms (who old.process) at past marks [] × IsAt terms new.told new.process (machines terms (steps_with at past marks) old.process.terms.machine)
+      → Adds terms (who old.process) at past marks [] × IsAt terms new.told new.process
+      (machines terms (steps_with at past marks) old.process.terms.machine)
 
 -- So it is of each line that a process answers.
 abbrev pub LinesAreSteps : Type 0

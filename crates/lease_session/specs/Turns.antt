@@ -98,7 +98,8 @@ pub record IsSent (who : Who) (sent : List Message) (to : ℕ) (message : LeaseM
   pub goes_to : GoesTo who.self.machine to message message.body
   pub carried : Carries who.key bytes message
 
--- one of the clients of the process holds the lease then, by a request of this epoch, until so long after it sent it as a client relies on a lease
+-- one of the clients of the process holds the lease then, by a request of this epoch, until so long after it sent it as a client relies on
+-- a lease
 pub record IsHeld (terms : Terms) (who : Who) (at : ℕ) (m : Machine) (name : Name) (epoch until : ℕ) : Type 0 where
   pub number : ℕ
   pub ask : Ask
@@ -134,14 +135,16 @@ abbrev pub IsHad : List Message → List Message → Event → Type 0
 IsHad brought sent (takes message) = IsAmong message brought ⊎ IsAmong message sent
 IsHad brought sent other = Unit {0}
 
-pub record MayMark (terms : Terms) (who : Who) (at : ℕ) (brought sent : List Message) (m : Machine) (by : Client) (what : Event) : Type 0 where
+pub record MayMark (terms : Terms) (who : Who) (at : ℕ) (brought sent : List Message) (m : Machine) (by : Client) (what : Event) :
+    Type 0 where
   pub machine : by.machine ≡ who.self.machine
   pub process : by.boot ≡ who.self.boot
   pub runs : Runs who.self.boot m.process what
   pub may : MayDo terms by m at what
   pub had : IsHad brought sent what
 
--- the marks may follow, at this true time, where the machine keeps this, the line brought these messages, and these were sent by steps before
+-- the marks may follow, at this true time, where the machine keeps this, the line brought these messages, and these were sent by steps
+-- before
 abbrev pub Follow : Terms → Who → ℕ → List Message → List Message → Machine → List Mark → Type 0
 Follow terms who at brought sent m [] = Unit {0}
 Follow terms who at brought sent m (did by what ∷ marks) =
@@ -202,17 +205,22 @@ pub record SaysHeld (now : ℕ) (name : Name) (old new : LeaseProcess) : Type 0 
   pub goes_on : new.halt ≡ None
   pub text : new.text.items ≡ old.text.items ++ row_text (held name user epoch until)
   pub told : new.told.items ≡ told_row old.told.items (held name user epoch until)
-  pub holds : (terms : Terms) (at : ℕ) (m : Machine) → terms.clock old.terms.machine old.start.process at ≡ now → IsAt terms now old m → IsHeld terms (who old) at m name epoch until
-  pub is_so : (x : LeaseMachine) (c : Claim) (r : ClientRequest) → old.machine ≡ Some x → claim_at x name ≡ Some c → c.candidate.lease ≡ Some r
+  pub holds : (terms : Terms) (at : ℕ) (m : Machine) → terms.clock old.terms.machine old.start.process at ≡ now → IsAt terms now old m
+      → IsHeld terms (who old) at m name epoch until
+  pub is_so : (x : LeaseMachine) (c : Claim) (r : ClientRequest) → old.machine ≡ Some x → claim_at x name ≡ Some c
+      → c.candidate.lease ≡ Some r
       → (user ≡ c.user) × (epoch ≡ r.epoch) × (until ≡ r.sent + c.candidate.relies_for)
 
 -- a process that goes on says this to the user of a name, or no memory is left
 pub record TellsUser (row : Row) (old new : LeaseProcess) : Type 0 where
   pub quiet : IsQuiet old new
-  pub said : IsOut new ⊎ ((new.halt ≡ None) × (new.text.items ≡ old.text.items ++ row_text row) × (new.told.items ≡ told_row old.told.items row))
+  pub said : IsOut new ⊎ ((new.halt ≡ None) × (new.text.items ≡ old.text.items ++ row_text row)
+      × (new.told.items ≡ told_row old.told.items row))
 
--- A process went on: at one time of its clock it made these steps and wrote these lines, where these messages were sent by steps before, and a line brought those. It keeps
--- what it told users of their leases, gives up none unsaid, and says of each that its client keeps so. Once no memory is left, its text isn't to be written.
+-- A process went on: at one time of its clock it made these steps and wrote these lines, where these messages were sent by steps before,
+-- and a line brought those. It keeps
+-- what it told users of their leases, gives up none unsaid, and says of each that its client keeps so. Once no memory is left, its text
+-- isn't to be written.
 pub record Turn (sent brought : List Message) (now : ℕ) (old new : LeaseProcess) : Type 0 where
   pub marks : List Mark
   pub terms : new.terms ≡ old.terms

@@ -9,7 +9,8 @@ use Rattle.lease_machine.specs.Machine.{HasNoRoom, voter_at}
 use Rattle.lease_message.specs.declared.message.Reason.{Reason}
 use Rattle.lease_message.specs.declared.message.Reason.TheVariants.{Full}
 
--- the rule of grants lets the voter grant the client this epoch now: it has waited behind its start, and the epoch is above its last, of a name that is free or the
+-- the rule of grants lets the voter grant the client this epoch now: it has waited behind its start, and the epoch is above its last, of a
+-- name that is free or the
 -- client's, or renews its grant
 abbrev pub IsGrantable : LeaseVoter → ℕ → Client → ℕ → Type 0
 IsGrantable v now client epoch = (v.began + v.keeps ≤ now) × MayGrant (view 0 v) now (ask_at client 0 epoch 0)
@@ -36,7 +37,8 @@ IsCrowdedOut None now name client epoch = ⊥
 IsCrowdedOut (Some x) now name client epoch = IsGrantable (voter_at x name) now client epoch × HasNoRoom now name x
 
 -- the machine refused it for this reason, which is `Full` exactly where there was no room
-pub record IsRefusedFor (reason : Reason) (machine : Option LeaseMachine) (now : ℕ) (name : Name) (client : Client) (epoch : ℕ) : Type 0 where
+pub record IsRefusedFor (reason : Reason) (machine : Option LeaseMachine) (now : ℕ) (name : Name) (client : Client) (epoch : ℕ) :
+    Type 0 where
   pub full : reason ≡ Full → IsCrowdedOut machine now name client epoch
   pub not_full : (reason ≡ Full → ⊥) → IsForbidden machine now name client epoch
 

@@ -1,5 +1,6 @@
 -- What is true of each name of a machine, and what holds of a name holds of the others.
-use Rattle.std.proofs.Common.{◌≡◌, ◌≢◌, ℕ, ◌+◌, ◌<◌, ◌≤◌, Bool, true, false, cond, List, [], ◌∷◌, Option, Some, None, refl, sym, ap, subst, ◌∙◌, arith}
+use Rattle.std.proofs.Common.{◌≡◌, ◌≢◌, ℕ, ◌+◌, ◌<◌, ◌≤◌, Bool, true, false, cond, List, [], ◌∷◌, Option, Some, None, refl, sym, ap, subst}
+use Rattle.std.proofs.Common.{◌∙◌, arith}
 use Rattle.std.specs.Prelude.{All, ◌==◌, if◌then◌else◌}
 use Rattle.std.specs.Option.{ForSome}
 use Rattle.std.specs.Str.{bytes_eq}
@@ -42,7 +43,8 @@ own_at c name k = by_entry (entry_of name c.names.items) refl
   where
     by_entry : (o : Option NameEntry) → entry_of name c.names.items ≡ o → claim_in o ≡ Some k → IsOwn c.terms c.process c.claims k.candidate
     by_entry None is claimed = absurd cc
-    by_entry (Some e) is claimed = (of_found (IsEntry c.terms c.process c.claims c.began c.bound) name c.names.items e c.kept.entries is).claim k claimed
+    by_entry (Some e) is claimed = (of_found (IsEntry c.terms c.process c.claims c.began c.bound) name c.names.items e c.kept.entries
+        is).claim k claimed
 
 -- ---- of the name, and of others
 
@@ -59,7 +61,8 @@ by_test P n name same different = test (bytes_eq n name) refl
     test true is = same (name_is n name is)
     test false is = different (not_name n name is)
 
-pub by_name : {A : Type 0} (P : A → Type 0) (name other : Name) (new old : Name → A) → (name ≡ other → P (new other)) → (other ≢ name → P (old other))
+pub by_name : {A : Type 0} (P : A → Type 0) (name other : Name) (new old : Name → A) → (name ≡ other → P (new other))
+    → (other ≢ name → P (old other))
     → P (at_name name new old other)
 by_name P name other new old same different = test (bytes_eq name other) refl
   where
@@ -67,7 +70,8 @@ by_name P name other new old same different = test (bytes_eq name other) refl
     test true is = same (name_is name other is)
     test false is = different (not_name name other is)
 
-pub by_client : (P : Candidate → Type 0) (number other : ℕ) (new : Name → Candidate) (old : ℕ → Name → Candidate) (name : Name) → (number ≡ other → P (new name))
+pub by_client : (P : Candidate → Type 0) (number other : ℕ) (new : Name → Candidate) (old : ℕ → Name → Candidate) (name : Name)
+    → (number ≡ other → P (new name))
     → ((number ≡ other → ⊥) → P (old other name)) → P (at_client number new old other name)
 by_client P number other new old name same different = test (number == other) refl
   where
@@ -76,7 +80,8 @@ by_client P number other new old name same different = test (number == other) re
     test false is = different (λ e. absurd (let bad : true ≡ false = sym (eq-eqb number other e) ∙ is in cc))
 
 -- where nothing is claimed anew under one name, and nothing under others
-pub claims_same : (old new : LeaseMachine) (name : Name) → claim_at new name ≡ claim_at old name → ((other : Name) → other ≢ name → claim_at new other ≡ claim_at old other)
+pub claims_same : (old new : LeaseMachine) (name : Name) → claim_at new name ≡ claim_at old name
+    → ((other : Name) → other ≢ name → claim_at new other ≡ claim_at old other)
     → (other : Name) → claim_at new other ≡ claim_at old other
 claims_same old new name mine others other = by_test (claim_at new other ≡ claim_at old other) name other
     (λ same. subst (λ (n : Name). claim_at new n ≡ claim_at old n) same mine) (λ differ. others other differ)

@@ -39,9 +39,12 @@ pub held_is_held : HeldIsHeld
 held_is_held terms steps c now time name claim request shows s claimed relies = record {
   ask = x.ask;
   holds = record {
-    running = subst (λ (n : ℕ). (machines terms (up_to time steps) n).process ≡ Some self.boot) (sym own.of_machine) (s.process ∙ ap (λ (p : ℕ). Some p) (sym own.of_process));
-    lease = subst (λ (n : ℕ). ((machines terms (up_to time steps) n).candidate self.number name).lease ≡ Some x.ask) (sym own.of_machine) x.is;
-    in_time = subst (λ (k : ℕ → ℕ). is_in_time terms.relies_for k time x.ask ≡ true) its_clock (ltb_is (clock_of terms c time) (clock_of terms c x.ask.sent + terms.relies_for)
+    running = subst (λ (n : ℕ). (machines terms (up_to time steps) n).process ≡ Some self.boot) (sym own.of_machine)
+        (s.process ∙ ap (λ (p : ℕ). Some p) (sym own.of_process));
+    lease = subst (λ (n : ℕ). ((machines terms (up_to time steps) n).candidate self.number name).lease ≡ Some x.ask)
+        (sym own.of_machine) x.is;
+    in_time = subst (λ (k : ℕ → ℕ). is_in_time terms.relies_for k time x.ask
+        ≡ true) its_clock (ltb_is (clock_of terms c time) (clock_of terms c x.ask.sent + terms.relies_for)
         (let less = relies.in_time in omega (arith, shows, less, sent, time_is)));
   };
   number = ap (λ (a : Ask). a.number) x.same;
@@ -63,7 +66,9 @@ held_is_held terms steps c now time name claim request shows s claimed relies = 
 
     x : IsShown (clock_of terms c) self request ((machines terms (up_to time steps) c.terms.machine).candidate self.number name).lease
     x = is_shown (clock_of terms c) self request ((machines terms (up_to time steps) c.terms.machine).candidate self.number name).lease
-        (subst (λ (r : Option Request). IsSent (clock_of terms c) self r ((machines terms (up_to time steps) c.terms.machine).candidate self.number name).lease) lease (s.clients name claim claimed).lease)
+        (subst (λ (r : Option Request). IsSent (clock_of terms c) self r
+        ((machines terms (up_to time steps) c.terms.machine).candidate self.number name).lease) lease
+        (s.clients name claim claimed).lease)
 
     sent : clock_of terms c x.ask.sent ≡ request.sent
     sent = ap (λ (a : Ask). a.sent) x.same
@@ -72,4 +77,5 @@ held_is_held terms steps c now time name claim request shows s claimed relies = 
     time_is = ap (λ (k : Claim). k.candidate.relies_for) the_one ∙ (own.time ∙ sym s.are.relies_for)
 
     its_clock : clock_of terms c ≡ terms.clock self.machine self.boot
-    its_clock = ap (λ (n : ℕ). terms.clock n c.process) (sym own.of_machine) ∙ ap (λ (p : ℕ). terms.clock self.machine p) (sym own.of_process)
+    its_clock = ap (λ (n : ℕ). terms.clock n c.process) (sym own.of_machine)
+        ∙ ap (λ (p : ℕ). terms.clock self.machine p) (sym own.of_process)

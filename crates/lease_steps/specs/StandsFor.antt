@@ -20,13 +20,15 @@ pub record AreOf (t : LeaseTerms) (terms : Terms) : Type 0 where
 abbrev pub clock_of : Terms → LeaseMachine → ℕ → ℕ
 clock_of terms c = terms.clock c.terms.machine c.process
 
--- At this time of its clock the code stands for this machine: its process runs there, each voter stands for that of the name, each client that asks shows what it
+-- At this time of its clock the code stands for this machine: its process runs there, each voter stands for that of the name, each client
+-- that asks shows what it
 -- keeps, and no client asked whose number is still to come.
 pub record StandsFor (terms : Terms) (now : ℕ) (c : LeaseMachine) (m : Machine) : Type 0 where
   pub are : AreOf c.terms terms
   pub process : m.process ≡ Some c.process
   pub voters : (name : Name) → Stands c.process now (voter_at c name) (m.voter name)
-  pub clients : (name : Name) (claim : Claim) → claim_at c name ≡ Some claim → Shows (clock_of terms c) claim.candidate (m.candidate claim.candidate.client.number name)
+  pub clients : (name : Name) (claim : Claim) → claim_at c name ≡ Some claim
+      → Shows (clock_of terms c) claim.candidate (m.candidate claim.candidate.client.number name)
   pub unused : (number : ℕ) (name : Name) → c.claims < number → m.candidate number name ≡ beginning
 
 -- Whatever machine the code stood for, it might do this then, by one of its clients, and the code stands for what that leaves.

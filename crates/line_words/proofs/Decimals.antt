@@ -1,5 +1,6 @@
 -- The number that digits spell, and the digits that spell a number.
-use Rattle.std.proofs.Common.{◌≡◌, ◌≢◌, ℕ, ◌+◌, ◌-◌, ◌*◌, ◌/◌, ◌%◌, ◌^◌, ◌<◌, ◌≤◌, ◌==◌, ◌&&◌, nat_lt, nat_le, Bool, true, false, List, [], ◌∷◌, ◌++◌, length, get_or, if◌then◌else◌, Option, Some, None, refl, sym, ap, ◌∙◌, arith}
+use Rattle.std.proofs.Common.{◌≡◌, ◌≢◌, ℕ, ◌+◌, ◌-◌, ◌*◌, ◌/◌, ◌%◌, ◌^◌, ◌<◌, ◌≤◌, ◌==◌, ◌&&◌, nat_lt, nat_le, Bool, true, false, List, []}
+use Rattle.std.proofs.Common.{◌∷◌, ◌++◌, length, get_or, if◌then◌else◌, Option, Some, None, refl, sym, ap, ◌∙◌, arith}
 use Rattle.std.specs.Str.Parse.{AllDigits, digits_value, digits_value_after}
 use Rattle.std.specs.Char.{digit_value}
 use Rattle.std.specs.Fmt.{decimal}
@@ -28,7 +29,8 @@ taken n c m read = tested (is_digit c && nat_lt (n * 10 + (c - 48)) (2 ^ 64)) re
     tested false both read = absurd cc
 
 -- digits that were read have the value that they write behind n
-pub read_digits : (digits : List ℕ) (n m : ℕ) → n < 2 ^ 64 → value_from digits n ≡ Some m → AllDigits 10 digits × (digits_value_after 10 n digits ≡ m) × (m < 2 ^ 64)
+pub read_digits : (digits : List ℕ) (n m : ℕ) → n < 2 ^ 64 → value_from digits n ≡ Some m
+    → AllDigits 10 digits × (digits_value_after 10 n digits ≡ m) × (m < 2 ^ 64)
 read_digits [] n m small read = let same : n ≡ m = cc in (tt, same, omega arith)
 read_digits (c ∷ digits) n m small read = step (with_digit n c) refl read (λ k below later. read_digits digits k m below later)
   where
@@ -50,15 +52,18 @@ takes n c digit small =
     let range = digit_from_value c digit in
     let unit = digit_value_digit c range in
     let same : c - 48 ≡ digit_value c = omega arith in
-    tested (is_digit c) (nat_lt (n * 10 + (c - 48)) (2 ^ 64)) (grind (arith, nat_tests, range.0, range.1)) (grind (arith, nat_tests, same, small)) same
+    tested (is_digit c) (nat_lt (n * 10 + (c - 48)) (2 ^ 64)) (grind (arith, nat_tests, range.0, range.1))
+    (grind (arith, nat_tests, same, small)) same
   where
-    tested : (b d : Bool) → b ≡ true → d ≡ true → c - 48 ≡ digit_value c → (if b && d then Some (n * 10 + (c - 48)) else None) ≡ Some (n * 10 + digit_value c)
+    tested : (b d : Bool) → b ≡ true → d ≡ true → c - 48 ≡ digit_value c
+        → (if b && d then Some (n * 10 + (c - 48)) else None) ≡ Some (n * 10 + digit_value c)
     tested true true p q same = ap (λ k. Some (n * 10 + k)) same
     tested true false p q same = absurd cc
     tested false d p q same = absurd cc
 
 -- digits are read where what they write behind n is below 2^64
-pub reads_digits : (digits : List ℕ) (n : ℕ) → AllDigits 10 digits → digits_value_after 10 n digits < 2 ^ 64 → value_from digits n ≡ Some (digits_value_after 10 n digits)
+pub reads_digits : (digits : List ℕ) (n : ℕ) → AllDigits 10 digits → digits_value_after 10 n digits < 2 ^ 64
+    → value_from digits n ≡ Some (digits_value_after 10 n digits)
 reads_digits [] n all small = refl
 reads_digits (c ∷ digits) n all small =
     let one = takes n c all.0 (omega (arith, value_grows digits (n * 10 + digit_value c))) in
@@ -78,7 +83,12 @@ without_zeros n small = decimal_by_steps IsWithoutZeros digit more n small
 
     more : (m : ℕ) (digits : List ℕ) → 10 ≤ m → IsWithoutZeros (m / 10) digits → IsWithoutZeros m (digits ++ (48 + m % 10) ∷ [])
     more m [] tens before = let none : 0 < 0 = before.some in absurd (omega arith)
-    more m (c ∷ digits) tens before = record { some = omega arith; first = λ positive. before.first (omega arith); alone = λ zero. absurd (omega arith) }
+    more m (c ∷ digits) tens before = record {
+      some = omega arith;
+      first = λ positive. before.first (omega arith);
+      alone =
+          λ zero. absurd (omega arith);
+    }
 
 pub spelled : (n : ℕ) → n < 2 ^ 64 → number_of (decimal n) ≡ Some n
 spelled n small =
@@ -88,16 +98,25 @@ spelled n small =
     word : (digits : List ℕ) → IsWithoutZeros n digits → AllDigits 10 digits → digits_value 10 digits ≡ n → number_of digits ≡ Some n
     word [] zeros all value = let none : 0 < 0 = zeros.some in absurd (omega arith)
     word (c ∷ []) zeros all value = grind (arith, nat_tests, reads_digits (c ∷ []) 0 all (omega (arith, value)), value)
-    word (c ∷ d ∷ rest) zeros all value = grind (arith, nat_tests, reads_digits (c ∷ d ∷ rest) 0 all (omega (arith, value)), value, zeros.first, zeros.alone)
+    word (c ∷ d ∷ rest) zeros all value = grind (
+      arith,
+      nat_tests,
+      reads_digits (c ∷ d ∷ rest) 0 all (omega (arith, value)),
+      value,
+      zeros.first,
+      zeros.alone,
+    )
 
 pub only : (word : List ℕ) (n : ℕ) → number_of word ≡ Some n → (word ≡ decimal n) × (n < 2 ^ 64)
 only [] n read = absurd cc
 only (c ∷ rest) n read = tested (c == 48 && nat_lt 0 (length rest)) refl read
   where
-    tested : (b : Bool) → (c == 48 && nat_lt 0 (length rest)) ≡ b → (if b then None else value_from (c ∷ rest) 0) ≡ Some n → (c ∷ rest ≡ decimal n) × (n < 2 ^ 64)
+    tested : (b : Bool) → (c == 48 && nat_lt 0 (length rest)) ≡ b → (if b then None else value_from (c ∷ rest) 0) ≡ Some n
+        → (c ∷ rest ≡ decimal n) × (n < 2 ^ 64)
     tested true lead read = absurd cc
     tested false lead read =
         let digits = read_digits (c ∷ rest) 0 n (omega arith) read in
         let front : c ≡ 48 → length (c ∷ rest) ≡ 1 = λ zero. grind (arith, nat_tests, lead, zero) in
-        let spells = decimal-digits_value (numerals_by_value (AllDigits 10) tells_digits) (c ∷ rest) digits.0 (omega arith) front (omega (arith, digits.1)) in
+        let spells = decimal-digits_value (numerals_by_value (AllDigits 10) tells_digits)
+        (c ∷ rest) digits.0 (omega arith) front (omega (arith, digits.1)) in
         (sym spells ∙ ap decimal digits.1, digits.2)

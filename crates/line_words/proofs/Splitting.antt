@@ -1,5 +1,6 @@
 -- The first part of a text that a byte parts.
-use Rattle.std.proofs.Common.{◌≡◌, ℕ, zero, suc, ◌+◌, ◌-◌, ◌<◌, ◌==◌, Bool, true, false, List, [], ◌∷◌, length, take, drop, refl, ap, ◌∙◌, arith, add-one}
+use Rattle.std.proofs.Common.{◌≡◌, ℕ, zero, suc, ◌+◌, ◌-◌, ◌<◌, ◌==◌, Bool, true, false, List, [], ◌∷◌, length, take, drop, refl, ap, ◌∙◌}
+use Rattle.std.proofs.Common.{arith, add-one}
 use Rattle.std.specs.Prelude.{slice_index}
 use Rattle.std.specs.List.{onto_first, slice_split}
 use Rattle.std.proofs.lemmas.List.Splits.{slice_split-cons_yes, slice_split-cons_no}
@@ -24,7 +25,8 @@ last_part b (c ∷ text) none =
     ∙ ap (onto_first c) (last_part b text (λ i within. none (suc i) (omega arith)))
 
 -- the first part ends before the first such byte
-first_part : (b : ℕ) (text : List ℕ) (k : ℕ) → k < length text → ((i : ℕ) → i < k → is_byte b (slice_index text i) ≡ true → ⊥) → is_byte b (slice_index text k) ≡ true
+first_part : (b : ℕ) (text : List ℕ) (k : ℕ) → k < length text → ((i : ℕ) → i < k → is_byte b (slice_index text i) ≡ true → ⊥)
+    → is_byte b (slice_index text k) ≡ true
     → parts b text ≡ take k text ∷ parts b (drop (suc k) text)
 first_part b [] k within none here = absurd (omega arith)
 first_part b (c ∷ text) zero within none here = slice_split-cons_yes (λ d. d == b) c text here
@@ -35,7 +37,8 @@ first_part b (c ∷ text) (suc k) within none here =
 -- where the first such byte is found
 first_at : (b : ℕ) (text : List ℕ) (k : ℕ) → NoneBefore (Passes (is_byte b) text) 0 (length text) k × Passes (is_byte b) text k
     → parts b text ≡ take k text ∷ parts b (drop (k + 1) text)
-first_at b text k at_place = rw add-one (first_part b text k at_place.0.high (λ i before here. at_place.0.before i (omega arith) before here) at_place.1)
+first_at b text k at_place = rw add-one (first_part b text k at_place.0.high (λ i before here.
+    at_place.0.before i (omega arith) before here) at_place.1)
 
 none_at : (b : ℕ) (text : List ℕ) → Nowhere (Passes (is_byte b) text) 0 (length text) → parts b text ≡ text ∷ []
 none_at b text none = last_part b text (λ i within here. none i (omega arith) within here)

@@ -1,5 +1,6 @@
 -- Lines of an input, and the bytes that words spell in hex.
-use Rattle.std.specs.Prelude.{◌≡◌, ℕ, List, [], ◌∷◌, length, ◌==◌, ◌&&◌, ◌<◌, ◌-◌, nat_lt, Bool, if◌then◌else◌, Option, Some, None, Result, Err}
+use Rattle.std.specs.Prelude.{◌≡◌, ℕ, List, [], ◌∷◌, length, ◌==◌, ◌&&◌, ◌<◌, ◌-◌, nat_lt, Bool, if◌then◌else◌, Option, Some, None, Result}
+use Rattle.std.specs.Prelude.{Err}
 use Rattle.std.specs.List.{slice_split}
 use Rattle.std.specs.Result.{result_ok}
 use Rattle.hex.specs.Hex.{decode_of}

@@ -24,7 +24,17 @@ pub record Side : Type 0 where
 
 -- nothing was taken at it yet
 abbrev pub unused : Ring → ℕ → ℕ → ℕ → Side
-unused ring sender receiver capacity = record { sender = sender; receiver = receiver; capacity = capacity; messages = []; room = 0; seen = []; ring = ring; free = 0 }
+unused ring sender receiver capacity = record {
+  sender = sender;
+  receiver = receiver;
+  capacity = capacity;
+  messages = [];
+  room = 0;
+  seen =
+      [];
+  ring = ring;
+  free = 0;
+}
 
 -- nothing was put at it yet, and all slots are free
 abbrev pub unused_put : Ring → ℕ → ℕ → ℕ → Side

@@ -15,13 +15,15 @@ abbrev shape_by : Option Kind → List ℕ → Shape
 shape_by (Some k) ns = Brief (record { kind = k; answer = get_or ns 3 0 == 1; creator = get_or ns 1 0; number = get_or ns 2 0 })
 shape_by None ns =
     if get_or ns 0 0 == 7 then Tells (record { group = record { creator = get_or ns 1 0; count = get_or ns 2 0 }; members = drop 3 ns })
-    else Gives (record { creator = get_or ns 1 0; count = get_or ns 3 0 }) (get_or ns 2 0) (record { queue = get_or ns 4 0; priority = get_or ns 5 0; payload = drop 6 ns })
+    else Gives (record { creator = get_or ns 1 0; count = get_or ns 3 0 }) (get_or ns 2 0)
+    (record { queue = get_or ns 4 0; priority = get_or ns 5 0; payload = drop 6 ns })
 
 shape_numbered : List ℕ → Shape
 shape_numbered ns = shape_by (kind_numbered (get_or ns 0 0)) ns
 
 brief_again : (k : Kind) (creator number : ℕ) (answer : Bool)
-    → shape_numbered (number_of k ∷ creator ∷ number ∷ truth answer) ≡ Brief (record { kind = k; answer = answer; creator = creator; number = number })
+    → shape_numbered (number_of k ∷ creator ∷ number ∷ truth answer)
+    ≡ Brief (record { kind = k; answer = answer; creator = creator; number = number })
 unfolding shape_numbered
 brief_again k creator number true = ap (λ (o : Option Kind). shape_by o (number_of k ∷ creator ∷ number ∷ truth true)) (kind_again k)
 brief_again k creator number false = ap (λ (o : Option Kind). shape_by o (number_of k ∷ creator ∷ number ∷ truth false)) (kind_again k)
@@ -43,8 +45,10 @@ again m =
 
 -- two messages of the same numbers are one
 pub one_message : (m n : Envelope) → same_message m n ≡ true → m ≡ n
-one_message m n same = sym (again m) ∙ ap (λ (ns : List ℕ). envelope_numbered ns) ((bytes_decides (numbers_of m) (numbers_of n)).0 same) ∙ again n
+one_message m n same = sym (again m) ∙ ap (λ (ns : List ℕ). envelope_numbered ns) ((bytes_decides (numbers_of m) (numbers_of n)).0 same)
+    ∙ again n
 
 pub as_same : (b : Bool) (m n : Envelope) → IsTrue b ↔ (m ≡ n) → b ≡ same_message m n
 as_same b m n is =
-    both_ways b (same_message m n) (λ t. (bytes_decides (numbers_of m) (numbers_of n)).1 (ap (λ (e : Envelope). numbers_of e) (is.0 t))) (λ same. is.1 (one_message m n same))
+    both_ways b (same_message m n) (λ t. (bytes_decides (numbers_of m) (numbers_of n)).1 (ap (λ (e : Envelope). numbers_of e) (is.0 t)))
+    (λ same. is.1 (one_message m n same))

@@ -1,5 +1,6 @@
 -- How messages are kept: a packed message of fixed size for each, and what is longer in lists beside it.
-use Rattle.std.specs.Prelude.{ℕ, ◌≢◌, ◌+◌, ◌<◌, ◌≤◌, Bool, true, false, List, [], ◌∷◌, length, take, drop, All, Option, Some, None, slice_index_or}
+use Rattle.std.specs.Prelude.{ℕ, ◌≢◌, ◌+◌, ◌<◌, ◌≤◌, Bool, true, false, List, [], ◌∷◌, length, take, drop, All, Option, Some, None}
+use Rattle.std.specs.Prelude.{slice_index_or}
 use Rattle.job_model.specs.declared.payload.TheConstants.{PAYLOAD_CAPACITY}
 use Rattle.group_task.specs.Assignment.{Assignment}
 use Rattle.wire_msg.specs.Envelope.{Envelope}
@@ -15,9 +16,33 @@ use Rattle.message_list.specs.declared.packed_message.PackedWork.{PackedWork}
 
 -- its short form, or where its task or work stands in the lists beside
 abbrev pub letter_by : ℕ → ℕ → ℕ → ℕ → Shape → PackedMessage
-letter_by tasks works sender receiver (Brief s) = record { sender = sender; receiver = receiver; kind = kind.Short s.kind; answer = s.answer; creator = s.creator; number = s.number }
-letter_by tasks works sender receiver (Tells t) = record { sender = sender; receiver = receiver; kind = kind.Ready; answer = false; creator = sender; number = tasks }
-letter_by tasks works sender receiver (Gives g id w) = record { sender = sender; receiver = receiver; kind = kind.Work; answer = false; creator = sender; number = works }
+letter_by tasks works sender receiver (Brief s) = record {
+  sender = sender;
+  receiver = receiver;
+  kind = kind.Short s.kind;
+  answer =
+      s.answer;
+  creator = s.creator;
+  number = s.number;
+}
+letter_by tasks works sender receiver (Tells t) = record {
+  sender = sender;
+  receiver = receiver;
+  kind = kind.Ready;
+  answer =
+      false;
+  creator = sender;
+  number = tasks;
+}
+letter_by tasks works sender receiver (Gives g id w) = record {
+  sender = sender;
+  receiver = receiver;
+  kind = kind.Work;
+  answer =
+      false;
+  creator = sender;
+  number = works;
+}
 
 -- the packed message of a message, where so many tasks and works are kept before it
 abbrev pub letter_of : ℕ → ℕ → Envelope → PackedMessage
@@ -29,7 +54,15 @@ task_kept shape = []
 
 -- a work whose payload begins here
 abbrev pub work_kept : ℕ → Shape → List PackedWork
-work_kept start (Gives g id w) = record { group = g; id = id; queue = w.queue; priority = w.priority; start = start; len = length w.payload } ∷ []
+work_kept start (Gives g id w) = record {
+  group = g;
+  id = id;
+  queue = w.queue;
+  priority = w.priority;
+  start = start;
+  len =
+      length w.payload;
+} ∷ []
 work_kept start shape = []
 
 abbrev pub payload_kept : Shape → List ℕ

@@ -1,5 +1,6 @@
 -- What is in hand once a job is taken or given up.
-use Rattle.std.proofs.Common.{◌≡◌, ℕ, zero, suc, ◌+◌, ◌<◌, Bool, true, false, not, cond, ◌&&◌, ◌||◌, List, [], ◌∷◌, ◌++◌, length, take, drop, ◌==◌, refl, sym, ap, ◌∙◌, subst, arith, slice_index_or}
+use Rattle.std.proofs.Common.{◌≡◌, ℕ, zero, suc, ◌+◌, ◌<◌, Bool, true, false, not, cond, ◌&&◌, ◌||◌, List, [], ◌∷◌, ◌++◌, length, take}
+use Rattle.std.proofs.Common.{drop, ◌==◌, refl, sym, ap, ◌∙◌, subst, arith, slice_index_or}
 use Rattle.std.proofs.lemmas.Bool.Decides.{nat_tests}
 use Rattle.std.proofs.lemmas.List.{map-append, take-map, drop-map}
 use Rattle.std.specs.List.{filter}
@@ -8,9 +9,11 @@ use Rattle.node_core.specs.declared.in_hand.InHand.{InHand}
 use Rattle.node_core.specs.Held.{holds, is_of, without_held}
 use Rattle.node_core.specs.Listing.{AreOnce, IsAt, in_hand, in_hand_of}
 
-pub holds_more : (jobs : List InHand) (job : InHand) (origin id : ℕ) → holds (jobs ++ job ∷ []) origin id ≡ (is_of job origin id || holds jobs origin id)
+pub holds_more : (jobs : List InHand) (job : InHand) (origin id : ℕ)
+    → holds (jobs ++ job ∷ []) origin id ≡ (is_of job origin id || holds jobs origin id)
 holds_more [] job origin id = refl
-holds_more (x ∷ xs) job origin id = ap (λ b. is_of x origin id || b) (holds_more xs job origin id) ∙ turned (is_of x origin id) (is_of job origin id) (holds xs origin id)
+holds_more (x ∷ xs) job origin id = ap (λ b. is_of x origin id || b) (holds_more xs job origin id)
+    ∙ turned (is_of x origin id) (is_of job origin id) (holds xs origin id)
   where
     turned : (a b c : Bool) → (a || (b || c)) ≡ (b || (a || c))
     turned true true c = refl
@@ -29,7 +32,8 @@ without_absent (x ∷ xs) origin id none = by_first (is_of x origin id) none (wi
 same_of : (job : InHand) (origin id p k : ℕ) → is_of job origin id ≡ true → is_of job p k ≡ (origin == p && id == k)
 same_of job origin id p k is = grind (arith, nat_tests, is)
 
-pub holds_without : (jobs : List InHand) (origin id p k : ℕ) → holds (without_held jobs origin id) p k ≡ cond (origin == p && id == k) false (holds jobs p k)
+pub holds_without : (jobs : List InHand) (origin id p k : ℕ)
+    → holds (without_held jobs origin id) p k ≡ cond (origin == p && id == k) false (holds jobs p k)
 holds_without [] origin id p k = both (origin == p && id == k)
   where
     both : (b : Bool) → false ≡ cond b false false
@@ -46,8 +50,10 @@ holds_without (x ∷ xs) origin id p k = by_first (is_of x origin id) refl (hold
     stays true false c h = refl
     stays false b c h = refl
 
-    by_first : (b : Bool) → is_of x origin id ≡ b → holds (without_held xs origin id) p k ≡ cond (origin == p && id == k) false (holds xs p k)
-        → holds (cond (not b) (x ∷ without_held xs origin id) (without_held xs origin id)) p k ≡ cond (origin == p && id == k) false (is_of x p k || holds xs p k)
+    by_first : (b : Bool) → is_of x origin id ≡ b → holds (without_held xs origin id) p k
+        ≡ cond (origin == p && id == k) false (holds xs p k)
+        → holds (cond (not b) (x ∷ without_held xs origin id) (without_held xs origin id)) p k
+        ≡ cond (origin == p && id == k) false (is_of x p k || holds xs p k)
     by_first true is rest =
         rest ∙ gone (origin == p && id == k) (holds xs p k)
         ∙ ap (λ b. cond (origin == p && id == k) false (b || holds xs p k)) (sym (same_of x origin id p k is))
@@ -62,8 +68,10 @@ turn_of a b = grind (arith, nat_tests)
 pub once_more : (jobs : List InHand) (job : InHand) → AreOnce jobs → holds jobs job.origin job.id ≡ false → AreOnce (jobs ++ job ∷ [])
 once_more [] job once none = (refl, tt)
 once_more (x ∷ xs) job once none =
-    let first = neither (is_of x job.origin job.id) (holds xs job.origin job.id) none in
-    (holds_more xs job x.origin x.id ∙ ap (λ b. b || holds xs x.origin x.id) (turn_of job x ∙ first.0) ∙ once.0, once_more xs job once.1 first.1)
+    let first = neither (is_of x job.origin job.id) (holds xs job.origin job.id) none in (
+      holds_more xs job x.origin x.id ∙ ap (λ b. b || holds xs x.origin x.id) (turn_of job x ∙ first.0) ∙ once.0,
+      once_more xs job once.1 first.1,
+    )
   where
     neither : (a b : Bool) → (a || b) ≡ false → (a ≡ false) × (b ≡ false)
     neither true b h = absurd cc
@@ -77,13 +85,19 @@ once_without (x ∷ xs) origin id once = by_first (is_of x origin id) (once_with
     never true = refl
     never false = refl
 
-    by_first : (b : Bool) → AreOnce (without_held xs origin id) → AreOnce (cond (not b) (x ∷ without_held xs origin id) (without_held xs origin id))
+    by_first : (b : Bool) → AreOnce (without_held xs origin id)
+        → AreOnce (cond (not b) (x ∷ without_held xs origin id) (without_held xs origin id))
     by_first true rest = rest
-    by_first false rest = (holds_without xs origin id x.origin x.id ∙ ap (λ b. cond (origin == x.origin && id == x.id) false b) once.0 ∙ never (origin == x.origin && id == x.id), rest)
+    by_first false rest = (
+      holds_without xs origin id x.origin x.id ∙ ap (λ b. cond (origin == x.origin && id == x.id) false b) once.0
+          ∙ never (origin == x.origin && id == x.id),
+      rest,
+    )
 
 pub held_at : (jobs : List InHand) (origin id at : ℕ) → at < length jobs → IsAt jobs origin id at → holds jobs origin id ≡ true
 held_at [] origin id at less is = absurd (omega (arith, less))
-held_at (x ∷ xs) origin id zero less is = let here = is x in let one : is_of x origin id ≡ true = grind (arith, nat_tests, here.0, here.1) in ap (λ b. b || holds xs origin id) one
+held_at (x ∷ xs) origin id zero less is = let here = is x in
+    let one : is_of x origin id ≡ true = grind (arith, nat_tests, here.0, here.1) in ap (λ b. b || holds xs origin id) one
 held_at (x ∷ xs) origin id (suc at) less is = later (is_of x origin id) (held_at xs origin id at (omega (arith, less)) is)
   where
     later : (a : Bool) → holds xs origin id ≡ true → (a || holds xs origin id) ≡ true
@@ -91,7 +105,8 @@ held_at (x ∷ xs) origin id (suc at) less is = later (is_of x origin id) (held_
     later false h = h
 
 -- the job in its place is the one that is given up
-pub without_at : (jobs : List InHand) (origin id at : ℕ) → AreOnce jobs → at < length jobs → IsAt jobs origin id at → without_held jobs origin id ≡ take at jobs ++ drop (at + 1) jobs
+pub without_at : (jobs : List InHand) (origin id at : ℕ) → AreOnce jobs → at < length jobs → IsAt jobs origin id at
+    → without_held jobs origin id ≡ take at jobs ++ drop (at + 1) jobs
 without_at [] origin id at once less is = absurd (omega (arith, less))
 without_at (x ∷ xs) origin id zero once less is =
     let here = is x in
@@ -112,7 +127,8 @@ without_at (x ∷ xs) origin id (suc at) once less is =
         let none = once.0 in cc)
 
 -- none of the jobs in these places is the one
-pub absent : (jobs : List InHand) (origin id : ℕ) → ((k : ℕ) (d : InHand) → k < length jobs → is_of (slice_index_or jobs k d) origin id ≡ false) → holds jobs origin id ≡ false
+pub absent : (jobs : List InHand) (origin id : ℕ) → ((k : ℕ) (d : InHand) → k < length jobs
+    → is_of (slice_index_or jobs k d) origin id ≡ false) → holds jobs origin id ≡ false
 absent [] origin id none = refl
 absent (x ∷ xs) origin id none =
     ap (λ b. b || holds xs origin id) (none zero x (omega arith))
@@ -128,11 +144,13 @@ in_hand_without (x ∷ xs) origin id = one (not (is_of (in_hand_of x) origin id)
     left = filter (λ (one : KeptJob). not (one.origin == origin && one.job.id == id)) xs
 
     one : (b : Bool) → in_hand left ≡ without_held (in_hand xs) origin id
-        → in_hand (cond b (x ∷ left) left) ≡ cond b (in_hand_of x ∷ without_held (in_hand xs) origin id) (without_held (in_hand xs) origin id)
+        → in_hand (cond b (x ∷ left) left) ≡ cond b (in_hand_of x ∷ without_held (in_hand xs) origin id)
+        (without_held (in_hand xs) origin id)
     one true rest = ap (λ ys. in_hand_of x ∷ ys) rest
     one false rest = rest
 
-pub in_hand_left : (kept : List KeptJob) (at : ℕ) → in_hand (take at kept ++ drop (at + 1) kept) ≡ take at (in_hand kept) ++ drop (at + 1) (in_hand kept)
+pub in_hand_left : (kept : List KeptJob) (at : ℕ) → in_hand (take at kept ++ drop (at + 1) kept) ≡ take at (in_hand kept) ++ drop (at + 1)
+    (in_hand kept)
 in_hand_left kept at =
     map-append in_hand_of (take at kept) (drop (at + 1) kept)
     ∙ ap (λ ys. ys ++ in_hand (drop (at + 1) kept)) (sym (take-map in_hand_of at kept))

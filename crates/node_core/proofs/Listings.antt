@@ -18,7 +18,8 @@ none_listed keys none = record {
   once = tt;
 }
 
-pub listed_still : (jobs : List InHand) (old new : List (ℕ × ℕ)) → ((q : ℕ × ℕ) → list_any (key_is q) new ≡ list_any (key_is q) old) → AreKeys jobs old → AreKeys jobs new
+pub listed_still : (jobs : List InHand) (old new : List (ℕ × ℕ)) → ((q : ℕ × ℕ) → list_any (key_is q) new ≡ list_any (key_is q) old)
+    → AreKeys jobs old → AreKeys jobs new
 listed_still jobs old new is keys = record {
   same = λ origin id. is (origin, id) ∙ keys.same origin id;
   once = keys.once;

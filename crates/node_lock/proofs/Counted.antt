@@ -40,5 +40,6 @@ few_of h w k few =
     omega (arith, since, none, few)
 
 -- where the history isn't full, the number of each worker's next turn is below 2^32
-pub few_turns : (h : HeldView) → HeldInvariant h → length h.history < MOST_ENTRIES → (h.turns.intake < 4294967296) × (h.turns.clock < 4294967296) × (h.turns.operator < 4294967296)
+pub few_turns : (h : HeldView) → HeldInvariant h → length h.history < MOST_ENTRIES
+    → (h.turns.intake < 4294967296) × (h.turns.clock < 4294967296) × (h.turns.operator < 4294967296)
 few_turns h k few = (few_of h Intake k few, few_of h Clock k few, few_of h Operator k few)

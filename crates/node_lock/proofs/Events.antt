@@ -12,15 +12,19 @@ use Rattle.trace_check.proofs.PublicLaws.{event_same, event_again, event_stands,
 
 -- ---- more is kept, and an event is what it was
 
-events_same : (ms more : List Envelope) (p bytes : List ℕ) (es : List PackedEvent) → All (EventStands (length ms) (length p)) es → map (event_said (ms ++ more) (p ++ bytes)) es ≡ map (event_said ms p) es
+events_same : (ms more : List Envelope) (p bytes : List ℕ) (es : List PackedEvent) → All (EventStands (length ms) (length p)) es
+    → map (event_said (ms ++ more) (p ++ bytes)) es ≡ map (event_said ms p) es
 events_same ms more p bytes [] h = refl
 events_same ms more p bytes (e ∷ es) h =
-    ap (λ (x : Event). x ∷ map (event_said (ms ++ more) (p ++ bytes)) es) (event_same ms more p bytes e (All-head (EventStands (length ms) (length p)) e es h))
-    ∙ ap (λ (xs : List Event). event_said ms p e ∷ xs) (events_same ms more p bytes es (All-tail (EventStands (length ms) (length p)) e es h))
+    ap (λ (x : Event). x ∷ map (event_said (ms ++ more) (p ++ bytes)) es)
+    (event_same ms more p bytes e (All-head (EventStands (length ms) (length p)) e es h))
+    ∙ ap (λ (xs : List Event). event_said ms p e ∷ xs) (events_same ms more p bytes es
+    (All-tail (EventStands (length ms) (length p)) e es h))
 
 -- the events, with one more
 pub events_more : (es : List PackedEvent) (ms : List Envelope) (p : List ℕ) (e : Event) → All (EventStands (length ms) (length p)) es
-    → map (event_said (ms ++ brought (Some e)) (p ++ payload_of e)) (es ++ kept_event (length ms) (length p) e ∷ []) ≡ map (event_said ms p) es ++ e ∷ []
+    → map (event_said (ms ++ brought (Some e)) (p ++ payload_of e)) (es ++ kept_event (length ms) (length p) e ∷ [])
+    ≡ map (event_said ms p) es ++ e ∷ []
 events_more es ms p e h =
     let f = event_said (ms ++ brought (Some e)) (p ++ payload_of e) in
     map-append f es (kept_event (length ms) (length p) e ∷ [])
@@ -29,7 +33,8 @@ events_more es ms p e h =
 
 -- ---- what is kept can be read
 
-pub all_read_more : (es : List PackedEvent) (ms : List Envelope) (p : List ℕ) (e : Event) → length (payload_of e) ≤ PAYLOAD_CAPACITY → All (EventStands (length ms) (length p)) es
+pub all_read_more : (es : List PackedEvent) (ms : List Envelope) (p : List ℕ) (e : Event) → length (payload_of e) ≤ PAYLOAD_CAPACITY
+    → All (EventStands (length ms) (length p)) es
     → All (EventStands (length (ms ++ brought (Some e))) (length (p ++ payload_of e))) (es ++ kept_event (length ms) (length p) e ∷ [])
 all_read_more es ms p e few h =
     let m' = length (ms ++ brought (Some e)) in
@@ -37,5 +42,6 @@ all_read_more es ms p e few h =
     let messages = length-append ms (brought (Some e)) in
     let bytes = length-append p (payload_of e) in
     All-push (EventStands m' p') es (kept_event (length ms) (length p) e)
-    (All-weaker (EventStands (length ms) (length p)) (EventStands m' p') (λ x. event_longer (length ms) m' (length p) p' x (omega (arith, messages)) (omega (arith, bytes))) es h)
+    (All-weaker (EventStands (length ms) (length p)) (EventStands m' p') (λ x.
+    event_longer (length ms) m' (length p) p' x (omega (arith, messages)) (omega (arith, bytes))) es h)
     (event_stands ms p e few)

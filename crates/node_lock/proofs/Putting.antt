@@ -1,5 +1,6 @@
 -- A message goes onto the link to its receiver.
-use Rattle.std.proofs.Common.{◌≡◌, ℕ, ◌<◌, Bool, true, false, List, [], ◌∷◌, length, slice_index_or, slice_set, refl, ap, sym, ◌∙◌, subst, inl, inr, arith}
+use Rattle.std.proofs.Common.{◌≡◌, ℕ, ◌<◌, Bool, true, false, List, [], ◌∷◌, length, slice_index_or, slice_set, refl, ap, sym, ◌∙◌, subst}
+use Rattle.std.proofs.Common.{inl, inr, arith}
 use Rattle.std.specs.Prelude.{if◌then◌else◌}
 use Rattle.std.proofs.lemmas.List.{get_or_read, get_or-set_other, length-set}
 use Rattle.std.proofs.lemmas.Grind.{get_or-set_at}
@@ -17,18 +18,21 @@ pub record LeadsTo (m : Envelope) (place : ℕ) (sides : List Side) (was : Side)
   pub to : was.receiver ≡ m.receiver
   pub only : (k : ℕ) (d : Side) → k < length sides → (slice_index_or sides k d).receiver ≡ m.receiver → k ≡ place
 
-pub sent_at : (m : Envelope) (place : ℕ) (sides : List Side) (was new : Side) → LeadsTo m place sides was → SameLink was new → PutsSome was.capacity was.messages (m ∷ []) new.messages → SentOn (m ∷ []) sides (slice_set sides place new)
+pub sent_at : (m : Envelope) (place : ℕ) (sides : List Side) (was new : Side) → LeadsTo m place sides was → SameLink was new
+    → PutsSome was.capacity was.messages (m ∷ []) new.messages → SentOn (m ∷ []) sides (slice_set sides place new)
 sent_at m place sides was new l same put = record {
   len = length-set sides place new;
   each = λ k d within. elim (cases_eq k place) [
     | inl at ↦ (
         let here : slice_index_or (slice_set sides place new) k d ≡ new = get_or-set_at sides place k new d at l.within in
-        let old : slice_index_or sides k d ≡ was = ap (λ (i : ℕ). slice_index_or sides i d) at ∙ sym (get_or_read sides place was l.within l.is d) in
+        let old : slice_index_or sides k d ≡ was = ap (λ (i : ℕ). slice_index_or sides i d) at
+        ∙ sym (get_or_read sides place was l.within l.is d) in
         subst (λ (s : Side). SentTo (m ∷ []) s (slice_index_or (slice_set sides place new) k d)) (sym old)
         (subst (SentTo (m ∷ []) was) (sym here) (sent_here m was new (sym l.to) same put)))
     | inr far ↦ (
         let there : slice_index_or (slice_set sides place new) k d ≡ slice_index_or sides k d = get_or-set_other sides place k new d far in
-        subst (SentTo (m ∷ []) (slice_index_or sides k d)) (sym there) (sent_elsewhere m (slice_index_or sides k d) (λ same. far (l.only k d within (sym same)))))
+        subst (SentTo (m ∷ []) (slice_index_or sides k d)) (sym there)
+        (sent_elsewhere m (slice_index_or sides k d) (λ same. far (l.only k d within (sym same)))))
   ];
 }
 

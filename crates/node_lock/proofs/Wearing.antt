@@ -1,5 +1,6 @@
 -- What a turn does to the areas of its node's disk, and to its count of failures.
-use Rattle.std.proofs.Common.{◌≡◌, ◌≢◌, ◌⊎◌, inl, inr, ⊎_elim, ℕ, ◌+◌, ◌-◌, ◌^◌, ◌<◌, ◌≤◌, ◌==◌, Bool, true, false, List, [], length, refl, sym, ◌∙◌, ap, subst, arith, Option, Some, None, IsSome, Result, Ok, Err, IsOk, IsErrOf, if◌then◌else◌, ◌&&◌}
+use Rattle.std.proofs.Common.{◌≡◌, ◌≢◌, ◌⊎◌, inl, inr, ⊎_elim, ℕ, ◌+◌, ◌-◌, ◌^◌, ◌<◌, ◌≤◌, ◌==◌, Bool, true, false, List, [], length, refl}
+use Rattle.std.proofs.Common.{sym, ◌∙◌, ap, subst, arith, Option, Some, None, IsSome, Result, Ok, Err, IsOk, IsErrOf, if◌then◌else◌, ◌&&◌}
 use Rattle.std.specs.Prelude.{MatchBool, nat_le, nat_lt}
 use Rattle.std.proofs.lemmas.Bool.Decides.{nat_tests}
 use Rattle.std.proofs.lemmas.Option.{same_Some}
@@ -55,15 +56,19 @@ area_not_spent area is = by_room (area.used == area.slots && is_last area) is
     by_room true is = absurd cc
     by_room false is = absurd cc
 
-put_spent : (next : ℕ) (full : Bool) (area : Area) → next < 2 ^ 64 → (if nat_le (2 ^ 64 - 1) next then Some Exhausted else (if full then Some Full else area_refusal area)) ≡ Some Exhausted → next ≡ 2 ^ 64 - 1
+put_spent : (next : ℕ) (full : Bool) (area : Area) → next < 2 ^ 64
+    → (if nat_le (2 ^ 64 - 1) next then Some Exhausted else (if full then Some Full else area_refusal area)) ≡ Some Exhausted
+    → next ≡ 2 ^ 64 - 1
 put_spent next full area few is = by_next (nat_le (2 ^ 64 - 1) next) refl full is
   where
-    by_next : (b : Bool) → nat_le (2 ^ 64 - 1) next ≡ b → (c : Bool) → (if b then Some Exhausted else (if c then Some Full else area_refusal area)) ≡ Some Exhausted → next ≡ 2 ^ 64 - 1
+    by_next : (b : Bool) → nat_le (2 ^ 64 - 1) next ≡ b → (c : Bool)
+        → (if b then Some Exhausted else (if c then Some Full else area_refusal area)) ≡ Some Exhausted → next ≡ 2 ^ 64 - 1
     by_next true eq c is = grind (arith, nat_tests, eq, few)
     by_next false eq true is = absurd cc
     by_next false eq false is = absurd (area_not_spent area is)
 
-refused_spent : (d : Durable) (area : Area) (wants : Option Command) → d.next < 2 ^ 64 → disk_refusal d area wants ≡ Some Exhausted → IsSpent d wants
+refused_spent : (d : Durable) (area : Area) (wants : Option Command) → d.next < 2 ^ 64 → disk_refusal d area wants ≡ Some Exhausted
+    → IsSpent d wants
 refused_spent d area None few is = absurd cc
 refused_spent d area (Some Raise) few is = by_counter (d.counter == 2 ^ 64 - 1) refl is
   where
@@ -81,7 +86,8 @@ area_free area free = by_room (area.used == area.slots)
     by_room false = refl
 
 -- where the area can be raised it isn't used up
-not_area_exhausted : (d : Durable) (area : Area) (wants : Option Command) → is_last area ≡ false → disk_refusal d area wants ≢ Some AreaExhausted
+not_area_exhausted : (d : Durable) (area : Area) (wants : Option Command) → is_last area ≡ false
+    → disk_refusal d area wants ≢ Some AreaExhausted
 not_area_exhausted d area None free is = absurd cc
 not_area_exhausted d area (Some Raise) free is = by_counter (d.counter == 2 ^ 64 - 1) is
   where
@@ -97,14 +103,17 @@ not_area_exhausted d area (Some (Put work)) free is = by_both (nat_le (2 ^ 64 - 
 not_area_exhausted d area (Some (JobDone id)) free is = (let none = sym (area_free area free) ∙ is in absurd cc)
 
 -- what an event answers that the core lets pass, and that is told as exhausted
-exhausted_why : (why : Option Refusal) → AnswersEvent {A = StepReport} None why (Err node.Exhausted) → (why ≡ Some Exhausted) ⊎ (why ≡ Some AreaExhausted)
-exhausted_why None a = ⊎_elim (λ e. absurd (let bad = e in cc)) (λ or. ⊎_elim (λ e. absurd (let bad = e in cc)) (λ e. absurd (let bad = e in cc)) or) a
+exhausted_why : (why : Option Refusal) → AnswersEvent {A = StepReport} None why (Err node.Exhausted)
+    → (why ≡ Some Exhausted) ⊎ (why ≡ Some AreaExhausted)
+exhausted_why None a = ⊎_elim (λ e. absurd (let bad = e in cc))
+    (λ or. ⊎_elim (λ e. absurd (let bad = e in cc)) (λ e. absurd (let bad = e in cc)) or) a
 exhausted_why (Some (Core f)) a = ⊎_elim (λ e. absurd (let bad = e in cc)) (λ e. absurd cc) a
 exhausted_why (Some Full) a = ⊎_elim (λ e. absurd (let bad = e in cc)) (λ e. absurd cc) a
 exhausted_why (Some Exhausted) a = inl refl
 exhausted_why (Some AreaExhausted) a = inr refl
 
-area_exhausted_outcome : (event other : Event) (o : EventOutcome) → what_of event o ≡ what.Refused other AreaExhausted → o ≡ outcome.Refused AreaExhausted
+area_exhausted_outcome : (event other : Event) (o : EventOutcome) → what_of event o ≡ what.Refused other AreaExhausted
+    → o ≡ outcome.Refused AreaExhausted
 area_exhausted_outcome event other outcome.Done is = absurd cc
 area_exhausted_outcome event other (outcome.Refused why) is = (let same : why ≡ AreaExhausted = cc is in ap outcome.Refused same)
 area_exhausted_outcome event other outcome.Faulted is = absurd cc
@@ -125,12 +134,14 @@ pub record Shows (old : Node Memory) : Type 0 where
 -- the number that a node shows is within a bound of its disk's
 shown_within : (was : Memory) (number bound : ℕ) → AllNumbered number (state_of was) → AllWithin bound (state_of was) → number ≤ bound
 shown_within was number bound numbered within =
-    let now : IsImage (state_of was) was.contents = record { size = refl; same = λ at still. refl } in within was.contents number now (numbered was.contents now)
+    let now : IsImage (state_of was) was.contents = record { size = refl; same = λ at still. refl } in
+    within was.contents number now (numbered was.contents now)
 
 can_rise : (area : Area) (bound : ℕ) → area.number ≤ bound → bound + 1 < 2 ^ 64 → is_last area ≡ false
 can_rise area bound low more = grind (arith, nat_tests, low, more)
 
-module _ (old new : Node Memory) (event : Event) (w : HistoryEvent) (sent : List Envelope) (did : Did old event w sent new) (shows : Shows old) (s : NodeState) (stands : Stands state_of old s) where
+module _ (old new : Node Memory) (event : Event) (w : HistoryEvent) (sent : List Envelope) (did : Did old event w sent new)
+    (shows : Shows old) (s : NodeState) (stands : Stands state_of old s) where
   abbrev came : StepReport
   came = did.came
 
@@ -141,41 +152,55 @@ module _ (old new : Node Memory) (event : Event) (w : HistoryEvent) (sent : List
       let none = (at_down old.id old.nodes s event fallen possible.0 possible.1.0).wants in
       subst (λ (w : Option Command). IsAppended w) none possible.1.1.1
 
-  area_exhausted_up : (bound : ℕ) → is_down old.state.phase ≡ false → IsPossible old.id old.nodes s (what.Refused event AreaExhausted) → answered (Ok came) ≡ Err node.Exhausted → AreaWithin bound old.disk → bound + 1 < 2 ^ 64 → ⊥
+  area_exhausted_up : (bound : ℕ) → is_down old.state.phase ≡ false → IsPossible old.id old.nodes s (what.Refused event AreaExhausted)
+      → answered (Ok came) ≡ Err node.Exhausted → AreaWithin bound old.disk → bound + 1 < 2 ^ 64 → ⊥
   area_exhausted_up bound is possible ends within more =
       let disk = some_of old.disk did.counts.was_there in
       let d = some_of old.kept (shows.up is).0 in
       let area = some_of old.area (shows.up is).1 in
       let low = shown_within disk.0 area.0.number bound (shows.number disk.0 area.0 disk.1 area.1) (within disk.0 disk.1) in
       let same : d.0 ≡ s.durable = same_Some d.0 s.durable (sym d.1 ∙ (stands.up is).0) in
-      let core : refusal_of old.nodes old.id event old.state ≡ None = subst (λ x. refusal_of old.nodes old.id event x ≡ None) (sym stands.state) possible.1.0 in
+      let core : refusal_of old.nodes old.id event old.state ≡ None =
+      subst (λ x. refusal_of old.nodes old.id event x ≡ None) (sym stands.state) possible.1.0 in
       let unspent : IsSpent d.0 (wants_of old.id d.0.pending event old.state) → ⊥ =
-      subst (λ x. IsSpent x (wants_of old.id x.pending event old.state) → ⊥) (sym same) (subst (λ x. IsSpent s.durable (wants_of old.id s.durable.pending event x) → ⊥) (sym stands.state) possible.1.1.0) in
+      subst (λ x. IsSpent x (wants_of old.id x.pending event old.state) → ⊥) (sym same)
+      (subst (λ x. IsSpent s.durable (wants_of old.id s.durable.pending event x) → ⊥) (sym stands.state) possible.1.1.0) in
       let why = disk_refusal d.0 area.0 (wants_of old.id d.0.pending event old.state) in
-      let answers : AnswersEvent {A = StepReport} None why (Err node.Exhausted) = subst (λ (c : Option CoreFault). AnswersEvent {A = StepReport} c why (Err node.Exhausted)) core (subst (λ (r : Result StepReport NodeFault). AnswersEvent (refusal_of old.nodes old.id event old.state) why r) ends (did.answers d.0 area.0 d.1 area.1)) in
-      ⊎_elim (λ e. unspent (refused_spent d.0 area.0 (wants_of old.id d.0.pending event old.state) (shows.ids d.0 d.1) e)) (λ e. not_area_exhausted d.0 area.0 (wants_of old.id d.0.pending event old.state) (can_rise area.0 bound low more) e) (exhausted_why why answers)
+      let answers : AnswersEvent {A = StepReport} None why (Err node.Exhausted) =
+      subst (λ (c : Option CoreFault). AnswersEvent {A = StepReport} c why (Err node.Exhausted)) core
+      (subst (λ (r : Result StepReport NodeFault). AnswersEvent (refusal_of old.nodes old.id event old.state) why r) ends
+      (did.answers d.0 area.0 d.1 area.1)) in
+      ⊎_elim (λ e. unspent (refused_spent d.0 area.0 (wants_of old.id d.0.pending event old.state) (shows.ids d.0 d.1) e))
+      (λ e. not_area_exhausted d.0 area.0 (wants_of old.id d.0.pending event old.state) (can_rise area.0 bound low more) e)
+      (exhausted_why why answers)
 
   area_exhausted : (bound : ℕ) → AreaWithin bound old.disk → bound + 1 < 2 ^ 64 → IsAreaExhausted w → ⊥
   area_exhausted bound within more is =
       let disk = some_of old.disk did.counts.was_there in
-      let ends : came.event_outcome ≡ outcome.Refused AreaExhausted = area_exhausted_outcome event is.0 came.event_outcome (sym did.written ∙ is.1) in
+      let ends : came.event_outcome ≡ outcome.Refused AreaExhausted =
+      area_exhausted_outcome event is.0 came.event_outcome (sym did.written ∙ is.1) in
       let does = (did.steps disk.0 s disk.1 stands (λ _. refl)).0 in
-      let possible : IsPossible old.id old.nodes s (what.Refused event AreaExhausted) = subst (λ o. IsPossible old.id old.nodes s (what_of event o)) ends does.possible in
+      let possible : IsPossible old.id old.nodes s (what.Refused event AreaExhausted) =
+      subst (λ o. IsPossible old.id old.nodes s (what_of event o)) ends does.possible in
       let told : answered (Ok came) ≡ Err node.Exhausted = ap (λ o. answered_as came (fault_of o)) ends in
       by_phase (is_down old.state.phase) refl possible told
     where
-      by_phase : (b : Bool) → is_down old.state.phase ≡ b → IsPossible old.id old.nodes s (what.Refused event AreaExhausted) → answered (Ok came) ≡ Err node.Exhausted → ⊥
+      by_phase : (b : Bool) → is_down old.state.phase ≡ b → IsPossible old.id old.nodes s (what.Refused event AreaExhausted)
+          → answered (Ok came) ≡ Err node.Exhausted → ⊥
       by_phase true is possible told = area_exhausted_down is possible
       by_phase false is possible told = area_exhausted_up bound is possible told within more
 
 forgotten_within : (bound : ℕ) (disk : Option Memory) → AreaWithin bound disk → AreaWithin bound (forgotten_disk disk)
 forgotten_within bound None within d at = absurd cc
-forgotten_within bound (Some was) within d at = subst (λ (m : Memory). AllWithin bound (state_of m)) (same_Some (record was { spans = [] }) d at) (assumption (within was refl))
+forgotten_within bound (Some was) within d at = subst (λ (m : Memory). AllWithin bound (state_of m))
+    (same_Some (record was { spans = [] }) d at) (assumption (within was refl))
 
-pub event_area : (old new : Node Memory) (event : Event) (w : HistoryEvent) (sent : List Envelope) → Did old event w sent new → Shows old → StandsForSome old → AreaRises old.disk new.disk w
+pub event_area : (old new : Node Memory) (event : Event) (w : HistoryEvent) (sent : List Envelope) → Did old event w sent new → Shows old
+    → StandsForSome old → AreaRises old.disk new.disk w
 event_area old new event w sent did shows stands bound within =
     let disk = some_of old.disk did.counts.was_there in (
-      subst (λ (m : Option Memory). AreaWithin (bound + 1) m) (sym (ap (λ (n : Node Memory). n.disk) did.forgot)) (forgotten_within (bound + 1) did.left.disk (λ now at. did.counts.rises disk.0 now disk.1 at refl bound (within disk.0 disk.1))),
+      subst (λ (m : Option Memory). AreaWithin (bound + 1) m) (sym (ap (λ (n : Node Memory). n.disk) did.forgot))
+          (forgotten_within (bound + 1) did.left.disk (λ now at. did.counts.rises disk.0 now disk.1 at refl bound (within disk.0 disk.1))),
       λ more is. area_exhausted old new event w sent did shows stands.0 stands.1 bound within more is,
     )
 
@@ -191,13 +216,19 @@ pub rests_area : (disk : Option Memory) → AreaRises disk disk (what.NoOp Nothi
 rests_area disk bound within = (more_within bound disk within, λ more is. rests_never_area_exhausted is)
 
 pub armed_area : (calls : ℕ) (disk : Option Memory) → AreaRises disk (armed_disk calls disk) (what.NoOp Nothing)
-armed_area calls disk bound within = (more_within bound (armed_disk calls disk) (armed_within disk within), λ more is. rests_never_area_exhausted is)
+armed_area calls disk bound within = (
+  more_within bound (armed_disk calls disk) (armed_within disk within),
+  λ more is. rests_never_area_exhausted is,
+)
   where
     armed_within : (disk : Option Memory) → AreaWithin bound disk → AreaWithin bound (armed_disk calls disk)
     armed_within None within d at = absurd cc
-    armed_within (Some was) within d at = subst (λ (m : Memory). AllWithin bound (state_of m)) (same_Some (record was { left = Some calls }) d at) (assumption (within was refl))
+    armed_within (Some was) within d at = subst (λ (m : Memory). AllWithin bound (state_of m))
+        (same_Some (record was { left = Some calls }) d at) (assumption (within was refl))
 
-pub crashed_area : (old new : Option Memory) → IsSome old → ((was now : Memory) (bound : ℕ) → old ≡ Some was → new ≡ Some now → AllWithin bound (state_of was) → AllWithin bound (state_of now)) → AreaRises old new what.Crashed
+pub crashed_area : (old new : Option Memory) → IsSome old
+    → ((was now : Memory) (bound : ℕ) → old ≡ Some was → new ≡ Some now → AllWithin bound (state_of was) → AllWithin bound (state_of now))
+    → AreaRises old new what.Crashed
 crashed_area old new there keeps bound within =
     let was = some_of old there in
     (more_within bound new (λ d at. keeps was.0 d bound was.1 at (within was.0 was.1)), λ more is. (let bad = is.1 in absurd cc))
@@ -205,7 +236,9 @@ crashed_area old new there keeps bound within =
 -- ---- failures
 
 -- the count after a call, by what came of its event
-fails_by : (n m : ℕ) (came : StepReport) (event : Event) (sent : List Envelope) (o : EventOutcome) → ((IsErrOf (answered_as came (fault_of o)) node.Device → ⊥) → m ≡ n) → (IsErrOf (answered_as came (fault_of o)) node.Device → (n < m) ⊎ (m ≡ 2 ^ 64 - 1))
+fails_by : (n m : ℕ) (came : StepReport) (event : Event) (sent : List Envelope) (o : EventOutcome)
+    → ((IsErrOf (answered_as came (fault_of o)) node.Device → ⊥) → m ≡ n)
+    → (IsErrOf (answered_as came (fault_of o)) node.Device → (n < m) ⊎ (m ≡ 2 ^ 64 - 1))
     → Fails n (record { what = what_of event o; sent = sent }) m
 fails_by n m came event sent outcome.Done same rose = same (λ e. absurd (let bad = e in cc))
 fails_by n m came event sent (outcome.Refused (Core f)) same rose = same (λ e. absurd (let bad = e in cc))
@@ -218,30 +251,38 @@ fails_by n m came event sent outcome.MountFailed same rose = rose refl
 fails_by n m came event sent (outcome.RaiseFailed kept) same rose = rose refl
 fails_by n m came event sent (outcome.RaiseRefused kept) same rose = same (λ e. absurd (let bad = e in cc))
 
-forgotten_failures : (disk : Option Memory) (d : Memory) → forgotten_disk disk ≡ Some d → (m : Memory) × (disk ≡ Some m) × (d.failures ≡ m.failures)
+forgotten_failures : (disk : Option Memory) (d : Memory) → forgotten_disk disk ≡ Some d
+    → (m : Memory) × (disk ≡ Some m) × (d.failures ≡ m.failures)
 forgotten_failures None d at = absurd cc
 forgotten_failures (Some m) d at = (m, refl, sym (ap (λ (x : Memory). x.failures) (same_Some (record m { spans = [] }) d at)))
 
-armed_failures : (calls : ℕ) (disk : Option Memory) (was d : Memory) → disk ≡ Some was → armed_disk calls disk ≡ Some d → d.failures ≡ was.failures
+armed_failures : (calls : ℕ) (disk : Option Memory) (was d : Memory) → disk ≡ Some was → armed_disk calls disk ≡ Some d
+    → d.failures ≡ was.failures
 armed_failures calls disk was d here at =
     sym (ap (λ (x : Memory). x.failures) (same_Some (record was { left = Some calls }) d (sym (ap (armed_disk calls) here) ∙ at)))
 
 -- a turn's entry says whether the disk failed
-pub turn_fails : (old new : Node Memory) (asked : Asked) (w : HistoryEvent) (sent : List Envelope) → TurnDid old asked w sent new → (was now : Memory) → old.disk ≡ Some was → new.disk ≡ Some now → Fails was.failures (record { what = w; sent = sent }) now.failures
+pub turn_fails : (old new : Node Memory) (asked : Asked) (w : HistoryEvent) (sent : List Envelope) → TurnDid old asked w sent new
+    → (was now : Memory) → old.disk ≡ Some was → new.disk ≡ Some now → Fails was.failures (record { what = w; sent = sent }) now.failures
 turn_fails old new (Hand event) w sent did was now here there =
     let left = forgotten_failures did.left.disk now (sym (ap (λ (n : Node Memory). n.disk) did.forgot) ∙ there) in
     let counts = did.counts.counts was left.0 here left.1 in
     subst (λ (x : HistoryEvent). Fails was.failures (record { what = x; sent = sent }) now.failures) (sym did.written)
-    (subst (λ (m : ℕ). Fails was.failures (record { what = what_of event did.came.event_outcome; sent = sent }) m) (sym left.2) (fails_by was.failures left.0.failures did.came event sent did.came.event_outcome counts.unchanged counts.cause))
+    (subst (λ (m : ℕ). Fails was.failures (record { what = what_of event did.came.event_outcome; sent = sent }) m) (sym left.2)
+    (fails_by was.failures left.0.failures did.came event sent did.came.event_outcome counts.unchanged counts.cause))
 turn_fails old new NoEvent w sent did was now here there =
-    subst (λ (x : HistoryEvent). Fails was.failures (record { what = x; sent = sent }) now.failures) (sym did.1) (ap (λ (m : Memory). m.failures) (sym (same_Some was now (sym here ∙ sym (ap (λ (n : Node Memory). n.disk) did.0) ∙ there))))
+    subst (λ (x : HistoryEvent). Fails was.failures (record { what = x; sent = sent }) now.failures) (sym did.1)
+    (ap (λ (m : Memory). m.failures) (sym (same_Some was now (sym here ∙ sym (ap (λ (n : Node Memory). n.disk) did.0) ∙ there))))
 turn_fails old new (Arm calls) w sent did was now here there =
-    subst (λ (x : HistoryEvent). Fails was.failures (record { what = x; sent = sent }) now.failures) (sym did.1) (armed_failures calls old.disk was now here (sym (ap (λ (n : Node Memory). n.disk) did.0.armed) ∙ there))
+    subst (λ (x : HistoryEvent). Fails was.failures (record { what = x; sent = sent }) now.failures) (sym did.1)
+    (armed_failures calls old.disk was now here (sym (ap (λ (n : Node Memory). n.disk) did.0.armed) ∙ there))
 turn_fails old new (Crash fill) w sent did was now here there =
-    subst (λ (x : HistoryEvent). Fails was.failures (record { what = x; sent = sent }) now.failures) (sym did.1) (ap (λ (m : Memory). m.failures) (did.0.disk was now here there).1)
+    subst (λ (x : HistoryEvent). Fails was.failures (record { what = x; sent = sent }) now.failures) (sym did.1)
+    (ap (λ (m : Memory). m.failures) (did.0.disk was now here there).1)
 
 -- the disk is there before a turn
-pub disk_before : (old new : Node Memory) (asked : Asked) (w : HistoryEvent) (sent : List Envelope) → TurnDid old asked w sent new → (now : Memory) → new.disk ≡ Some now → (was : Memory) × (old.disk ≡ Some was)
+pub disk_before : (old new : Node Memory) (asked : Asked) (w : HistoryEvent) (sent : List Envelope) → TurnDid old asked w sent new
+    → (now : Memory) → new.disk ≡ Some now → (was : Memory) × (old.disk ≡ Some was)
 disk_before old new (Hand event) w sent did now there = some_of old.disk did.counts.was_there
 disk_before old new NoEvent w sent did now there = (now, sym (ap (λ (n : Node Memory). n.disk) did.0) ∙ there)
 disk_before old new (Arm calls) w sent did now there = was_there old.disk (sym (ap (λ (n : Node Memory). n.disk) did.0.armed) ∙ there)

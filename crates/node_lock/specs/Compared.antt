@@ -13,12 +13,15 @@ use Rattle.node_lock.specs.Planned.{Planned}
 
 -- two are one where they have the same turns for each worker
 abbrev pub same_plans : (Timer → Timer → Bool) → (OperatorOrder → OperatorOrder → Bool) → Planned → Planned → Bool
-same_plans E F = eq_of_both (on (λ (p : Planned). p.intake) (pointwise nat_eq)) (eq_of_both (on (λ (p : Planned). p.clock) (pointwise E)) (on (λ (p : Planned). p.operator) (pointwise F)))
+same_plans E F = eq_of_both (on (λ (p : Planned). p.intake) (pointwise nat_eq))
+    (eq_of_both (on (λ (p : Planned). p.clock) (pointwise E)) (on (λ (p : Planned). p.operator) (pointwise F)))
 
-pub plans_decided : {E : Timer → Timer → Bool} {F : OperatorOrder → OperatorOrder → Bool} → ((a b : Timer) → Decides (E a b) (a ≡ b)) → ((a b : OperatorOrder) → Decides (F a b) (a ≡ b))
+pub plans_decided : {E : Timer → Timer → Bool} {F : OperatorOrder → OperatorOrder → Bool} → ((a b : Timer) → Decides (E a b) (a ≡ b))
+    → ((a b : OperatorOrder) → Decides (F a b) (a ≡ b))
     → (p q : Planned) → Decides (same_plans E F p q) (p ≡ q)
 plans_decided d e p q =
-    let all = Decides-and _ _ (slice_eq-Decides Decides-eqb p.intake q.intake _ refl) (Decides-and _ _ (slice_eq-Decides d p.clock q.clock _ refl) (slice_eq-Decides e p.operator q.operator _ refl)) in (
+    let all = Decides-and _ _ (slice_eq-Decides Decides-eqb p.intake q.intake _ refl)
+    (Decides-and _ _ (slice_eq-Decides d p.clock q.clock _ refl) (slice_eq-Decides e p.operator q.operator _ refl)) in (
       λ same. (let lists = all.0 same in λ i. record { intake = lists.0 i; clock = lists.1.0 i; operator = lists.1.1 i }),
       λ same. all.1 (ap (λ (p : Planned). p.intake) same, (ap (λ (p : Planned). p.clock) same, ap (λ (p : Planned). p.operator) same)),
     )

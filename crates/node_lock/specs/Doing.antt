@@ -33,7 +33,8 @@ StandsForSome node = (s : NodeState) × Stands state_of node s
 abbrev pub HasSectors : ℕ → Node Memory → Type 0
 HasSectors n node = (disk : Memory) → node.disk ≡ Some disk → (state_of disk).sectors ≡ n
 
--- the node took a step at the event, of which all holds that is said of `DurableNode::step`; its disk then forgot the moments before; and just what the
+-- the node took a step at the event, of which all holds that is said of `DurableNode::step`; its disk then forgot the moments before; and
+-- just what the
 -- step answered is written down
 pub record Did (old : Node Memory) (event : Event) (w : HistoryEvent) (sent : List Envelope) (new : Node Memory) : Type 0 where
   pub came : StepReport
@@ -60,7 +61,8 @@ pub record WasArmed (calls : ℕ) (old new : Node Memory) : Type 0 where
 pub record WasCrashed (fill : List ℕ) (old new : Node Memory) : Type 0 where
   pub there : IsSome old.disk
   pub down : new ≡ record old { state = down old.id; disk = new.disk; kept = None; area = None; mounted = None }
-  pub disk : (was now : Memory) → old.disk ≡ Some was → new.disk ≡ Some now → IsCrashed was fill now.contents × (now ≡ all_synced now.contents was.failures)
+  pub disk : (was now : Memory) → old.disk ≡ Some was → new.disk ≡ Some now
+      → IsCrashed was fill now.contents × (now ≡ all_synced now.contents was.failures)
   pub stands : (s : NodeState) → Stands state_of old s → Stands state_of new (after old.id old.nodes s what.Crashed)
 
 -- the node did what was asked, this is what came of it, and these messages were sent

@@ -64,7 +64,8 @@ pub record IsGiven (drawn new_drawn numbers new_numbers : List ℕ) : Type 0 whe
 -- the turns of a node have the numbers that it drew, the last of which stands first among these
 abbrev pub AreGiven : List ℕ → List ℕ → Type 0
 AreGiven [] numbers = numbers ≡ []
-AreGiven (n ∷ ns) numbers = (number : ℕ) × (before : List ℕ) × (numbers ≡ before ++ number ∷ []) × (n < 2 ^ 32 → number ≡ n) × AreGiven ns before
+AreGiven (n ∷ ns) numbers = (number : ℕ) × (before : List ℕ) × (numbers ≡ before ++ number ∷ []) × (n < 2 ^ 32 → number ≡ n)
+    × AreGiven ns before
 
 -- the numbers of a node's turns are those that it drew, in their order, and rise
 pub record HaveNumbers (drawn numbers : List ℕ) : Type 0 where

@@ -1,5 +1,6 @@
 -- What a contract sees of what a lock holds, and what is always true of it.
-use Rattle.std.specs.Prelude.{◌≡◌, ◌≢◌, ℕ, ◌+◌, ◌*◌, ◌<◌, ◌≤◌, ◌⊎◌, ⊤, Option, Some, None, List, [], ◌∷◌, ◌++◌, length, slice_index, slice_index_or, IsSome, ◌↔◌, Bool, true, false, Result, Ok, Err}
+use Rattle.std.specs.Prelude.{◌≡◌, ◌≢◌, ℕ, ◌+◌, ◌*◌, ◌<◌, ◌≤◌, ◌⊎◌, ⊤, Option, Some, None, List, [], ◌∷◌, ◌++◌, length, slice_index}
+use Rattle.std.specs.Prelude.{slice_index_or, IsSome, ◌↔◌, Bool, true, false, Result, Ok, Err}
 use Rattle.wire_msg.specs.Envelope.{Envelope}
 use Rattle.sector_disk.specs.Memory.{Memory}
 use Rattle.link_ring.specs.Sides.{Side}
@@ -23,7 +24,8 @@ use Rattle.node_lock.specs.Lost.{HasLost}
 use Rattle.node_lock.specs.Wearing.{AreaWithin, HasFailed, NoneAreaExhausted}
 use Rattle.node_lock.specs.History.{Turn, IsReplay, FollowsPlans, PlanStep, entries_of, polled, from_link, listed}
 
--- the node and its disk, the ends of its links, the plans and the turns that were taken of them, what came of these, which messages they lost and which numbers they have and drew, of which counter; a
+-- the node and its disk, the ends of its links, the plans and the turns that were taken of them, what came of these, which messages they
+-- lost and which numbers they have and drew, of which counter; a
 -- message that was taken from a link and not yet handed to the node; and for how many more turns, messages and events there is room
 pub record HeldView : Type 0 where
   pub node : Node Memory
@@ -59,7 +61,8 @@ pub record IsPutLink (run : Run) (history : List Turn) (p : Side) : Type 0 where
 -- what was taken from a link is what the history took from it, and what waits
 pub record IsTakeLink (h : HeldView) (t : Side) : Type 0 where
   pub receiver : t.receiver ≡ h.run.node
-  pub messages : t.messages ≡ polled h.plans.intake t.sender h.history ++ from_link h.plans.intake t.sender h.turns.intake (listed h.waiting)
+  pub messages : t.messages ≡ polled h.plans.intake t.sender h.history
+      ++ from_link h.plans.intake t.sender h.turns.intake (listed h.waiting)
 
 -- an intake polls another node of the cluster
 abbrev pub IsPolled : Run → ℕ → Type 0
@@ -78,9 +81,11 @@ pub record HeldInvariant (h : HeldView) : Type 0 where
   pub slots : FollowsSlots h.run.slots h.run.node h.run.nodes (opening h.run.node) (entries_of h.history)
   pub turns : FollowsPlans h.plans h.history h.turns
   pub links : length h.puts + 1 ≡ h.run.nodes
-  pub puts : (k : ℕ) (d : Side) → k < length h.puts → IsPutLink h.run h.history (slice_index_or h.puts k d) × IsOther h.run.node k (slice_index_or h.puts k d).receiver
+  pub puts : (k : ℕ) (d : Side) → k < length h.puts → IsPutLink h.run h.history (slice_index_or h.puts k d)
+      × IsOther h.run.node k (slice_index_or h.puts k d).receiver
   pub take_links : length h.takes + 1 ≡ h.run.nodes
-  pub takes : (k : ℕ) (d : Side) → k < length h.takes → IsTakeLink h (slice_index_or h.takes k d) × IsOther h.run.node k (slice_index_or h.takes k d).sender
+  pub takes : (k : ℕ) (d : Side) → k < length h.takes → IsTakeLink h (slice_index_or h.takes k d)
+      × IsOther h.run.node k (slice_index_or h.takes k d).sender
   pub intake : (i d : ℕ) → i < length h.plans.intake → IsPolled h.run (slice_index_or h.plans.intake i d)
   pub waiting : IsSome h.waiting → h.turns.intake < length h.plans.intake
   pub few : length h.history ≤ MOST_ENTRIES
@@ -95,7 +100,8 @@ pub record HeldInvariant (h : HeldView) : Type 0 where
 
 -- so it is of the messages that were seen in the ring of the link that the intake's next turn polls
 abbrev pub OfPolled : HeldView → (List Envelope → Type 0) → Type 0
-OfPolled h P = (k : ℕ) (d : Side) → k < length h.takes → IsOther h.run.node k (slice_index h.plans.intake h.turns.intake) → P (slice_index_or h.takes k d).seen
+OfPolled h P = (k : ℕ) (d : Side) → k < length h.takes → IsOther h.run.node k (slice_index h.plans.intake h.turns.intake)
+    → P (slice_index_or h.takes k d).seen
 
 -- what a poll takes: the message that waits, else the first of those that were seen in the ring; and nothing only where none was
 abbrev pub Finds : HeldView → Option Envelope → Type 0

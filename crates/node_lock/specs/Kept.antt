@@ -16,8 +16,10 @@ use Rattle.node_lock.specs.declared.line.Line.{Line}
 use Rattle.node_lock.specs.declared.turn_log.Loss.{Loss}
 use Rattle.node_lock.specs.History.{Turn}
 
--- the turns, and the number of each among the turns of all nodes; for how many more of them there is room, for how many more messages, for how
--- many more events, and for how many more messages that are lost; the messages that were lost; and, at its end, how many calls of the disk failed
+-- the turns, and the number of each among the turns of all nodes; for how many more of them there is room, for how many more messages, for
+-- how
+-- many more events, and for how many more messages that are lost; the messages that were lost; and, at its end, how many calls of the disk
+-- failed
 pub record Log : Type 0 where
   pub turns : List Turn
   pub numbers : List ℕ
@@ -45,7 +47,12 @@ what_in events (kept.Quiet q) = what_quiet q
 
 -- the turn that a line says, by the list of messages and that of events
 abbrev pub turn_in : List Envelope → List Event → Line → Turn
-turn_in ms events l = record { worker = l.worker; index = l.index; entry = record { what = what_in events l.what; sent = part l.start l.end ms } }
+turn_in ms events l = record {
+  worker = l.worker;
+  index = l.index;
+  entry =
+      record { what = what_in events l.what; sent = part l.start l.end ms };
+}
 
 -- the turn at this place sent nothing, and this came of it
 pub record IsQuietAt (place : ℕ) (q : Quiet) (turns : List Turn) : Type 0 where

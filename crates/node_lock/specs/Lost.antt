@@ -30,5 +30,6 @@ pub record HasLost (history : List Turn) (lost : List Loss) (puts : List Side) :
   pub went : List (List Bool)
   pub marked : AreMarked went history
   pub is_lost : lost ≡ all_losses 0 went
-  pub put : (k : ℕ) (d : Side) → k < length puts → (slice_index_or puts k d).messages ≡ addressed_to (slice_index_or puts k d).receiver (all_went went history)
+  pub put : (k : ℕ) (d : Side) → k < length puts → (slice_index_or puts k d).messages
+      ≡ addressed_to (slice_index_or puts k d).receiver (all_went went history)
   pub led : AllByRecursion (λ (m : Envelope). HasLink puts m.receiver) (all_went went history)

@@ -1,5 +1,6 @@
 -- What goes onto the links.
-use Rattle.std.specs.Prelude.{◌≡◌, ℕ, ◌+◌, ◌<◌, ◌≤◌, ◌==◌, ◌⊎◌, ◌&&◌, Bool, true, List, [], ◌∷◌, ◌++◌, length, slice_index_or, if◌then◌else◌, Option, Some, None}
+use Rattle.std.specs.Prelude.{◌≡◌, ℕ, ◌+◌, ◌<◌, ◌≤◌, ◌==◌, ◌⊎◌, ◌&&◌, Bool, true, List, [], ◌∷◌, ◌++◌, length, slice_index_or}
+use Rattle.std.specs.Prelude.{if◌then◌else◌, Option, Some, None}
 use Rattle.std.specs.List.{AllByRecursion, filter}
 use mathlib.Core.List.{IsPrefix}
 use Rattle.group_task.specs.Ids.{has}
@@ -66,7 +67,8 @@ HasRoomFor most sides = (k : ℕ) (d : Side) → k < length sides → most (slic
 
 -- there is room on each link for those of these messages that are for its receiver
 abbrev pub HasRoomToSend : List Envelope → List Side → Type 0
-HasRoomToSend sent sides = (k : ℕ) (d : Side) → k < length sides → length (addressed_to (slice_index_or sides k d).receiver sent) ≤ (slice_index_or sides k d).room
+HasRoomToSend sent sides = (k : ℕ) (d : Side) → k < length sides
+    → length (addressed_to (slice_index_or sides k d).receiver sent) ≤ (slice_index_or sides k d).room
 
 -- those of the messages that went onto a link, by whether each of them did
 abbrev pub went_of : List Bool → List Envelope → List Envelope
@@ -88,7 +90,8 @@ pub record SentBut (turn : ℕ) (sent : List Envelope) (lost : List Loss) (old n
   pub went : List Bool
   pub many : length went ≡ length sent
   pub is_lost : lost ≡ losses_of turn 0 went
-  pub put : (k : ℕ) (d : Side) → k < length old → (slice_index_or new k d).messages ≡ (slice_index_or old k d).messages ++ addressed_to (slice_index_or old k d).receiver (went_of went sent)
+  pub put : (k : ℕ) (d : Side) → k < length old → (slice_index_or new k d).messages
+      ≡ (slice_index_or old k d).messages ++ addressed_to (slice_index_or old k d).receiver (went_of went sent)
   pub led : AllByRecursion (λ (m : Envelope). HasLink old m.receiver) (went_of went sent)
 
 -- and they are noted behind those before
@@ -97,13 +100,16 @@ NotesLost turn sent before after old new = (lost : List Loss) × (after ≡ befo
 
 -- the message went onto the link to its receiver, or onto none
 pub record SentAs (went : Bool) (m : Envelope) (old new : List Side) : Type 0 where
-  pub put : (k : ℕ) (d : Side) → k < length old → (slice_index_or new k d).messages ≡ (slice_index_or old k d).messages ++ addressed_to (slice_index_or old k d).receiver (if went then m ∷ [] else [])
+  pub put : (k : ℕ) (d : Side) → k < length old → (slice_index_or new k d).messages
+      ≡ (slice_index_or old k d).messages ++ addressed_to (slice_index_or old k d).receiver (if went then m ∷ [] else [])
   pub led : went ≡ true → HasLink old m.receiver
 
 -- the links as before, but for their room
 pub record SameSides (old new : List Side) : Type 0 where
   pub len : length new ≡ length old
-  pub each : (k : ℕ) (d : Side) → k < length old → SameLink (slice_index_or old k d) (slice_index_or new k d) × ((slice_index_or new k d).messages ≡ (slice_index_or old k d).messages) × ((slice_index_or new k d).seen ≡ (slice_index_or old k d).seen)
+  pub each : (k : ℕ) (d : Side) → k < length old → SameLink (slice_index_or old k d) (slice_index_or new k d)
+      × ((slice_index_or new k d).messages ≡ (slice_index_or old k d).messages)
+      × ((slice_index_or new k d).seen ≡ (slice_index_or old k d).seen)
 
 -- the message is the first of these, where there are any
 abbrev pub IsFirst : Envelope → List Envelope → Type 0
@@ -112,7 +118,8 @@ IsFirst m ms = (later : List Envelope) × IsPrefix ms (m ∷ later)
 -- the message was taken from the link at this place, the first of those that were seen in its ring, and nothing else changed
 pub record TookAt (place : ℕ) (m : Envelope) (old new : List Side) : Type 0 where
   pub len : length new ≡ length old
-  pub each : (k : ℕ) (d : Side) → k < length old → SameLink (slice_index_or old k d) (slice_index_or new k d) × ((slice_index_or new k d).messages ≡ (slice_index_or old k d).messages ++ (if k == place then m ∷ [] else []))
+  pub each : (k : ℕ) (d : Side) → k < length old → SameLink (slice_index_or old k d) (slice_index_or new k d)
+      × ((slice_index_or new k d).messages ≡ (slice_index_or old k d).messages ++ (if k == place then m ∷ [] else []))
   pub first : (d : Side) → place < length old → IsFirst m (slice_index_or old place d).seen
 
 -- the message waited, or was taken from the link at this place

@@ -15,7 +15,8 @@ use Rattle.node_lock.specs.Wearing.{AreaRises}
 use Rattle.node_lock.specs.declared.turn_log.Loss.{Loss}
 use Rattle.node_lock.specs.History.{Turn}
 
--- a node, the ends of its links to the others, the turns that were taken at it, which of their messages were lost, their numbers and those that were drawn
+-- a node, the ends of its links to the others, the turns that were taken at it, which of their messages were lost, their numbers and those
+-- that were drawn
 pub record Site : Type 0 where
   pub node : Node Memory
   pub puts : List Side

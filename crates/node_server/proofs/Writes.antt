@@ -14,18 +14,28 @@ pub record IsWritten (text left : List ℕ) (before here : Option (List ℕ)) : 
 pub none_written : (text : List ℕ) (a : Option (List ℕ)) → IsWritten text text a a
 none_written text a = record { front = []; cut = refl; printed = appends_none a }
 
-pub some_more : (text left : List ℕ) (n : ℕ) (before here next : Option (List ℕ)) → IsWritten text left before here → Appends here next (take n left) → IsWritten text (drop n left) before next
+pub some_more : (text left : List ℕ) (n : ℕ) (before here next : Option (List ℕ)) → IsWritten text left before here
+    → Appends here next (take n left) → IsWritten text (drop n left) before next
 some_more text left n before here next so more = record {
   front = so.front ++ take n left;
-  cut = so.cut ∙ ap (λ (l : List ℕ). so.front ++ l) (sym (take-append-drop n left)) ∙ sym (append_assoc so.front (take n left) (drop n left));
+  cut = so.cut ∙ ap (λ (l : List ℕ). so.front ++ l) (sym (take-append-drop n left))
+      ∙ sym (append_assoc so.front (take n left) (drop n left));
   printed = appends_more before here next so.front (take n left) so.printed more;
 }
 
-pub none_more : (text left : List ℕ) (before here next : Option (List ℕ)) → IsWritten text left before here → Keeps here next → IsWritten text left before next
-none_more text left before here next so keeps = record { front = so.front; cut = so.cut; printed = keeps_on before here next so.front so.printed keeps }
+pub none_more : (text left : List ℕ) (before here next : Option (List ℕ)) → IsWritten text left before here → Keeps here next
+    → IsWritten text left before next
+none_more text left before here next so keeps = record {
+  front = so.front;
+  cut = so.cut;
+  printed =
+      keeps_on before here next so.front so.printed keeps;
+}
 
-pub all_written : (text left : List ℕ) (before here : Option (List ℕ)) → IsWritten text left before here → left ≡ [] → Appends before here text
-all_written text left before here so none = subst (λ (l : List ℕ). Appends before here l) (sym (so.cut ∙ ap (λ (l : List ℕ). so.front ++ l) none ∙ append-nil so.front)) so.printed
+pub all_written : (text left : List ℕ) (before here : Option (List ℕ)) → IsWritten text left before here → left ≡ []
+    → Appends before here text
+all_written text left before here so none = subst (λ (l : List ℕ). Appends before here l)
+    (sym (so.cut ∙ ap (λ (l : List ℕ). so.front ++ l) none ∙ append-nil so.front)) so.printed
 
 pub front_written : (text left : List ℕ) (before here : Option (List ℕ)) → IsWritten text left before here → AppendsFront text before here
 front_written text left before here so = record { front = so.front; rest = left; cut = so.cut; printed = so.printed }

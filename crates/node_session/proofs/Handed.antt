@@ -1,5 +1,6 @@
 -- An answer is made of lines: those of the messages that are handed out, and others that hand out nothing.
-use Rattle.std.proofs.Common.{◌≡◌, ℕ, ◌+◌, ◌==◌, ◌&&◌, Bool, true, false, List, [], ◌∷◌, ◌++◌, map, refl, sym, ap, ◌∙◌, subst, append_assoc, append-nil, arith, Option, Some, None}
+use Rattle.std.proofs.Common.{◌≡◌, ℕ, ◌+◌, ◌==◌, ◌&&◌, Bool, true, false, List, [], ◌∷◌, ◌++◌, map, refl, sym, ap, ◌∙◌, subst, append_assoc}
+use Rattle.std.proofs.Common.{append-nil, arith, Option, Some, None}
 use Rattle.std.proofs.lemmas.Bool.{and_parts}
 use Rattle.std.specs.Prelude.{All, codes, decimal, if◌then◌else◌, length}
 use Rattle.std.specs.List.{flat_map}
@@ -38,15 +39,22 @@ use Rattle.node_session.specs.declared.asked.Unsealed.{Unsealed}
 use Rattle.node_session.specs.declared.asked.Unsealed.TheVariants as unsealed
 use Rattle.node_session.specs.declared.call_outcome.CallOutcome.{CallOutcome}
 use Rattle.node_session.specs.declared.call_outcome.CallOutcome.TheVariants as end
-use Rattle.node_session.specs.Changes.{changes, drop_line, drops_by, gone_at, gone_by, gone_line, gone_news, group_by, group_news, held_text, is_finish, take_line}
+use Rattle.node_session.specs.Changes.{changes, drop_line, drops_by, gone_at, gone_by, gone_line, gone_news, group_by, group_news}
+use Rattle.node_session.specs.Changes.{held_text, is_finish, take_line}
 use Rattle.node_words.specs.Words.{core_name, event_word, group_part, group_text, id_text, ids_text, more_ids_text, phase_text, truth_text}
 use Rattle.node_session.specs.Turns.{Turn, after_turn, cause, end_of, sent_in}
 use Rattle.node_session.specs.Chains.{LineOutcome, IsNone, MayCome, after_turns, event_line_end, line_end, next}
 use Rattle.node_session.specs.Lines.{At, AreOf, Comes, after_by, after_line, answer_by, plain_answer}
-use Rattle.node_session.specs.Seals.{Seals, Brought, NoBytes, Strange, Garbled, Opened, asked_under, brought_by, brought_word, is_fresh, life_of, numbered, sealed_behind, sealed_lines, taken_brought, taken_fresh, taken_sealed, taken_told, taken_under, taken_words, told_life, written}
-use Rattle.node_session.specs.Sending.{AreMessagesIn, AreSentIn, MessagesAreSealed, again, counted_under, handed_by, is_send, plain_sends, sealed_sends, sealed_so_far, send_of, sends_in, sends_under, sent_turns}
+use Rattle.node_session.specs.Seals.{Seals, Brought, NoBytes, Strange, Garbled, Opened, asked_under, brought_by, brought_word, is_fresh}
+use Rattle.node_session.specs.Seals.{life_of, numbered, sealed_behind, sealed_lines, taken_brought, taken_fresh, taken_sealed, taken_told}
+use Rattle.node_session.specs.Seals.{taken_under, taken_words, told_life, written}
+use Rattle.node_session.specs.Sending.{AreMessagesIn, AreSentIn, MessagesAreSealed, again, counted_under, handed_by, is_send, plain_sends}
+use Rattle.node_session.specs.Sending.{sealed_sends, sealed_so_far, send_of, sends_in, sends_under, sent_turns}
 use Rattle.node_session.specs.Serving.{SendsSealed, at_of}
-use Rattle.node_session.specs.Text.{answer, answer_text, asks_part, bad_line, closing, denial_line, event_closing, event_end, fault_name, fired_by, fired_news, hand_line, jobs_by, jobs_lines, jobs_part, keeps_by, keeps_news, next_line, no_news, ok_line, pending_line, refused_line, send_line, send_lines, sets_part, state_by, state_line, tick_end, turn_text, turns_text, up_line}
+use Rattle.node_session.specs.Text.{answer, answer_text, asks_part, bad_line, closing, denial_line, event_closing, event_end, fault_name}
+use Rattle.node_session.specs.Text.{fired_by, fired_news, hand_line, jobs_by, jobs_lines, jobs_part, keeps_by, keeps_news, next_line}
+use Rattle.node_session.specs.Text.{no_news, ok_line, pending_line, refused_line, send_line, send_lines, sets_part, state_by, state_line}
+use Rattle.node_session.specs.Text.{tick_end, turn_text, turns_text, up_line}
 use Rattle.node_session.proofs.Rows.{both_lines, none_first, none_of, number_line, one_line, other_word, work_line}
 use Rattle.node_session.proofs.Sends.{Piece, Quiet, Sends, AreQuiet, Reads, messages_of, none_so, numbered_so, plain_so, sealed_so, text_of}
 
@@ -61,9 +69,11 @@ record IsMade (text : List ℕ) (ms : List Envelope) : Type 0 where
 
 text_both : (ps qs : List Piece) → text_of (ps ++ qs) ≡ text_of ps ++ text_of qs
 text_both [] qs = refl
-text_both (Quiet line ∷ ps) qs = ap (λ (x : List ℕ). (line ++ codes "\n") ++ x) (text_both ps qs) ∙ sym (append_assoc (line ++ codes "\n") (text_of ps) (text_of qs))
+text_both (Quiet line ∷ ps) qs = ap (λ (x : List ℕ). (line ++ codes "\n") ++ x) (text_both ps qs)
+    ∙ sym (append_assoc (line ++ codes "\n") (text_of ps) (text_of qs))
 text_both (Sends m ∷ ps) qs =
-    ap (λ (x : List ℕ). (send_of m (spelling m) ++ codes "\n") ++ x) (text_both ps qs) ∙ sym (append_assoc (send_of m (spelling m) ++ codes "\n") (text_of ps) (text_of qs))
+    ap (λ (x : List ℕ). (send_of m (spelling m) ++ codes "\n") ++ x) (text_both ps qs)
+    ∙ sym (append_assoc (send_of m (spelling m) ++ codes "\n") (text_of ps) (text_of qs))
 
 messages_both : (ps qs : List Piece) → messages_of (ps ++ qs) ≡ messages_of ps ++ messages_of qs
 messages_both [] qs = refl
@@ -79,8 +89,10 @@ both : (x y : List ℕ) (ms ns : List Envelope) → IsMade x ms → IsMade y ns 
 both x y ms ns a b = record {
   pieces = a.pieces ++ b.pieces;
   quiet = quiet_both a.pieces b.pieces a.quiet b.quiet;
-  text_so = ap (λ (t : List ℕ). t ++ y) a.text_so ∙ (ap (λ (t : List ℕ). text_of a.pieces ++ t) b.text_so ∙ sym (text_both a.pieces b.pieces));
-  messages = ap (λ (t : List Envelope). t ++ ns) a.messages ∙ (ap (λ (t : List Envelope). messages_of a.pieces ++ t) b.messages ∙ sym (messages_both a.pieces b.pieces));
+  text_so = ap (λ (t : List ℕ). t ++ y) a.text_so ∙ (ap (λ (t : List ℕ). text_of a.pieces ++ t) b.text_so
+      ∙ sym (text_both a.pieces b.pieces));
+  messages = ap (λ (t : List Envelope). t ++ ns) a.messages
+      ∙ (ap (λ (t : List Envelope). messages_of a.pieces ++ t) b.messages ∙ sym (messages_both a.pieces b.pieces));
 }
 
 nothing : IsMade [] []
@@ -100,7 +112,8 @@ each_made f made (x ∷ xs) = both (f x) (flat_map f xs) [] [] (made x) (each_ma
 abbrev is_other : List ℕ → Bool
 is_other [] = false
 is_other (c ∷ []) = false
-is_other (c ∷ d ∷ word) = none_of is_space (c ∷ d ∷ []) && (none_of is_line_feed (c ∷ d ∷ word) && (if c == 115 && d == 101 then false else true))
+is_other (c ∷ d ∷ word) = none_of is_space (c ∷ d ∷ []) && (none_of is_line_feed (c ∷ d ∷ word)
+    && (if c == 115 && d == 101 then false else true))
 
 other_line : (word text : List ℕ) → is_other word ≡ true → one_line word × (is_send (word ++ text) ≡ false)
 other_line [] text other = absurd cc
@@ -148,14 +161,19 @@ spaced : (x y : List ℕ) → one_line x → one_line y → one_line (x ++ codes
 spaced x y first second = both_lines (x ++ codes " ") y (both_lines x (codes " ") first refl) second
 
 group_words : (g : Group) → one_line (group_text g)
-group_words g = both_lines (decimal g.creator ++ codes ":") (decimal g.count) (both_lines (decimal g.creator) (codes ":") (number_line g.creator) refl) (number_line g.count)
+group_words g = both_lines (decimal g.creator ++ codes ":") (decimal g.count)
+    (both_lines (decimal g.creator) (codes ":") (number_line g.creator) refl) (number_line g.count)
 
 group_made : (b : Bool) (t : GroupView) → IsMade (group_by b t) []
 group_made true t = said (codes "group Down") [] refl refl
 group_made false t =
-    let text = phase_text t.phase ++ codes " " ++ decimal t.coordinator ++ codes " " ++ group_text t.group ++ codes " " ++ ids_text t.members in
-    said (codes "group ") text (spaced (phase_text t.phase ++ codes " " ++ decimal t.coordinator ++ codes " " ++ group_text t.group) (ids_text t.members)
-    (spaced (phase_text t.phase ++ codes " " ++ decimal t.coordinator) (group_text t.group) (spaced (phase_text t.phase) (decimal t.coordinator) (phase_line t.phase) (number_line t.coordinator)) (group_words t.group)) (ids_line t.members)) refl
+    let text = phase_text t.phase ++ codes " " ++ decimal t.coordinator ++ codes " " ++ group_text t.group ++ codes " "
+    ++ ids_text t.members in
+    said (codes "group ") text (spaced (phase_text t.phase ++ codes " " ++ decimal t.coordinator ++ codes " "
+    ++ group_text t.group) (ids_text t.members)
+    (spaced (phase_text t.phase ++ codes " " ++ decimal t.coordinator) (group_text t.group)
+    (spaced (phase_text t.phase) (decimal t.coordinator) (phase_line t.phase) (number_line t.coordinator))
+    (group_words t.group)) (ids_line t.members)) refl
 
 news_made : (told : Option GroupView) → IsMade (group_news told) []
 news_made None = nothing
@@ -164,13 +182,15 @@ news_made (Some t) = group_made (is_down t.phase) t
 held_line : (job : InHand) → one_line (held_text job)
 held_line job =
     spaced (decimal job.origin ++ codes " " ++ decimal job.id) (work_text job.work.queue job.work.payload job.work.priority)
-    (spaced (decimal job.origin) (decimal job.id) (number_line job.origin) (number_line job.id)) (work_line job.work.queue job.work.payload job.work.priority)
+    (spaced (decimal job.origin) (decimal job.id) (number_line job.origin) (number_line job.id))
+    (work_line job.work.queue job.work.payload job.work.priority)
 
 take_made : (job : InHand) → IsMade (take_line job) []
 take_made job = said (codes "take ") (held_text job) (held_line job) refl
 
 drop_made : (pair : ℕ × ℕ) → IsMade (drop_line pair) []
-drop_made pair = said (codes "drop ") (decimal pair.0 ++ codes " " ++ decimal pair.1) (spaced (decimal pair.0) (decimal pair.1) (number_line pair.0) (number_line pair.1)) refl
+drop_made pair = said (codes "drop ") (decimal pair.0 ++ codes " " ++ decimal pair.1)
+    (spaced (decimal pair.0) (decimal pair.1) (number_line pair.0) (number_line pair.1)) refl
 
 drops_made : (finished : Bool) (pairs : List (ℕ × ℕ)) → IsMade (drops_by finished pairs) []
 drops_made true pairs = nothing
@@ -204,7 +224,8 @@ gone_so event ended = nothing
 
 sends_made : (ms : List Envelope) → IsMade (send_lines ms) ms
 sends_made [] = nothing
-sends_made (m ∷ ms) = both (send_line m) (send_lines ms) (m ∷ []) ms (record { pieces = Sends m ∷ []; quiet = tt; text_so = sym (append-nil (send_line m)); messages = refl }) (sends_made ms)
+sends_made (m ∷ ms) = both (send_line m) (send_lines ms)
+    (m ∷ []) ms (record { pieces = Sends m ∷ []; quiet = tt; text_so = sym (append-nil (send_line m)); messages = refl }) (sends_made ms)
 
 turn_made : (self nodes : ℕ) (s : NodeState) (turn : Turn) → IsMade (turn_text self nodes s turn) (sent_in self nodes s turn)
 turn_made self nodes s turn =
@@ -212,7 +233,8 @@ turn_made self nodes s turn =
     let new = (after_turn self nodes s turn).state in
     let finished = is_finish (cause turn) in
     let gone = gone_news (cause turn) (end_of self nodes s turn) in
-    more (send_lines (sent_in self nodes s turn)) (changes finished old new ++ gone) (sent_in self nodes s turn) (sends_made (sent_in self nodes s turn))
+    more (send_lines (sent_in self nodes s turn)) (changes finished old new ++ gone) (sent_in self nodes s turn)
+    (sends_made (sent_in self nodes s turn))
     (both (changes finished old new) gone [] [] (changes_made finished old new) (gone_so (cause turn) (end_of self nodes s turn)))
 
 turns_made : (before : Turn → List ℕ) → ((turn : Turn) → IsMade (before turn) []) → (self nodes : ℕ) (s : NodeState) (turns : List Turn)
@@ -220,8 +242,10 @@ turns_made : (before : Turn → List ℕ) → ((turn : Turn) → IsMade (before 
 turns_made before made self nodes s [] = nothing
 turns_made before made self nodes s (turn ∷ turns) =
     let t = after_turn self nodes s turn in
-    both (before turn) (turn_text self nodes s turn ++ turns_text before self nodes t turns) [] (sent_in self nodes s turn ++ sent_turns self nodes t turns) (made turn)
-    (both (turn_text self nodes s turn) (turns_text before self nodes t turns) (sent_in self nodes s turn) (sent_turns self nodes t turns) (turn_made self nodes s turn) (turns_made before made self nodes t turns))
+    both (before turn) (turn_text self nodes s turn ++ turns_text before self nodes t turns) [] (sent_in self nodes s turn
+    ++ sent_turns self nodes t turns) (made turn)
+    (both (turn_text self nodes s turn) (turns_text before self nodes t turns) (sent_in self nodes s turn) (sent_turns self nodes t turns)
+    (turn_made self nodes s turn) (turns_made before made self nodes t turns))
 
 event_so : (event : Event) → one_line (event_word event)
 event_so (on.Timer timer.Check) = refl
@@ -248,7 +272,8 @@ denial_made : (n : ℕ) (fault : NodeFault) → IsMade (denial_line n fault) []
 denial_made n (node.Core fault) = refused_row n (core_name fault) (core_line fault)
 denial_made n node.Full = refused_row n (codes "Full") refl
 denial_made n node.Exhausted = refused_row n (codes "Exhausted") refl
-denial_made n node.Device = said (codes "fault ") (decimal n ++ codes " " ++ codes "Device") (spaced (decimal n) (codes "Device") (number_line n) refl) refl
+denial_made n node.Device = said (codes "fault ") (decimal n ++ codes " " ++ codes "Device")
+    (spaced (decimal n) (codes "Device") (number_line n) refl) refl
 denial_made n node.NotFormatted = refused_row n (codes "NotFormatted") refl
 denial_made n (node.Damaged sector) = refused_row n (fault_name (node.Damaged sector)) (number_line sector)
 denial_made n node.TooSmall = refused_row n (codes "TooSmall") refl
@@ -276,7 +301,8 @@ keeps_made : (b : Bool) (d : Durable) → IsMade (keeps_by b d) []
 keeps_made true d = nothing
 keeps_made false d =
     said (codes "keeps ") (decimal d.counter ++ codes " " ++ decimal d.next ++ codes " " ++ decimal (length d.pending))
-    (spaced (decimal d.counter ++ codes " " ++ decimal d.next) (decimal (length d.pending)) (spaced (decimal d.counter) (decimal d.next) (number_line d.counter) (number_line d.next)) (number_line (length d.pending))) refl
+    (spaced (decimal d.counter ++ codes " " ++ decimal d.next) (decimal (length d.pending))
+    (spaced (decimal d.counter) (decimal d.next) (number_line d.counter) (number_line d.next)) (number_line (length d.pending))) refl
 
 keeps_so : (event : Event) (ended : CallOutcome) (s : NodeState) → IsMade (keeps_news event ended s) []
 keeps_so on.Recover (end.Done answer) s = keeps_made (is_down s.state.phase) s.durable
@@ -302,7 +328,9 @@ sets_part_line s =
     let members = codes " members " ++ ids_text (members_of s.task) in
     let found = members ++ codes " found " ++ ids_text s.found in
     both_lines (found ++ codes " unready ") (ids_text s.unready)
-    (both_lines found (codes " unready ") (both_lines (members ++ codes " found ") (ids_text s.found) (both_lines members (codes " found ") (ids_line (members_of s.task)) refl) (ids_line s.found)) refl) (ids_line s.unready)
+    (both_lines found (codes " unready ") (both_lines (members
+    ++ codes " found ") (ids_text s.found) (both_lines members (codes " found ")
+    (ids_line (members_of s.task)) refl) (ids_line s.found)) refl) (ids_line s.unready)
 
 asks_part_line : (s : State) → one_line (asks_part s)
 asks_part_line s =
@@ -314,7 +342,8 @@ jobs_part_line s d =
     let count = codes " count " ++ decimal d.counter in
     let pending = count ++ codes " pending " ++ decimal (length d.pending) in
     both_lines (pending ++ codes " hand ") (decimal (length s.hand))
-    (both_lines pending (codes " hand ") (both_lines (count ++ codes " pending ") (decimal (length d.pending)) (both_lines count (codes " pending ") (number_line d.counter) refl) (number_line (length d.pending))) refl)
+    (both_lines pending (codes " hand ") (both_lines (count ++ codes " pending ") (decimal (length d.pending))
+    (both_lines count (codes " pending ") (number_line d.counter) refl) (number_line (length d.pending))) refl)
     (number_line (length s.hand))
 
 up_made : (s : State) (d : Durable) → IsMade (up_line s d) []
@@ -323,7 +352,9 @@ up_made s d =
     said (codes "state ") text
     (both_lines (phase_text s.phase ++ group_part s ++ sets_part s ++ asks_part s) (jobs_part s d)
     (both_lines (phase_text s.phase ++ group_part s ++ sets_part s) (asks_part s)
-    (both_lines (phase_text s.phase ++ group_part s) (sets_part s) (both_lines (phase_text s.phase) (group_part s) (phase_line s.phase) (group_part_line s)) (sets_part_line s)) (asks_part_line s)) (jobs_part_line s d)) refl
+    (both_lines (phase_text s.phase ++ group_part s) (sets_part s)
+    (both_lines (phase_text s.phase) (group_part s) (phase_line s.phase) (group_part_line s)) (sets_part_line s)) (asks_part_line s))
+    (jobs_part_line s d)) refl
 
 state_made : (b : Bool) (s : NodeState) → IsMade (state_by b s) []
 state_made true s = said (codes "state Down") [] refl refl
@@ -332,14 +363,17 @@ state_made false s = up_made s.state s.durable
 pending_made : (job : Job) → IsMade (pending_line job) []
 pending_made job =
     said (codes "pending ") (decimal job.id ++ codes " " ++ work_text job.work.queue job.work.payload job.work.priority)
-    (spaced (decimal job.id) (work_text job.work.queue job.work.payload job.work.priority) (number_line job.id) (work_line job.work.queue job.work.payload job.work.priority)) refl
+    (spaced (decimal job.id) (work_text job.work.queue job.work.payload job.work.priority) (number_line job.id)
+    (work_line job.work.queue job.work.payload job.work.priority)) refl
 
 hand_made : (job : InHand) → IsMade (hand_line job) []
 hand_made job = said (codes "hand ") (held_text job) (held_line job) refl
 
 jobs_made : (b : Bool) (s : NodeState) → IsMade (jobs_by b s) []
 jobs_made true s = nothing
-jobs_made false s = both (flat_map pending_line s.durable.pending) (flat_map hand_line s.state.hand) [] [] (each_made pending_line pending_made s.durable.pending) (each_made hand_line hand_made s.state.hand)
+jobs_made false s = both (flat_map pending_line s.durable.pending)
+    (flat_map hand_line s.state.hand) [] [] (each_made pending_line pending_made s.durable.pending)
+    (each_made hand_line hand_made s.state.hand)
 
 -- ---- all answers
 
@@ -348,7 +382,8 @@ no_turns self nodes s [] none = refl
 no_turns self nodes s (turn ∷ turns) none = absurd none
 
 -- what asks nothing of the node hands out nothing
-quiet_answer : (self nodes : ℕ) (s : NodeState) (turns : List Turn) (text : List ℕ) → IsNone turns → IsMade text [] → IsMade text (sent_turns self nodes s turns)
+quiet_answer : (self nodes : ℕ) (s : NodeState) (turns : List Turn) (text : List ℕ) → IsNone turns → IsMade text []
+    → IsMade text (sent_turns self nodes s turns)
 quiet_answer self nodes s turns text none made = subst (λ (ms : List Envelope). IsMade text ms) (no_turns self nodes s turns none) made
 
 answer_made : (self nodes slots n : ℕ) (a : At) (asked : Asked) (came : LineOutcome) → MayCome self nodes slots a.state asked came.turns
@@ -357,26 +392,40 @@ answer_made self nodes slots n a ask.Nothing came may = quiet_answer self nodes 
 answer_made self nodes slots n a (ask.Event event) came may =
     let ended = event_line_end self nodes a.state came.turns in
     let left = after_turns self nodes a.state came.turns in
-    more (turns_text no_news self nodes a.state came.turns) (event_end self nodes n a.state event came.turns) (sent_turns self nodes a.state came.turns)
-    (turns_made no_news (λ turn. nothing) self nodes a.state came.turns) (both (keeps_news event ended left) (event_closing n event ended) [] [] (keeps_so event ended left) (event_made n event ended))
+    more (turns_text no_news self nodes a.state came.turns) (event_end self nodes n a.state event came.turns)
+    (sent_turns self nodes a.state came.turns)
+    (turns_made no_news (λ turn. nothing) self nodes a.state came.turns)
+    (both (keeps_news event ended left) (event_closing n event ended) [] [] (keeps_so event ended left) (event_made n event ended))
 answer_made self nodes slots n a ask.Compact came may =
-    more (turns_text no_news self nodes a.state came.turns) (closing n (line_end self nodes a.state came.turns)) (sent_turns self nodes a.state came.turns)
+    more (turns_text no_news self nodes a.state came.turns) (closing n (line_end self nodes a.state came.turns))
+    (sent_turns self nodes a.state came.turns)
     (turns_made no_news (λ turn. nothing) self nodes a.state came.turns) (closing_made n (line_end self nodes a.state came.turns))
 answer_made self nodes slots n a (ask.Tick now) came may =
     let ended = line_end self nodes a.state came.turns in
-    both (send_lines (sent_again now a.waits)) (turns_text fired_news self nodes a.state came.turns ++ tick_end self nodes n a.state came) (sent_again now a.waits) (sent_turns self nodes a.state came.turns)
+    both (send_lines (sent_again now a.waits)) (turns_text fired_news self nodes a.state came.turns ++ tick_end self nodes n a.state came)
+    (sent_again now a.waits) (sent_turns self nodes a.state came.turns)
     (sends_made (sent_again now a.waits))
-    (more (turns_text fired_news self nodes a.state came.turns) (tick_end self nodes n a.state came) (sent_turns self nodes a.state came.turns)
-    (turns_made fired_news (λ turn. fired_made (cause turn)) self nodes a.state came.turns) (both (next_line came.due) (closing n ended) [] [] (next_made came.due) (closing_made n ended)))
+    (more (turns_text fired_news self nodes a.state came.turns) (tick_end self nodes n a.state came)
+    (sent_turns self nodes a.state came.turns)
+    (turns_made fired_news (λ turn. fired_made (cause turn)) self nodes a.state came.turns)
+    (both (next_line came.due) (closing n ended) [] [] (next_made came.due) (closing_made n ended)))
 answer_made self nodes slots n a (ask.Lost id) came may =
-    more (turns_text fired_news self nodes a.state came.turns) (closing n (line_end self nodes a.state came.turns)) (sent_turns self nodes a.state came.turns)
-    (turns_made fired_news (λ turn. fired_made (cause turn)) self nodes a.state came.turns) (closing_made n (line_end self nodes a.state came.turns))
+    more (turns_text fired_news self nodes a.state came.turns) (closing n (line_end self nodes a.state came.turns))
+    (sent_turns self nodes a.state came.turns)
+    (turns_made fired_news (λ turn. fired_made (cause turn)) self nodes a.state came.turns)
+    (closing_made n (line_end self nodes a.state came.turns))
 answer_made self nodes slots n a ask.State came may =
-    quiet_answer self nodes a.state came.turns (state_line a.state ++ ok_line n []) may (both (state_line a.state) (ok_line n []) [] [] (state_made (is_down a.state.state.phase) a.state) (ok_made n [] refl))
+    quiet_answer self nodes a.state came.turns (state_line a.state
+    ++ ok_line n []) may (both (state_line a.state) (ok_line n []) [] [] (state_made (is_down a.state.state.phase) a.state)
+    (ok_made n [] refl))
 answer_made self nodes slots n a ask.Jobs came may =
-    quiet_answer self nodes a.state came.turns (jobs_lines a.state ++ ok_line n []) may (both (jobs_lines a.state) (ok_line n []) [] [] (jobs_made (is_down a.state.state.phase) a.state) (ok_made n [] refl))
-answer_made self nodes slots n a ask.Bad came may = quiet_answer self nodes a.state came.turns (bad_line n) may (said (codes "bad ") (decimal n) (number_line n) refl)
-answer_made self nodes slots n a (ask.Refused why) came may = quiet_answer self nodes a.state came.turns (refused_line n why) may (by_why why)
+    quiet_answer self nodes a.state came.turns (jobs_lines a.state
+    ++ ok_line n []) may (both (jobs_lines a.state) (ok_line n []) [] [] (jobs_made (is_down a.state.state.phase) a.state)
+    (ok_made n [] refl))
+answer_made self nodes slots n a ask.Bad came may = quiet_answer self nodes a.state came.turns (bad_line n) may
+    (said (codes "bad ") (decimal n) (number_line n) refl)
+answer_made self nodes slots n a (ask.Refused why) came may =
+    quiet_answer self nodes a.state came.turns (refused_line n why) may (by_why why)
   where
     by_why : (w : Unsealed) → IsMade (refused_line n w) []
     by_why unsealed.Forged = refused_row n (codes "Forged") refl
@@ -388,7 +437,8 @@ record AreWritten (q : Seals) (life : Option ℕ) (text : List ℕ) (ms : List E
   pub lines : sends_in (sealed_lines q.keys life q.number (lines_of text)) ≡ sealed_sends q.keys life q.number ms
   pub number : numbered life q.number (lines_of text) ≡ counted_under (Some q) life ms
 
-written_so : Reads → (q : Seals) (life : Option ℕ) (text : List ℕ) (ms : List Envelope) → IsMade text ms → All IsMessage ms → AreWritten q life text ms
+written_so : Reads → (q : Seals) (life : Option ℕ) (text : List ℕ) (ms : List Envelope) → IsMade text ms → All IsMessage ms
+    → AreWritten q life text ms
 written_so reads q None text ms made all =
     let none = none_so q.keys q.number made.pieces made.quiet (subst (λ (x : List Envelope). All IsMessage x) made.messages all) in
     record {
@@ -399,7 +449,8 @@ written_so reads q (Some life) text ms made all =
     let all' = subst (λ (x : List Envelope). All IsMessage x) made.messages all in
     record {
       lines = ap (λ (t : List ℕ). sends_in (sealed_lines q.keys (Some life) q.number (lines_of t))) made.text_so
-          ∙ (sealed_so reads q.keys life q.number made.pieces made.quiet all' ∙ ap (sealed_sends q.keys (Some life) q.number) (sym made.messages));
+          ∙ (sealed_so reads q.keys life q.number made.pieces made.quiet all'
+          ∙ ap (sealed_sends q.keys (Some life) q.number) (sym made.messages));
       number = ap (λ (t : List ℕ). numbered (Some life) q.number (lines_of t)) made.text_so
           ∙ (numbered_so life q.number made.pieces made.quiet all' ∙ ap (λ (x : List Envelope). q.number + length x) (sym made.messages));
     }
@@ -431,11 +482,13 @@ record AreUnder (seal taken : Option Seals) (life : Option ℕ) (text : List ℕ
   pub lines : sends_in (written taken life text) ≡ sends_under taken life ms
   pub number : sealed_so_far (sealed_behind taken life text) ≡ counted_under seal life ms
 
-counted_same : (q r : Seals) (life : Option ℕ) (ms : List Envelope) → r.number ≡ q.number → counted_under (Some r) life ms ≡ counted_under (Some q) life ms
+counted_same : (q r : Seals) (life : Option ℕ) (ms : List Envelope) → r.number ≡ q.number
+    → counted_under (Some r) life ms ≡ counted_under (Some q) life ms
 counted_same q r None ms same = same
 counted_same q r (Some life) ms same = ap (λ (n : ℕ). n + length ms) same
 
-under_so : Reads → (seal : Option Seals) (line : List ℕ) (life : Option ℕ) (text : List ℕ) (ms : List Envelope) → IsMade text ms → All IsMessage ms → AreUnder seal (taken_under seal line) life text ms
+under_so : Reads → (seal : Option Seals) (line : List ℕ) (life : Option ℕ) (text : List ℕ) (ms : List Envelope) → IsMade text ms
+    → All IsMessage ms → AreUnder seal (taken_under seal line) life text ms
 under_so reads None line life text ms made all =
     record { lines = ap sends_in made.text_so ∙ (plain_so made.pieces made.quiet ∙ ap plain_sends (sym made.messages)); number = refl }
 under_so reads (Some q) line life text ms made all =
@@ -443,7 +496,8 @@ under_so reads (Some q) line life text ms made all =
     record { lines = is.lines; number = is.number ∙ counted_same q (taken_sealed q line) life ms (same_number q line) }
 
 -- a session that was stopped answers nothing
-none_under : (seal taken : Option Seals) (life : Option ℕ) → ([] ≡ sends_under taken life []) × (sealed_so_far seal ≡ counted_under seal life [])
+none_under : (seal taken : Option Seals) (life : Option ℕ)
+    → ([] ≡ sends_under taken life []) × (sealed_so_far seal ≡ counted_under seal life [])
 none_under seal taken life = (none_sent taken life, none_counted seal life)
   where
     none_sent : (taken : Option Seals) (life : Option ℕ) → ([] ≡ sends_under taken life [])
@@ -457,28 +511,37 @@ none_under seal taken life = (none_sent taken life, none_counted seal life)
     none_counted (Some q) (Some life) = omega arith
 
 record AreSentBy (self nodes : ℕ) (b : Bool) (a : At) (line : List ℕ) (came : LineOutcome) : Type 0 where
-  pub lines : sends_in (answer_by self nodes b a line came) ≡ sends_under (taken_under a.seal line) (life_of (after_by self nodes b a line came).state) (handed_by self nodes b a (asked_under a.seal line) came)
-  pub number : sealed_so_far (after_by self nodes b a line came).seal ≡ counted_under a.seal (life_of (after_by self nodes b a line came).state) (handed_by self nodes b a (asked_under a.seal line) came)
+  pub lines : sends_in (answer_by self nodes b a line came) ≡ sends_under (taken_under a.seal line)
+      (life_of (after_by self nodes b a line came).state) (handed_by self nodes b a (asked_under a.seal line) came)
+  pub number : sealed_so_far (after_by self nodes b a line came).seal
+      ≡ counted_under a.seal (life_of (after_by self nodes b a line came).state) (handed_by self nodes b a (asked_under a.seal line) came)
 
-sent_by : Reads → (self nodes slots : ℕ) (b : Bool) (a : At) (line : List ℕ) (came : LineOutcome) → Comes self nodes slots b a.state (asked_under a.seal line) came
+sent_by : Reads → (self nodes slots : ℕ) (b : Bool) (a : At) (line : List ℕ) (came : LineOutcome)
+    → Comes self nodes slots b a.state (asked_under a.seal line) came
     → All IsMessage (handed_by self nodes b a (asked_under a.seal line) came) → AreSentBy self nodes b a line came
-sent_by reads self nodes slots true a line came comes all = (let none = none_under a.seal (taken_under a.seal line) (life_of a.state) in record { lines = none.0; number = none.1 })
+sent_by reads self nodes slots true a line came comes all =
+    (let none = none_under a.seal (taken_under a.seal line) (life_of a.state) in record { lines = none.0; number = none.1 })
 sent_by reads self nodes slots false a line came comes all =
     let asked = asked_under a.seal line in
     let made = answer_made self nodes slots (next a.count asked) a asked came comes.0 in
-    let is = under_so reads a.seal line (life_of (after_turns self nodes a.state came.turns)) (plain_answer self nodes a asked came) (handed_by self nodes false a asked came) made all in
+    let is = under_so reads a.seal line (life_of (after_turns self nodes a.state came.turns)) (plain_answer self nodes a asked came)
+    (handed_by self nodes false a asked came) made all in
     record { lines = is.lines; number = is.number }
 
 pub messages_sealed : Reads → MessagesAreSealed
-messages_sealed reads self nodes slots a line came comes all = (let is = sent_by reads self nodes slots a.stopped a line came comes all in record { lines = is.lines; number = is.number })
+messages_sealed reads self nodes slots a line came comes all =
+    (let is = sent_by reads self nodes slots a.stopped a line came comes all in record { lines = is.lines; number = is.number })
 
 -- ---- of lines, one behind another
 
-lines_sent : Reads → (self nodes slots : ℕ) (a : At) (ls : List (List ℕ)) (cs : List LineOutcome) → AreOf self nodes slots a ls cs → AreMessagesIn self nodes a ls cs → AreSentIn self nodes a ls cs
+lines_sent : Reads → (self nodes slots : ℕ) (a : At) (ls : List (List ℕ)) (cs : List LineOutcome) → AreOf self nodes slots a ls cs
+    → AreMessagesIn self nodes a ls cs → AreSentIn self nodes a ls cs
 lines_sent reads self nodes slots a [] cs came all = tt
 lines_sent reads self nodes slots a (l ∷ ls) [] came all = tt
-lines_sent reads self nodes slots a (l ∷ ls) (c ∷ cs) came all =
-    (messages_sealed reads self nodes slots a l c came.0 all.0, lines_sent reads self nodes slots (after_line self nodes a l c) ls cs came.1 all.1)
+lines_sent reads self nodes slots a (l ∷ ls) (c ∷ cs) came all = (
+  messages_sealed reads self nodes slots a l c came.0 all.0,
+  lines_sent reads self nodes slots (after_line self nodes a l c) ls cs came.1 all.1,
+)
 
 pub sends_sealed : {Disk : Type 0} (disks : Disk → DiskState) → Reads → SendsSealed disks
 sends_sealed disks reads old new self nodes lines was s served =

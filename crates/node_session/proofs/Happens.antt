@@ -1,5 +1,6 @@
 -- What comes of an event, over any disk.
-use Rattle.std.proofs.Common.{◌≡◌, ◌⊎◌, inl, inr, ℕ, ◌+◌, ◌-◌, ◌^◌, ◌<◌, ◌++◌, Bool, true, false, List, [], refl, sym, ap, ◌∙◌, subst, append-nil, append_assoc, arith, Option, Some, None, Result, Ok, Err}
+use Rattle.std.proofs.Common.{◌≡◌, ◌⊎◌, inl, inr, ℕ, ◌+◌, ◌-◌, ◌^◌, ◌<◌, ◌++◌, Bool, true, false, List, [], refl, sym, ap, ◌∙◌, subst}
+use Rattle.std.proofs.Common.{append-nil, append_assoc, arith, Option, Some, None, Result, Ok, Err}
 use Rattle.std.specs.Prelude.{◌≢◌, All, IfOk, IfErr, IsTrue, IsSome}
 use Rattle.std.proofs.lemmas.List.Elements.{All-nil}
 use Rattle.sector_disk.specs.Disk.{DiskState}
@@ -38,7 +39,8 @@ use Rattle.node_core.specs.declared.fault.CoreFault.TheVariants.{NoMemory}
 use Rattle.durable_node.specs.Remounting.{Remounted}
 use Rattle.node_session.specs.declared.call_outcome.CallOutcome.{CallOutcome}
 use Rattle.node_session.specs.declared.call_outcome.CallOutcome.TheVariants as end
-use Rattle.node_session.specs.Turns.{Turn, Goes, Unmounted, Begins, MayComeOf, MayCompact, IsGoing, IsOfCompaction, after_turn, cause, compaction_end, end_at, end_of, ended_by, sent_by, sent_in}
+use Rattle.node_session.specs.Turns.{Turn, Goes, Unmounted, Begins, MayComeOf, MayCompact, IsGoing, IsOfCompaction, after_turn, cause}
+use Rattle.node_session.specs.Turns.{compaction_end, end_at, end_of, ended_by, sent_by, sent_in}
 use Rattle.node_timers.specs.Retransmission.{Waits, waits_behind}
 use Rattle.node_session.specs.Changes.{changes, gone_news, is_finish, news}
 use Rattle.node_session.specs.Text.{call_text, send_lines}
@@ -46,7 +48,8 @@ use Rattle.node_session.specs.Exact.{CompactionSays, IsCallBy, StepSays}
 use Rattle.node_session.specs.Serving.{Progress, IsNodeOf, Turns}
 
 -- what came of an event over a disk, and how it is written
-record Happens {Disk : Type 0} (disks : Disk → DiskState) (slots : ℕ) (old new : Node Disk) (honest : Bool) (s : NodeState) (event : Event) (result : Result StepReport NodeFault) : Type 0 where
+record Happens {Disk : Type 0} (disks : Disk → DiskState) (slots : ℕ) (old new : Node Disk) (honest : Bool) (s : NodeState) (event : Event)
+    (result : Result StepReport NodeFault) : Type 0 where
   pub turn : Turn
   pub may : MayComeOf old.id old.nodes event slots s turn
   pub going : IsTrue honest → IsGoing turn
@@ -56,26 +59,32 @@ record Happens {Disk : Type 0} (disks : Disk → DiskState) (slots : ℕ) (old n
 
 -- ---- the history goes on
 
-ends : (slots self nodes : ℕ) (s : NodeState) (event : Event) (came : StepReport) (given : Option Durable) (event_outcome : EventOutcome) → Does slots self nodes s event came given (what_of event event_outcome)
-    → (ended_by (answered_as came (fault_of event_outcome)) ≡ end_at self nodes s (what_of event event_outcome)) × (sent_by (answered_as came (fault_of event_outcome)) ≡ sent_at self nodes s (what_of event event_outcome))
+ends : (slots self nodes : ℕ) (s : NodeState) (event : Event) (came : StepReport) (given : Option Durable) (event_outcome : EventOutcome)
+    → Does slots self nodes s event came given (what_of event event_outcome)
+    → (ended_by (answered_as came (fault_of event_outcome)) ≡ end_at self nodes s (what_of event event_outcome))
+    × (sent_by (answered_as came (fault_of event_outcome)) ≡ sent_at self nodes s (what_of event event_outcome))
 ends slots self nodes s event came given event_outcome.Done does = (ap end.Done does.answer, does.sent)
 ends slots self nodes s event came given (event_outcome.Recovered kept) does = (ap end.Done does.answer, does.sent)
 ends slots self nodes s event came given event_outcome does = (refl, refl)
 
 -- a disk of a history is one that can be mounted
-not_stuck : {Disk : Type 0} (disks : Disk → DiskState) (old new : Node Disk) (event : Event) (fault : NodeFault) (was : Disk) (s : NodeState) → Stuck disks old new event fault → fault ≢ node.Core NoMemory
+not_stuck : {Disk : Type 0} (disks : Disk → DiskState) (old new : Node Disk) (event : Event) (fault : NodeFault) (was : Disk)
+    (s : NodeState) → Stuck disks old new event fault → fault ≢ node.Core NoMemory
     → old.disk ≡ Some was → Stands disks old s → (IsMounting old.state event → IsTrue (disks was).honest) → ⊥
 not_stuck disks old new event (node.Core f) was s stuck memory is stands honest = memory (ap node.Core stuck.0)
 not_stuck disks old new event node.Full was s stuck memory is stands honest = stuck
 not_stuck disks old new event node.Exhausted was s stuck memory is stands honest = stuck
 not_stuck disks old new event node.Device was s stuck memory is stands honest = stuck
 not_stuck disks old new event node.NotFormatted was s stuck memory is stands honest = stuck.strange was s is stands (honest stuck.mounting)
-not_stuck disks old new event (node.Damaged sector) was s stuck memory is stands honest = stuck.strange was s is stands (honest stuck.mounting)
+not_stuck disks old new event (node.Damaged sector) was s stuck memory is stands honest =
+    stuck.strange was s is stands (honest stuck.mounting)
 not_stuck disks old new event node.TooSmall was s stuck memory is stands honest = stuck.strange was s is stands (honest stuck.mounting)
 
-goes_on : {Disk : Type 0} (disks : Disk → DiskState) (old new : Node Disk) (event : Event) (reply : Result StepReport NodeFault) (was : Disk) (s : NodeState)
+goes_on : {Disk : Type 0} (disks : Disk → DiskState) (old new : Node Disk) (event : Event) (reply : Result StepReport NodeFault)
+    (was : Disk) (s : NodeState)
     → IfOk reply (Steps disks old new event) → IfErr reply (Stuck disks old new event) → reply ≢ Err (node.Core NoMemory)
-    → old.disk ≡ Some was → Stands disks old s → (IsMounting old.state event → IsTrue (disks was).honest) → Happens disks (slots_for (disks was).sectors) old new (disks was).honest s event (answered reply)
+    → old.disk ≡ Some was → Stands disks old s → (IsMounting old.state event → IsTrue (disks was).honest)
+    → Happens disks (slots_for (disks was).sectors) old new (disks was).honest s event (answered reply)
 goes_on disks old new event (Ok came) was s steps stuck memory is stands honest =
     let step = steps was s is stands honest in
     let does = step.0 in
@@ -101,8 +110,10 @@ left_anyhow old new s t sectors dishonest left = record {
   sound = λ honest. absurd cc;
 }
 
-begins : {Disk : Type 0} (disks : Disk → DiskState) (slots : ℕ) (old new : Node Disk) (result : Result StepReport NodeFault) (given : Option Durable) (s : NodeState) → Remounted old new result given
-    → (is_down old.state.phase ≡ true → old.state ≡ down_state old.id) → is_down old.state.phase ≡ true → Stands disks old s → ((t : NodeState) (d : Disk) → new.disk ≡ Some d → IsLeft (disks d) t)
+begins : {Disk : Type 0} (disks : Disk → DiskState) (slots : ℕ) (old new : Node Disk) (result : Result StepReport NodeFault)
+    (given : Option Durable) (s : NodeState) → Remounted old new result given
+    → (is_down old.state.phase ≡ true → old.state ≡ down_state old.id) → is_down old.state.phase ≡ true → Stands disks old s
+    → ((t : NodeState) (d : Disk) → new.disk ≡ Some d → IsLeft (disks d) t)
     → Happens disks slots old new false s on.Recover result
 begins disks slots old new (Ok came) None s mounted fallen down stands left = absurd mounted
 begins disks slots old new (Ok came) (Some given) s mounted fallen down stands left = record {
@@ -134,7 +145,9 @@ begins {Disk} disks slots old new (Err fault) (Some given) s mounted fallen down
     still_down : is_down new.state.phase ≡ true
     still_down = ap (λ (v : State). is_down v.phase) mounted.0 ∙ down
 
-    by_cases : ((fault ≡ node.Device) × (new.doubt ≡ Some (wanted.Raise, given.counter)) × (given.counter + 1 < 2 ^ 64)) ⊎ ((fault ≡ node.Exhausted) × (given.counter ≡ 2 ^ 64 - 1) × (new.doubt ≡ old.doubt)) → Happens disks slots old new false s on.Recover (Err fault)
+    by_cases : ((fault ≡ node.Device) × (new.doubt ≡ Some (wanted.Raise, given.counter)) × (given.counter + 1 < 2 ^ 64))
+        ⊎ ((fault ≡ node.Exhausted) × (given.counter ≡ 2 ^ 64 - 1) × (new.doubt ≡ old.doubt))
+        → Happens disks slots old new false s on.Recover (Err fault)
     by_cases (inl failed) = record {
       turn = Begins given (RaiseFailed false);
       may = (refl, was_down, tt, (refl, λ kept. absurd cc, failed.2));
@@ -158,14 +171,17 @@ recovers : (event : Event) → is_recover event ≡ true → event ≡ on.Recove
 recovers on.Recover is = refl
 recovers event is = absurd cc
 
-happens : {Disk : Type 0} (disks : Disk → DiskState) (old new : Node Disk) (event : Event) (reply : Result StepReport NodeFault) (was : Disk) (s : NodeState)
+happens : {Disk : Type 0} (disks : Disk → DiskState) (old new : Node Disk) (event : Event) (reply : Result StepReport NodeFault)
+    (was : Disk) (s : NodeState)
     → IfOk reply (Steps disks old new event) → IfErr reply (Stuck disks old new event) → reply ≢ Err (node.Core NoMemory)
-    → (is_down old.state.phase ≡ true → event ≡ on.Recover → Remounted old new (answered reply) new.mounted) → (is_down old.state.phase ≡ true → old.state ≡ down_state old.id) → old.disk ≡ Some was → Stands disks old s
+    → (is_down old.state.phase ≡ true → event ≡ on.Recover → Remounted old new (answered reply) new.mounted)
+    → (is_down old.state.phase ≡ true → old.state ≡ down_state old.id) → old.disk ≡ Some was → Stands disks old s
     → ((d : Disk) → new.disk ≡ Some d → ((disks d).sectors ≡ (disks was).sectors) × ((disks d).honest ≡ (disks was).honest))
     → Happens disks (slots_for (disks was).sectors) old new (disks was).honest s event (answered reply)
 happens {Disk} disks old new event reply was s steps stuck memory mounting fallen is stands same = by_honesty (disks was).honest refl
   where
-    begun_at : (disks was).honest ≡ false → is_down old.state.phase ≡ true → event ≡ on.Recover → Happens disks (slots_for (disks was).sectors) old new (disks was).honest s event (answered reply)
+    begun_at : (disks was).honest ≡ false → is_down old.state.phase ≡ true → event ≡ on.Recover
+        → Happens disks (slots_for (disks was).sectors) old new (disks was).honest s event (answered reply)
     begun_at dishonest down recover =
         subst (λ (e : Event). Happens disks (slots_for (disks was).sectors) old new (disks was).honest s e (answered reply)) (sym recover)
         (subst (λ (b : Bool). Happens disks (slots_for (disks was).sectors) old new b s on.Recover (answered reply)) (sym dishonest)
@@ -175,10 +191,13 @@ happens {Disk} disks old new event reply was s steps stuck memory mounting falle
     by_event : (disks was).honest ≡ false → (down recover : Bool) → is_down old.state.phase ≡ down → is_recover event ≡ recover
         → Happens disks (slots_for (disks was).sectors) old new (disks was).honest s event (answered reply)
     by_event dishonest true true down recover = begun_at dishonest down (recovers event recover)
-    by_event dishonest true false down recover = goes_on disks old new event reply was s steps stuck memory is stands (λ both. (let bad = both.1 in absurd cc))
-    by_event dishonest false recovering down recover = goes_on disks old new event reply was s steps stuck memory is stands (λ both. (let bad = both.0 in absurd cc))
+    by_event dishonest true false down recover = goes_on disks old new event reply was s steps stuck memory is stands (λ both. (let bad =
+        both.1 in absurd cc))
+    by_event dishonest false recovering down recover = goes_on disks old new event reply was s steps stuck memory is stands (λ both.
+        (let bad = both.0 in absurd cc))
 
-    by_honesty : (b : Bool) → (disks was).honest ≡ b → Happens disks (slots_for (disks was).sectors) old new (disks was).honest s event (answered reply)
+    by_honesty : (b : Bool) → (disks was).honest ≡ b → Happens disks (slots_for (disks was).sectors) old new (disks was).honest s event
+        (answered reply)
     by_honesty true honest = goes_on disks old new event reply was s steps stuck memory is stands (λ _. honest)
     by_honesty false honest = by_event honest (is_down old.state.phase) (is_recover event) refl refl
 
@@ -187,7 +206,8 @@ some_is None is = absurd cc
 some_is (Some x) is = (x, refl)
 
 -- the node is over the disk that it was over
-same_node : {Disk A : Type 0} (disks : Disk → DiskState) (old new : Node Disk) (result : Result A NodeFault) → new.id ≡ old.id → new.nodes ≡ old.nodes → CountsOf disks old.disk new.disk result → IsNodeOf disks old new
+same_node : {Disk A : Type 0} (disks : Disk → DiskState) (old new : Node Disk) (result : Result A NodeFault) → new.id ≡ old.id
+    → new.nodes ≡ old.nodes → CountsOf disks old.disk new.disk result → IsNodeOf disks old new
 same_node disks old new result id nodes counts = record {
   id = id;
   nodes = nodes;
@@ -199,74 +219,106 @@ same_node disks old new result id nodes counts = record {
 -- ---- what is written of it
 
 -- a call that may come of an event is of that event
-pub caused : (self nodes slots : ℕ) (s : NodeState) (event : Event) (turn : Turn) → MayComeOf self nodes event slots s turn → Some event ≡ cause turn
+pub caused : (self nodes slots : ℕ) (s : NodeState) (event : Event) (turn : Turn) → MayComeOf self nodes event slots s turn
+    → Some event ≡ cause turn
 caused self nodes slots s event (Goes what) may = sym may.0
 caused self nodes slots s event (Unmounted fault) may = ap (λ (x : Event). Some x) may.0
 caused self nodes slots s event (Begins given what) may = ap (λ (x : Event). Some x) may.0
 
 three_texts : (a b c d x y z : List ℕ) → b ≡ a ++ x → c ≡ b ++ y → d ≡ c ++ z → d ≡ a ++ (x ++ (y ++ z))
 three_texts a b c d x y z first second third =
-    third ∙ (ap (λ (t : List ℕ). t ++ z) second ∙ (append_assoc b y z ∙ (ap (λ (t : List ℕ). t ++ (y ++ z)) first ∙ append_assoc a x (y ++ z))))
+    third ∙ (ap (λ (t : List ℕ). t ++ z) second ∙ (append_assoc b y z
+    ∙ (ap (λ (t : List ℕ). t ++ (y ++ z)) first ∙ append_assoc a x (y ++ z))))
 
 -- as the code does it
-pub event_turns : {Disk : Type 0} (disks : Disk → DiskState) (old : Progress Disk) (node' : Node Disk) (event : Event) (reply : Result StepReport NodeFault) (waits : Waits) (sent changed text : List ℕ)
-    → node'.id ≡ old.node.id → node'.nodes ≡ old.node.nodes → IfOk reply (Steps disks old.node node' event) → IfErr reply (Stuck disks old.node node' event) → reply ≢ Err (node.Core NoMemory)
-    → (is_down old.node.state.phase ≡ true → event ≡ on.Recover → Remounted old.node node' (answered reply) node'.mounted) → (is_down old.node.state.phase ≡ true → old.node.state ≡ down_state old.node.id)
-    → CountsOf disks old.node.disk node'.disk (answered reply) → StepSays disks old.node event reply node' → All IsMessage (sent_by (answered reply))
+pub event_turns : {Disk : Type 0} (disks : Disk → DiskState) (old : Progress Disk) (node' : Node Disk) (event : Event)
+    (reply : Result StepReport NodeFault) (waits : Waits) (sent changed text : List ℕ)
+    → node'.id ≡ old.node.id → node'.nodes ≡ old.node.nodes → IfOk reply (Steps disks old.node node' event)
+    → IfErr reply (Stuck disks old.node node' event) → reply ≢ Err (node.Core NoMemory)
+    → (is_down old.node.state.phase ≡ true → event ≡ on.Recover → Remounted old.node node' (answered reply) node'.mounted)
+    → (is_down old.node.state.phase ≡ true → old.node.state ≡ down_state old.node.id)
+    → CountsOf disks old.node.disk node'.disk (answered reply) → StepSays disks old.node event reply node'
+    → All IsMessage (sent_by (answered reply))
     → waits ≡ waits_behind (Some event) (sent_by (answered reply)) node'.state old.waits
-    → sent ≡ old.text ++ send_lines (sent_by (answered reply)) → changed ≡ sent ++ changes (is_finish (Some event)) old.node.state node'.state → text ≡ changed ++ gone_news (Some event) (ended_by (answered reply))
+    → sent ≡ old.text ++ send_lines (sent_by (answered reply))
+    → changed ≡ sent ++ changes (is_finish (Some event)) old.node.state node'.state
+    → text ≡ changed ++ gone_news (Some event) (ended_by (answered reply))
     → Turns disks old (record old { node = node'; text = text; waits = waits }) (λ i n. MayComeOf i n event) (ended_by (answered reply))
-event_turns {Disk} disks old node' event reply waits sent changed text id nodes steps stuck memory mounting fallen counts says fits waited first second third = record {
-  node = same_node disks old.node node' (answered reply) id nodes counts;
-  same = refl;
-  turned = λ was s is stands. (let h = happens disks old.node node' event reply was s steps stuck memory mounting fallen is stands
-      (λ d at. (let same = counts.counts was d is at in (same.sectors, same.honest))) in
-      let self = old.node.id in
-      let count = old.node.nodes in
-      let t = after_turn self count s h.turn in
-      let all : text ≡ old.text ++ call_text (Some event) (sent_by (answered reply)) old.node.state node'.state (ended_by (answered reply)) = three_texts old.text sent changed text _ _ _ first second third in
-      record {
-        turn = h.turn;
-        may = h.may;
-        exact = subst (λ (o : Option Event). IsCallBy disks o old.node (sent_in self count s h.turn) (end_of self count s h.turn) node') (caused self count (slots_for (disks was).sectors) s event h.turn h.may)
-            (record { reply = reply; ended_so = sym h.ended; sent_so = sym h.sent; says = says });
-        messages = subst (All IsMessage) h.sent fits;
-        honest = h.going;
-        stands = h.stands;
-        ended_so = h.ended;
-        text = all ∙ (ap (λ (o : Option Event). old.text ++ call_text o (sent_by (answered reply)) old.node.state node'.state (ended_by (answered reply))) (caused self count (slots_for (disks was).sectors) s event h.turn h.may)
-            ∙ (ap (λ (v : State). old.text ++ call_text (cause h.turn) (sent_by (answered reply)) v node'.state (ended_by (answered reply))) stands.state
-            ∙ (ap (λ (v : State). old.text ++ call_text (cause h.turn) (sent_by (answered reply)) s.state v (ended_by (answered reply))) h.stands.state
-            ∙ (ap (λ (ms : List Envelope). old.text ++ call_text (cause h.turn) ms s.state t.state (ended_by (answered reply))) h.sent
-            ∙ ap (λ (e : CallOutcome). old.text ++ call_text (cause h.turn) (sent_in self count s h.turn) s.state t.state e) h.ended))));
-        waits = waited ∙ (ap (λ (o : Option Event). waits_behind o (sent_by (answered reply)) node'.state old.waits) (caused self count (slots_for (disks was).sectors) s event h.turn h.may)
-            ∙ (ap (λ (v : State). waits_behind (cause h.turn) (sent_by (answered reply)) v old.waits) h.stands.state
-            ∙ ap (λ (ms : List Envelope). waits_behind (cause h.turn) ms t.state old.waits) h.sent));
-      });
-}
+event_turns {Disk} disks old node' event reply waits sent changed text id nodes steps stuck memory mounting fallen counts says fits waited
+    first second third = record {
+      node = same_node disks old.node node' (answered reply) id nodes counts;
+      same = refl;
+      turned = λ was s is stands. (let h = happens disks old.node node' event reply was s steps stuck memory mounting fallen is stands
+          (λ d at. (let same = counts.counts was d is at in (same.sectors, same.honest))) in
+          let self = old.node.id in
+          let count = old.node.nodes in
+          let t = after_turn self count s h.turn in
+          let all : text ≡ old.text ++ call_text (Some event) (sent_by (answered reply)) old.node.state node'.state
+          (ended_by (answered reply))
+          = three_texts old.text sent changed text _ _ _ first second third in
+          record {
+            turn = h.turn;
+            may = h.may;
+            exact = subst (λ (o : Option Event). IsCallBy disks o old.node (sent_in self count s h.turn) (end_of self count s h.turn) node')
+                (caused self count (slots_for (disks was).sectors) s event h.turn h.may)
+                (record { reply = reply; ended_so = sym h.ended; sent_so = sym h.sent; says = says });
+            messages = subst (All IsMessage) h.sent fits;
+            honest = h.going;
+            stands = h.stands;
+            ended_so = h.ended;
+            text = all ∙ (ap (λ (o : Option Event). old.text ++ call_text o (sent_by (answered reply)) old.node.state node'.state
+                (ended_by (answered reply))) (caused self count (slots_for (disks was).sectors) s event h.turn h.may)
+                ∙ (ap (λ (v : State). old.text ++ call_text (cause h.turn) (sent_by (answered reply)) v node'.state
+                (ended_by (answered reply)))
+                stands.state
+                ∙ (ap (λ (v : State). old.text ++ call_text (cause h.turn) (sent_by (answered reply)) s.state v (ended_by (answered reply)))
+                h.stands.state
+                ∙ (ap (λ (ms : List Envelope). old.text ++ call_text (cause h.turn) ms s.state t.state (ended_by (answered reply))) h.sent
+                ∙ ap (λ (e : CallOutcome). old.text ++ call_text (cause h.turn) (sent_in self count s h.turn) s.state t.state e)
+                h.ended))));
+            waits = waited ∙ (ap (λ (o : Option Event). waits_behind o (sent_by (answered reply)) node'.state old.waits)
+                (caused self count (slots_for (disks was).sectors) s event h.turn h.may)
+                ∙ (ap (λ (v : State). waits_behind (cause h.turn) (sent_by (answered reply)) v old.waits) h.stands.state
+                ∙ ap (λ (ms : List Envelope). waits_behind (cause h.turn) ms t.state old.waits) h.sent));
+          });
+    }
 
 -- by what was seen of the node before
-changed_so : (finished : Bool) (seen : Sight) (old new : State) (came : Changes) (sent changed : List ℕ) → seen ≡ seen_of old → AreChanges seen new came
+changed_so : (finished : Bool) (seen : Sight) (old new : State) (came : Changes) (sent changed : List ℕ) → seen ≡ seen_of old
+    → AreChanges seen new came
     → changed ≡ sent ++ news finished came.group came.taken.items came.dropped.items → changed ≡ sent ++ changes finished old new
 changed_so finished seen old new came sent changed sees are said =
     said ∙ (ap (λ (g : Option GroupView). sent ++ news finished g came.taken.items came.dropped.items) are.group
     ∙ (ap (λ (t : List InHand). sent ++ news finished (told_anew seen.group (view_of new)) t came.dropped.items) are.taken
     ∙ (ap (λ (d : List (ℕ × ℕ)). sent ++ news finished (told_anew seen.group (view_of new)) (taken_since seen.held new.hand) d) are.dropped
-    ∙ ap (λ (v : Sight). sent ++ news finished (told_anew v.group (view_of new)) (taken_since v.held new.hand) (dropped_since v.held new.hand)) sees)))
+    ∙ ap (λ (v : Sight). sent ++ news finished (told_anew v.group (view_of new)) (taken_since v.held new.hand)
+    (dropped_since v.held new.hand)) sees)))
 
-pub turn_so : {Disk : Type 0} (disks : Disk → DiskState) (old here : Progress Disk) (node' : Node Disk) (event : Event) (reply : Result StepReport NodeFault) (ended : CallOutcome) (finished : Bool) (seen : Sight) (came : Changes) (behind : State)
-    (given : List Envelope) (waits : Waits) (sent changed text : List ℕ) → here ≡ old → node'.id ≡ here.node.id → node'.nodes ≡ here.node.nodes → IfOk reply (Steps disks here.node node' event) → IfErr reply (Stuck disks here.node node' event) → reply ≢ Err (node.Core NoMemory)
-    → (is_down here.node.state.phase ≡ true → event ≡ on.Recover → Remounted here.node node' (answered reply) node'.mounted) → (is_down here.node.state.phase ≡ true → here.node.state ≡ down_state here.node.id)
+pub turn_so : {Disk : Type 0} (disks : Disk → DiskState) (old here : Progress Disk) (node' : Node Disk) (event : Event)
+    (reply : Result StepReport NodeFault) (ended : CallOutcome) (finished : Bool) (seen : Sight) (came : Changes) (behind : State)
+    (given : List Envelope) (waits : Waits) (sent changed text : List ℕ) → here ≡ old → node'.id ≡ here.node.id
+    → node'.nodes ≡ here.node.nodes → IfOk reply (Steps disks here.node node' event) → IfErr reply (Stuck disks here.node node' event)
+    → reply ≢ Err (node.Core NoMemory)
+    → (is_down here.node.state.phase ≡ true → event ≡ on.Recover → Remounted here.node node' (answered reply) node'.mounted)
+    → (is_down here.node.state.phase ≡ true → here.node.state ≡ down_state here.node.id)
     → CountsOf disks here.node.disk node'.disk (answered reply) → StepSays disks here.node event reply node'
-    → seen ≡ seen_of here.node.state → AreChanges seen node'.state came → finished ≡ is_finish (Some event) → ended ≡ ended_by (answered reply)
-    → given ≡ sent_by (answered reply) → All IsMessage given → behind ≡ node'.state → waits ≡ waits_behind (Some event) given behind here.waits
-    → sent ≡ here.text ++ send_lines given → changed ≡ sent ++ news finished came.group came.taken.items came.dropped.items → text ≡ changed ++ gone_news (Some event) ended
+    → seen ≡ seen_of here.node.state → AreChanges seen node'.state came → finished ≡ is_finish (Some event)
+    → ended ≡ ended_by (answered reply)
+    → given ≡ sent_by (answered reply) → All IsMessage given → behind ≡ node'.state
+    → waits ≡ waits_behind (Some event) given behind here.waits
+    → sent ≡ here.text ++ send_lines given → changed ≡ sent ++ news finished came.group came.taken.items came.dropped.items
+    → text ≡ changed ++ gone_news (Some event) ended
     → Turns disks old (record here { node = node'; text = text; waits = waits }) (λ i n. MayComeOf i n event) ended
-turn_so {Disk} disks old here node' event reply ended finished seen came behind given waits sent changed text is id nodes steps stuck memory mounting fallen counts says sees are finish ends_so given_so fits then waited first second third =
-    subst (λ (p : Progress Disk). Turns disks p (record here { node = node'; text = text; waits = waits }) (λ i n. MayComeOf i n event) ended) is
-    (subst (λ (e : CallOutcome). Turns disks here (record here { node = node'; text = text; waits = waits }) (λ i n. MayComeOf i n event) e) (sym ends_so)
-    (event_turns disks here node' event reply waits sent changed text id nodes steps stuck memory mounting fallen counts says (subst (All IsMessage) given_so fits)
-    (waited ∙ (ap (λ (ms : List Envelope). waits_behind (Some event) ms behind here.waits) given_so ∙ ap (λ (v : State). waits_behind (Some event) (sent_by (answered reply)) v here.waits) then))
+turn_so {Disk} disks old here node' event reply ended finished seen came behind given waits sent changed text is id nodes steps stuck memory
+    mounting fallen counts says sees are finish ends_so given_so fits then waited first second third =
+    subst (λ (p : Progress Disk). Turns disks p (record here { node = node'; text = text; waits = waits }) (λ i n. MayComeOf i n event)
+    ended) is
+    (subst (λ (e : CallOutcome). Turns disks here (record here { node = node'; text = text; waits = waits }) (λ i n. MayComeOf i n event) e)
+    (sym ends_so)
+    (event_turns disks here node' event reply waits sent changed text id nodes steps stuck memory mounting fallen counts says
+    (subst (All IsMessage) given_so fits)
+    (waited ∙ (ap (λ (ms : List Envelope). waits_behind (Some event) ms behind here.waits) given_so
+    ∙ ap (λ (v : State). waits_behind (Some event) (sent_by (answered reply)) v here.waits) then))
     (first ∙ ap (λ (ms : List Envelope). here.text ++ send_lines ms) given_so)
     (changed_so (is_finish (Some event)) seen here.node.state node'.state came sent changed sees are
     (second ∙ ap (λ (b : Bool). sent ++ news b came.group came.taken.items came.dropped.items) finish))
@@ -281,16 +333,28 @@ record OfCompaction {A : Type 0} (self nodes slots : ℕ) (s : NodeState) (what 
   pub silent : sent_at self nodes s what ≡ []
   pub causeless : event_of what ≡ None
 
-rest_of_compaction : {A : Type 0} (self nodes slots : ℕ) (s : NodeState) (rest : NoOpKind) (result : Result A NodeFault) → RestAnswers rest result → OfCompaction self nodes slots s (NoOp rest) result
+rest_of_compaction : {A : Type 0} (self nodes slots : ℕ) (s : NodeState) (rest : NoOpKind) (result : Result A NodeFault)
+    → RestAnswers rest result → OfCompaction self nodes slots s (NoOp rest) result
 rest_of_compaction self nodes slots s Nothing result said = absurd said
-rest_of_compaction self nodes slots s Compacted (Ok done) said = record { of = tt; of_slots = tt; ended = refl; silent = refl; causeless = refl }
+rest_of_compaction self nodes slots s Compacted (Ok done) said =
+    record { of = tt; of_slots = tt; ended = refl; silent = refl; causeless = refl }
 rest_of_compaction self nodes slots s Compacted (Err fault) said = absurd cc
-rest_of_compaction self nodes slots s CompactDown result said = record { of = tt; of_slots = tt; ended = ap compaction_end said; silent = refl; causeless = refl }
-rest_of_compaction self nodes slots s CompactAreaExhausted result said = record { of = tt; of_slots = tt; ended = ap compaction_end said; silent = refl; causeless = refl }
+rest_of_compaction self nodes slots s CompactDown result said =
+    record { of = tt; of_slots = tt; ended = ap compaction_end said; silent = refl; causeless = refl }
+rest_of_compaction self nodes slots s CompactAreaExhausted result said =
+    record { of = tt; of_slots = tt; ended = ap compaction_end said; silent = refl; causeless = refl }
 
-of_compaction : {A : Type 0} (self nodes slots : ℕ) (s : NodeState) (what : HistoryEvent) (result : Result A NodeFault) → CompactionAnswers what result → OfCompaction self nodes slots s what result
+of_compaction : {A : Type 0} (self nodes slots : ℕ) (s : NodeState) (what : HistoryEvent) (result : Result A NodeFault)
+    → CompactionAnswers what result → OfCompaction self nodes slots s what result
 of_compaction self nodes slots s (NoOp rest) result said = rest_of_compaction self nodes slots s rest result said
-of_compaction self nodes slots s Crashed result said = record { of = tt; of_slots = tt; ended = ap compaction_end said; silent = refl; causeless = refl }
+of_compaction self nodes slots s Crashed result said = record {
+  of = tt;
+  of_slots = tt;
+  ended = ap compaction_end said;
+  silent =
+      refl;
+  causeless = refl;
+}
 of_compaction self nodes slots s what result said = absurd said
 
 silent_text : (x y : State) (ended : CallOutcome) → changes false x y ≡ call_text None [] x y ended
@@ -298,7 +362,8 @@ silent_text x y (end.Done None) = sym (append-nil (changes false x y))
 silent_text x y (end.Done (Some id)) = sym (append-nil (changes false x y))
 silent_text x y (end.Denied fault) = sym (append-nil (changes false x y))
 
-pub compaction_turns : {Disk : Type 0} (disks : Disk → DiskState) (old : Progress Disk) (node' : Node Disk) (result : Result Unit NodeFault) (waits : Waits) (text : List ℕ)
+pub compaction_turns : {Disk : Type 0} (disks : Disk → DiskState) (old : Progress Disk) (node' : Node Disk) (result : Result Unit NodeFault)
+    (waits : Waits) (text : List ℕ)
     → node'.id ≡ old.node.id → node'.nodes ≡ old.node.nodes → CompactionSays disks old.node result node'
     → waits ≡ waits_behind None [] node'.state old.waits → text ≡ old.text ++ changes false old.node.state node'.state
     → Turns disks old (record old { node = node'; text = text; waits = waits }) MayCompact (compaction_end result)
@@ -314,7 +379,8 @@ compaction_turns {Disk} disks old node' result waits text id nodes says waited s
       record {
         turn = Goes what;
         may = (of.of, step.2, of.of_slots);
-        exact = subst (λ (o : Option Event). IsCallBy disks o old.node (sent_at self count s what) (end_at self count s what) node') (sym of.causeless)
+        exact = subst (λ (o : Option Event). IsCallBy disks o old.node (sent_at self count s what) (end_at self count s what) node')
+            (sym of.causeless)
             (record { result = result; ended_so = sym of.ended; says = says });
         messages = subst (All IsMessage) (sym of.silent) (All-nil IsMessage);
         honest = λ honest. tt;
@@ -324,7 +390,8 @@ compaction_turns {Disk} disks old node' result waits text id nodes says waited s
             ∙ (ap (λ (v : State). old.text ++ call_text None [] v node'.state (compaction_end result)) stands.state
             ∙ (ap (λ (v : State). old.text ++ call_text None [] s.state v (compaction_end result)) step.3.state
             ∙ (ap (λ (ms : List Envelope). old.text ++ call_text None ms s.state t.state (compaction_end result)) (sym of.silent)
-            ∙ (ap (λ (e : Option Event). old.text ++ call_text e (sent_at self count s what) s.state t.state (compaction_end result)) (sym of.causeless)
+            ∙ (ap (λ (e : Option Event). old.text ++ call_text e (sent_at self count s what) s.state t.state (compaction_end result))
+            (sym of.causeless)
             ∙ ap (λ (e : CallOutcome). old.text ++ call_text (event_of what) (sent_at self count s what) s.state t.state e) of.ended)))));
         waits = waited ∙ (ap (λ (v : State). waits_behind None [] v old.waits) step.3.state
             ∙ (ap (λ (ms : List Envelope). waits_behind None ms t.state old.waits) (sym of.silent)
@@ -332,7 +399,8 @@ compaction_turns {Disk} disks old node' result waits text id nodes says waited s
       });
 }
 
-pub compaction_so : {Disk : Type 0} (disks : Disk → DiskState) (old here : Progress Disk) (node' : Node Disk) (result : Result Unit NodeFault) (ended : CallOutcome) (seen : Sight) (came : Changes) (behind : State) (waits : Waits) (text : List ℕ)
+pub compaction_so : {Disk : Type 0} (disks : Disk → DiskState) (old here : Progress Disk) (node' : Node Disk)
+    (result : Result Unit NodeFault) (ended : CallOutcome) (seen : Sight) (came : Changes) (behind : State) (waits : Waits) (text : List ℕ)
     → here ≡ old → node'.id ≡ here.node.id → node'.nodes ≡ here.node.nodes → CompactionSays disks here.node result node'
     → seen ≡ seen_of here.node.state → AreChanges seen node'.state came → ended ≡ compaction_end result
     → behind ≡ node'.state → waits ≡ waits_behind None [] behind here.waits

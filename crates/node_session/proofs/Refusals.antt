@@ -43,7 +43,8 @@ device_so disks None old new sent ended was now call is at =
       λ other. c.unchanged (λ failed. other (call.ended_so ∙ compaction_ends call.result node.Device failed)),
     )
 
-by_refusal : (why : Option Refusal) (r : Result StepReport NodeFault) → r ≡ Err node.Exhausted → AnswersTo why r → (why ≡ Some Exhausted) ⊎ (why ≡ Some AreaExhausted)
+by_refusal : (why : Option Refusal) (r : Result StepReport NodeFault) → r ≡ Err node.Exhausted → AnswersTo why r
+    → (why ≡ Some Exhausted) ⊎ (why ≡ Some AreaExhausted)
 by_refusal None r is (inl done) = (let bad = subst (λ (q : Result StepReport NodeFault). IsOk q) is done in absurd cc)
 by_refusal None r is (inr failed) = (let both = sym is ∙ failed in absurd cc)
 by_refusal (Some (Core fault)) r is so = (let both = sym is ∙ so in absurd cc)
@@ -51,12 +52,14 @@ by_refusal (Some Full) r is so = (let both = sym is ∙ so in absurd cc)
 by_refusal (Some Exhausted) r is so = inl refl
 by_refusal (Some AreaExhausted) r is so = inr refl
 
-by_event : (core : Option CoreFault) (why : Option Refusal) (r : Result StepReport NodeFault) → r ≡ Err node.Exhausted → AnswersEvent core why r → (why ≡ Some Exhausted) ⊎ (why ≡ Some AreaExhausted)
+by_event : (core : Option CoreFault) (why : Option Refusal) (r : Result StepReport NodeFault) → r ≡ Err node.Exhausted
+    → AnswersEvent core why r → (why ≡ Some Exhausted) ⊎ (why ≡ Some AreaExhausted)
 by_event (Some fault) why r is so = (let both = sym is ∙ so in absurd cc)
 by_event None why r is (inl none) = (let both = sym is ∙ none in absurd cc)
 by_event None why r is (inr so) = by_refusal why r is so
 
 pub exhausted_so : {Disk : Type 0} (disks : Disk → DiskState) → ExhaustedWhereNoneLeft disks
 exhausted_so disks event old new sent d area call kept has =
-    by_event (refusal_of old.nodes old.id event old.state) (disk_refusal d area (wants_of old.id d.pending event old.state)) (answered call.reply)
+    by_event (refusal_of old.nodes old.id event old.state) (disk_refusal d area (wants_of old.id d.pending event old.state))
+    (answered call.reply)
     (step_fault (answered call.reply) node.Exhausted call.ended_so) (call.says.answers d area kept has)

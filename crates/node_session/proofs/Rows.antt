@@ -1,5 +1,6 @@
 -- Lines of an answer: where they end, and which of them hand out a message.
-use Rattle.std.proofs.Common.{◌≡◌, ℕ, zero, suc, ◌+◌, ◌/◌, ◌%◌, ◌<◌, ◌==◌, Bool, true, false, ◌&&◌, List, [], ◌∷◌, ◌++◌, get_or, refl, ap, ◌∙◌, arith, append_assoc}
+use Rattle.std.proofs.Common.{◌≡◌, ℕ, zero, suc, ◌+◌, ◌/◌, ◌%◌, ◌<◌, ◌==◌, Bool, true, false, ◌&&◌, List, [], ◌∷◌, ◌++◌, get_or, refl, ap}
+use Rattle.std.proofs.Common.{◌∙◌, arith, append_assoc}
 use Rattle.std.specs.Prelude.{bytes_eq, codes, decimal, if◌then◌else◌, slice_index}
 use Rattle.std.specs.Fmt.{digit_glyph, digits, digits_onto}
 use Rattle.std.specs.List.{onto_first, slice_split}
@@ -46,7 +47,8 @@ one_word text = none_of is_space text ≡ true
 
 -- ---- numbers and bytes
 
-digits_free : (p : ℕ → Bool) → ((d : ℕ) → d < 10 → p (48 + d) ≡ false) → (k n : ℕ) (acc : List ℕ) → none_of p acc ≡ true → none_of p (digits_onto k 10 false n acc) ≡ true
+digits_free : (p : ℕ → Bool) → ((d : ℕ) → d < 10 → p (48 + d) ≡ false) → (k n : ℕ) (acc : List ℕ) → none_of p acc ≡ true
+    → none_of p (digits_onto k 10 false n acc) ≡ true
 digits_free p free zero n acc none = none
 digits_free p free (suc k) n acc none = by_test (n / 10 == 0) (λ front later. digits_free p free k (n / 10) front later)
   where
@@ -57,7 +59,8 @@ digits_free p free (suc k) n acc none = by_test (n / 10 == 0) (λ front later. d
     more = none_cons p (digit_glyph false (n % 10)) acc (ap p glyph ∙ free (n % 10) (omega arith)) none
 
     by_test : (b : Bool) → ((front : List ℕ) → none_of p front ≡ true → none_of p (digits_onto k 10 false (n / 10) front) ≡ true)
-        → none_of p (if b then digit_glyph false (n % 10) ∷ acc else digits_onto k 10 false (n / 10) (digit_glyph false (n % 10) ∷ acc)) ≡ true
+        → none_of p (if b then digit_glyph false (n % 10) ∷ acc else digits_onto k 10 false (n / 10) (digit_glyph false (n % 10) ∷ acc))
+        ≡ true
     by_test true later = more
     by_test false later = later (digit_glyph false (n % 10) ∷ acc) more
 
@@ -75,8 +78,10 @@ hex_free : (p : ℕ → Bool) → none_of p lower_digits ≡ true → p 0 ≡ fa
 unfolding encode_with
 hex_free p none past [] = refl
 hex_free p none past (b ∷ bytes) =
-    none_cons p (slice_index lower_digits (b / 16)) (slice_index lower_digits (b % 16) ∷ encode_with lower_digits bytes) (none_at p lower_digits (b / 16) none past)
-    (none_cons p (slice_index lower_digits (b % 16)) (encode_with lower_digits bytes) (none_at p lower_digits (b % 16) none past) (hex_free p none past bytes))
+    none_cons p (slice_index lower_digits (b / 16)) (slice_index lower_digits (b % 16) ∷ encode_with lower_digits bytes)
+    (none_at p lower_digits (b / 16) none past)
+    (none_cons p (slice_index lower_digits (b % 16)) (encode_with lower_digits bytes) (none_at p lower_digits (b % 16) none past)
+    (hex_free p none past bytes))
 
 pub hex_line : (bytes : List ℕ) → one_line (encode_lower bytes)
 hex_line bytes = hex_free is_line_feed refl refl bytes
@@ -101,18 +106,22 @@ both_lines x y first second = none_both is_line_feed x y first second
 pub work_line : (queue : ℕ) (payload : List ℕ) (priority : ℕ) → one_line (work_text queue payload priority)
 work_line queue payload priority =
     both_lines (decimal queue ++ codes " " ++ bytes_text payload) (priority_text priority)
-    (both_lines (decimal queue ++ codes " ") (bytes_text payload) (both_lines (decimal queue) (codes " ") (number_line queue) refl) (payload_line payload)) (priority_line priority)
+    (both_lines (decimal queue ++ codes " ") (bytes_text payload) (both_lines (decimal queue) (codes " ") (number_line queue) refl)
+    (payload_line payload)) (priority_line priority)
 
 -- ---- where a line ends, and a word
 
-split_first : (p : ℕ → Bool) (w : List ℕ) (c : ℕ) (rest : List ℕ) → none_of p w ≡ true → p c ≡ true → slice_split p (w ++ c ∷ rest) ≡ w ∷ slice_split p rest
+split_first : (p : ℕ → Bool) (w : List ℕ) (c : ℕ) (rest : List ℕ) → none_of p w ≡ true → p c ≡ true
+    → slice_split p (w ++ c ∷ rest) ≡ w ∷ slice_split p rest
 split_first p [] c rest none ends = slice_split-cons_yes p c rest ends
 split_first p (b ∷ w) c rest none ends =
-    (let parts = none_first p b w none in slice_split-cons_no p b (w ++ c ∷ rest) parts.0 ∙ ap (onto_first b) (split_first p w c rest parts.1 ends))
+    (let parts = none_first p b w none in slice_split-cons_no p b (w ++ c ∷ rest) parts.0
+    ∙ ap (onto_first b) (split_first p w c rest parts.1 ends))
 
 split_alone : (p : ℕ → Bool) (w : List ℕ) → none_of p w ≡ true → slice_split p w ≡ w ∷ []
 split_alone p [] none = refl
-split_alone p (b ∷ w) none = (let parts = none_first p b w none in slice_split-cons_no p b w parts.0 ∙ ap (onto_first b) (split_alone p w parts.1))
+split_alone p (b ∷ w) none = (let parts = none_first p b w none in
+    slice_split-cons_no p b w parts.0 ∙ ap (onto_first b) (split_alone p w parts.1))
 
 pub cut_first : (line rest : List ℕ) → one_line line → lines_of ((line ++ codes "\n") ++ rest) ≡ line ∷ lines_of rest
 cut_first line rest one = ap lines_of (append_assoc line (codes "\n") rest) ∙ split_first is_line_feed line 10 rest one refl
@@ -125,7 +134,8 @@ word_alone word one = split_alone is_space word one
 
 -- ---- lines that begin with another word than `send`
 
-no_send : (c d : ℕ) (parts : List (List ℕ)) → (c == 115 && d == 101) ≡ false → bytes_eq (first_word (onto_first c (onto_first d parts))) (codes "send") ≡ false
+no_send : (c d : ℕ) (parts : List (List ℕ)) → (c == 115 && d == 101) ≡ false
+    → bytes_eq (first_word (onto_first c (onto_first d parts))) (codes "send") ≡ false
 no_send c d [] other = by_tests (c == 115) (d == 101) other
   where
     by_tests : (a b : Bool) → (a && b) ≡ false → (a && (b && false)) ≡ false
@@ -140,7 +150,9 @@ no_send c d (word ∷ parts) other = by_tests (c == 115) (d == 101) (bytes_eq wo
     by_tests false b r other = refl
 
 -- its first two bytes tell
-pub other_word : (c d : ℕ) (rest : List ℕ) → is_space c ≡ false → is_space d ≡ false → (c == 115 && d == 101) ≡ false → is_send (c ∷ d ∷ rest) ≡ false
+pub other_word : (c d : ℕ) (rest : List ℕ) → is_space c ≡ false → is_space d ≡ false → (c == 115 && d == 101) ≡ false
+    → is_send (c ∷ d ∷ rest) ≡ false
 other_word c d rest first second other =
-    ap (λ (ws : List (List ℕ)). bytes_eq (first_word ws) (codes "send")) (slice_split-cons_no is_space c (d ∷ rest) first ∙ ap (onto_first c) (slice_split-cons_no is_space d rest second))
+    ap (λ (ws : List (List ℕ)). bytes_eq (first_word ws) (codes "send"))
+    (slice_split-cons_no is_space c (d ∷ rest) first ∙ ap (onto_first c) (slice_split-cons_no is_space d rest second))
     ∙ no_send c d (words_of rest) other

@@ -1,5 +1,6 @@
 -- What is delivered was sealed for the own life, and what is sealed for a node is sealed for the life that was told of it.
-use Rattle.std.proofs.Common.{◌≡◌, ◌<◌, ◌==◌, ◌&&◌, inl, ◌⊎◌, inr, ℕ, Bool, true, false, List, [], ◌∷◌, length, refl, sym, ap, ◌∙◌, Option, Some, None, Result, Ok, Err}
+use Rattle.std.proofs.Common.{◌≡◌, ◌<◌, ◌==◌, ◌&&◌, inl, ◌⊎◌, inr, ℕ, Bool, true, false, List, [], ◌∷◌, length, refl, sym, ap, ◌∙◌, Option}
+use Rattle.std.proofs.Common.{Some, None, Result, Ok, Err}
 use Rattle.std.specs.Prelude.{if◌then◌else◌, option_map}
 use Rattle.std.specs.Result.{result_ok}
 use Rattle.std.proofs.lemmas.List.{get_or-set_same, get_or-set_other}
@@ -16,7 +17,9 @@ use Rattle.sealed_msg.specs.Sealing.{AreBytes, opened}
 use Rattle.sealed_msg.proofs.Openings.{opened_sealed}
 use Rattle.node_session.specs.Chains.{LineOutcome, after_turns}
 use Rattle.node_session.specs.Lines.{At, after_by, after_line, after_lines, plain_answer}
-use Rattle.node_session.specs.Seals.{Brought, NoBytes, Strange, Garbled, Opened, Seals, asked_under, brought_by, brought_word, is_fresh, key_else, life_of, new_seals, opened_else, opened_other, sealed_behind, taken_brought, taken_fresh, taken_sealed, taken_told, taken_under, taken_words, told_life}
+use Rattle.node_session.specs.Seals.{Brought, NoBytes, Strange, Garbled, Opened, Seals, asked_under, brought_by, brought_word, is_fresh}
+use Rattle.node_session.specs.Seals.{key_else, life_of, new_seals, opened_else, opened_other, sealed_behind, taken_brought, taken_fresh}
+use Rattle.node_session.specs.Seals.{taken_sealed, taken_told, taken_under, taken_words, told_life}
 use Rattle.node_session.specs.Told.{OwnLifeAlone, ToldLifeAlone}
 use Rattle.node_session.proofs.Taking.{opened_alone}
 
@@ -31,7 +34,8 @@ record OpensSo (opens : List ℕ) (other : Option (List ℕ)) (seal : Option Sea
 taken_opens : (q : Seals) (line : List ℕ) → ((taken_sealed q line).opens ≡ q.opens) × ((taken_sealed q line).other ≡ q.other)
 taken_opens q line = by_word (brought_word (words_of line))
   where
-    by_fresh : (b : Bool) (m : Envelope) (stamp : Stamp) → ((taken_fresh b q m stamp).opens ≡ q.opens) × ((taken_fresh b q m stamp).other ≡ q.other)
+    by_fresh : (b : Bool) (m : Envelope) (stamp : Stamp) → ((taken_fresh b q m stamp).opens ≡ q.opens)
+        × ((taken_fresh b q m stamp).other ≡ q.other)
     by_fresh true m stamp = (refl, refl)
     by_fresh false m stamp = (refl, refl)
 
@@ -49,7 +53,8 @@ taken_opens q line = by_word (brought_word (words_of line))
     by_word None = by_told (told_life line)
     by_word (Some word) = by_brought (brought_by q word)
 
-behind_opens : (opens : List ℕ) (other : Option (List ℕ)) (seal : Option Seals) (line : List ℕ) (life : Option ℕ) (text : List ℕ) → OpensSo opens other seal
+behind_opens : (opens : List ℕ) (other : Option (List ℕ)) (seal : Option Seals) (line : List ℕ) (life : Option ℕ) (text : List ℕ)
+    → OpensSo opens other seal
     → OpensSo opens other (sealed_behind (taken_under seal line) life text)
 behind_opens opens other None line life text so = absurd (let bad : None ≡ Some so.q = so.is in cc)
 behind_opens opens other (Some q) line life text so =
@@ -62,16 +67,20 @@ behind_opens opens other (Some q) line life text so =
       other_so = taken.1 ∙ (ap (λ (x : Seals). x.other) same ∙ so.other_so);
     }
 
-line_opens : (self nodes : ℕ) (opens : List ℕ) (other : Option (List ℕ)) (b : Bool) (a : At) (line : List ℕ) (came : LineOutcome) → OpensSo opens other a.seal → OpensSo opens other (after_by self nodes b a line came).seal
+line_opens : (self nodes : ℕ) (opens : List ℕ) (other : Option (List ℕ)) (b : Bool) (a : At) (line : List ℕ) (came : LineOutcome)
+    → OpensSo opens other a.seal → OpensSo opens other (after_by self nodes b a line came).seal
 line_opens self nodes opens other true a line came so = so
 line_opens self nodes opens other false a line came so =
-    behind_opens opens other a.seal line (life_of (after_turns self nodes a.state came.turns)) (plain_answer self nodes a (asked_under a.seal line) came) so
+    behind_opens opens other a.seal line (life_of (after_turns self nodes a.state came.turns))
+    (plain_answer self nodes a (asked_under a.seal line) came) so
 
-lines_open : (self nodes : ℕ) (opens : List ℕ) (other : Option (List ℕ)) (a : At) (lines : List (List ℕ)) (all : List LineOutcome) → OpensSo opens other a.seal → OpensSo opens other (after_lines self nodes a lines all).seal
+lines_open : (self nodes : ℕ) (opens : List ℕ) (other : Option (List ℕ)) (a : At) (lines : List (List ℕ)) (all : List LineOutcome)
+    → OpensSo opens other a.seal → OpensSo opens other (after_lines self nodes a lines all).seal
 lines_open self nodes opens other a [] all so = so
 lines_open self nodes opens other a (line ∷ lines) [] so = so
 lines_open self nodes opens other a (line ∷ lines) (came ∷ all) so =
-    lines_open self nodes opens other (after_line self nodes a line came) lines all (line_opens self nodes opens other a.stopped a line came so)
+    lines_open self nodes opens other (after_line self nodes a line came) lines all
+    (line_opens self nodes opens other a.stopped a line came so)
 
 -- ---- what one of them opens was sealed with it
 
@@ -97,21 +106,30 @@ record OpenedBy (own : List ℕ) (other : Option (List ℕ)) (life bytes : List 
   pub given : (key ≡ own) ⊎ (other ≡ Some key)
   pub opened_so : opened (life_key key life) bytes ≡ Some it
 
-opened_by : (own : List ℕ) (other : Option (List ℕ)) (life bytes : List ℕ) (it : List ℕ × Stamp) → opened_else (opened (life_key own life) bytes) (option_map (λ key. life_key key life) other) bytes ≡ Some it
+opened_by : (own : List ℕ) (other : Option (List ℕ)) (life bytes : List ℕ) (it : List ℕ × Stamp)
+    → opened_else (opened (life_key own life) bytes) (option_map (λ key. life_key key life) other) bytes ≡ Some it
     → OpenedBy own other life bytes it
 opened_by own other life bytes it is = by_own (opened (life_key own life) bytes) refl is
   where
-    by_other : (o : Option (List ℕ)) → other ≡ o → opened_other (option_map (λ key. life_key key life) o) bytes ≡ Some it → OpenedBy own other life bytes it
+    by_other : (o : Option (List ℕ)) → other ≡ o → opened_other (option_map (λ key. life_key key life) o) bytes ≡ Some it
+        → OpenedBy own other life bytes it
     by_other None given is = absurd cc
     by_other (Some key) given is = record { key = key; given = inr given; opened_so = is }
 
-    by_own : (o : Option (List ℕ × Stamp)) → opened (life_key own life) bytes ≡ o → opened_else o (option_map (λ key. life_key key life) other) bytes ≡ Some it → OpenedBy own other life bytes it
+    by_own : (o : Option (List ℕ × Stamp)) → opened (life_key own life) bytes ≡ o
+        → opened_else o (option_map (λ key. life_key key life) other) bytes ≡ Some it → OpenedBy own other life bytes it
     by_own None opens is = by_other other refl is
     by_own (Some found) opens is = record { key = own; given = inl refl; opened_so = opens ∙ is }
 
 pub own_life_alone : OwnLifeAlone
 own_life_alone self nodes slots own other life a lines all line came m begun comes delivers =
-    let so = lines_open self nodes (life_key own life) (option_map (λ key. life_key key life) other) a lines all (record { q = new_seals own other life; is = begun; opens_so = refl; other_so = refl }) in
+    let so = lines_open self nodes (life_key own life) (option_map (λ key. life_key key life) other) a lines all (record {
+      q =
+          new_seals own other life;
+      is = begun;
+      opens_so = refl;
+      other_so = refl;
+    }) in
     let it = opened_alone self nodes slots (after_lines self nodes a lines all) line came so.q m so.is comes delivers in
     let by = opened_by own other life it.bytes (it.spelling, it.stamp)
     (ap (λ (o : Option (List ℕ)). opened_else (opened (life_key own life) it.bytes) o it.bytes) (sym so.other_so)
@@ -125,7 +143,8 @@ own_life_alone self nodes slots own other life a lines all line came m begun com
       brought = it.brought;
       spelled = it.spelled;
       given = by.given;
-      sealed_so = opened_sealed (life_key by.key life) it.bytes it.spelling it.stamp (spells_bytes it.word it.bytes it.spelled) by.opened_so;
+      sealed_so = opened_sealed (life_key by.key life) it.bytes it.spelling it.stamp (spells_bytes it.word it.bytes it.spelled)
+          by.opened_so;
       read = it.read;
     }
 

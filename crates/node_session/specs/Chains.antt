@@ -12,7 +12,8 @@ use Rattle.node_session.specs.declared.asked.Asked.{Asked}
 use Rattle.node_session.specs.declared.asked.Asked.TheVariants as ask
 use Rattle.node_session.specs.declared.call_outcome.CallOutcome.{CallOutcome}
 use Rattle.node_session.specs.declared.call_outcome.CallOutcome.TheVariants as end
-use Rattle.node_session.specs.Turns.{Turn, Goes, Unmounted, Begins, after_turn, cause, end_of, sent_in, MayComeOf, MayCompact, IsTimely, IsGoing}
+use Rattle.node_session.specs.Turns.{Turn, Goes, Unmounted, Begins, after_turn, cause, end_of, sent_in, MayComeOf, MayCompact, IsTimely}
+use Rattle.node_session.specs.Turns.{IsGoing}
 
 -- what came of a line: the calls of the node, and what a tick tells, when something is due next
 pub record LineOutcome : Type 0 where
@@ -84,7 +85,8 @@ IsOne May (turn ∷ next ∷ turns) = ⊥
 -- each came of a timer
 abbrev pub AreTimely : ℕ → ℕ → ℕ → NodeState → List Turn → Type 0
 AreTimely self nodes slots s [] = Unit {0}
-AreTimely self nodes slots s (turn ∷ turns) = IsTimely self nodes slots s turn × AreTimely self nodes slots (after_turn self nodes s turn) turns
+AreTimely self nodes slots s (turn ∷ turns) = IsTimely self nodes slots s turn
+    × AreTimely self nodes slots (after_turn self nodes s turn) turns
 
 -- a node that was down is up
 abbrev pub brought_up : Bool → Bool → Bool
@@ -101,7 +103,8 @@ abbrev pub ComesOfEvent : ℕ → ℕ → ℕ → NodeState → Event → List T
 ComesOfEvent self nodes slots s event [] = ⊥
 ComesOfEvent self nodes slots s event (turn ∷ turns) =
     MayComeOf self nodes event slots s turn
-    × IsWrittenAnew (brought_up (is_down s.state.phase) (is_down (after_turn self nodes s turn).state.phase)) self nodes slots (after_turn self nodes s turn) turns
+    × IsWrittenAnew (brought_up (is_down s.state.phase) (is_down (after_turn self nodes s turn).state.phase)) self nodes slots
+    (after_turn self nodes s turn) turns
 
 -- and the first of them ended so
 abbrev pub ComesAndEnds : Event → CallOutcome → ℕ → ℕ → ℕ → NodeState → List Turn → Type 0
@@ -158,7 +161,8 @@ entry_in_front self nodes s (Begins mounted what) later = later
 -- the entries by which the history went on in one line, in front of others
 abbrev pub entries_of : ℕ → ℕ → NodeState → List Turn → List Entry → List Entry
 entries_of self nodes s [] later = later
-entries_of self nodes s (turn ∷ turns) later = entry_in_front self nodes s turn (entries_of self nodes (after_turn self nodes s turn) turns later)
+entries_of self nodes s (turn ∷ turns) later = entry_in_front self nodes s turn
+    (entries_of self nodes (after_turn self nodes s turn) turns later)
 
 -- and in several
 abbrev pub entries_in : ℕ → ℕ → NodeState → List LineOutcome → List Entry

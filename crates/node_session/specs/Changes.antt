@@ -20,7 +20,8 @@ use Rattle.node_words.specs.Words.{group_text, ids_text, phase_text}
 abbrev pub group_by : Bool → GroupView → List ℕ
 group_by true view = codes "group Down\n"
 group_by false view =
-    codes "group " ++ phase_text view.phase ++ codes " " ++ decimal view.coordinator ++ codes " " ++ group_text view.group ++ codes " " ++ ids_text view.members ++ codes "\n"
+    codes "group " ++ phase_text view.phase ++ codes " " ++ decimal view.coordinator ++ codes " " ++ group_text view.group ++ codes " "
+    ++ ids_text view.members ++ codes "\n"
 
 abbrev pub group_line : GroupView → List ℕ
 group_line view = group_by (is_down view.phase) view
@@ -34,7 +35,8 @@ group_news (Some view) = group_line view
 
 -- a job in hand, with its queue and its payload
 abbrev pub held_text : InHand → List ℕ
-held_text job = decimal job.origin ++ codes " " ++ decimal job.id ++ codes " " ++ work_text job.work.queue job.work.payload job.work.priority
+held_text job = decimal job.origin ++ codes " " ++ decimal job.id ++ codes " "
+    ++ work_text job.work.queue job.work.payload job.work.priority
 
 abbrev pub take_line : InHand → List ℕ
 take_line job = codes "take " ++ held_text job ++ codes "\n"
@@ -79,4 +81,5 @@ news finished group taken dropped = group_news group ++ (flat_map take_line take
 -- what another state adds
 abbrev pub changes : Bool → State → State → List ℕ
 changes finished old new =
-    news finished (told_anew (view_of old) (view_of new)) (taken_since (map held_by old.hand) new.hand) (dropped_since (map held_by old.hand) new.hand)
+    news finished (told_anew (view_of old) (view_of new)) (taken_since (map held_by old.hand) new.hand)
+    (dropped_since (map held_by old.hand) new.hand)

@@ -3,7 +3,8 @@ use Rattle.std.specs.Prelude.{ℕ, List, [], ◌∷◌, ◌++◌, Bool, true, fa
 use Rattle.node_timers.specs.Retransmission.{Waits}
 use Rattle.histories.specs.NodeState.{NodeState}
 use Rattle.node_session.specs.declared.asked.Asked.{Asked}
-use Rattle.node_session.specs.Chains.{LineOutcome, IsNone, IsTold, MayCome, after_turns, is_failed, line_end, next, waits_begun, waits_turns}
+use Rattle.node_session.specs.Chains.{LineOutcome, IsNone, IsTold, MayCome, after_turns, is_failed, line_end, next, waits_begun}
+use Rattle.node_session.specs.Chains.{waits_turns}
 use Rattle.node_session.specs.Seals.{Seals, asked_under, life_of, sealed_behind, taken_under, written}
 use Rattle.node_session.specs.Text.{answer}
 
@@ -27,7 +28,8 @@ plain_answer self nodes a asked came = answer self nodes (next a.count asked) a.
 
 -- how it is written: the messages go with the count that the node keeps behind the line
 abbrev pub written_answer : ℕ → ℕ → At → Asked → Option Seals → LineOutcome → List ℕ
-written_answer self nodes a asked seal came = written seal (life_of (after_turns self nodes a.state came.turns)) (plain_answer self nodes a asked came)
+written_answer self nodes a asked seal came = written seal (life_of (after_turns self nodes a.state came.turns))
+    (plain_answer self nodes a asked came)
 
 abbrev pub after_asked : ℕ → ℕ → At → Asked → Option Seals → LineOutcome → At
 after_asked self nodes a asked seal came = record {
@@ -58,7 +60,8 @@ after_line self nodes a line came = after_by self nodes a.stopped a line came
 -- nothing comes of a line once the device failed
 abbrev pub Comes : ℕ → ℕ → ℕ → Bool → NodeState → Asked → LineOutcome → Type 0
 Comes self nodes slots true s asked came = IsNone came.turns
-Comes self nodes slots false s asked came = MayCome self nodes slots s asked came.turns × IsTold asked (after_turns self nodes s came.turns) came.due
+Comes self nodes slots false s asked came = MayCome self nodes slots s asked came.turns
+    × IsTold asked (after_turns self nodes s came.turns) came.due
 
 -- this may come of it
 abbrev pub ComesOf : ℕ → ℕ → ℕ → At → List ℕ → LineOutcome → Type 0
@@ -74,11 +77,13 @@ after_lines self nodes a (line ∷ lines) (came ∷ all) = after_lines self node
 abbrev pub answers : ℕ → ℕ → At → List (List ℕ) → List LineOutcome → List ℕ
 answers self nodes a [] all = []
 answers self nodes a (line ∷ lines) [] = []
-answers self nodes a (line ∷ lines) (came ∷ all) = answer_at self nodes a line came ++ answers self nodes (after_line self nodes a line came) lines all
+answers self nodes a (line ∷ lines) (came ∷ all) = answer_at self nodes a line came
+    ++ answers self nodes (after_line self nodes a line came) lines all
 
 -- these came of these lines, one for each
 abbrev pub AreOf : ℕ → ℕ → ℕ → At → List (List ℕ) → List LineOutcome → Type 0
 AreOf self nodes slots a [] [] = Unit {0}
 AreOf self nodes slots a [] (came ∷ all) = ⊥
 AreOf self nodes slots a (line ∷ lines) [] = ⊥
-AreOf self nodes slots a (line ∷ lines) (came ∷ all) = ComesOf self nodes slots a line came × AreOf self nodes slots (after_line self nodes a line came) lines all
+AreOf self nodes slots a (line ∷ lines) (came ∷ all) = ComesOf self nodes slots a line came
+    × AreOf self nodes slots (after_line self nodes a line came) lines all

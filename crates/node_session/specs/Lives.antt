@@ -12,7 +12,8 @@ use Rattle.node_session.specs.Stamping.{Life, AreLives, life_left}
 abbrev pub entries_over : ℕ → ℕ → NodeState → List Life → List Entry
 entries_over self nodes s [] = []
 entries_over self nodes s (life ∷ lives) =
-    record { what = Crashed; sent = [] } ∷ (entries_in self nodes (after self nodes s Crashed) life.all ++ entries_over self nodes (life_left self nodes s life) lives)
+    record { what = Crashed; sent = [] } ∷ (entries_in self nodes (after self nodes s Crashed) life.all
+    ++ entries_over self nodes (life_left self nodes s life) lives)
 
 -- the state that they leave
 abbrev pub left_over : ℕ → ℕ → NodeState → List Life → NodeState

@@ -1,5 +1,6 @@
 -- Messages under a key: what a line that brings one asks for, and how those that are sent are written.
-use Rattle.std.specs.Prelude.{ℕ, ◌+◌, ◌==◌, ◌||◌, List, [], ◌∷◌, ◌++◌, length, get_or, set, replicate, Bool, true, false, bytes_eq, codes, if◌then◌else◌, option_map, Option, Some, None}
+use Rattle.std.specs.Prelude.{ℕ, ◌+◌, ◌==◌, ◌||◌, List, [], ◌∷◌, ◌++◌, length, get_or, set, replicate, Bool, true, false, bytes_eq, codes}
+use Rattle.std.specs.Prelude.{if◌then◌else◌, option_map, Option, Some, None}
 use Rattle.hex.specs.Hex.{encode_lower}
 use Rattle.wire_msg.specs.Envelope.{Envelope}
 use Rattle.wire_msg.specs.Reading.{message_of}

@@ -1,5 +1,6 @@
 -- The messages that a step hands out, and the lines of its answer that carry them.
-use Rattle.std.specs.Prelude.{ℕ, ◌≡◌, ◌+◌, List, [], ◌∷◌, ◌++◌, map, filter, length, All, Bool, true, false, bytes_eq, codes, decimal, Option, Some, None}
+use Rattle.std.specs.Prelude.{ℕ, ◌≡◌, ◌+◌, List, [], ◌∷◌, ◌++◌, map, filter, length, All, Bool, true, false, bytes_eq, codes, decimal}
+use Rattle.std.specs.Prelude.{Option, Some, None}
 use Rattle.hex.specs.Hex.{encode_lower}
 use Rattle.line_words.specs.Words.{first_word, words_of}
 use Rattle.line_words.specs.Lines.{lines_of}
@@ -89,19 +90,24 @@ AreMessagesIn self nodes a (line ∷ lines) (came ∷ all) =
     All IsMessage (handed_out self nodes a line came) × AreMessagesIn self nodes (after_line self nodes a line came) lines all
 
 -- The `send` lines of an answer are those of the messages that the step hands out, one for each and in their order: each message sealed
--- under the key of its receiver's life, with the count that the node has behind the line and the next number of the session; without a key, as
+-- under the key of its receiver's life, with the count that the node has behind the line and the next number of the session; without a key,
+-- as
 -- it is spelled.
 pub record AreSent (self nodes : ℕ) (a : At) (line : List ℕ) (came : LineOutcome) : Type 0 where
-  pub lines : sends_in (answer_at self nodes a line came) ≡ sends_under (taken_under a.seal line) (life_of (after_line self nodes a line came).state) (handed_out self nodes a line came)
-  pub number : sealed_so_far (after_line self nodes a line came).seal ≡ counted_under a.seal (life_of (after_line self nodes a line came).state) (handed_out self nodes a line came)
+  pub lines : sends_in (answer_at self nodes a line came) ≡ sends_under (taken_under a.seal line)
+      (life_of (after_line self nodes a line came).state) (handed_out self nodes a line came)
+  pub number : sealed_so_far (after_line self nodes a line came).seal
+      ≡ counted_under a.seal (life_of (after_line self nodes a line came).state) (handed_out self nodes a line came)
 
 -- those of lines, one behind another
 abbrev pub AreSentIn : ℕ → ℕ → At → List (List ℕ) → List LineOutcome → Type 0
 AreSentIn self nodes a [] all = Unit {0}
 AreSentIn self nodes a (line ∷ lines) [] = Unit {0}
-AreSentIn self nodes a (line ∷ lines) (came ∷ all) = AreSent self nodes a line came × AreSentIn self nodes (after_line self nodes a line came) lines all
+AreSentIn self nodes a (line ∷ lines) (came ∷ all) = AreSent self nodes a line came
+    × AreSentIn self nodes (after_line self nodes a line came) lines all
 
 -- so it is of any line that hands out such messages, wherever it comes
 abbrev pub MessagesAreSealed : Type 0
 MessagesAreSealed =
-    (self nodes slots : ℕ) (a : At) (line : List ℕ) (came : LineOutcome) → ComesOf self nodes slots a line came → All IsMessage (handed_out self nodes a line came) → AreSent self nodes a line came
+    (self nodes slots : ℕ) (a : At) (line : List ℕ) (came : LineOutcome) → ComesOf self nodes slots a line came
+    → All IsMessage (handed_out self nodes a line came) → AreSent self nodes a line came

@@ -1,5 +1,6 @@
 -- A session, and what feeding it does.
-use Rattle.std.specs.Prelude.{ℕ, ◌≡◌, ◌≤◌, ◌<◌, ◌-◌, ◌^◌, ◌⊎◌, ◌++◌, List, [], ◌∷◌, All, Bool, true, false, IsTrue, IsFalse, Option, Some, None}
+use Rattle.std.specs.Prelude.{ℕ, ◌≡◌, ◌≤◌, ◌<◌, ◌-◌, ◌^◌, ◌⊎◌, ◌++◌, List, [], ◌∷◌, All, Bool, true, false, IsTrue, IsFalse, Option, Some}
+use Rattle.std.specs.Prelude.{None}
 use Rattle.sector_disk.specs.Disk.{DiskState}
 use Rattle.job_model.specs.Durable.{Durable}
 use Rattle.node_core.specs.Start.{down}
@@ -13,7 +14,8 @@ use Rattle.histories.specs.After.{after}
 use Rattle.histories.specs.History.{Follows, FollowsSlots, replay}
 use Rattle.line_words.specs.Lines.{lines_of}
 use Rattle.node_session.specs.Turns.{Turn, Goes, Begins, begun, after_begun, after_turn, end_of, sent_in, IsGoing}
-use Rattle.node_session.specs.Chains.{LineOutcome, AllGoing, AreGoing, IsTold, MayCome, after_turns, entries_in, is_failed, last_end, line_end, next, first_turn, waits_begun, waits_turn, waits_turns}
+use Rattle.node_session.specs.Chains.{LineOutcome, AllGoing, AreGoing, IsTold, MayCome, after_turns, entries_in, is_failed, last_end}
+use Rattle.node_session.specs.Chains.{line_end, next, first_turn, waits_begun, waits_turn, waits_turns}
 use Rattle.node_session.specs.Lines.{At, AreOf, after_lines, answers}
 use Rattle.node_session.specs.Exact.{IsCallOf, AreCallsOf, AreCallsIn}
 use Rattle.node_session.specs.Sending.{AreMessagesIn, AreSentIn, again, sent_turns}
@@ -44,7 +46,8 @@ abbrev pub at_of : {Disk : Type 0} → Progress Disk → NodeState → At
 at_of p s = record { stopped = p.stopped; count = p.count; state = s; waits = p.waits; seal = p.seal }
 
 -- These lines were answered, at a node that stood for this state over this disk. This may be told to the timers between them.
-pub record Served {Disk : Type 0} (disks : Disk → DiskState) (Between : ℕ → NodeState → Timers → Timers → Type 0) (old new : Progress Disk) (self nodes : ℕ) (lines : List (List ℕ)) (was : Disk) (s : NodeState) : Type 0 where
+pub record Served {Disk : Type 0} (disks : Disk → DiskState) (Between : ℕ → NodeState → Timers → Timers → Type 0) (old new : Progress Disk)
+    (self nodes : ℕ) (lines : List (List ℕ)) (was : Disk) (s : NodeState) : Type 0 where
   -- of each line came something that may come of it
   pub all : List LineOutcome
   pub came : AreOf self nodes (slots_for (disks was).sectors) (at_of old s) lines all
@@ -77,12 +80,15 @@ pub record IsNodeOf {Disk : Type 0} (disks : Disk → DiskState) (old new : Node
   pub disk : (was : Disk) → old.disk ≡ Some was → IsDiskOf disks was new.disk
 
 -- these lines were answered, whatever state the node stood for
-pub record Serves {Disk : Type 0} (disks : Disk → DiskState) (Between : ℕ → NodeState → Timers → Timers → Type 0) (old new : Progress Disk) (lines : List (List ℕ)) : Type 0 where
+pub record Serves {Disk : Type 0} (disks : Disk → DiskState) (Between : ℕ → NodeState → Timers → Timers → Type 0) (old new : Progress Disk)
+    (lines : List (List ℕ)) : Type 0 where
   pub node : IsNodeOf disks old.node new.node
-  pub served : (was : Disk) (s : NodeState) → old.node.disk ≡ Some was → Stands disks old.node s → Served disks Between old new old.node.id old.node.nodes lines was s
+  pub served : (was : Disk) (s : NodeState) → old.node.disk ≡ Some was → Stands disks old.node s
+      → Served disks Between old new old.node.id old.node.nodes lines was s
 
 -- a piece was fed: its whole lines were answered, the first behind what was kept, and what is behind the last of them is kept
-pub record IsFed {Disk : Type 0} (disks : Disk → DiskState) (Between : ℕ → NodeState → Timers → Timers → Type 0) (old : Progress Disk) (piece : List ℕ) (new : Progress Disk) : Type 0 where
+pub record IsFed {Disk : Type 0} (disks : Disk → DiskState) (Between : ℕ → NodeState → Timers → Timers → Type 0) (old : Progress Disk)
+    (piece : List ℕ) (new : Progress Disk) : Type 0 where
   pub lines : List (List ℕ)
   pub cut : lines_of (old.rest ++ piece) ≡ lines ++ new.rest ∷ []
   pub serves : Serves disks Between old new lines
@@ -98,7 +104,8 @@ Fed disks old piece new = IsFed disks OwnTime old piece new
 -- ---- one call of the node
 
 -- This came of it.
-pub record Turned {Disk : Type 0} (disks : Disk → DiskState) (old new : Progress Disk) (self nodes : ℕ) (May : ℕ → ℕ → ℕ → NodeState → Turn → Type 0) (ended : CallOutcome) (was : Disk) (s : NodeState) : Type 0 where
+pub record Turned {Disk : Type 0} (disks : Disk → DiskState) (old new : Progress Disk) (self nodes : ℕ)
+    (May : ℕ → ℕ → ℕ → NodeState → Turn → Type 0) (ended : CallOutcome) (was : Disk) (s : NodeState) : Type 0 where
   pub turn : Turn
   pub may : May self nodes (slots_for (disks was).sectors) s turn
   pub exact : IsCallOf disks self nodes s turn old.node new.node
@@ -110,15 +117,18 @@ pub record Turned {Disk : Type 0} (disks : Disk → DiskState) (old new : Progre
   pub waits : new.waits ≡ waits_turn self nodes s turn old.waits
 
 -- whatever state the node stood for; it changes the node, the text and what is waited for alone
-pub record Turns {Disk : Type 0} (disks : Disk → DiskState) (old new : Progress Disk) (May : ℕ → ℕ → ℕ → NodeState → Turn → Type 0) (ended : CallOutcome) : Type 0 where
+pub record Turns {Disk : Type 0} (disks : Disk → DiskState) (old new : Progress Disk) (May : ℕ → ℕ → ℕ → NodeState → Turn → Type 0)
+    (ended : CallOutcome) : Type 0 where
   pub node : IsNodeOf disks old.node new.node
   pub same : new ≡ record old { node = new.node; text = new.text; waits = new.waits }
-  pub turned : (was : Disk) (s : NodeState) → old.node.disk ≡ Some was → Stands disks old.node s → Turned disks old new old.node.id old.node.nodes May ended was s
+  pub turned : (was : Disk) (s : NodeState) → old.node.disk ≡ Some was → Stands disks old.node s
+      → Turned disks old new old.node.id old.node.nodes May ended was s
 
 -- ---- several calls, of one line
 
 -- These came of them.
-pub record Called {Disk : Type 0} (disks : Disk → DiskState) (old new : Progress Disk) (self nodes : ℕ) (heading : Turn → List ℕ) (May : ℕ → ℕ → ℕ → NodeState → List Turn → Type 0) (before ended : CallOutcome) (was : Disk) (s : NodeState) : Type 0 where
+pub record Called {Disk : Type 0} (disks : Disk → DiskState) (old new : Progress Disk) (self nodes : ℕ) (heading : Turn → List ℕ)
+    (May : ℕ → ℕ → ℕ → NodeState → List Turn → Type 0) (before ended : CallOutcome) (was : Disk) (s : NodeState) : Type 0 where
   pub turns : List Turn
   pub may : May self nodes (slots_for (disks was).sectors) s turns
   pub exact : AreCallsOf disks self nodes s turns old.node new.node
@@ -130,15 +140,18 @@ pub record Called {Disk : Type 0} (disks : Disk → DiskState) (old new : Progre
   pub waits : new.waits ≡ waits_turns self nodes s turns old.waits
 
 -- whatever state the node stood for; this is written before each. The timers may be looked at meanwhile
-pub record Calls {Disk : Type 0} (disks : Disk → DiskState) (old new : Progress Disk) (heading : Turn → List ℕ) (May : ℕ → ℕ → ℕ → NodeState → List Turn → Type 0) (before ended : CallOutcome) : Type 0 where
+pub record Calls {Disk : Type 0} (disks : Disk → DiskState) (old new : Progress Disk) (heading : Turn → List ℕ)
+    (May : ℕ → ℕ → ℕ → NodeState → List Turn → Type 0) (before ended : CallOutcome) : Type 0 where
   pub node : IsNodeOf disks old.node new.node
   pub same : new ≡ record old { node = new.node; text = new.text; waits = new.waits; timers = new.timers }
-  pub called : (was : Disk) (s : NodeState) → old.node.disk ≡ Some was → Stands disks old.node s → Called disks old new old.node.id old.node.nodes heading May before ended was s
+  pub called : (was : Disk) (s : NodeState) → old.node.disk ≡ Some was → Stands disks old.node s
+      → Called disks old new old.node.id old.node.nodes heading May before ended was s
 
 -- ---- one request, before its messages are sealed
 
 -- where it left a session, and its answer
-pub record Replied {Disk : Type 0} (disks : Disk → DiskState) (old new : Progress Disk) (a : Asked) (was : Disk) (s : NodeState) : Type 0 where
+pub record Replied {Disk : Type 0} (disks : Disk → DiskState) (old new : Progress Disk) (a : Asked) (was : Disk) (s : NodeState) :
+    Type 0 where
   pub turns : List Turn
   pub due : Option ℕ
   pub told : IsTold a (after_turns old.node.id old.node.nodes s turns) due
@@ -164,7 +177,8 @@ pub record Replies {Disk : Type 0} (disks : Disk → DiskState) (old new : Progr
 -- two pieces, one after the other, are one
 abbrev pub AnyCutting : {Disk : Type 0} → (Disk → DiskState) → Type 0
 AnyCutting {Disk} disks =
-    (old mid new : Progress Disk) (first second : List ℕ) → Fed disks old first mid → Fed disks mid second new → Fed disks old (first ++ second) new
+    (old mid new : Progress Disk) (first second : List ℕ) → Fed disks old first mid → Fed disks mid second new
+    → Fed disks old (first ++ second) new
 
 -- what was answered may be written and cleared between two pieces
 abbrev pub AnyClearing : {Disk : Type 0} → (Disk → DiskState) → Type 0
@@ -186,17 +200,21 @@ AnyTaking {Disk} disks =
 abbrev pub OneHistory : Type 0
 OneHistory =
     (self nodes slots : ℕ) (a : At) (lines : List (List ℕ)) (all : List LineOutcome) → AreOf self nodes slots a lines all → AllGoing all →
-    Follows self nodes a.state (entries_in self nodes a.state all) × FollowsSlots slots self nodes a.state (entries_in self nodes a.state all) ×
+    Follows self nodes a.state (entries_in self nodes a.state all)
+    × FollowsSlots slots self nodes a.state (entries_in self nodes a.state all) ×
     (replay self nodes a.state (entries_in self nodes a.state all) ≡ (after_lines self nodes a lines all).state)
 
 -- where a history begins in the first call of a line and no other after it, its entries follow each other from what was mounted on: the
 -- mounting, and then the others. The one mounting that begins none is that of a counter that can't be raised
 abbrev pub BegunHistory : Type 0
 BegunHistory =
-    (self nodes slots : ℕ) (a : At) (line : List ℕ) (lines : List (List ℕ)) (mounted : Durable) (what : HistoryEvent) (turns : List Turn) (due : Option ℕ) (all : List LineOutcome) →
-    AreOf self nodes slots a (line ∷ lines) (first_turn (Begins mounted what) turns due ∷ all) → AreGoing turns → AllGoing all → after_begun self nodes a.state mounted what ≡ after self nodes (begun self mounted) what →
+    (self nodes slots : ℕ) (a : At) (line : List ℕ) (lines : List (List ℕ)) (mounted : Durable) (what : HistoryEvent) (turns : List Turn)
+    (due : Option ℕ) (all : List LineOutcome) →
+    AreOf self nodes slots a (line ∷ lines) (first_turn (Begins mounted what) turns due ∷ all) → AreGoing turns → AllGoing all
+    → after_begun self nodes a.state mounted what ≡ after self nodes (begun self mounted) what →
     Follows self nodes (begun self mounted) (entries_in self nodes (begun self mounted) (first_turn (Goes what) turns due ∷ all)) ×
-    (replay self nodes (begun self mounted) (entries_in self nodes (begun self mounted) (first_turn (Goes what) turns due ∷ all)) ≡ (after_lines self nodes a (line ∷ lines) (first_turn (Begins mounted what) turns due ∷ all)).state)
+    (replay self nodes (begun self mounted) (entries_in self nodes (begun self mounted) (first_turn (Goes what) turns due ∷ all))
+    ≡ (after_lines self nodes a (line ∷ lines) (first_turn (Begins mounted what) turns due ∷ all)).state)
 
 -- where no time was told yet and nothing was fed, and jitter is drawn by this seed
 abbrev pub opened_by : {Disk : Type 0} → ℕ → ℕ → ℕ → TimerSettings → Disk → Progress Disk
@@ -224,7 +242,8 @@ BeginsAnywhere {Disk} disks =
 -- a session stops only where the disk's count of failures rose while it was fed, or is the greatest
 abbrev pub StopsWhereFailed : {Disk : Type 0} → (Disk → DiskState) → Type 0
 StopsWhereFailed {Disk} disks =
-    (old new : Progress Disk) (piece : List ℕ) (was now : Disk) (s : NodeState) → Fed disks old piece new → old.node.disk ≡ Some was → new.node.disk ≡ Some now → Stands disks old.node s →
+    (old new : Progress Disk) (piece : List ℕ) (was now : Disk) (s : NodeState) → Fed disks old piece new → old.node.disk ≡ Some was
+    → new.node.disk ≡ Some now → Stands disks old.node s →
     old.stopped ≡ false → new.stopped ≡ true → ((disks was).failures < (disks now).failures) ⊎ (2 ^ 64 - 1 ≤ (disks now).failures)
 
 -- Whatever a session is fed, the `send` lines of its answers are those of the messages that it hands out, each sealed.

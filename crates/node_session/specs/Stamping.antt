@@ -15,7 +15,8 @@ use Rattle.node_session.specs.declared.asked.Asked.{Asked}
 use Rattle.node_session.specs.Turns.{Turn, cause}
 use Rattle.node_session.specs.Chains.{LineOutcome, AllGoing, after_turns}
 use Rattle.node_session.specs.Lines.{At, AreOf, ComesOf, after_line, after_lines, plain_answer}
-use Rattle.node_session.specs.Seals.{Brought, Opened, Seals, asked_under, brought_by, brought_word, is_fresh, life_of, message_in, new_seals, no_stamp, number_by, opened_under, taken_under}
+use Rattle.node_session.specs.Seals.{Brought, Opened, Seals, asked_under, brought_by, brought_word, is_fresh, life_of, message_in}
+use Rattle.node_session.specs.Seals.{new_seals, no_stamp, number_by, opened_under, taken_under}
 
 -- each stamp is above the one before it
 abbrev pub Climbs : Stamp → List Stamp → Type 0
@@ -33,7 +34,8 @@ stamps_by (Some life) n (Some message) later = record { life = life; number = n 
 abbrev pub stamps_in : Option ℕ → ℕ → List (List ℕ) → List Stamp
 stamps_in life n [] = []
 stamps_in life n (line ∷ []) = []
-stamps_in life n (line ∷ next ∷ lines) = stamps_by life n (message_in line) (stamps_in life (number_by life n (message_in line)) (next ∷ lines))
+stamps_in life n (line ∷ next ∷ lines) = stamps_by life n (message_in line)
+    (stamps_in life (number_by life n (message_in line)) (next ∷ lines))
 
 abbrev pub stamps_of : Option Seals → Option ℕ → List ℕ → List Stamp
 stamps_of None life text = []
@@ -42,7 +44,8 @@ stamps_of (Some q) life text = stamps_in life q.number (lines_of text)
 -- those of the answer to a line, of which this came
 abbrev pub stamps_asked : ℕ → ℕ → Bool → At → Asked → Option Seals → LineOutcome → List Stamp
 stamps_asked self nodes true a asked seal came = []
-stamps_asked self nodes false a asked seal came = stamps_of seal (life_of (after_turns self nodes a.state came.turns)) (plain_answer self nodes a asked came)
+stamps_asked self nodes false a asked seal came = stamps_of seal (life_of (after_turns self nodes a.state came.turns))
+    (plain_answer self nodes a asked came)
 
 abbrev pub stamps_at : ℕ → ℕ → At → List ℕ → LineOutcome → List Stamp
 stamps_at self nodes a line came = stamps_asked self nodes a.stopped a (asked_under a.seal line) (taken_under a.seal line) came
@@ -50,7 +53,8 @@ stamps_at self nodes a line came = stamps_asked self nodes a.stopped a (asked_un
 abbrev pub stamps_given : ℕ → ℕ → At → List (List ℕ) → List LineOutcome → List Stamp
 stamps_given self nodes a [] all = []
 stamps_given self nodes a (line ∷ lines) [] = []
-stamps_given self nodes a (line ∷ lines) (came ∷ all) = stamps_at self nodes a line came ++ stamps_given self nodes (after_line self nodes a line came) lines all
+stamps_given self nodes a (line ∷ lines) (came ∷ all) = stamps_at self nodes a line came
+    ++ stamps_given self nodes (after_line self nodes a line came) lines all
 
 -- a process of the node: the keys that it was given and what was drawn for it, its lines, and what came of them
 pub record Life : Type 0 where
@@ -78,15 +82,18 @@ life_left self nodes s life = (after_lines self nodes (life_begun self nodes s l
 abbrev pub AreLives : ℕ → ℕ → ℕ → NodeState → List Life → Type 0
 AreLives self nodes slots s [] = Unit {0}
 AreLives self nodes slots s (life ∷ lives) =
-    AreOf self nodes slots (life_begun self nodes s life) life.lines life.all × AllGoing life.all × AreLives self nodes slots (life_left self nodes s life) lives
+    AreOf self nodes slots (life_begun self nodes s life) life.lines life.all × AllGoing life.all
+    × AreLives self nodes slots (life_left self nodes s life) lives
 
 abbrev pub stamps_over : ℕ → ℕ → NodeState → List Life → List Stamp
 stamps_over self nodes s [] = []
-stamps_over self nodes s (life ∷ lives) = stamps_given self nodes (life_begun self nodes s life) life.lines life.all ++ stamps_over self nodes (life_left self nodes s life) lives
+stamps_over self nodes s (life ∷ lives) = stamps_given self nodes (life_begun self nodes s life) life.lines life.all
+    ++ stamps_over self nodes (life_left self nodes s life) lives
 
 -- no stamp is sealed twice, over all lives of a node
 abbrev pub NoStampTwice : Type 0
-NoStampTwice = (self nodes slots : ℕ) (s : NodeState) (lives : List Life) → AreLives self nodes slots s lives → Climbs no_stamp (stamps_over self nodes s lives)
+NoStampTwice = (self nodes slots : ℕ) (s : NodeState) (lives : List Life) → AreLives self nodes slots s lives
+    → Climbs no_stamp (stamps_over self nodes s lives)
 
 -- ---- what is taken
 
@@ -109,7 +116,8 @@ Delivers m (turn ∷ turns) = (cause turn ≡ Some (on.Deliver m)) ⊎ Delivers 
 -- under a key, what a node is delivered was opened
 abbrev pub OpenedAlone : Type 0
 OpenedAlone =
-    (self nodes slots : ℕ) (a : At) (line : List ℕ) (came : LineOutcome) (q : Seals) (m : Envelope) → a.seal ≡ Some q → ComesOf self nodes slots a line came → Delivers m came.turns → IsOpened q line m
+    (self nodes slots : ℕ) (a : At) (line : List ℕ) (came : LineOutcome) (q : Seals) (m : Envelope) → a.seal ≡ Some q
+    → ComesOf self nodes slots a line came → Delivers m came.turns → IsOpened q line m
 
 -- ---- what comes of one sender
 
@@ -153,4 +161,5 @@ IsWide (Some q) = length q.last ≡ 128
 -- they rise
 abbrev pub TakenRises : Type 0
 TakenRises =
-    (sender self nodes : ℕ) (a : At) (lines : List (List ℕ)) (all : List LineOutcome) → IsWide a.seal → Climbs (last_by sender a.seal) (stamps_taken sender self nodes a lines all)
+    (sender self nodes : ℕ) (a : At) (lines : List (List ℕ)) (all : List LineOutcome) → IsWide a.seal
+    → Climbs (last_by sender a.seal) (stamps_taken sender self nodes a lines all)

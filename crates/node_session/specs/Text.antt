@@ -57,7 +57,8 @@ abbrev pub call_text : Option Event → List Envelope → State → State → Ca
 call_text event sent old new ended = send_lines sent ++ (changes (is_finish event) old new ++ gone_news event ended)
 
 abbrev pub turn_text : ℕ → ℕ → NodeState → Turn → List ℕ
-turn_text self nodes s turn = call_text (cause turn) (sent_in self nodes s turn) s.state (after_turn self nodes s turn).state (end_of self nodes s turn)
+turn_text self nodes s turn = call_text (cause turn) (sent_in self nodes s turn) s.state (after_turn self nodes s turn).state
+    (end_of self nodes s turn)
 
 abbrev pub fired_line : Event → List ℕ
 fired_line event = codes "fired " ++ event_word event ++ codes "\n"
@@ -77,7 +78,8 @@ no_news turn = []
 -- what is written of the calls of a line, with what is written before each
 abbrev pub turns_text : (Turn → List ℕ) → ℕ → ℕ → NodeState → List Turn → List ℕ
 turns_text before self nodes s [] = []
-turns_text before self nodes s (turn ∷ turns) = before turn ++ (turn_text self nodes s turn ++ turns_text before self nodes (after_turn self nodes s turn) turns)
+turns_text before self nodes s (turn ∷ turns) = before turn
+    ++ (turn_text self nodes s turn ++ turns_text before self nodes (after_turn self nodes s turn) turns)
 
 -- ---- what a recovery mounts
 
@@ -145,7 +147,8 @@ abbrev pub asks_part : State → List ℕ
 asks_part s = codes " checking " ++ truth_text s.checking ++ codes " probing " ++ truth_text s.probing
 
 abbrev pub jobs_part : State → Durable → List ℕ
-jobs_part s d = codes " count " ++ decimal d.counter ++ codes " pending " ++ decimal (length d.pending) ++ codes " hand " ++ decimal (length s.hand)
+jobs_part s d = codes " count " ++ decimal d.counter ++ codes " pending " ++ decimal (length d.pending) ++ codes " hand "
+    ++ decimal (length s.hand)
 
 abbrev pub up_line : State → Durable → List ℕ
 up_line s d = codes "state " ++ phase_text s.phase ++ group_part s ++ sets_part s ++ asks_part s ++ jobs_part s d ++ codes "\n"
@@ -158,7 +161,8 @@ abbrev pub state_line : NodeState → List ℕ
 state_line s = state_by (is_down s.state.phase) s
 
 abbrev pub pending_line : Job → List ℕ
-pending_line job = codes "pending " ++ decimal job.id ++ codes " " ++ work_text job.work.queue job.work.payload job.work.priority ++ codes "\n"
+pending_line job = codes "pending " ++ decimal job.id ++ codes " " ++ work_text job.work.queue job.work.payload job.work.priority
+    ++ codes "\n"
 
 abbrev pub hand_line : InHand → List ℕ
 hand_line job = codes "hand " ++ held_text job ++ codes "\n"
@@ -176,7 +180,8 @@ jobs_lines s = jobs_by (is_down s.state.phase) s
 -- how the answer to an event ends
 abbrev pub event_end : ℕ → ℕ → ℕ → NodeState → Event → List Turn → List ℕ
 event_end self nodes n s event turns =
-    keeps_news event (event_line_end self nodes s turns) (after_turns self nodes s turns) ++ event_closing n event (event_line_end self nodes s turns)
+    keeps_news event (event_line_end self nodes s turns) (after_turns self nodes s turns)
+    ++ event_closing n event (event_line_end self nodes s turns)
 
 -- how the answer to a tick ends
 abbrev pub tick_end : ℕ → ℕ → ℕ → NodeState → LineOutcome → List ℕ
@@ -194,6 +199,7 @@ abbrev pub answer : ℕ → ℕ → ℕ → NodeState → Waits → Asked → Li
 answer self nodes n s w ask.Nothing came = []
 answer self nodes n s w (ask.Event event) came = turns_text no_news self nodes s came.turns ++ event_end self nodes n s event came.turns
 answer self nodes n s w ask.Compact came = turns_text no_news self nodes s came.turns ++ closing n (line_end self nodes s came.turns)
-answer self nodes n s w (ask.Tick now) came = send_lines (sent_again now w) ++ (turns_text fired_news self nodes s came.turns ++ tick_end self nodes n s came)
+answer self nodes n s w (ask.Tick now) came = send_lines (sent_again now w)
+    ++ (turns_text fired_news self nodes s came.turns ++ tick_end self nodes n s came)
 answer self nodes n s w (ask.Lost id) came = turns_text fired_news self nodes s came.turns ++ closing n (line_end self nodes s came.turns)
 answer self nodes n s w asked came = answer_at_once n s asked

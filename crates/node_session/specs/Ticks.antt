@@ -6,7 +6,8 @@ use Rattle.node_timers.specs.declared.wait.Wait.{Wait}
 use Rattle.node_timers.specs.declared.deadline.Deadline.{Deadline}
 use Rattle.node_timers.specs.declared.snapshot.NodeSnapshot.{NodeSnapshot}
 use Rattle.node_timers.specs.Timers.{prompted_left, soon_left, wait_of}
-use Rattle.node_timers.specs.Policy.{Policy, Counts, Dispatches, HasCome, IsDue, IsWorkDue, MayFire, MovesDeadline, Runs, Sets, asked_at, event_at, passed, random_at, slowest_at}
+use Rattle.node_timers.specs.Policy.{Policy, Counts, Dispatches, HasCome, IsDue, IsWorkDue, MayFire, MovesDeadline, Runs, Sets, asked_at}
+use Rattle.node_timers.specs.Policy.{event_at, passed, random_at, slowest_at}
 use Rattle.node_timers.specs.Retransmission.{Waits, has_come, sent_again}
 
 -- a deadline is set, where none ran

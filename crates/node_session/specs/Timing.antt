@@ -1,5 +1,6 @@
 -- The timers of a session: what each line tells the policy, and the events that a tick or a loss makes.
-use Rattle.std.specs.Prelude.{ℕ, ◌≡◌, ◌≢◌, ◌↔◌, ◌⊎◌, ◌≤◌, List, [], ◌∷◌, length, Bool, true, false, not, ◌&&◌, ◌||◌, ◌==◌, if◌then◌else◌, Option, Some, None, is_some, IfSome, IsNone}
+use Rattle.std.specs.Prelude.{ℕ, ◌≡◌, ◌≢◌, ◌↔◌, ◌⊎◌, ◌≤◌, List, [], ◌∷◌, length, Bool, true, false, not, ◌&&◌, ◌||◌, ◌==◌, if◌then◌else◌}
+use Rattle.std.specs.Prelude.{Option, Some, None, is_some, IfSome, IsNone}
 use Rattle.group_task.specs.Group.{Group}
 use Rattle.group_task.specs.Ids.{has}
 use Rattle.job_model.specs.declared.job.Job.{Job}
@@ -80,7 +81,8 @@ pub record LooksIn (group : Group) (old new : Timers) : Type 0 where
   pub same : old.looked_in ≡ Some group → new ≡ old
   pub other : old.looked_in ≢ Some group → new ≡ record old { policy = in_new_group old.policy; looked_in = Some group }
 
--- where nothing is due, and all have answered a check or accepted an invitation, that is over or soon is, and the timers are looked at once more
+-- where nothing is due, and all have answered a check or accepted an invitation, that is over or soon is, and the timers are looked at once
+-- more
 abbrev pub LooksAgain : Bool → NodeSnapshot → Option Event → Policy → Option Event → Policy → Type 0
 LooksAgain true seen first between fired new = Ticks seen (all_answered seen between) fired new
 LooksAgain false seen first between fired new = (fired ≡ first) × (new ≡ between)
@@ -125,14 +127,16 @@ IsDenied ended = is_denied ended ≡ true
 
 -- no more fires: the last call was denied, so many fired as may in one tick, or nothing is due
 abbrev pub IsAtRest : ℕ → NodeState → Waits → CallOutcome → ℕ → Timers → Timers → Type 0
-IsAtRest self s w ended count old new = (IsDenied ended × (new ≡ old)) ⊎ (((count ≡ MOST_FIRED) × (new ≡ old)) ⊎ IsDueAt self s w old None new)
+IsAtRest self s w ended count old new = (IsDenied ended × (new ≡ old))
+    ⊎ (((count ≡ MOST_FIRED) × (new ≡ old)) ⊎ IsDueAt self s w old None new)
 
 -- the calls of a tick: all that is due fires, and nothing else
 pub record Fires (w : Waits) (old new : Timers) (self nodes : ℕ) (s : NodeState) (turns : List Turn) : Type 0 where
   pub mid : Timers
   pub due : AreDue self nodes s w turns old mid
   pub few : length turns ≤ MOST_FIRED
-  pub rests : IsAtRest self (after_turns self nodes s turns) (waits_turns self nodes s turns w) (line_end self nodes s turns) (length turns) mid new
+  pub rests : IsAtRest self (after_turns self nodes s turns) (waits_turns self nodes s turns w) (line_end self nodes s turns)
+      (length turns) mid new
 
 -- what a tick tells of a node that is up
 pub record IsToldNext (self : ℕ) (s : NodeState) (w : Waits) (t : Timers) (now due : ℕ) : Type 0 where
@@ -142,7 +146,8 @@ pub record IsToldNext (self : ℕ) (s : NodeState) (w : Waits) (t : Timers) (now
 
 -- ---- a loss
 
--- what a node makes of it that the transport gave another one up: a member asks for its coordinator or leaves it, and a coordinator leaves where
+-- what a node makes of it that the transport gave another one up: a member asks for its coordinator or leaves it, and a coordinator leaves
+-- where
 -- it is a member. A node that is in no group, or forms one, has nobody to lose
 abbrev pub lost_by : ℕ → State → ℕ → Option Event
 lost_by self s lost =
@@ -196,7 +201,8 @@ abbrev pub OwnTime : ℕ → NodeState → Timers → Timers → Type 0
 OwnTime self s old new = (times : List ℕ) × AreSpent self s.state times old new
 
 -- lines, one behind another
-abbrev pub AreTimedIn : (ℕ → NodeState → Timers → Timers → Type 0) → ℕ → ℕ → At → List (List ℕ) → List LineOutcome → Timers → Timers → Type 0
+abbrev pub AreTimedIn : (ℕ → NodeState → Timers → Timers → Type 0) → ℕ → ℕ → At → List (List ℕ) → List LineOutcome → Timers → Timers
+    → Type 0
 AreTimedIn Between self nodes a [] all old new = Between self a.state old new
 AreTimedIn Between self nodes a (line ∷ lines) [] old new = Between self a.state old new
 AreTimedIn Between self nodes a (line ∷ lines) (came ∷ all) old new =

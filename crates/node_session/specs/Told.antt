@@ -1,4 +1,5 @@
--- What the life of a process promises: what it takes was sealed for this life, and what is sealed for a node is sealed for the life that was told of it.
+-- What the life of a process promises: what it takes was sealed for this life, and what is sealed for a node is sealed for the life that
+-- was told of it.
 use Rattle.std.specs.Prelude.{ℕ, ◌≡◌, ◌≢◌, ◌<◌, ◌⊎◌, List, length, Option, Some}
 use Rattle.wire_msg.specs.Envelope.{Envelope}
 use Rattle.wire_msg.specs.Reading.{message_of}
@@ -28,11 +29,14 @@ pub record IsSealedFor (own : List ℕ) (other : Option (List ℕ)) (life : List
 -- whatever a process was told before, what it delivers to its node was sealed for its life
 abbrev pub OwnLifeAlone : Type 0
 OwnLifeAlone =
-    (self nodes slots : ℕ) (own : List ℕ) (other : Option (List ℕ)) (life : List ℕ) (a : At) (lines : List (List ℕ)) (all : List LineOutcome) (line : List ℕ) (came : LineOutcome) (m : Envelope)
-    → a.seal ≡ Some (new_seals own other life) → ComesOf self nodes slots (after_lines self nodes a lines all) line came → Delivers m came.turns → IsSealedFor own other life line m
+    (self nodes slots : ℕ) (own : List ℕ) (other : Option (List ℕ)) (life : List ℕ) (a : At) (lines : List (List ℕ))
+    (all : List LineOutcome) (line : List ℕ) (came : LineOutcome) (m : Envelope)
+    → a.seal ≡ Some (new_seals own other life) → ComesOf self nodes slots (after_lines self nodes a lines all) line came
+    → Delivers m came.turns → IsSealedFor own other life line m
 
 -- once a life was told of a node, what is sealed for this node is sealed for this life; for the others nothing changes
 abbrev pub ToldLifeAlone : Type 0
 ToldLifeAlone =
     (keys : SealKeys) (node : ℕ) (life : List ℕ) → node < length keys.lives
-    → (key_to (with_life keys node life) (Some node) ≡ life_key keys.own life) × ((n : ℕ) → n ≢ node → key_to (with_life keys node life) (Some n) ≡ key_to keys (Some n))
+    → (key_to (with_life keys node life) (Some node) ≡ life_key keys.own life)
+    × ((n : ℕ) → n ≢ node → key_to (with_life keys node life) (Some n) ≡ key_to keys (Some n))

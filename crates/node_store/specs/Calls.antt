@@ -8,13 +8,15 @@ use Rattle.job_journal.specs.Appending.{appended}
 use Rattle.job_journal.specs.Compacting.{records_written, with_slot}
 use Rattle.job_journal.specs.Jobs.{jobs_of}
 use Rattle.job_journal.specs.Journal.{ImagesSince}
-use Rattle.node_store.specs.Store.{StoreState, Answers, BeforeOrAfter, Changed, HasFailed, InStore, KeepsAreas, Leaves, durable_of, slots_for}
+use Rattle.node_store.specs.Store.{StoreState, Answers, BeforeOrAfter, Changed, HasFailed, InStore, KeepsAreas, Leaves, durable_of}
+use Rattle.node_store.specs.Store.{slots_for}
 use Rattle.node_store.specs.declared.fault.StoreFault.{StoreFault}
 use Rattle.node_store.specs.declared.fault.StoreFault.TheVariants.{Device, TooSmall}
 
 -- A change is refused for this reason, and then nothing is done; else it is done, or the device failed in it, which is counted and breaks
 -- the store. The areas stay, and on an honest disk no sector outside the store changes, in any image.
-pub record Tries {Disk A : Type 0} (disks : Disk → DiskState) (refusal : Option StoreFault) (old new : StoreState Disk) (result : Result A StoreFault) : Type 0 where
+pub record Tries {Disk A : Type 0} (disks : Disk → DiskState) (refusal : Option StoreFault) (old new : StoreState Disk)
+    (result : Result A StoreFault) : Type 0 where
   pub counts : Counts (disks old.disk) (disks new.disk) (IsErrOf result Device) (IsErrOf result Device → ⊥)
   pub answers : Answers refusal result
   pub refused : IsSome refusal → new ≡ old
@@ -24,13 +26,15 @@ pub record Tries {Disk A : Type 0} (disks : Disk → DiskState) (refusal : Optio
 
 -- A command of the jobs is one step of the fold and one record more in the journal, behind a compaction where no slot was free: each image
 -- of an honest disk stands for the state from before it or after it, and once it is done for the one after it alone, in today's spelling.
-pub record Appends {Disk : Type 0} (disks : Disk → DiskState) (command : Change) (old new : StoreState Disk) (result : Result ℕ StoreFault) : Type 0 where
+pub record Appends {Disk : Type 0} (disks : Disk → DiskState) (command : Change) (old new : StoreState Disk)
+    (result : Result ℕ StoreFault) : Type 0 where
   pub ok : IfOk result (Changed old new (command_of command))
   pub journal : IsOk result → new.journal ≡ appended (with_slot old.journal) command
   pub images : IsTrue (disks old.disk).honest → IsFalse old.broken
       → ImagesSince old.journal.slots (disks old.disk) (disks new.disk) (BeforeOrAfter old (command_of command))
   pub after : IsTrue (disks old.disk).honest → IsOk result
-      → Leaves (records_written old.journal.slots old.journal.used (jobs_of old.journal.table) command) new.journal (durable_of new) (disks new.disk)
+      → Leaves (records_written old.journal.slots old.journal.used (jobs_of old.journal.table) command) new.journal (durable_of new)
+      (disks new.disk)
 
 -- A store is made on a disk unless this has fewer than 24 sectors, and then nothing is done, or the device fails, which is counted. On an
 -- honest disk no sector outside the store changes, in any image.

@@ -55,7 +55,8 @@ pub record IsRefusedFor (slots : ℕ) (image : Image) (fault : StoreFault) : Typ
 abbrev pub AnswersFor : {Disk : Type 0} → ℕ → Image → Result (StoreState Disk) (MountFault Disk) → Type 0
 AnswersFor slots image (Ok store) = stands_for slots image ≡ Some (durable_of store)
 AnswersFor slots image (Err refused) =
-    (refused.fault ≡ StoreFault.TooSmall) ⊎ (refused.fault ≡ StoreFault.NoMemory) ⊎ (refused.fault ≡ StoreFault.Device) ⊎ IsRefusedFor slots image refused.fault
+    (refused.fault ≡ StoreFault.TooSmall) ⊎ (refused.fault ≡ StoreFault.NoMemory) ⊎ (refused.fault ≡ StoreFault.Device)
+    ⊎ IsRefusedFor slots image refused.fault
 
 -- a mounting is refused with this fault
 abbrev pub IsRefusedWith : {Disk : Type 0} → StoreFault → Result (StoreState Disk) (MountFault Disk) → Type 0

@@ -1,5 +1,6 @@
 -- What a disk with a counter and a journal stands for, and what a mounted store knows of it.
-use Rattle.std.specs.Prelude.{◌≡◌, ◌⊎◌, ◌<◌, ◌≤◌, ℕ, ◌-◌, ◌/◌, ◌^◌, ◌==◌, min, Bool, List, IsTrue, IsFalse, Option, Some, None, if◌then◌else◌, Result}
+use Rattle.std.specs.Prelude.{◌≡◌, ◌⊎◌, ◌<◌, ◌≤◌, ℕ, ◌-◌, ◌/◌, ◌^◌, ◌==◌, min, Bool, List, IsTrue, IsFalse, Option, Some, None}
+use Rattle.std.specs.Prelude.{if◌then◌else◌, Result}
 use Rattle.disk_layout.specs.Layout.{sectors_for}
 use Rattle.disk_layout.specs.declared.layout.TheConstants.{MOST_SLOTS}
 use Rattle.sector_disk.specs.Disk.{Image, DiskState, IsImage, AllSynced, sector_at}
@@ -72,7 +73,8 @@ pub record IsStore (disk : DiskState) (counter : CellState) (journal : JournalSt
 -- an image stands for the state from before a command, or for the one after it
 abbrev pub BeforeOrAfter : {Disk : Type 0} → StoreState Disk → Command → Image → Type 0
 BeforeOrAfter store command image =
-    (stands_for store.journal.slots image ≡ Some (durable_of store)) ⊎ (stands_for store.journal.slots image ≡ Some (after_command (durable_of store) command))
+    (stands_for store.journal.slots image ≡ Some (durable_of store))
+    ⊎ (stands_for store.journal.slots image ≡ Some (after_command (durable_of store) command))
 
 -- an image stands for the state of before
 abbrev pub StaysAs : {Disk : Type 0} → StoreState Disk → Image → Type 0
@@ -102,7 +104,8 @@ compaction_refusal store = refused_by (Journal.compaction_refusal (record store.
 
 -- why a raise is
 abbrev pub raise_refusal : {Disk : Type 0} → StoreState Disk → Option StoreFault
-raise_refusal store = if store.broken then Some StoreFault.Broken else (if store.counter.value == 2 ^ 64 - 1 then Some StoreFault.Exhausted else None)
+raise_refusal store = if store.broken then Some StoreFault.Broken
+    else (if store.counter.value == 2 ^ 64 - 1 then Some StoreFault.Exhausted else None)
 
 -- a call answers its refusal, or else what it does or `Device`
 abbrev pub Answers : {A : Type 0} → Option StoreFault → Result A StoreFault → Type 0

@@ -1,6 +1,7 @@
 -- What is known of a node when its workers have ended, in the words of its plans and its history, how long that is,
 -- and how the nodes are taken out of their locks one after another.
-use Rattle.std.proofs.Common.{◌≡◌, ℕ, ◌≤◌, Bool, Option, Some, None, IsSome, List, [], ◌∷◌, ◌++◌, length, slice_get, refl, ap, ◌∙◌, subst, subst₂, arith, ◌+◌, ◌<◌, sym, inl, inr}
+use Rattle.std.proofs.Common.{◌≡◌, ℕ, ◌≤◌, Bool, Option, Some, None, IsSome, List, [], ◌∷◌, ◌++◌, length, slice_get, refl, ap, ◌∙◌, subst}
+use Rattle.std.proofs.Common.{subst₂, arith, ◌+◌, ◌<◌, sym, inl, inr}
 use Rattle.std.proofs.lemmas.List.{append-nil, length-append}
 use Rattle.std.proofs.lemmas.Option.{slice_get_within, get_or_from_slice_get, same_Some}
 use Rattle.wire_msg.specs.Envelope.{Envelope}
@@ -37,7 +38,8 @@ use Rattle.node_threads.specs.Reasons.{planned, FirstFit}
 abbrev pub AreWithin : Planned → Turns → Type 0
 AreWithin p c = (c.intake ≤ length p.intake) × (c.clock ≤ length p.clock) × (c.operator ≤ length p.operator)
 
-turn_within : (p : Planned) (c : Turns) (w : Worker) (i : ℕ) (x : Asked) (d : Turns) → AreWithin p c → IsAsked p w i x → i ≡ turns_of c w → d ≡ with_turn c w → AreWithin p d
+turn_within : (p : Planned) (c : Turns) (w : Worker) (i : ℕ) (x : Asked) (d : Turns) → AreWithin p c → IsAsked p w i x → i ≡ turns_of c w
+    → d ≡ with_turn c w → AreWithin p d
 turn_within p c Intake i x d h t at is = rw is (omega (arith, slice_get_within p.intake i t.0.0 t.0.1, at), h.1, h.2)
 turn_within p c Clock i x d h t at is = rw is (h.0, omega (arith, slice_get_within p.clock i t.0 t.1, at), h.2)
 turn_within p c Operator i x d h t at is = rw is (h.0, h.1, omega (arith, slice_get_within p.operator i t.0 t.1, at))
@@ -49,7 +51,8 @@ path_within p c (t ∷ ts) d h q = path_within p q.0 ts d (turn_within p c t.wor
 pub plans_within : (p : Planned) (ts : List Turn) (c : Turns) → FollowsPlans p ts c → AreWithin p c
 plans_within p ts c follows = path_within p no_turns ts c (omega arith, omega arith, omega arith) follows
 
-interleaves : (p : Planned) (ts : List Turn) (c : Turns) → FollowsPlans p ts c → ((w : Worker) → plan_len p w ≤ turns_of c w) → IsInterleaving p ts
+interleaves : (p : Planned) (ts : List Turn) (c : Turns) → FollowsPlans p ts c → ((w : Worker) → plan_len p w ≤ turns_of c w)
+    → IsInterleaving p ts
 interleaves p ts c follows used_up = record { turns = c; follows = follows; whole = whole }
   where
     whole : (w : Worker) → turns_of c w ≡ plan_len p w
@@ -79,7 +82,11 @@ pub record Facts (run : Run) (plan : Planned) (history : List Turn) (ends : Node
 take_link : (h : HeldView) (t : Side) → h.waiting ≡ None → IsTakeLink h t → IsAllTaken h.run h.plans h.history t
 take_link h t none is = record {
   receiver = is.receiver;
-  messages = rw (none, from_nothing h.plans.intake t.sender h.turns.intake [] refl, append-nil (polled h.plans.intake t.sender h.history)) at is.messages;
+  messages = rw (
+    none,
+    from_nothing h.plans.intake t.sender h.turns.intake [] refl,
+    append-nil (polled h.plans.intake t.sender h.history),
+  ) at is.messages;
 }
 
 pub facts : (run : Run) (plan : Planned) (log : Log) (ends : NodeEnds) → HasEnded run plan log ends → Facts run plan log.turns ends
@@ -117,10 +124,12 @@ lost_facts run plan log ends e =
       put = λ x is. let at = among_at x h.puts (rw e.is_puts is) in rw at.2 at (has.put at.0 x at.1);
     }
 
-pub never_area_exhausted_fact : (run : Run) (plan : Planned) (log : Log) (ends : NodeEnds) → HasEnded run plan log ends → NoneAreaExhausted (entries_of log.turns)
+pub never_area_exhausted_fact : (run : Run) (plan : Planned) (log : Log) (ends : NodeEnds) → HasEnded run plan log ends
+    → NoneAreaExhausted (entries_of log.turns)
 never_area_exhausted_fact run plan log ends e = rw e.is_history at e.kept.never_area_exhausted
 
-pub numbers_fact : (run : Run) (plan : Planned) (log : Log) (ends : NodeEnds) → HasEnded run plan log ends → (drawn : List ℕ) × HaveNumbers drawn log.numbers
+pub numbers_fact : (run : Run) (plan : Planned) (log : Log) (ends : NodeEnds) → HasEnded run plan log ends
+    → (drawn : List ℕ) × HaveNumbers drawn log.numbers
 numbers_fact run plan log ends e = (e.view.drawn, rw e.is_numbers at e.kept.numbers)
 
 -- the turns of all three workers
@@ -149,7 +158,8 @@ ended_fits run plan log ends e =
     (omega (arith, as_many h.plans h.history h.turns e.kept.turns, e.kept.few, e.used_up Intake, e.used_up Clock, e.used_up Operator))
 
 -- the history is full, and a worker has turns left
-pub is_more : (h : HeldView) (w : Worker) → HeldInvariant h → MOST_ENTRIES ≤ length h.history → turns_of h.turns w < plan_len h.plans w → (MOST_ENTRIES < planned h.plans) × (0 < plan_len h.plans w)
+pub is_more : (h : HeldView) (w : Worker) → HeldInvariant h → MOST_ENTRIES ≤ length h.history → turns_of h.turns w < plan_len h.plans w
+    → (MOST_ENTRIES < planned h.plans) × (0 < plan_len h.plans w)
 is_more h w k full left = (by_worker w left, omega (arith, left))
   where
     within : AreWithin h.plans h.turns
@@ -161,30 +171,36 @@ is_more h w k full left = (by_worker w left, omega (arith, left))
     by_worker Operator lt = omega (arith, as_many h.plans h.history h.turns k.turns, full, lt, within.0, within.1)
 
 -- where each node has ended, all plans fit
-pub all_fit : (size : RunSize) (plans : List Planned) (histories : List Log) (ends : List NodeEnds) → AreEnded size plans histories ends → FirstFit (length plans) plans
+pub all_fit : (size : RunSize) (plans : List Planned) (histories : List Log) (ends : List NodeEnds) → AreEnded size plans histories ends
+    → FirstFit (length plans) plans
 all_fit size plans histories ends e m p below at =
     let h = place_of histories m (omega (arith, below, e.history_count)) in
     let o = place_of ends m (omega (arith, below, e.ends_count)) in
     ended_fits (run_at size m) p h.0 o.0 (e.each m p h.0 o.0 at h.1 o.1)
 
 -- one node more has plans that fit
-pub one_more_fits : (n : ℕ) (plans : List Planned) (p : Planned) → slice_get plans n ≡ Some p → planned p ≤ MOST_ENTRIES → FirstFit n plans → FirstFit (n + 1) plans
+pub one_more_fits : (n : ℕ) (plans : List Planned) (p : Planned) → slice_get plans n ≡ Some p → planned p ≤ MOST_ENTRIES → FirstFit n plans
+    → FirstFit (n + 1) plans
 one_more_fits n plans p at few all m q below at' = elim (at_or_before m n below) [
   | inl before ↦ all m q before at'
-  | inr here ↦ (let same : p ≡ q = same_Some p q (sym at ∙ (ap (slice_get plans) (sym here) ∙ at')) in subst (λ (x : Planned). planned x ≤ MOST_ENTRIES) same few)
+  | inr here ↦ (let same : p ≡ q = same_Some p q (sym at ∙ (ap (slice_get plans) (sym here) ∙ at')) in
+      subst (λ (x : Planned). planned x ≤ MOST_ENTRIES) same few)
 ]
 
 -- each node below the bound has ended
 pub record AreEndedBelow (bound : ℕ) (size : RunSize) (plans : List Planned) (histories : List Log) (ends : List NodeEnds) : Type 0 where
   pub history_count : length histories ≡ bound
   pub ends_count : length ends ≡ bound
-  pub each : (n : ℕ) (p : Planned) (h : Log) (e : NodeEnds) → slice_get plans n ≡ Some p → slice_get histories n ≡ Some h → slice_get ends n ≡ Some e → HasEnded (run_at size n) p h e
+  pub each : (n : ℕ) (p : Planned) (h : Log) (e : NodeEnds) → slice_get plans n ≡ Some p → slice_get histories n ≡ Some h
+      → slice_get ends n ≡ Some e → HasEnded (run_at size n) p h e
 
 -- what stands at the end of a list that was added to
 last_of : {A : Type 0} (xs : List A) (x y : A) (k : ℕ) → k ≡ length xs → slice_get (xs ++ x ∷ []) k ≡ Some y → y ≡ x
 last_of xs x y k here at = same_Some y x (sym at ∙ get_last xs k x here)
 
-pub ended_more : (bound : ℕ) (size : RunSize) (plans : List Planned) (histories : List Log) (ends : List NodeEnds) (plan : Planned) (log : Log) (mine : NodeEnds) (hs : List Log) (es : List NodeEnds) → hs ≡ histories ++ log ∷ [] → es ≡ ends ++ mine ∷ [] → slice_get plans bound ≡ Some plan → HasEnded (run_at size bound) plan log mine
+pub ended_more : (bound : ℕ) (size : RunSize) (plans : List Planned) (histories : List Log) (ends : List NodeEnds) (plan : Planned)
+    (log : Log) (mine : NodeEnds) (hs : List Log) (es : List NodeEnds) → hs ≡ histories ++ log ∷ [] → es ≡ ends ++ mine ∷ []
+    → slice_get plans bound ≡ Some plan → HasEnded (run_at size bound) plan log mine
     → AreEndedBelow bound size plans histories ends → AreEndedBelow (bound + 1) size plans hs es
 ended_more bound size plans histories ends plan log mine hs es logs_are ends_are plan_at has all =
     let many = all.history_count in
@@ -193,9 +209,20 @@ ended_more bound size plans histories ends plan log mine hs es logs_are ends_are
       history_count = omega (arith, many, length-append histories (log ∷ []));
       ends_count = omega (arith, many', length-append ends (mine ∷ []));
       each = λ n p h e at_plan at at'.
-          let lt : n < bound + 1 = omega (arith, slice_get_within (histories ++ log ∷ []) n h at, many, length-append histories (log ∷ [])) in
+          let lt : n < bound + 1 = omega (
+            arith,
+            slice_get_within (histories ++ log ∷ []) n h at,
+            many,
+            length-append histories (log ∷ []),
+          ) in
           elim (at_or_before n bound lt) [
-            | inl before ↦ all.each n p h e at_plan (get_before histories n h log (omega (arith, before, many)) at) (get_before ends n e mine (omega (arith, before, many')) at')
-            | inr here ↦ rw (here, same_Some p plan (sym at_plan ∙ (ap (slice_get plans) here ∙ plan_at)), last_of histories log h n (here ∙ sym many) at, last_of ends mine e n (here ∙ sym many') at') has
+            | inl before ↦ all.each n p h e at_plan (get_before histories n h log (omega (arith, before, many)) at)
+                (get_before ends n e mine (omega (arith, before, many')) at')
+            | inr here ↦ rw (
+              here,
+              same_Some p plan (sym at_plan ∙ (ap (slice_get plans) here ∙ plan_at)),
+              last_of histories log h n (here ∙ sym many) at,
+              last_of ends mine e n (here ∙ sym many') at',
+            ) has
           ];
     })

@@ -15,10 +15,12 @@ count_zero : (es : List Entry) (n : ℕ) → Path Fails n es 0 → n ≡ 0
 count_zero [] n path = path
 count_zero (e ∷ es) n path = (step_zero (is_fault e.what) n path.0 path.1 (count_zero es path.0 path.2)).1
 
-pub none_failed : (es : List Entry) (n failures : ℕ) → failures ≡ 0 → Path Fails n es failures → (e : Entry) → IsAmong e es → is_fault e.what ≡ false
+pub none_failed : (es : List Entry) (n failures : ℕ) → failures ≡ 0 → Path Fails n es failures → (e : Entry) → IsAmong e es
+    → is_fault e.what ≡ false
 none_failed [] n failures none path e is = absurd is
 none_failed (x ∷ es) n failures none path e (inl same) =
-    ap (λ (y : Entry). is_fault y.what) same ∙ (step_zero (is_fault x.what) n path.0 path.1 (count_zero es path.0 (subst (λ (k : ℕ). Path Fails path.0 es k) none path.2))).0
+    ap (λ (y : Entry). is_fault y.what) same ∙ (step_zero (is_fault x.what) n path.0 path.1
+    (count_zero es path.0 (subst (λ (k : ℕ). Path Fails path.0 es k) none path.2))).0
 none_failed (x ∷ es) n failures none path e (inr later) = none_failed es path.0 failures none path.2 e later
 
 pub none_area_exhausted : (es : List Entry) → NoneAreaExhausted es → (e : Entry) → IsAmong e es → IsAreaExhausted e.what → ⊥

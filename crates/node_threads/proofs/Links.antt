@@ -1,5 +1,6 @@
 -- The links are made one after another before the run, and gathered one after another behind it.
-use Rattle.std.proofs.Common.{◌≡◌, ◌≢◌, ℕ, ◌+◌, ◌<◌, ◌≤◌, List, [], ◌∷◌, ◌++◌, length, slice_index_or, refl, ap, sym, ◌∙◌, subst, inl, inr, arith, ◌*◌, ◌-◌, Some, slice_get}
+use Rattle.std.proofs.Common.{◌≡◌, ◌≢◌, ℕ, ◌+◌, ◌<◌, ◌≤◌, List, [], ◌∷◌, ◌++◌, length, slice_index_or, refl, ap, sym, ◌∙◌, subst, inl, inr}
+use Rattle.std.proofs.Common.{arith, ◌*◌, ◌-◌, Some, slice_get}
 use Rattle.std.proofs.lemmas.Bool.{cases_eq, cases_lt}
 use Rattle.std.proofs.lemmas.List.{length-append, get_or_append_left, get_or_push}
 use Rattle.std.proofs.lemmas.List.Elements.{All-push}
@@ -26,10 +27,12 @@ pub record IsWiring (nodes capacity sender receiver : ℕ) (ends : List NodeEnds
 -- ---- one node's list
 
 no_puts_below : (capacity own : ℕ) (xs : List Side) → xs ≡ [] → PutsBelow capacity own 0 xs
-no_puts_below capacity own xs none = subst (PutsBelow capacity own 0) (sym none) (record { len = (λ below. absurd (omega (arith, below)), λ above. refl); each = λ k d lt. absurd (omega (arith, lt)) })
+no_puts_below capacity own xs none = subst (PutsBelow capacity own 0) (sym none)
+    (record { len = (λ below. absurd (omega (arith, below)), λ above. refl); each = λ k d lt. absurd (omega (arith, lt)) })
 
 no_takes_below : (own : ℕ) (xs : List Side) → xs ≡ [] → TakesBelow own 0 xs
-no_takes_below own xs none = subst (TakesBelow own 0) (sym none) (record { len = (λ below. absurd (omega (arith, below)), λ above. refl); each = λ k d lt. absurd (omega (arith, lt)) })
+no_takes_below own xs none = subst (TakesBelow own 0) (sym none)
+    (record { len = (λ below. absurd (omega (arith, below)), λ above. refl); each = λ k d lt. absurd (omega (arith, lt)) })
 
 -- the node itself is passed over
 itself : (own bound many : ℕ) → bound ≡ own → AreBelow own bound many → AreBelow own (bound + 1) many
@@ -45,32 +48,42 @@ next_other own bound many ne len = elim (cases_lt own bound) [
 ]
 
 -- what holds of each at its place, with one more
-each_pushed : {A : Type 0} (P : ℕ → A → Type 0) (xs : List A) (x : A) → ((k : ℕ) (d : A) → k < length xs → P k (slice_index_or xs k d)) → P (length xs) x
+each_pushed : {A : Type 0} (P : ℕ → A → Type 0) (xs : List A) (x : A) → ((k : ℕ) (d : A) → k < length xs → P k (slice_index_or xs k d))
+    → P (length xs) x
     → (k : ℕ) (d : A) → k < length (xs ++ x ∷ []) → P k (slice_index_or (xs ++ x ∷ []) k d)
 each_pushed P xs x all last k d lt = elim (at_or_before k (length xs) (omega (arith, lt, length-append xs (x ∷ [])))) [
   | inl before ↦ rw (get_or_append_left xs (x ∷ []) d k before) (all k d before)
   | inr at ↦ rw (get_or_push xs x d k (sym at)) (subst (λ (n : ℕ). P n x) (sym at) last)
 ]
 
-puts_more : (ring : Ring) (capacity own bound : ℕ) (xs : List Side) → own ≢ bound → PutsBelow capacity own bound xs → PutsBelow capacity own (bound + 1) (xs ++ (unused_put ring own bound capacity) ∷ [])
+puts_more : (ring : Ring) (capacity own bound : ℕ) (xs : List Side) → own ≢ bound → PutsBelow capacity own bound xs
+    → PutsBelow capacity own (bound + 1) (xs ++ (unused_put ring own bound capacity) ∷ [])
 puts_more ring capacity own bound xs ne all =
     let end = unused_put ring own bound capacity in
     record {
       len = one_more own bound (length xs) (length (xs ++ end ∷ [])) ne (length-append xs (end ∷ [])) all.len;
-      each = each_pushed (λ k (e : Side). (e.sender ≡ own) × (e.capacity ≡ capacity) × (e.messages ≡ []) × IsOther own k e.receiver) xs end all.each (refl, refl, refl, next_other own bound (length xs) ne all.len);
+      each = each_pushed (λ k (e : Side). (e.sender ≡ own) × (e.capacity ≡ capacity) × (e.messages ≡ [])
+          × IsOther own k e.receiver) xs end all.each (refl, refl, refl, next_other own bound (length xs) ne all.len);
     }
 
-takes_more : (ring : Ring) (capacity own bound : ℕ) (xs : List Side) → own ≢ bound → TakesBelow own bound xs → TakesBelow own (bound + 1) (xs ++ (unused ring bound own capacity) ∷ [])
+takes_more : (ring : Ring) (capacity own bound : ℕ) (xs : List Side) → own ≢ bound → TakesBelow own bound xs
+    → TakesBelow own (bound + 1) (xs ++ (unused ring bound own capacity) ∷ [])
 takes_more ring capacity own bound xs ne all =
     let end = unused ring bound own capacity in
     record {
       len = one_more own bound (length xs) (length (xs ++ end ∷ [])) ne (length-append xs (end ∷ [])) all.len;
-      each = each_pushed (λ k (e : Side). (e.receiver ≡ own) × (e.messages ≡ []) × IsOther own k e.sender) xs end all.each (refl, refl, next_other own bound (length xs) ne all.len);
+      each = each_pushed (λ k (e : Side). (e.receiver ≡ own) × (e.messages ≡ []) × IsOther own k e.sender) xs end all.each (
+        refl,
+        refl,
+        next_other own bound (length xs) ne all.len,
+      );
     }
 
 -- one node more is held, which has the counter of the others
-pub counter_more : (counter : Counter) (old new : List HeldView) (h : HeldView) → new ≡ old ++ h ∷ [] → h.counter ≡ counter → HaveCounter counter old → HaveCounter counter new
-counter_more counter old new h is same all = subst (HaveCounter counter) (sym is) (All-push (λ (g : HeldView). g.counter ≡ counter) old h all same)
+pub counter_more : (counter : Counter) (old new : List HeldView) (h : HeldView) → new ≡ old ++ h ∷ [] → h.counter ≡ counter
+    → HaveCounter counter old → HaveCounter counter new
+counter_more counter old new h is same all = subst (HaveCounter counter) (sym is)
+    (All-push (λ (g : HeldView). g.counter ≡ counter) old h all same)
 
 -- ---- the ends of all nodes
 
@@ -82,15 +95,18 @@ unlinked_wired nodes capacity ends none = record {
   takes = λ n d within. no_takes_below n (slice_index_or ends n d).takes (ap (λ (e : NodeEnds). e.takes) (none.each n d within));
 }
 
-pub unlinked_pushed : (n : ℕ) (ends more : List NodeEnds) (e : NodeEnds) → more ≡ ends ++ e ∷ [] → e ≡ no_ends → AreUnlinked n ends → AreUnlinked (n + 1) more
+pub unlinked_pushed : (n : ℕ) (ends more : List NodeEnds) (e : NodeEnds) → more ≡ ends ++ e ∷ [] → e ≡ no_ends → AreUnlinked n ends
+    → AreUnlinked (n + 1) more
 unlinked_pushed n ends more e is none all =
     let long = length-append ends (e ∷ []) in
     subst (AreUnlinked (n + 1)) (sym is) (record {
       count = omega (arith, all.count, long);
-      each = λ k d lt. each_pushed (λ k (x : NodeEnds). x ≡ no_ends) ends e (λ k d lt. all.each k d (omega (arith, lt, all.count))) none k d (omega (arith, lt, all.count, long));
+      each = λ k d lt. each_pushed (λ k (x : NodeEnds). x ≡ no_ends) ends e (λ k d lt. all.each k d (omega (arith, lt, all.count))) none k d
+          (omega (arith, lt, all.count, long));
     })
 
-pub begins : (nodes capacity sender : ℕ) (ends : List NodeEnds) → sender < nodes → AreWiredBelow nodes capacity sender ends → IsWiring nodes capacity sender 0 ends
+pub begins : (nodes capacity sender : ℕ) (ends : List NodeEnds) → sender < nodes → AreWiredBelow nodes capacity sender ends
+    → IsWiring nodes capacity sender 0 ends
 begins nodes capacity sender ends within all = record {
   count = all.count;
   before = all.puts;
@@ -100,7 +116,8 @@ begins nodes capacity sender ends within all = record {
   unlinked = λ n d above below. all.takes n d below;
 }
 
-pub ends_with : (nodes capacity sender : ℕ) (ends : List NodeEnds) → IsWiring nodes capacity sender nodes ends → AreWiredBelow nodes capacity (sender + 1) ends
+pub ends_with : (nodes capacity sender : ℕ) (ends : List NodeEnds) → IsWiring nodes capacity sender nodes ends
+    → AreWiredBelow nodes capacity (sender + 1) ends
 ends_with nodes capacity sender ends all = record {
   count = all.count;
   puts = λ n d below. elim (at_or_before n sender below) [
@@ -112,7 +129,8 @@ ends_with nodes capacity sender ends all = record {
 }
 
 -- no link from a node to itself
-pub wires_past : (nodes capacity s r : ℕ) (ends : List NodeEnds) → s < nodes → r ≡ s → IsWiring nodes capacity s r ends → IsWiring nodes capacity s (r + 1) ends
+pub wires_past : (nodes capacity s r : ℕ) (ends : List NodeEnds) → s < nodes → r ≡ s → IsWiring nodes capacity s r ends
+    → IsWiring nodes capacity s (r + 1) ends
 wires_past nodes capacity s r ends within same all = record {
   count = all.count;
   before = all.before;
@@ -120,7 +138,8 @@ wires_past nodes capacity s r ends within same all = record {
   no_puts = all.no_puts;
   linked = λ n d below. elim (at_or_before n r below) [
     | inl before ↦ all.linked n d before
-    | inr at ↦ (let mine = all.unlinked n d (omega (arith, at)) (omega (arith, at, same, within)) in record { len = itself n s (length (slice_index_or ends n d).takes) (sym (at ∙ same)) mine.len; each = mine.each })
+    | inr at ↦ (let mine = all.unlinked n d (omega (arith, at)) (omega (arith, at, same, within)) in
+        record { len = itself n s (length (slice_index_or ends n d).takes) (sym (at ∙ same)) mine.len; each = mine.each })
   ];
   unlinked = λ n d above below. all.unlinked n d (omega (arith, above)) below;
 }
@@ -128,34 +147,42 @@ wires_past nodes capacity s r ends within same all = record {
 -- ---- a link more
 
 -- where a node's ends are after two ends were added
-puts_far : (s r n : ℕ) (p t : Side) (old new : List NodeEnds) (d : NodeEnds) → n ≢ s → AddedEnds s r p t old new → (slice_index_or new n d).puts ≡ (slice_index_or old n d).puts
+puts_far : (s r n : ℕ) (p t : Side) (old new : List NodeEnds) (d : NodeEnds) → n ≢ s → AddedEnds s r p t old new
+    → (slice_index_or new n d).puts ≡ (slice_index_or old n d).puts
 puts_far s r n p t old new d far add = elim (cases_eq n r) [
   | inl at ↦ subst (λ (m : ℕ). (slice_index_or new m d).puts ≡ (slice_index_or old m d).puts) (sym at) (add.take_other d)
   | inr away ↦ ap (λ (x : NodeEnds). x.puts) (add.others n d far away)
 ]
 
-takes_far : (s r n : ℕ) (p t : Side) (old new : List NodeEnds) (d : NodeEnds) → n ≢ r → AddedEnds s r p t old new → (slice_index_or new n d).takes ≡ (slice_index_or old n d).takes
+takes_far : (s r n : ℕ) (p t : Side) (old new : List NodeEnds) (d : NodeEnds) → n ≢ r → AddedEnds s r p t old new
+    → (slice_index_or new n d).takes ≡ (slice_index_or old n d).takes
 takes_far s r n p t old new d far add = elim (cases_eq n s) [
   | inl at ↦ subst (λ (m : ℕ). (slice_index_or new m d).takes ≡ (slice_index_or old m d).takes) (sym at) (add.put_other d)
   | inr away ↦ ap (λ (x : NodeEnds). x.takes) (add.others n d away far)
 ]
 
-pub links_more : (ring : Ring) (nodes capacity s r : ℕ) (old new : List NodeEnds) → r < nodes → r ≢ s → AddedEnds s r (unused_put ring s r capacity) (unused ring s r capacity) old new
+pub links_more : (ring : Ring) (nodes capacity s r : ℕ) (old new : List NodeEnds) → r < nodes → r ≢ s
+    → AddedEnds s r (unused_put ring s r capacity) (unused ring s r capacity) old new
     → IsWiring nodes capacity s r old → IsWiring nodes capacity s (r + 1) new
 links_more ring nodes capacity s r old new r_in ne add all =
     let x = unused_put ring s r capacity in
     let y = unused ring s r capacity in
     record {
       count = add.len ∙ all.count;
-      before = λ n f below. subst (PutsBelow capacity n nodes) (sym (puts_far s r n x y old new f (λ same. omega (arith, below, same)) add)) (all.before n f below);
-      puts = λ f. subst (PutsBelow capacity s (r + 1)) (sym (add.put f)) (puts_more ring capacity s r (slice_index_or old s f).puts (λ same. ne (sym same)) (all.puts f));
+      before = λ n f below. subst (PutsBelow capacity n nodes) (sym (puts_far s r n x y old new f (λ same. omega (arith, below, same)) add))
+          (all.before n f below);
+      puts = λ f. subst (PutsBelow capacity s (r + 1)) (sym (add.put f))
+          (puts_more ring capacity s r (slice_index_or old s f).puts (λ same. ne (sym same)) (all.puts f));
       no_puts = λ n f above below. puts_far s r n x y old new f (λ same. omega (arith, above, same)) add ∙ all.no_puts n f above below;
       linked = λ n f below. elim (at_or_before n r below) [
-        | inl before ↦ subst (TakesBelow n (s + 1)) (sym (takes_far s r n x y old new f (λ same. omega (arith, before, same)) add)) (all.linked n f before)
+        | inl before ↦ subst (TakesBelow n (s + 1)) (sym (takes_far s r n x y old new f (λ same. omega (arith, before, same)) add))
+            (all.linked n f before)
         | inr at ↦ subst (λ (m : ℕ). TakesBelow m (s + 1) (slice_index_or new m f).takes) (sym at)
-            (subst (TakesBelow r (s + 1)) (sym (add.take f)) (takes_more ring capacity r s (slice_index_or old r f).takes ne (all.unlinked r f (omega arith) r_in)))
+            (subst (TakesBelow r (s + 1)) (sym (add.take f)) (takes_more ring capacity r s (slice_index_or old r f).takes ne
+            (all.unlinked r f (omega arith) r_in)))
       ];
-      unlinked = λ n f above below. subst (TakesBelow n s) (sym (takes_far s r n x y old new f (λ same. omega (arith, above, same)) add)) (all.unlinked n f (omega (arith, above)) below);
+      unlinked = λ n f above below. subst (TakesBelow n s) (sym (takes_far s r n x y old new f (λ same. omega (arith, above, same)) add))
+          (all.unlinked n f (omega (arith, above)) below);
     }
 
 -- ---- as the code has them
@@ -166,29 +193,37 @@ none_unlinked ends none = record { count = ap length none; each = λ n d lt. abs
 pub end_of : (n m k l : ℕ) → n ≤ m → m ≤ n → m ≡ k → l ≡ k → n ≡ l
 end_of n m k l below above is is' = omega (arith, below, above, is, is')
 
-pub linked_as : (ring : Ring) (nodes capacity s r : ℕ) (p t : Side) (old new : List NodeEnds) → r < nodes → r ≢ s → p ≡ unused_put ring s r capacity → t ≡ unused ring s r capacity
+pub linked_as : (ring : Ring) (nodes capacity s r : ℕ) (p t : Side) (old new : List NodeEnds) → r < nodes → r ≢ s
+    → p ≡ unused_put ring s r capacity → t ≡ unused ring s r capacity
     → AddedEnds s r p t old new → IsWiring nodes capacity s r old → IsWiring nodes capacity s (r + 1) new
 linked_as ring nodes capacity s r p t old new within ne is is' add all =
     links_more ring nodes capacity s r old new within ne
-    (subst (λ (x : Side). AddedEnds s r (unused_put ring s r capacity) x old new) is' (subst (λ (x : Side). AddedEnds s r x t old new) is add)) all
+    (subst (λ (x : Side). AddedEnds s r (unused_put ring s r capacity) x old new) is'
+    (subst (λ (x : Side). AddedEnds s r x t old new) is add)) all
 
 -- the links from the sender to the nodes below the receiver were added
 pub record IsGathering (sender receiver : ℕ) (ends left : List NodeEnds) (links more : List LinkEnd) : Type 0 where
   pub parts : AreParts left ends
   pub len : (sender < receiver → length more + 1 ≡ length links + receiver) × (receiver ≤ sender → length more ≡ length links + receiver)
   pub stay : StartsWith more links
-  pub each : (k j : ℕ) (from to : NodeEnds) → j < receiver → slice_get ends sender ≡ Some from → slice_get ends j ≡ Some to → IsOther sender k j → (link : LinkEnd) × (slice_get more (length links + k) ≡ Some link) × IsLinkOf from to link
+  pub each : (k j : ℕ) (from to : NodeEnds) → j < receiver → slice_get ends sender ≡ Some from → slice_get ends j ≡ Some to
+      → IsOther sender k j → (link : LinkEnd) × (slice_get more (length links + k) ≡ Some link) × IsLinkOf from to link
 
 -- the links from the nodes below the sender are there
 pub record AreGatheredBelow (sender : ℕ) (ends left : List NodeEnds) (links : List LinkEnd) : Type 0 where
   pub parts : AreParts left ends
   pub count : length links ≡ sender * (length ends - 1)
-  pub each : (i k j : ℕ) (from to : NodeEnds) → i < sender → slice_get ends i ≡ Some from → slice_get ends j ≡ Some to → IsOther i k j → (link : LinkEnd) × (slice_get links (i * (length ends - 1) + k) ≡ Some link) × IsLinkOf from to link
+  pub each : (i k j : ℕ) (from to : NodeEnds) → i < sender → slice_get ends i ≡ Some from → slice_get ends j ≡ Some to → IsOther i k j
+      → (link : LinkEnd) × (slice_get links (i * (length ends - 1) + k) ≡ Some link) × IsLinkOf from to link
 
 -- ---- what is left
 
 all_left : (ends : List NodeEnds) → AreParts ends ends
-all_left ends = record { len = refl; each = λ n l e at at'. subst (IsPartOf l) (same_Some l e (sym at ∙ at')) (record { puts = λ x is. is; takes = λ x is. is }) }
+all_left ends = record {
+  len = refl;
+  each = λ n l e at at'.
+      subst (IsPartOf l) (same_Some l e (sym at ∙ at')) (record { puts = λ x is. is; takes = λ x is. is });
+}
 
 parts_of_parts : (xs ys zs : List NodeEnds) → AreParts xs ys → AreParts ys zs → AreParts xs zs
 parts_of_parts xs ys zs p q = record {
@@ -204,7 +239,8 @@ parts_of_parts xs ys zs p q = record {
 less_left : (old new : List NodeEnds) (s r : ℕ) (p t : Side) → TookEnds s r p t old new → AreParts new old
 less_left old new s r p t took = record {
   len = took.len;
-  each = λ n l e at at'. subst (λ (v : NodeEnds). IsPartOf v e) (get_or_from_slice_get new n l l at) (subst (IsPartOf (slice_index_or new n l)) (get_or_from_slice_get old n e l at') (part n l));
+  each = λ n l e at at'. subst (λ (v : NodeEnds). IsPartOf v e) (get_or_from_slice_get new n l l at)
+      (subst (IsPartOf (slice_index_or new n l)) (get_or_from_slice_get old n e l at') (part n l));
 }
   where
     part : (n : ℕ) (d : NodeEnds) → IsPartOf (slice_index_or new n d) (slice_index_or old n d)
@@ -213,7 +249,11 @@ less_left old new s r p t took = record {
           (record { puts = λ x is. subst (IsAmong x) (sym (took.put d)) (inr is); takes = λ x is. subst (IsAmong x) (took.put_other d) is })
       | inr far ↦ elim (cases_eq n r) [
         | inl at ↦ subst (λ (m : ℕ). IsPartOf (slice_index_or new m d) (slice_index_or old m d)) (sym at)
-            (record { puts = λ x is. subst (IsAmong x) (took.take_other d) is; takes = λ x is. subst (IsAmong x) (sym (took.take d)) (inr is) })
+            (record {
+              puts = λ x is. subst (IsAmong x) (took.take_other d) is;
+              takes =
+                  λ x is. subst (IsAmong x) (sym (took.take d)) (inr is);
+            })
         | inr away ↦ subst (IsPartOf (slice_index_or new n d)) (took.others n d far away) (record { puts = λ x is. is; takes = λ x is. is })
       ]
     ]
@@ -224,7 +264,8 @@ not_itself : (s k : ℕ) → IsOther s k s → ⊥
 not_itself s k other = elim (cases_lt k s) [ inl lt ↦ omega (arith, lt, other.0 lt) | inr ge ↦ omega (arith, ge, other.1 ge) ]
 
 -- no link from a node to itself
-pub gathers_past : (s r : ℕ) (ends left : List NodeEnds) (links more : List LinkEnd) → r ≡ s → IsGathering s r ends left links more → IsGathering s (r + 1) ends left links more
+pub gathers_past : (s r : ℕ) (ends left : List NodeEnds) (links more : List LinkEnd) → r ≡ s → IsGathering s r ends left links more
+    → IsGathering s (r + 1) ends left links more
 gathers_past s r ends left links more same all = record {
   parts = all.parts;
   len = (λ below. omega (arith, same, all.len.1), λ above. absurd (omega (arith, same, above)));
@@ -235,38 +276,56 @@ gathers_past s r ends left links more same all = record {
   ];
 }
 
-next_len : (s r many more : ℕ) → r ≢ s → ((s < r → more + 1 ≡ many + r) × (r ≤ s → more ≡ many + r)) → (s < r + 1 → more + 1 + 1 ≡ many + (r + 1)) × (r + 1 ≤ s → more + 1 ≡ many + (r + 1))
+next_len : (s r many more : ℕ) → r ≢ s → ((s < r → more + 1 ≡ many + r) × (r ≤ s → more ≡ many + r))
+    → (s < r + 1 → more + 1 + 1 ≡ many + (r + 1)) × (r + 1 ≤ s → more + 1 ≡ many + (r + 1))
 next_len s r many more ne len = (λ below. omega (arith, ne, len.0, len.1), λ above. omega (arith, ne, len.0, len.1))
 
 next_place : (s r k many more : ℕ) → r ≢ s → ((s < r → more + 1 ≡ many + r) × (r ≤ s → more ≡ many + r)) → IsOther s k r → many + k ≡ more
 next_place s r k many more ne len other = elim (cases_lt s r) [
-  | inl lt ↦ elim (cases_lt k s) [ inl less ↦ absurd (omega (arith, other.0 less, less, lt)) | inr ge ↦ omega (arith, other.1 ge, len.0 lt) ]
-  | inr ge ↦ elim (cases_lt k s) [ inl less ↦ omega (arith, other.0 less, len.1 ge) | inr above ↦ absurd (ne (omega (arith, other.1 above, above, ge))) ]
+  | inl lt ↦ elim (cases_lt k s) [
+    | inl less ↦ absurd (omega (arith, other.0 less, less, lt))
+    | inr ge ↦ omega (arith, other.1 ge, len.0 lt)
+  ]
+  | inr ge ↦ elim (cases_lt k s) [
+    | inl less ↦ omega (arith, other.0 less, len.1 ge)
+    | inr above ↦ absurd (ne (omega (arith, other.1 above, above, ge)))
+  ]
 ]
 
 -- what is left of a node's ends, where it has a place
-part_at : (old ends : List NodeEnds) (n : ℕ) (e : NodeEnds) → AreParts old ends → slice_get ends n ≡ Some e → IsPartOf (slice_index_or old n e) e
+part_at : (old ends : List NodeEnds) (n : ℕ) (e : NodeEnds) → AreParts old ends → slice_get ends n ≡ Some e
+    → IsPartOf (slice_index_or old n e) e
 part_at old ends n e all at =
     let o = place_of old n (omega (arith, slice_get_within ends n e at, all.len)) in
     subst (λ (v : NodeEnds). IsPartOf v e) (sym (get_or_from_slice_get old n o.0 e o.1)) (all.each n o.0 e o.1 at)
 
 -- a link more: its ends are the next ones of both nodes
-pub gathers : (s r : ℕ) (ends old new : List NodeEnds) (links more grown : List LinkEnd) (p t : Side) (link : LinkEnd) → grown ≡ more ++ link ∷ [] → TookEnds s r p t old new → r ≢ s → ((from to : NodeEnds) → IsAmong p from.puts → IsAmong t to.takes → IsLinkOf from to link) → IsGathering s r ends old links more → IsGathering s (r + 1) ends new links grown
+pub gathers : (s r : ℕ) (ends old new : List NodeEnds) (links more grown : List LinkEnd) (p t : Side) (link : LinkEnd)
+    → grown ≡ more ++ link ∷ [] → TookEnds s r p t old new → r ≢ s
+    → ((from to : NodeEnds) → IsAmong p from.puts → IsAmong t to.takes → IsLinkOf from to link) → IsGathering s r ends old links more
+    → IsGathering s (r + 1) ends new links grown
 gathers s r ends old new links more grown p t link is took ne joined all = subst (IsGathering s (r + 1) ends new links) (sym is) (record {
   parts = parts_of_parts new old ends (less_left old new s r p t took) all.parts;
-  len = subst (λ (n : ℕ). (s < r + 1 → n + 1 ≡ length links + (r + 1)) × (r + 1 ≤ s → n ≡ length links + (r + 1))) (sym (length-append more (link ∷ []))) (next_len s r (length links) (length more) ne all.len);
+  len = subst (λ (n : ℕ). (s < r + 1 → n + 1 ≡ length links + (r + 1)) × (r + 1 ≤ s → n ≡ length links + (r + 1)))
+      (sym (length-append more (link ∷ []))) (next_len s r (length links) (length more) ne all.len);
   stay = λ q l at. get_more more (link ∷ []) q l (all.stay q l at);
   each = λ k j from to below at at' other. elim (at_or_before j r below) [
-    | inl before ↦ (let was = all.each k j from to before at at' other in (was.0, get_more more (link ∷ []) (length links + k) was.0 was.1, was.2))
+    | inl before ↦ (let was = all.each k j from to before at at' other in
+        (was.0, get_more more (link ∷ []) (length links + k) was.0 was.1, was.2))
     | inr here ↦ (
         let to_at : slice_get ends r ≡ Some to = subst (λ (m : ℕ). slice_get ends m ≡ Some to) here at' in
         let put = (part_at old ends s from all.parts at).puts p (subst (IsAmong p) (sym (took.put from)) (inl refl)) in
-        let take = (part_at old ends r to all.parts to_at).takes t (subst (IsAmong t) (sym (took.take to)) (inl refl)) in
-        (link, get_last more (length links + k) link (next_place s r k (length links) (length more) ne all.len (subst (IsOther s k) here other)), joined from to put take))
+        let take = (part_at old ends r to all.parts to_at).takes t (subst (IsAmong t) (sym (took.take to)) (inl refl)) in (
+          link,
+          get_last more (length links + k) link (next_place s r k (length links) (length more) ne all.len
+              (subst (IsOther s k) here other)),
+          joined from to put take,
+        ))
   ];
 })
 
-pub gathered_more : (sender : ℕ) (ends left : List NodeEnds) (links more : List LinkEnd) → sender < length ends → IsGathering sender (length ends) ends left links more → GatheredMore sender ends left links more
+pub gathered_more : (sender : ℕ) (ends left : List NodeEnds) (links more : List LinkEnd) → sender < length ends
+    → IsGathering sender (length ends) ends left links more → GatheredMore sender ends left links more
 gathered_more sender ends left links more within all = record {
   parts = all.parts;
   len = omega (arith, all.len.0 within, within);
@@ -279,12 +338,14 @@ gathered_more sender ends left links more within all = record {
 times_more : (n m : ℕ) → (n + 1) * m ≡ n * m + m
 times_more n m = grind arith
 
-pub sender_gathered : (sender : ℕ) (ends left rest : List NodeEnds) (links more : List LinkEnd) → AreGatheredBelow sender ends left links → GatheredMore sender left rest links more → AreGatheredBelow (sender + 1) ends rest more
+pub sender_gathered : (sender : ℕ) (ends left rest : List NodeEnds) (links more : List LinkEnd) → AreGatheredBelow sender ends left links
+    → GatheredMore sender left rest links more → AreGatheredBelow (sender + 1) ends rest more
 sender_gathered sender ends left rest links more all new = record {
   parts = parts_of_parts rest left ends new.parts all.parts;
   count = new.len ∙ ((λ i. all.count i + (all.parts.len i - 1)) ∙ sym (times_more sender (length ends - 1)));
   each = λ i k j from to below at at' other. elim (at_or_before i sender below) [
-    | inl before ↦ (let old = all.each i k j from to before at at' other in (old.0, new.stay (i * (length ends - 1) + k) old.0 old.1, old.2))
+    | inl before ↦ (let old = all.each i k j from to before at at' other in
+        (old.0, new.stay (i * (length ends - 1) + k) old.0 old.1, old.2))
     | inr here ↦ (
         let a = place_of left i (omega (arith, slice_get_within ends i from at, all.parts.len)) in
         let b = place_of left j (omega (arith, slice_get_within ends j to at', all.parts.len)) in
@@ -292,7 +353,8 @@ sender_gathered sender ends left rest links more all new = record {
         let l = new.each k j a.0 b.0 a_at b.1 (subst (λ (m : ℕ). IsOther m k j) here other) in
         let a_part = all.parts.each i a.0 from a.1 at in
         let b_part = all.parts.each j b.0 to b.1 at' in
-        let place : length links + k ≡ i * (length ends - 1) + k = ap (λ (n : ℕ). n + k) (all.count ∙ ap (λ (n : ℕ). n * (length ends - 1)) (sym here)) in (
+        let place : length links + k ≡ i * (length ends - 1) + k =
+        ap (λ (n : ℕ). n + k) (all.count ∙ ap (λ (n : ℕ). n * (length ends - 1)) (sym here)) in (
           l.0,
           ap (slice_get more) (sym place) ∙ l.1,
           (record {
@@ -310,5 +372,10 @@ sender_gathered sender ends left rest links more all new = record {
   ];
 }
 
-pub all_gathered : (ends left : List NodeEnds) (links : List LinkEnd) → AreGatheredBelow (length ends) ends left links → AreGathered ends links
-all_gathered ends left links all = record { count = all.count; each = λ i k j from to at at' other. all.each i k j from to (slice_get_within ends i from at) at at' other }
+pub all_gathered : (ends left : List NodeEnds) (links : List LinkEnd) → AreGatheredBelow (length ends) ends left links
+    → AreGathered ends links
+all_gathered ends left links all = record {
+  count = all.count;
+  each =
+      λ i k j from to at at' other. all.each i k j from to (slice_get_within ends i from at) at at' other;
+}

@@ -1,5 +1,6 @@
 -- What went over a link, from what is known of its two nodes, and what is true of the run.
-use Rattle.std.proofs.Common.{◌≡◌, ℕ, ◌==◌, ◌⊎◌, Bool, true, false, cond, Some, List, [], ◌∷◌, ◌++◌, slice_get, slice_index, refl, ap, sym, ◌∙◌, subst, subst₂, inl, inr, arith, ◌≢◌, ◌+◌, ◌*◌, ◌-◌, length, option_map}
+use Rattle.std.proofs.Common.{◌≡◌, ℕ, ◌==◌, ◌⊎◌, Bool, true, false, cond, Some, List, [], ◌∷◌, ◌++◌, slice_get, slice_index, refl, ap, sym}
+use Rattle.std.proofs.Common.{◌∙◌, subst, subst₂, inl, inr, arith, ◌≢◌, ◌+◌, ◌*◌, ◌-◌, length, option_map}
 use Rattle.std.proofs.lemmas.Bool.{eqb-true, cases_lt}
 use Rattle.std.proofs.lemmas.Bool.Decides.{nat_tests}
 use Rattle.std.proofs.lemmas.List.Elements.{filter-append}
@@ -12,7 +13,8 @@ use Rattle.histories.specs.Lists.{IsAmong, Each}
 use Rattle.histories.specs.HistoryEvent.{brought, event_of, Entry}
 use Rattle.histories.specs.NodeState.{opening}
 use Rattle.histories.specs.History.{sent_in, brought_in, Follows, FollowsSlots}
-use Rattle.histories.proofs.PublicLaws.{among_left, among_right, among_either, each_at, each_of, sent_of_one, senders, each_bundle_rises, one_book, one_coordinator, one_task, one_worker, owner_finishes}
+use Rattle.histories.proofs.PublicLaws.{among_left, among_right, among_either, each_at, each_of, sent_of_one, senders, each_bundle_rises}
+use Rattle.histories.proofs.PublicLaws.{one_book, one_coordinator, one_task, one_worker, owner_finishes}
 use Rattle.histories.specs.Bundle.{Bundle, sent_by_all}
 use Rattle.node_lock.specs.declared.run.Run.{Run}
 use Rattle.node_lock.specs.declared.worker.Turns.{Turns}
@@ -51,7 +53,9 @@ puts_from cap xs (n ∷ ms) ys m (inl p) c =
 puts_from cap xs (n ∷ ms) ys m (inr p) c =
     elim (puts_from cap xs ms ys m p.1 c) [ inl x ↦ inl x | inr d ↦ inr (inr d) ]
 
-filtered_by : (j : ℕ) (n : Envelope) (ns : List Envelope) (m : Envelope) (b : Bool) → (n.receiver == j) ≡ b → (IsAmong m (addressed_to j ns) → IsAmong m ns × (m.receiver ≡ j)) → IsAmong m (addressed_to j (n ∷ ns)) → IsAmong m (n ∷ ns) × (m.receiver ≡ j)
+filtered_by : (j : ℕ) (n : Envelope) (ns : List Envelope) (m : Envelope) (b : Bool) → (n.receiver == j) ≡ b
+    → (IsAmong m (addressed_to j ns) → IsAmong m ns × (m.receiver ≡ j)) → IsAmong m (addressed_to j (n ∷ ns))
+    → IsAmong m (n ∷ ns) × (m.receiver ≡ j)
 filtered_by j n ns m true e h c =
     let c' : IsAmong m (n ∷ addressed_to j ns) = rw e at c in
     elim c' [ inl x ↦ (inl x, ap (λ (k : Envelope). k.receiver) x ∙ eqb-true n.receiver j e) | inr y ↦ (inr (h y).0, (h y).1) ]
@@ -98,16 +102,19 @@ linked {a = a} {b = b} {q = q} {from = from} {to = to} {link = link} j =
       sender = l.sender ∙ put.sender;
       receiver = l.receiver ∙ to_b;
       put = subst₂ (λ n ms. PutsSome n [] (addressed_to b.node (sent_in (entries_of from))) ms) put.capacity (sym l.put)
-          (subst (λ (n : ℕ). PutsSome l.put_end.capacity [] (addressed_to n (sent_in (entries_of from))) l.put_end.messages) to_b put.messages);
+          (subst (λ (n : ℕ). PutsSome l.put_end.capacity [] (addressed_to n (sent_in (entries_of from))) l.put_end.messages) to_b
+          put.messages);
       taken = subst₂ (λ xs ys. IsPrefix xs ys) (sym l.taken) (sym l.put) l.paired.order;
       by_polls = l.taken ∙ (take.messages ∙ ap (λ (n : ℕ). polled q.intake n to) by_a);
     }
 
-crosses : (a b : Run) (p q : Planned) (from to : List Turn) (link : LinkEnd) → Joined a b p q from to link → (m : Envelope) → IsAmong m (polled q.intake a.node to) → Crossed a.node b.node from m
+crosses : (a b : Run) (p q : Planned) (from to : List Turn) (link : LinkEnd) → Joined a b p q from to link → (m : Envelope)
+    → IsAmong m (polled q.intake a.node to) → Crossed a.node b.node from m
 crosses a b p q from to link j m is =
     let l = linked j in
     let taken : IsAmong m link.taken.messages = subst (λ (ms : List Envelope). IsAmong m ms) (sym l.by_polls) is in
-    let there : IsAmong m link.put.messages = subst (λ (ms : List Envelope). IsAmong m ms) l.taken.1 (among_left m link.taken.messages l.taken.0 taken) in
+    let there : IsAmong m link.put.messages = subst (λ (ms : List Envelope). IsAmong m ms) l.taken.1
+    (among_left m link.taken.messages l.taken.0 taken) in
     elim (puts_from a.capacity [] (addressed_to b.node (sent_in (entries_of from))) link.put.messages m l.put there) [
       | inl x ↦ absurd x
       | inr y ↦ (let f = filtered b.node (sent_in (entries_of from)) m y in
@@ -130,23 +137,34 @@ from_own plan i j ms at =
     let same : (slice_index plan i == j) ≡ true = grind (arith, nat_tests) in
     ap (λ (b : Bool). cond b ms []) same
 
-polled_now : (p : Planned) (t : Turn) (w : Worker) (x : Asked) (ts : List Turn) (m : Envelope) → IsAsked p w t.index x → Gives x t.entry.what → IsAmong m (brought (event_of t.entry.what)) → Polled p.intake (t ∷ ts) m
+polled_now : (p : Planned) (t : Turn) (w : Worker) (x : Asked) (ts : List Turn) (m : Envelope) → IsAsked p w t.index x
+    → Gives x t.entry.what → IsAmong m (brought (event_of t.entry.what)) → Polled p.intake (t ∷ ts) m
 polled_now p t Intake x ts m asks gives there =
     let k = asks.0.0 in
     let ms = brought (event_of t.entry.what) in
-    let own : IsAmong m (from_link p.intake k t.index ms) = subst (λ (l : List Envelope). IsAmong m l) (sym (from_own p.intake t.index k ms asks.0.1)) there in
+    let own : IsAmong m (from_link p.intake k t.index ms) = subst (λ (l : List Envelope). IsAmong m l)
+    (sym (from_own p.intake t.index k ms asks.0.1)) there in
     record { from = k; at = t.index; named = asks.0.1; is = among_left m (from_link p.intake k t.index ms) (polled p.intake k ts) own }
 polled_now p t Clock x ts m asks gives there =
-    absurd (subst (λ (ms : List Envelope). IsAmong m ms) (none_of_tick asks.0 t.entry.what (subst (λ (y : Asked). Gives y t.entry.what) asks.2 gives)) there)
+    absurd (subst (λ (ms : List Envelope). IsAmong m ms) (none_of_tick asks.0 t.entry.what
+    (subst (λ (y : Asked). Gives y t.entry.what) asks.2 gives)) there)
 polled_now p t Operator x ts m asks gives there =
-    absurd (subst (λ (ms : List Envelope). IsAmong m ms) (none_of_order asks.0 t.entry.what (subst (λ (y : Asked). Gives y t.entry.what) asks.2 gives)) there)
+    absurd (subst (λ (ms : List Envelope). IsAmong m ms) (none_of_order asks.0 t.entry.what
+    (subst (λ (y : Asked). Gives y t.entry.what) asks.2 gives)) there)
 
-brought_was_polled : (p : Planned) (c : Turns) (ts : List Turn) (d : Turns) (m : Envelope) → Path (PlanStep p) c ts d → IsAmong m (brought_in (entries_of ts)) → Polled p.intake ts m
+brought_was_polled : (p : Planned) (c : Turns) (ts : List Turn) (d : Turns) (m : Envelope) → Path (PlanStep p) c ts d
+    → IsAmong m (brought_in (entries_of ts)) → Polled p.intake ts m
 brought_was_polled p c [] d m path is = absurd is
 brought_was_polled p c (t ∷ ts) d m path is = elim (among_either m (brought (event_of t.entry.what)) (brought_in (entries_of ts)) is) [
   | inl now ↦ polled_now p t t.worker path.1.asked ts m path.1.asks path.1.gives now
   | inr later ↦ (let p' = brought_was_polled p path.0 ts d m path.2 later in
-      record { from = p'.from; at = p'.at; named = p'.named; is = among_right m (from_link p.intake p'.from t.index (brought (event_of t.entry.what))) (polled p.intake p'.from ts) p'.is })
+      record {
+        from = p'.from;
+        at = p'.at;
+        named = p'.named;
+        is =
+            among_right m (from_link p.intake p'.from t.index (brought (event_of t.entry.what))) (polled p.intake p'.from ts) p'.is;
+      })
 ]
 
 -- messages of one sender
@@ -158,13 +176,16 @@ one_sender i k (m ∷ ms) each = grind (arith, nat_tests, each.0, one_sender i k
 abbrev PolledAreOf : List ℕ → List Turn → Type 0
 PolledAreOf plan ts = (at k : ℕ) (m : Envelope) → slice_get plan at ≡ Some k → IsAmong m (polled plan k ts) → m.sender ≡ k
 
-turn_brought : (p : Planned) (t : Turn) (w : Worker) (x : Asked) (ts : List Turn) (i : ℕ) → IsAsked p w t.index x → Gives x t.entry.what → PolledAreOf p.intake (t ∷ ts) → from_link p.intake i t.index (brought (event_of t.entry.what)) ≡ sent_by i (brought (event_of t.entry.what))
+turn_brought : (p : Planned) (t : Turn) (w : Worker) (x : Asked) (ts : List Turn) (i : ℕ) → IsAsked p w t.index x → Gives x t.entry.what
+    → PolledAreOf p.intake (t ∷ ts) → from_link p.intake i t.index (brought (event_of t.entry.what))
+    ≡ sent_by i (brought (event_of t.entry.what))
 turn_brought p t Intake x ts i asks gives of =
     let ms = brought (event_of t.entry.what) in
     let k = asks.0.0 in
     let is : slice_index p.intake t.index ≡ k = get_or_from_slice_get p.intake t.index k 0 asks.0.1 in
     let all : Each (λ (m : Envelope). m.sender ≡ k) ms = each_of (λ (m : Envelope). m.sender ≡ k) ms (λ m there. of t.index k m asks.0.1
-    (among_left m (from_link p.intake k t.index ms) (polled p.intake k ts) (subst (λ (l : List Envelope). IsAmong m l) (sym (from_own p.intake t.index k ms asks.0.1)) there))) in
+    (among_left m (from_link p.intake k t.index ms) (polled p.intake k ts)
+    (subst (λ (l : List Envelope). IsAmong m l) (sym (from_own p.intake t.index k ms asks.0.1)) there))) in
     ap (λ (n : ℕ). cond (n == i) ms []) is ∙ sym (one_sender i k ms all)
 turn_brought p t Clock x ts i asks gives of =
     let none = none_of_tick asks.0 t.entry.what (subst (λ (y : Asked). Gives y t.entry.what) asks.2 gives) in
@@ -174,25 +195,40 @@ turn_brought p t Operator x ts i asks gives of =
     from_nothing p.intake i t.index (brought (event_of t.entry.what)) none ∙ sym (ap (sent_by i) none)
 
 -- what the polls of a link took is what the history was brought from its sender
-polled_is_brought : (p : Planned) (c : Turns) (ts : List Turn) (d : Turns) (i : ℕ) → Path (PlanStep p) c ts d → PolledAreOf p.intake ts → polled p.intake i ts ≡ sent_by i (brought_in (entries_of ts))
+polled_is_brought : (p : Planned) (c : Turns) (ts : List Turn) (d : Turns) (i : ℕ) → Path (PlanStep p) c ts d → PolledAreOf p.intake ts
+    → polled p.intake i ts ≡ sent_by i (brought_in (entries_of ts))
 polled_is_brought p c [] d i path of = refl
 polled_is_brought p c (t ∷ ts) d i path of =
-    let rest = polled_is_brought p path.0 ts d i path.2 (λ at k m named is. of at k m named (among_right m (from_link p.intake k t.index (brought (event_of t.entry.what))) (polled p.intake k ts) is)) in
+    let rest = polled_is_brought p path.0 ts d i path.2 (λ at k m named is. of
+    at k m named (among_right m (from_link p.intake k t.index (brought (event_of t.entry.what))) (polled p.intake k ts) is)) in
     let here = turn_brought p t t.worker path.1.asked ts i path.1.asks path.1.gives of in
-    (λ n. here n ++ rest n) ∙ sym (filter-append (λ (m : Envelope). m.sender == i) (brought (event_of t.entry.what)) (brought_in (entries_of ts)))
+    (λ n. here n ++ rest n) ∙ sym (filter-append (λ (m : Envelope). m.sender == i) (brought (event_of t.entry.what))
+    (brought_in (entries_of ts)))
 
-carried : (a b : Run) (p q : Planned) (from to : List Turn) (link : LinkEnd) → Joined a b p q from to link → PolledAreOf q.intake to → IsCarried a.capacity a.node b.node q from to link
+carried : (a b : Run) (p q : Planned) (from to : List Turn) (link : LinkEnd) → Joined a b p q from to link → PolledAreOf q.intake to
+    → IsCarried a.capacity a.node b.node q from to link
 carried a b p q from to link j of =
     let l = linked j in
     let whole = j.facts_to.interleaved in
-    record { from = l.sender; to = l.receiver; put = l.put; taken = l.taken; by_polls = l.by_polls; brought = l.by_polls ∙ polled_is_brought q no_turns to whole.turns a.node whole.follows of }
+    record {
+      from = l.sender;
+      to = l.receiver;
+      put = l.put;
+      taken = l.taken;
+      by_polls = l.by_polls;
+      brought = l.by_polls
+          ∙ polled_is_brought q no_turns to whole.turns a.node whole.follows of;
+    }
 
 -- what was put on a link is what its sender doesn't name as lost
-went_on : (a b : Run) (p q : Planned) (from : Log) (to : List Turn) (link : LinkEnd) (mine : NodeEnds) (losses : LostFacts from mine) → (j : Joined a b p q from.turns to link) → j.ends_from ≡ mine → link.put.messages ≡ addressed_to b.node (all_went losses.went from.turns)
+went_on : (a b : Run) (p q : Planned) (from : Log) (to : List Turn) (link : LinkEnd) (mine : NodeEnds) (losses : LostFacts from mine)
+    → (j : Joined a b p q from.turns to link) → j.ends_from ≡ mine
+    → link.put.messages ≡ addressed_to b.node (all_went losses.went from.turns)
 went_on a b p q from to link mine losses j same =
     let l = j.is_link in
     let to_b : l.put_end.receiver ≡ b.node = l.paired.receiver ∙ (j.facts_to.takes l.take_end l.is_take).receiver in
-    l.put ∙ losses.put l.put_end (subst (λ (e : NodeEnds). IsAmong l.put_end e.puts) same l.is_put) ∙ ap (λ (n : ℕ). addressed_to n (all_went losses.went from.turns)) to_b
+    l.put ∙ losses.put l.put_end (subst (λ (e : NodeEnds). IsAmong l.put_end e.puts) same l.is_put)
+    ∙ ap (λ (n : ℕ). addressed_to n (all_went losses.went from.turns)) to_b
 
 -- a run that has ended, with its links
 record Ended (size : RunSize) (plans : List Planned) (histories : List Log) (links : List LinkEnd) : Type 0 where
@@ -213,13 +249,28 @@ record NodeOf (size : RunSize) (plans : List Planned) (ends : List NodeEnds) (n 
   never_area_exhausted : NoneAreaExhausted (entries_of h.turns)
   failures : HasFailed (entries_of h.turns) h.failures
 
-with_plan : (size : RunSize) (plans : List Planned) (histories : List Log) (links : List LinkEnd) (r : Ended size plans histories links) (n : ℕ) (p : Planned) (h : Log) (e : NodeEnds) → slice_get plans n ≡ Some p → slice_get histories n ≡ Some h → slice_get r.ends n ≡ Some e
+with_plan : (size : RunSize) (plans : List Planned) (histories : List Log) (links : List LinkEnd) (r : Ended size plans histories links)
+    (n : ℕ) (p : Planned) (h : Log) (e : NodeEnds) → slice_get plans n ≡ Some p → slice_get histories n ≡ Some h
+    → slice_get r.ends n ≡ Some e
     → NodeOf size plans r.ends n h
 with_plan size plans histories links r n p h e at_plan at at_end =
     let has = r.ended.each n p h e at_plan at at_end in
-    record { plan = p; mine = e; plan_at = at_plan; ends_at = at_end; facts = facts (run_at size n) p h e has; losses = lost_facts (run_at size n) p h e has; numbers = numbers_fact (run_at size n) p h e has; never_area_exhausted = never_area_exhausted_fact (run_at size n) p h e has; failures = has.failures }
+    record {
+      plan = p;
+      mine = e;
+      plan_at = at_plan;
+      ends_at = at_end;
+      facts = facts (run_at size n) p h e has;
+      losses =
+          lost_facts (run_at size n) p h e has;
+      numbers = numbers_fact (run_at size n) p h e has;
+      never_area_exhausted =
+          never_area_exhausted_fact (run_at size n) p h e has;
+      failures = has.failures;
+    }
 
-node_of : (size : RunSize) (plans : List Planned) (histories : List Log) (links : List LinkEnd) (r : Ended size plans histories links) (n : ℕ) (h : Log) → slice_get histories n ≡ Some h → NodeOf size plans r.ends n h
+node_of : (size : RunSize) (plans : List Planned) (histories : List Log) (links : List LinkEnd) (r : Ended size plans histories links)
+    (n : ℕ) (h : Log) → slice_get histories n ≡ Some h → NodeOf size plans r.ends n h
 node_of size plans histories links r n h at =
     let within = slice_get_within histories n h at in
     let p = place_of plans n (omega (arith, within, r.ended.history_count)) in
@@ -234,14 +285,21 @@ other_place i j ne = elim (cases_lt i j) [
 ]
 
 -- a link joins two nodes
-joined : (size : RunSize) (plans : List Planned) (histories : List Log) (links : List LinkEnd) (r : Ended size plans histories links) (i k j : ℕ) (from to : Log) (a : NodeOf size plans r.ends i from) (b : NodeOf size plans r.ends j to) → IsOther i k j
-    → (link : LinkEnd) × (slice_get links (i * (length plans - 1) + k) ≡ Some link) × Joined (run_at size i) (run_at size j) a.plan b.plan from.turns to.turns link
+joined : (size : RunSize) (plans : List Planned) (histories : List Log) (links : List LinkEnd) (r : Ended size plans histories links)
+    (i k j : ℕ) (from to : Log) (a : NodeOf size plans r.ends i from) (b : NodeOf size plans r.ends j to) → IsOther i k j
+    → (link : LinkEnd) × (slice_get links (i * (length plans - 1) + k) ≡ Some link)
+    × Joined (run_at size i) (run_at size j) a.plan b.plan from.turns to.turns link
 joined size plans histories links r i k j from to a b other =
-    let l = r.gathered.each i k j a.mine b.mine a.ends_at b.ends_at other in
-    (l.0, ap (λ (n : ℕ). slice_get links (i * (n - 1) + k)) (sym r.ended.ends_count) ∙ l.1, record { ends_from = a.mine; ends_to = b.mine; facts_from = a.facts; facts_to = b.facts; is_link = l.2 })
+    let l = r.gathered.each i k j a.mine b.mine a.ends_at b.ends_at other in (
+      l.0,
+      ap (λ (n : ℕ). slice_get links (i * (n - 1) + k)) (sym r.ended.ends_count) ∙ l.1,
+      record { ends_from = a.mine; ends_to = b.mine; facts_from = a.facts; facts_to = b.facts; is_link = l.2 },
+    )
 
 -- what a poll of the link from node k took
-polled_from : (size : RunSize) (plans : List Planned) (histories : List Log) (links : List LinkEnd) (r : Ended size plans histories links) (n : ℕ) (h : Log) (b : NodeOf size plans r.ends n h) (at k : ℕ) (m : Envelope) → slice_get b.plan.intake at ≡ Some k → IsAmong m (polled b.plan.intake k h.turns)
+polled_from : (size : RunSize) (plans : List Planned) (histories : List Log) (links : List LinkEnd) (r : Ended size plans histories links)
+    (n : ℕ) (h : Log) (b : NodeOf size plans r.ends n h) (at k : ℕ) (m : Envelope) → slice_get b.plan.intake at ≡ Some k
+    → IsAmong m (polled b.plan.intake k h.turns)
     → (from : Log) × (slice_get histories k ≡ Some from) × Crossed k n from.turns m
 polled_from size plans histories links r n h b at k m named is =
     let other = b.facts.polls at k named in
@@ -252,22 +310,27 @@ polled_from size plans histories links r n h b at k m named is =
     (from.0, from.1, crosses (run_at size k) (run_at size n) a.plan b.plan from.0.turns h.turns l.0 l.2 m is)
 
 -- what a history was brought
-came_from : (size : RunSize) (plans : List Planned) (histories : List Log) (links : List LinkEnd) (r : Ended size plans histories links) (n : ℕ) (h : Log) → slice_get histories n ≡ Some h → (m : Envelope) → IsAmong m (brought_in (entries_of h.turns))
+came_from : (size : RunSize) (plans : List Planned) (histories : List Log) (links : List LinkEnd) (r : Ended size plans histories links)
+    (n : ℕ) (h : Log) → slice_get histories n ≡ Some h → (m : Envelope) → IsAmong m (brought_in (entries_of h.turns))
     → IsAmong m (sent_by_all (histories_in histories)) × (m.receiver ≡ n)
 came_from size plans histories links r n h at m is =
     let b = node_of size plans histories links r n h at in
     let p = brought_was_polled b.plan no_turns h.turns b.facts.interleaved.turns m b.facts.interleaved.follows is in
     let c = polled_from size plans histories links r n h b p.at p.from m p.named p.is in (
-      sent_of_one m (histories_in histories) p.from (entries_of c.0.turns) (slice_get-map (λ (l : Log). entries_of l.turns) histories p.from ∙ ap (option_map (λ (l : Log). entries_of l.turns)) c.1) c.2.is_sent,
+      sent_of_one m (histories_in histories) p.from (entries_of c.0.turns)
+          (slice_get-map (λ (l : Log). entries_of l.turns) histories p.from
+          ∙ ap (option_map (λ (l : Log). entries_of l.turns)) c.1) c.2.is_sent,
       c.2.to,
     )
 
-is_bundle : (size : RunSize) (plans : List Planned) (histories : List Log) (links : List LinkEnd) → Ended size plans histories links → Bundle (histories_in histories)
+is_bundle : (size : RunSize) (plans : List Planned) (histories : List Log) (links : List LinkEnd) → Ended size plans histories links
+    → Bundle (histories_in histories)
 is_bundle size plans histories links r = record {
   follows = λ n h at.
       let l = at_map (λ (l : Log). entries_of l.turns) histories n h at in
       let b = node_of size plans histories links r n l.0 l.1 in
-      let many : size.nodes ≡ length (histories_in histories) = sym r.nodes ∙ (sym r.ended.history_count ∙ sym (length-map histories (λ (l : Log). entries_of l.turns))) in
+      let many : size.nodes ≡ length (histories_in histories) = sym r.nodes
+      ∙ (sym r.ended.history_count ∙ sym (length-map histories (λ (l : Log). entries_of l.turns))) in
       subst (λ (es : List Entry). Follows n (length (histories_in histories)) (opening n) es) l.2
       (subst (λ (k : ℕ). Follows n k (opening n) (entries_of l.0.turns)) many b.facts.follows);
   delivers = λ n h at m is.
@@ -275,17 +338,28 @@ is_bundle size plans histories links r = record {
       (came_from size plans histories links r n l.0 l.1 m (subst (λ (es : List Entry). IsAmong m (brought_in es)) (sym l.2) is)).0;
   addressed = λ n h at.
       let l = at_map (λ (l : Log). entries_of l.turns) histories n h at in
-      each_of (λ (m : Envelope). m.receiver ≡ n) (brought_in h) (λ m is. (came_from size plans histories links r n l.0 l.1 m (subst (λ (es : List Entry). IsAmong m (brought_in es)) (sym l.2) is)).1);
+      each_of (λ (m : Envelope). m.receiver ≡ n) (brought_in h)
+      (λ m is. (came_from size plans histories links r n l.0 l.1 m
+      (subst (λ (es : List Entry). IsAmong m (brought_in es)) (sym l.2) is)).1);
 }
 
 in_one_book : (histories : List (List Entry)) → Bundle histories → IsOneBook histories
 in_one_book histories bundle =
     let rises = each_bundle_rises histories bundle in
     let book = one_book histories bundle rises in
-    record { bundle = bundle; rises = rises; book = book.0; agrees = book.1; coordinator = one_coordinator histories bundle rises; task = one_task histories bundle rises }
+    record {
+      bundle = bundle;
+      rises = rises;
+      book = book.0;
+      agrees = book.1;
+      coordinator = one_coordinator histories bundle rises;
+      task =
+          one_task histories bundle rises;
+    }
 
 -- the whole run, by what the locks gave back and the links that were gathered
-pub whole_run : (size : RunSize) (plans : List Planned) (histories : List Log) (ends : List NodeEnds) (links : List LinkEnd) → length plans ≡ size.nodes → AreEnded size plans histories ends → AreGathered ends links → IsWhole size plans histories links
+pub whole_run : (size : RunSize) (plans : List Planned) (histories : List Log) (ends : List NodeEnds) (links : List LinkEnd)
+    → length plans ≡ size.nodes → AreEnded size plans histories ends → AreGathered ends links → IsWhole size plans histories links
 unfolding node_of joined with_plan
 whole_run size plans histories ends links nodes ended gathered =
     let r : Ended size plans histories links = record { nodes = nodes; ends = ends; ended = ended; gathered = gathered } in
@@ -295,7 +369,8 @@ whole_run size plans histories ends links nodes ended gathered =
       interleaved = λ n p h at_plan at.
           let e = place_of ends n (omega (arith, slice_get_within histories n h at, ended.history_count, ended.ends_count)) in
           (facts (run_at size n) p h e.0 (ended.each n p h e.0 at_plan at e.1)).interleaved;
-      of_slots = λ n h at. subst (λ (k : ℕ). FollowsSlots size.slots n k (opening n) (entries_of h.turns)) (sym nodes) (node_of size plans histories links r n h at).facts.slots;
+      of_slots = λ n h at. subst (λ (k : ℕ). FollowsSlots size.slots n k (opening n) (entries_of h.turns)) (sym nodes)
+          (node_of size plans histories links r n h at).facts.slots;
       lost = λ n h at.
           let a = node_of size plans histories links r n h at in
           record {
@@ -306,7 +381,8 @@ whole_run size plans histories ends links nodes ended gathered =
                 let to = place_of histories j (omega (arith, lt, ended.history_count)) in
                 let l = joined size plans histories links r n k j h to.0 a (node_of size plans histories links r j to.0 to.1) other in
                 let same : l.0 ≡ link = same_Some l.0 link (sym l.1 ∙ at_link) in
-                subst (λ (x : LinkEnd). x.put.messages ≡ addressed_to j (all_went a.losses.went h.turns)) same (went_on (run_at size n) (run_at size j) a.plan _ h to.0.turns l.0 a.mine a.losses l.2 refl);
+                subst (λ (x : LinkEnd). x.put.messages ≡ addressed_to j (all_went a.losses.went h.turns)) same
+                (went_on (run_at size n) (run_at size j) a.plan _ h to.0.turns l.0 a.mine a.losses l.2 refl);
           };
       numbers = λ n h at. (node_of size plans histories links r n h at).numbers;
       never_area_exhausted = λ n h at. (node_of size plans histories links r n h at).never_area_exhausted;
@@ -316,8 +392,12 @@ whole_run size plans histories ends links nodes ended gathered =
           let a = node_of size plans histories links r i from at_from in
           let e = place_of ends j (omega (arith, slice_get_within histories j to at_to, ended.history_count, ended.ends_count)) in
           let b : NodeOf size plans ends j to = with_plan size plans histories links r j p to e.0 at_plan at_to e.1 in
-          let l = joined size plans histories links r i k j from to a b other in
-          (l.0, l.1, carried (run_at size i) (run_at size j) a.plan p from.turns to.turns l.0 l.2 (λ at k m named is. (polled_from size plans histories links r j to b at k m named is).2.by));
+          let l = joined size plans histories links r i k j from to a b other in (
+            l.0,
+            l.1,
+            carried (run_at size i) (run_at size j) a.plan p from.turns to.turns l.0 l.2 (λ at k m named is.
+                (polled_from size plans histories links r j to b at k m named is).2.by),
+          );
       one_book = in_one_book (histories_in histories) bundle;
       worked = record { finished = owner_finishes (histories_in histories) bundle; worker = one_worker (histories_in histories) bundle };
     }

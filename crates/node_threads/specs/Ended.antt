@@ -28,4 +28,5 @@ pub record HasEnded (run : Run) (plan : Planned) (log : Log) (ends : NodeEnds) :
 pub record AreEnded (size : RunSize) (plans : List Planned) (histories : List Log) (ends : List NodeEnds) : Type 0 where
   pub history_count : length histories ≡ length plans
   pub ends_count : length ends ≡ length plans
-  pub each : (n : ℕ) (p : Planned) (h : Log) (e : NodeEnds) → slice_get plans n ≡ Some p → slice_get histories n ≡ Some h → slice_get ends n ≡ Some e → HasEnded (run_at size n) p h e
+  pub each : (n : ℕ) (p : Planned) (h : Log) (e : NodeEnds) → slice_get plans n ≡ Some p → slice_get histories n ≡ Some h
+      → slice_get ends n ≡ Some e → HasEnded (run_at size n) p h e

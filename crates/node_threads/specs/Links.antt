@@ -21,7 +21,8 @@ pub record IsLinkOf (from to : NodeEnds) (link : LinkEnd) : Type 0 where
 -- a link for each ordered pair of different nodes, by sender and then receiver
 pub record AreGathered (ends : List NodeEnds) (links : List LinkEnd) : Type 0 where
   pub count : length links ≡ length ends * (length ends - 1)
-  pub each : (i k j : ℕ) (from to : NodeEnds) → slice_get ends i ≡ Some from → slice_get ends j ≡ Some to → IsOther i k j → (link : LinkEnd) × (slice_get links (i * (length ends - 1) + k) ≡ Some link) × IsLinkOf from to link
+  pub each : (i k j : ℕ) (from to : NodeEnds) → slice_get ends i ≡ Some from → slice_get ends j ≡ Some to → IsOther i k j
+      → (link : LinkEnd) × (slice_get links (i * (length ends - 1) + k) ≡ Some link) × IsLinkOf from to link
 
 -- the next end of one node's links to others was taken out, and that of another one's from others
 pub record TookEnds (s r : ℕ) (p t : Side) (old new : List NodeEnds) : Type 0 where
@@ -51,4 +52,5 @@ pub record GatheredMore (sender : ℕ) (ends left : List NodeEnds) (links more :
   pub parts : AreParts left ends
   pub len : length more ≡ length links + (length ends - 1)
   pub stay : StartsWith more links
-  pub each : (k j : ℕ) (from to : NodeEnds) → slice_get ends sender ≡ Some from → slice_get ends j ≡ Some to → IsOther sender k j → (link : LinkEnd) × (slice_get more (length links + k) ≡ Some link) × IsLinkOf from to link
+  pub each : (k j : ℕ) (from to : NodeEnds) → slice_get ends sender ≡ Some from → slice_get ends j ≡ Some to → IsOther sender k j
+      → (link : LinkEnd) × (slice_get more (length links + k) ≡ Some link) × IsLinkOf from to link

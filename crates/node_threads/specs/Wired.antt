@@ -12,12 +12,15 @@ AreBelow own bound many = (own < bound → many + 1 ≡ bound) × (bound ≤ own
 -- unused ends of links to the other nodes below the bound, in rising order
 pub record PutsBelow (capacity own bound : ℕ) (ends : List Side) : Type 0 where
   pub len : AreBelow own bound (length ends)
-  pub each : (k : ℕ) (d : Side) → k < length ends → ((slice_index_or ends k d).sender ≡ own) × ((slice_index_or ends k d).capacity ≡ capacity) × ((slice_index_or ends k d).messages ≡ []) × IsOther own k (slice_index_or ends k d).receiver
+  pub each : (k : ℕ) (d : Side) → k < length ends → ((slice_index_or ends k d).sender ≡ own)
+      × ((slice_index_or ends k d).capacity ≡ capacity) × ((slice_index_or ends k d).messages ≡ [])
+      × IsOther own k (slice_index_or ends k d).receiver
 
 -- and of links from them
 pub record TakesBelow (own bound : ℕ) (ends : List Side) : Type 0 where
   pub len : AreBelow own bound (length ends)
-  pub each : (k : ℕ) (d : Side) → k < length ends → ((slice_index_or ends k d).receiver ≡ own) × ((slice_index_or ends k d).messages ≡ []) × IsOther own k (slice_index_or ends k d).sender
+  pub each : (k : ℕ) (d : Side) → k < length ends → ((slice_index_or ends k d).receiver ≡ own) × ((slice_index_or ends k d).messages ≡ [])
+      × IsOther own k (slice_index_or ends k d).sender
 
 -- so many nodes, and no link
 pub record AreUnlinked (nodes : ℕ) (ends : List NodeEnds) : Type 0 where

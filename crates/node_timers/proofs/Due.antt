@@ -1,5 +1,6 @@
 -- When something is due next.
-use Rattle.std.proofs.Common.{◌≡◌, ◌≤◌, ◌<◌, ◌-◌, ◌+◌, ◌^◌, ◌⊎◌, ℕ, Bool, true, false, Option, Some, None, inl, inr, sym, ap, ◌∙◌, subst, arith, min}
+use Rattle.std.proofs.Common.{◌≡◌, ◌≤◌, ◌<◌, ◌-◌, ◌+◌, ◌^◌, ◌⊎◌, ℕ, Bool, true, false, Option, Some, None, inl, inr, sym, ap, ◌∙◌, subst}
+use Rattle.std.proofs.Common.{arith, min}
 use Rattle.std.specs.Prelude.{if◌then◌else◌, IfSome}
 use Rattle.std.proofs.lemmas.Bool.{cases_lt}
 use Rattle.node_core.specs.declared.phase.Phase.TheVariants.{Normal}
@@ -22,7 +23,8 @@ timer_due long was more fits come = omega (arith, fits, come)
 lasts_fits : (p : Policy) (s : NodeSnapshot) (d : Deadline) → lasts p.setting p.raise s.merge_wait d ≤ 2 ^ 64 - 1
 lasts_fits p s d = omega arith
 
-timer_so : (p : Policy) (s : NodeSnapshot) (d : Deadline) (next : ℕ) → Runs p s d → lasts p.setting p.raise s.merge_wait d - d.waited ≤ waited p next → IsDue (passed next p) s
+timer_so : (p : Policy) (s : NodeSnapshot) (d : Deadline) (next : ℕ) → Runs p s d
+    → lasts p.setting p.raise s.merge_wait d - d.waited ≤ waited p next → IsDue (passed next p) s
 timer_so p s d next runs come =
     let more = waited p next in
     inl (
@@ -33,7 +35,8 @@ timer_so p s d next runs come =
       },
     )
 
-work_by : (b : Bool) (pause was more long : ℕ) → pause < 2 ^ 64 → long ≤ 2 ^ 64 - 1 → min long (if b then pause - was else 2 ^ 64 - 1) ≤ more
+work_by : (b : Bool) (pause was more long : ℕ) → pause < 2 ^ 64 → long ≤ 2 ^ 64 - 1
+    → min long (if b then pause - was else 2 ^ 64 - 1) ≤ more
     → (long ≤ more) ⊎ ((if b then pause - min (was + more) (2 ^ 64 - 1) else 2 ^ 64 - 1) ≡ 0)
 work_by true pause was more long fits most come = by_order (cases_lt more long) where
   by_order : (more < long) ⊎ (long ≤ more) → (long ≤ more) ⊎ (pause - min (was + more) (2 ^ 64 - 1) ≡ 0)
@@ -57,15 +60,20 @@ work_so p s d next fits runs normal come =
 its_own : (p : Policy) (s : NodeSnapshot) (d e : Deadline) → p.deadline ≡ Some d → Runs p s e → Runs p s d
 its_own p s d e is runs = subst (λ (x : Deadline). Runs p s x) (the_same e d (sym runs.is_set ∙ is)) runs
 
-pub timer_fires : (p : Policy) (s : NodeSnapshot) (d e : Deadline) (next timer left : ℕ) → p.deadline ≡ Some d → timer ≡ lasts p.setting p.raise s.merge_wait d - d.waited → left ≡ timer
+pub timer_fires : (p : Policy) (s : NodeSnapshot) (d e : Deadline) (next timer left : ℕ) → p.deadline ≡ Some d
+    → timer ≡ lasts p.setting p.raise s.merge_wait d - d.waited → left ≡ timer
     → left ≤ waited p next → Runs p s e → IsDue (passed next p) s
-timer_fires p s d e next timer left is long same come runs = timer_so p s d next (its_own p s d e is runs) (subst (λ (n : ℕ). n ≤ waited p next) (same ∙ long) come)
+timer_fires p s d e next timer left is long same come runs =
+    timer_so p s d next (its_own p s d e is runs) (subst (λ (n : ℕ). n ≤ waited p next) (same ∙ long) come)
 
-pub work_fires : (p : Policy) (s : NodeSnapshot) (d e : Deadline) (next timer work left : ℕ) → p.pause < 2 ^ 64 → s.phase ≡ Normal → p.deadline ≡ Some d
-    → timer ≡ lasts p.setting p.raise s.merge_wait d - d.waited → work ≡ work_left p s → left ≡ min timer work → left ≤ waited p next → Runs p s e → IsDue (passed next p) s
+pub work_fires : (p : Policy) (s : NodeSnapshot) (d e : Deadline) (next timer work left : ℕ) → p.pause < 2 ^ 64 → s.phase ≡ Normal
+    → p.deadline ≡ Some d
+    → timer ≡ lasts p.setting p.raise s.merge_wait d - d.waited → work ≡ work_left p s → left ≡ min timer work → left ≤ waited p next
+    → Runs p s e → IsDue (passed next p) s
 work_fires p s d e next timer work left fits normal is long rests same come runs =
     work_so p s d next fits (its_own p s d e is runs) normal
-    (subst (λ (n : ℕ). n ≤ waited p next) (same ∙ (ap (λ (n : ℕ). min n work) long ∙ ap (λ (n : ℕ). min (lasts p.setting p.raise s.merge_wait d - d.waited) n) rests)) come)
+    (subst (λ (n : ℕ). n ≤ waited p next) (same ∙ (ap (λ (n : ℕ). min n work) long
+    ∙ ap (λ (n : ℕ). min (lasts p.setting p.raise s.merge_wait d - d.waited) n) rests)) come)
 
 pub some_more : {T : Type 0} (o : Option T) (P Q : T → Type 0) → ((x : T) → P x → Q x) → IfSome o P → IfSome o Q
 some_more None P Q f h = tt

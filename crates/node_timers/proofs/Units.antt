@@ -7,7 +7,8 @@ use Rattle.node_timers.specs.declared.wait.Wait.TheVariants.{Check, Merge, Accep
 use Rattle.node_timers.specs.Timers.{first_pause, jitter_of, least_of, measured, most_pause}
 use Rattle.node_timers.specs.Laws.{Scales}
 
-least : (unit : ℕ) → 1 ≤ unit → (settled : Bool) (wait : Wait) → least_of (measured unit) settled wait ≡ unit * least_of (measured 1) settled wait
+least : (unit : ℕ) → 1 ≤ unit → (settled : Bool) (wait : Wait)
+    → least_of (measured unit) settled wait ≡ unit * least_of (measured 1) settled wait
 least unit some true Check = omega (arith, some)
 least unit some false Check = omega (arith, some)
 least unit some true Merge = omega (arith, some)
@@ -87,7 +88,8 @@ both p q = cc
 first : (unit : ℕ) → 1 ≤ unit → (jobs : ℕ) → first_pause (measured unit) (20 * jobs) ≡ unit * first_pause (measured 1) (20 * jobs)
 first unit some jobs =
     both (long unit some jobs) (most_of unit some)
-    ∙ (times_min unit (5 + jobs) 300 ∙ ap (λ (n : ℕ). unit * n) (sym (both (long 1 (omega arith) jobs ∙ once (5 + jobs)) (most_of 1 (omega arith)))))
+    ∙ (times_min unit (5 + jobs) 300 ∙ ap (λ (n : ℕ). unit * n)
+    (sym (both (long 1 (omega arith) jobs ∙ once (5 + jobs)) (most_of 1 (omega arith)))))
 
 pub scaled : (unit : ℕ) → 1 ≤ unit → Scales unit
 scaled unit some = record {

@@ -19,12 +19,15 @@ left_by true pause rested none now some = omega (arith, none, now, some)
 left_by false pause rested none now some = absurd cc
 
 -- work that begins to rest isn't due
-pub rests_first : (b c : Bool) (s : TimerSettings) (pending was pause rested : ℕ) → (if b then pause - rested else 2 ^ 64 - 1) ≡ 0 → rested ≡ 0
+pub rests_first : (b c : Bool) (s : TimerSettings) (pending was pause rested : ℕ) → (if b then pause - rested else 2 ^ 64 - 1) ≡ 0
+    → rested ≡ 0
     → pause ≡ (if c then first_pause s pending else longer_pause s was) → ⊥
-rests_first b c s pending was pause rested none now is = left_by b pause rested none now (subst (λ (n : ℕ). 1 ≤ n) (sym is) (pause_by c s pending was))
+rests_first b c s pending was pause rested none now is =
+    left_by b pause rested none now (subst (λ (n : ℕ). 1 ≤ n) (sym is) (pause_by c s pending was))
 
 -- a wait of a millisecond at least isn't over where none of it is
-pub not_over : (twice : Bool) (length more waited : ℕ) → 1 ≤ length → waited ≡ 0 → min (times twice (length + more)) (2 ^ 64 - 1) ≤ waited → ⊥
+pub not_over : (twice : Bool) (length more waited : ℕ) → 1 ≤ length → waited ≡ 0 → min (times twice (length + more)) (2 ^ 64 - 1) ≤ waited
+    → ⊥
 not_over true length more waited some none over = omega (arith, some, none, over)
 not_over false length more waited some none over = omega (arith, some, none, over)
 

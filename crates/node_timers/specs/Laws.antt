@@ -13,7 +13,8 @@ use Rattle.node_timers.specs.Policy.{Policy, HasCome, IsWorkDue, Dispatches, IsW
 
 -- a deadline that is set now has not come, whatever is seen
 abbrev pub TimerFiresOnce : Type 0
-TimerFiresOnce = (p : Policy) (s : NodeSnapshot) (setting : TimerSettings) (soon : Option Bool) (settled : Bool) (raise slowest jitter : ℕ) (wait : Wait) (group : Group) (d : Deadline) →
+TimerFiresOnce = (p : Policy) (s : NodeSnapshot) (setting : TimerSettings) (soon : Option Bool) (settled : Bool) (raise slowest jitter : ℕ)
+    (wait : Wait) (group : Group) (d : Deadline) →
     IsSet soon setting settled raise slowest jitter wait group d → HasCome p s d → ⊥
 
 -- work that was dispatched now is not due, whatever is seen

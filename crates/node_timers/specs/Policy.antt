@@ -1,5 +1,6 @@
 -- What a policy keeps, and what it fires.
-use Rattle.std.specs.Prelude.{ℕ, ◌≡◌, ◌≢◌, ◌⊎◌, ◌+◌, ◌-◌, ◌/◌, ◌≤◌, ◌<◌, ◌^◌, max, min, Bool, true, false, not, ◌&&◌, ◌||◌, ◌==◌, nat_le, nat_lt, if◌then◌else◌, List, slice_index, slice_set, replicate, Option, Some, None, is_some}
+use Rattle.std.specs.Prelude.{ℕ, ◌≡◌, ◌≢◌, ◌⊎◌, ◌+◌, ◌-◌, ◌/◌, ◌≤◌, ◌<◌, ◌^◌, max, min, Bool, true, false, not, ◌&&◌, ◌||◌, ◌==◌, nat_le}
+use Rattle.std.specs.Prelude.{nat_lt, if◌then◌else◌, List, slice_index, slice_set, replicate, Option, Some, None, is_some}
 use Rattle.std.specs.List.{list_any}
 use Rattle.std.specs.Option.{unwrap_or}
 use Rattle.group_task.specs.Group.{Group}
@@ -15,10 +16,13 @@ use Rattle.node_timers.specs.declared.deadline.Deadline.{Deadline}
 use Rattle.node_timers.specs.declared.snapshot.NodeSnapshot.{NodeSnapshot}
 use Rattle.rand_pcg.specs.Lcg.{Lcg}
 use Rattle.node_timers.specs.Jitter.{behind_word, drawn, seeded}
-use Rattle.node_timers.specs.Timers.{IsSet, answered, at_once, comes_soon, is_behind_question, is_check_wait, is_late, paced, wait_of, timer_of, first_pause, graced, is_led_by, jitter_of, lasts, lateness, later, longer_pause, put_off}
+use Rattle.node_timers.specs.Timers.{IsSet, answered, at_once, comes_soon, is_behind_question, is_check_wait, is_late, paced, wait_of}
+use Rattle.node_timers.specs.Timers.{timer_of, first_pause, graced, is_led_by, jitter_of, lasts, lateness, later, longer_pause, put_off}
 
--- the policy of a node: the time that was told last, how much of what comes isn't waited for, the deadline that is set, whether its group is settled
--- (a check was made or heard of in it), how many checks were fired and how many of them before each node was last heard, the oldest job that was seen, how long work rests and for how long it has to before it is
+-- the policy of a node: the time that was told last, how much of what comes isn't waited for, the deadline that is set, whether its group
+-- is settled
+-- (a check was made or heard of in it), how many checks were fired and how many of them before each node was last heard, the oldest job
+-- that was seen, how long work rests and for how long it has to before it is
 -- dispatched (at once where that is 0), and how long the node's last raise took
 pub record Policy : Type 0 where
   pub id : ℕ
@@ -91,12 +95,14 @@ spent ms p = record p { skip = min (p.skip + ms) (2 ^ 64 - 1) }
 abbrev pub heard_from : ℕ → Policy → Policy
 heard_from id p = record p { heard = slice_set p.heard id p.checks }
 
--- a member asks at once behind a check of its coordinator, by which its group is settled; the coordinator of a settled group looks for others at once behind a check of another one; elsewhere a greater node
+-- a member asks at once behind a check of its coordinator, by which its group is settled; the coordinator of a settled group looks for
+-- others at once behind a check of another one; elsewhere a greater node
 -- that looks for other coordinators is to merge first
 abbrev pub asked_with : ℕ → Policy → Deadline → Policy
 asked_with from p d =
     if is_led_by from d then record p { deadline = Some (at_once d); settled = true }
-    else (if is_check_wait d.wait && p.settled then record p { deadline = Some (at_once d); prompted = true } else record p { deadline = Some (if nat_lt p.id from then put_off d else d) })
+    else (if is_check_wait d.wait && p.settled then record p { deadline = Some (at_once d); prompted = true }
+    else record p { deadline = Some (if nat_lt p.id from then put_off d else d) })
 
 abbrev pub asked_where : ℕ → Policy → Option Deadline → Policy
 asked_where from p None = p
@@ -118,7 +124,8 @@ all_answered s p = record p { deadline = answered_deadline p.setting (is_some s.
 abbrev pub slowest_late : ℕ → Policy → ℕ
 slowest_late late p = max p.slowest (min late p.setting.slowest_most)
 
--- how long a round trip is taken to be once an answer took so long: as long as the longest of the last ones, each of which counts an eighth less with the next; no longer than is set, and a quarter of that at least
+-- how long a round trip is taken to be once an answer took so long: as long as the longest of the last ones, each of which counts an eighth
+-- less with the next; no longer than is set, and a quarter of that at least
 abbrev pub trip_with : ℕ → Policy → ℕ
 trip_with took p = max (min (max took (p.round_trip - (p.round_trip / 8 + 1))) p.setting.unit) (p.setting.unit / 4)
 
@@ -133,7 +140,8 @@ answer_since (Some asked) p = answer_took (unwrap_or p.told 0 - asked) p
 abbrev pub answer_came : Policy → Policy
 answer_came p = answer_since p.asked p
 
--- when the node asked last, and how slow answers are reckoned to be, once the deadline of this wait is set: what was slow counts less with each question
+-- when the node asked last, and how slow answers are reckoned to be, once the deadline of this wait is set: what was slow counts less with
+-- each question
 abbrev pub asked_at : Wait → Policy → Option ℕ
 asked_at wait p = if is_behind_question wait then p.told else p.asked
 
@@ -166,7 +174,8 @@ random_at wait p = if is_some (comes_soon p.soon p.prompted wait) then p.random 
 
 -- the deadline of this wait is set
 abbrev pub Sets : Policy → Wait → Group → Deadline → Type 0
-Sets p wait group d = IsSet (comes_soon p.soon p.prompted wait) (paced_at wait p) p.settled p.raise p.slowest (jitter_at wait p) wait group d
+Sets p wait group d = IsSet (comes_soon p.soon p.prompted wait)
+    (paced_at wait p) p.settled p.raise p.slowest (jitter_at wait p) wait group d
 
 -- its times are numbers of 64 bits
 abbrev pub IsWithinDeadline : Option Deadline → Type 0
@@ -184,7 +193,8 @@ is_silent p id = not (id == p.id) && nat_le p.setting.silent_checks (p.checks - 
 abbrev pub has_silent : Policy → List ℕ → Bool
 has_silent p members = list_any (is_silent p) members
 
--- what is fired when a wait is over: its timer, but a coordinator that found no other gives its group up at the end of a check, where a member is silent
+-- what is fired when a wait is over: its timer, but a coordinator that found no other gives its group up at the end of a check, where a
+-- member is silent
 abbrev pub event_at : Policy → NodeSnapshot → Wait → Event
 event_at p s Merge = if not (is_some s.merge_wait) && has_silent p s.members then on.Recover else on.Timer (timer_of Merge)
 event_at p s wait = on.Timer (timer_of wait)
@@ -215,7 +225,8 @@ rests None seen = false
 rests (Some oldest) None = false
 rests (Some oldest) (Some seen) = oldest == seen
 
--- what a look at the work of a Normal node leaves where none of it is dispatched: where it doesn't rest, it has to from now on; a node that keeps no job
+-- what a look at the work of a Normal node leaves where none of it is dispatched: where it doesn't rest, it has to from now on; a node that
+-- keeps no job
 -- has none to dispatch in a new group
 abbrev pub looked_at : NodeSnapshot → Policy → Policy
 looked_at s p = if rests s.oldest p.oldest then p else record p { oldest = s.oldest; rested = 0; pause = first_pause p.setting s.pending }
@@ -246,7 +257,8 @@ pub record MovesDeadline (s : NodeSnapshot) (old new : Policy) : Type 0 where
   pub stalled : (d : Deadline) → IsStalled old s d → new.deadline ≡ Some (graced old.setting old.raise s.merge_wait d)
   -- one that has come is removed, and one that isn't over stays
   pub spent : (d : Deadline) → HasCome old s d → new.deadline ≡ None
-  pub runs_on : (d : Deadline) → Runs old s d → d.waited < lasts old.setting old.raise s.merge_wait d → (new.deadline ≡ Some d) × (new.slowest ≡ old.slowest)
+  pub runs_on : (d : Deadline) → Runs old s d → d.waited < lasts old.setting old.raise s.merge_wait d
+      → (new.deadline ≡ Some d) × (new.slowest ≡ old.slowest)
   -- how long it has been over the node itself was held up
   pub held_up : (d : Deadline) → IsOver old s d → new.slowest ≡ slowest_late (lateness old.setting old.raise s.merge_wait d) old
   pub asked : (d : Deadline) → Runs old s d → new.asked ≡ old.asked
@@ -268,7 +280,12 @@ pub record SameWork (p q : Policy) : Type 0 where
 
 -- behind a dispatch work rests anew, longer than before
 abbrev pub dispatched : NodeSnapshot → Policy → Policy
-dispatched s p = record p { oldest = s.oldest; rested = 0; pause = if p.pause == 0 then first_pause p.setting s.pending else longer_pause p.setting p.pause }
+dispatched s p = record p {
+  oldest = s.oldest;
+  rested = 0;
+  pause = if p.pause == 0 then first_pause p.setting s.pending
+      else longer_pause p.setting p.pause;
+}
 
 -- what a dispatch does to work, and a look of a Normal node at which nothing is due; nothing else changes it
 pub record Dispatches (fired : Option Event) (s : NodeSnapshot) (old new : Policy) : Type 0 where

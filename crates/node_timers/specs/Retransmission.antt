@@ -1,5 +1,6 @@
 -- The messages that a node sent and still waits for.
-use Rattle.std.specs.Prelude.{ℕ, ◌++◌, ◌+◌, ◌-◌, ◌*◌, ◌^◌, min, nat_le, List, [], take, drop, map, Bool, true, false, not, ◌&&◌, ◌||◌, ◌==◌, if◌then◌else◌, Option, Some, None}
+use Rattle.std.specs.Prelude.{ℕ, ◌++◌, ◌+◌, ◌-◌, ◌*◌, ◌^◌, min, nat_le, List, [], take, drop, map, Bool, true, false, not, ◌&&◌, ◌||◌, ◌==◌}
+use Rattle.std.specs.Prelude.{if◌then◌else◌, Option, Some, None}
 use Rattle.std.specs.List.{filter, list_any}
 use Rattle.group_task.specs.Group.{Group, same_group}
 use Rattle.group_task.specs.Ids.{has}
@@ -30,7 +31,8 @@ is_of node (Some other) = node == other
 
 -- a node that invites waits for those that haven't accepted; one that left its own group for another's still tells its old members
 abbrev pub invites : State → ℕ → ℕ → Group → Bool
-invites s sender receiver group = (in_phase Election s.phase && not (has s.up receiver)) || (in_phase Reorganization s.phase && not (group.creator == sender))
+invites s sender receiver group = (in_phase Election s.phase && not (has s.up receiver))
+    || (in_phase Reorganization s.phase && not (group.creator == sender))
 
 -- whether a node in this state, where this one answered a check just now, still waits for what comes of a message that it sent: the
 -- answer to its question, who accepts its invitation, its task, or who has the task
@@ -39,7 +41,8 @@ is_waited_for answered s sender receiver says.AreYouCoordinator = s.checking && 
 is_waited_for answered s sender receiver (says.AreYouThere group) = s.probing && same_group group s.group
 is_waited_for answered s sender receiver (says.Invitation group) = same_group group s.group && invites s sender receiver group
 is_waited_for answered s sender receiver (says.Accept group) = in_phase Reorganization s.phase && same_group group s.group
-is_waited_for answered s sender receiver (says.Ready task) = in_phase Reorganization s.phase && (same_group task.group s.group && has s.unready receiver)
+is_waited_for answered s sender receiver (says.Ready task) =
+    in_phase Reorganization s.phase && (same_group task.group s.group && has s.unready receiver)
 is_waited_for answered s sender receiver body = false
 
 abbrev pub is_waited : Option ℕ → State → Envelope → Bool
@@ -94,7 +97,10 @@ is_waited_still answered s r = is_waited answered s r.message
 
 -- in this state, where these were sent since and this node answered a check
 abbrev pub waits_since : Option ℕ → List Envelope → State → Waits → Waits
-waits_since answered sent s w = record w { repeats = filter (is_waited_still answered s) w.repeats ++ map first (filter (is_waited answered s) sent) }
+waits_since answered sent s w = record w {
+  repeats = filter (is_waited_still answered s) w.repeats
+      ++ map first (filter (is_waited answered s) sent);
+}
 
 -- behind an event that led to this state, in which these were sent
 abbrev pub waits_behind : Option Event → List Envelope → State → Waits → Waits
@@ -127,5 +133,6 @@ waits_on now w =
     if has_come now w then record {
       unit = w.unit;
       next = min (now + w.unit) (2 ^ 64 - 1);
-      repeats = map nearer (drop MOST_AT_ONCE (overdue w.repeats)) ++ map nearer (filter is_resting w.repeats) ++ map rested (take MOST_AT_ONCE (overdue w.repeats));
+      repeats = map nearer (drop MOST_AT_ONCE (overdue w.repeats)) ++ map nearer (filter is_resting w.repeats)
+          ++ map rested (take MOST_AT_ONCE (overdue w.repeats));
     } else w

@@ -1,5 +1,6 @@
 -- What a node waits for, for how long, and the timer that fires then.
-use Rattle.std.specs.Prelude.{ℕ, ◌≡◌, ◌+◌, ◌-◌, ◌*◌, ◌/◌, ◌^◌, ◌≤◌, max, min, Bool, true, false, not, nat_lt, ◌&&◌, ◌==◌, if◌then◌else◌, Option, Some, None, is_some}
+use Rattle.std.specs.Prelude.{ℕ, ◌≡◌, ◌+◌, ◌-◌, ◌*◌, ◌/◌, ◌^◌, ◌≤◌, max, min, Bool, true, false, not, nat_lt, ◌&&◌, ◌==◌, if◌then◌else◌}
+use Rattle.std.specs.Prelude.{Option, Some, None, is_some}
 use Rattle.group_task.specs.Group.{Group}
 use Rattle.node_core.specs.declared.phase.Phase.{Phase}
 use Rattle.node_core.specs.declared.phase.Phase.TheVariants.{Down, Election, Reorganization, Normal}
@@ -16,7 +17,8 @@ abbrev pub wait_in : Phase → Bool → Bool → Bool → Option Wait
 wait_in Down coordinator checking probing = None
 wait_in Election coordinator checking probing = Some Accept
 wait_in Reorganization coordinator checking probing = Some (if coordinator then Ready else (if probing then Answer else Task))
-wait_in Normal coordinator checking probing = Some (if coordinator then (if checking then Merge else Check) else (if probing then Answer else Coordinator))
+wait_in Normal coordinator checking probing = Some (if coordinator then (if checking then Merge else Check)
+    else (if probing then Answer else Coordinator))
 
 abbrev pub wait_of : NodeSnapshot → Option Wait
 wait_of s = wait_in s.phase s.is_coordinator s.checking s.probing
@@ -116,7 +118,8 @@ joined s d = if d.had_grace then d else record d { length = min d.length (d.wait
 
 -- all have answered: a look for other coordinators is over, where it found none or waits for nobody's turn, and soon an election is
 abbrev pub answered : TimerSettings → Bool → Deadline → Deadline
-answered s found d = if is_merge d.wait then (if found && not d.soon then d else at_once d) else (if is_accept d.wait then joined s d else d)
+answered s found d = if is_merge d.wait then (if found && not d.soon then d else at_once d)
+    else (if is_accept d.wait then joined s d else d)
 
 -- what a node waits for once it asked: the coordinator, or all who may lead
 abbrev pub is_behind_question : Wait → Bool
@@ -136,7 +139,8 @@ is_led_by id d = is_question d.wait && d.group.creator == id
 abbrev pub answer_least : TimerSettings → ℕ → ℕ
 answer_least s slowest = max s.answer_least (3 * slowest)
 
--- who is asked may be in a raise, and answers behind it; others are waited for as long as the slowest answer took, and a coordinator's answer longer
+-- who is asked may be in a raise, and answers behind it; others are waited for as long as the slowest answer took, and a coordinator's
+-- answer longer
 abbrev pub patience : TimerSettings → Wait → ℕ → ℕ → ℕ
 patience s Merge raise slowest = raise + (slowest - s.merge * s.unit)
 patience s Accept raise slowest = slowest - s.accept * s.unit
@@ -144,7 +148,8 @@ patience s Ready raise slowest = raise + (slowest - s.ready * s.unit)
 patience s Answer raise slowest = raise + (answer_least s slowest - s.answer * s.unit)
 patience s wait raise slowest = 0
 
--- how long a round trip is taken to be in a wait, in milliseconds: as long as was measured before the first check of a group, and behind each check. Where a group is settled, checks and questions come
+-- how long a round trip is taken to be in a wait, in milliseconds: as long as was measured before the first check of a group, and behind
+-- each check. Where a group is settled, checks and questions come
 -- as often in a slow network as in one whose round trip takes so long at most
 abbrev pub unit_at : TimerSettings → ℕ → Bool → Wait → ℕ
 unit_at s round_trip settled Check = if settled then min s.unit s.rest_most else round_trip
@@ -159,7 +164,8 @@ paced s round_trip settled wait = record s { unit = unit_at s round_trip settled
 abbrev pub soon_by : ℕ → Option Bool
 soon_by soon = if soon == 0 then None else Some (soon == 1)
 
--- what comes soon: such a check, and the merge behind a check that another coordinator's one, or a recovery without a silent member, prompted the node to
+-- what comes soon: such a check, and the merge behind a check that another coordinator's one, or a recovery without a silent member,
+-- prompted the node to
 abbrev pub comes_soon : ℕ → Bool → Wait → Option Bool
 comes_soon soon prompted Check = soon_by soon
 comes_soon soon prompted Merge = if prompted then Some true else None
@@ -183,7 +189,8 @@ least_at None s least = least
 least_at (Some second) s least = soon_length s second
 
 -- the deadline of this wait in a group, with so much jitter, none of which is over
-pub record IsSet (soon : Option Bool) (s : TimerSettings) (settled : Bool) (raise slowest jitter : ℕ) (wait : Wait) (group : Group) (d : Deadline) : Type 0 where
+pub record IsSet (soon : Option Bool) (s : TimerSettings) (settled : Bool) (raise slowest jitter : ℕ) (wait : Wait) (group : Group)
+    (d : Deadline) : Type 0 where
   pub its_wait : d.wait ≡ wait
   pub its_group : d.group ≡ group
   pub from_now : d.waited ≡ 0

@@ -1,5 +1,6 @@
 -- What comes of a node over a file, among the histories that begin at the common opening.
-use Rattle.std.proofs.Common.{◌≡◌, ◌⊎◌, ℕ, ◌+◌, ◌<◌, Bool, true, false, ◌&&◌, List, [], ◌∷◌, ◌++◌, refl, sym, ◌∙◌, ap, subst, inl, inr, arith, Option, Some, None, IsSome, eq-zero-or-pos}
+use Rattle.std.proofs.Common.{◌≡◌, ◌⊎◌, ℕ, ◌+◌, ◌<◌, Bool, true, false, ◌&&◌, List, [], ◌∷◌, ◌++◌, refl, sym, ◌∙◌, ap, subst, inl, inr}
+use Rattle.std.proofs.Common.{arith, Option, Some, None, IsSome, eq-zero-or-pos}
 use Rattle.std.specs.Prelude.{if◌then◌else◌}
 use Rattle.job_model.specs.declared.job.Job.{Job}
 use Rattle.job_model.specs.declared.node_command.NodeCommand.{NodeCommand as Command}
@@ -15,7 +16,8 @@ use Rattle.node_core.specs.State.{State, is_down}
 use Rattle.histories.specs.Lists.{IsAmong}
 use Rattle.histories.specs.NodeState.{NodeState, opening}
 use Rattle.histories.specs.declared.history_event.HistoryEvent.{HistoryEvent}
-use Rattle.histories.specs.declared.history_event.HistoryEvent.TheVariants.{Did, Refused, Faulted, NoOp, Crashed, Recovered, MountFailed, RaiseFailed, RaiseRefused}
+use Rattle.histories.specs.declared.history_event.HistoryEvent.TheVariants.{Did, Refused, Faulted, NoOp, Crashed, Recovered, MountFailed}
+use Rattle.histories.specs.declared.history_event.HistoryEvent.TheVariants.{RaiseFailed, RaiseRefused}
 use Rattle.histories.specs.HistoryEvent.{Entry, event_of, brought}
 use Rattle.histories.specs.After.{after, sent_at}
 use Rattle.histories.specs.Possible.{IsPossible}
@@ -46,7 +48,8 @@ unless : (b : Bool) → (if b then None else Some Stranger) ≡ None → b ≡ t
 unless true h = refl
 unless false h = absurd cc
 
-addressed : (nodes self : ℕ) (event : Event) (s : State) (m : Envelope) → refusal_of nodes self event s ≡ None → IsAmong m (brought (Some event)) → m.receiver ≡ self
+addressed : (nodes self : ℕ) (event : Event) (s : State) (m : Envelope) → refusal_of nodes self event s ≡ None
+    → IsAmong m (brought (Some event)) → m.receiver ≡ self
 addressed nodes self (Deliver d) s m h i = elim i [
   | inl e ↦ ap (λ (x : Envelope). x.receiver) e ∙ eq_nat d.receiver self (and_left _ _ (unless (is_known nodes self d) h))
   | inr none ↦ absurd none
@@ -61,7 +64,8 @@ first_moment self nodes s [] = inl refl
 first_moment self nodes s (e ∷ es) = inl refl
 
 -- what an entry takes is addressed to the node, and brought
-pub entry_takes : (self nodes : ℕ) (s : NodeState) (what : HistoryEvent) (m : Envelope) → IsPossible self nodes s what → IsAmong m (taken what) → (IsAmong m (brought (event_of what))) × (m.receiver ≡ self)
+pub entry_takes : (self nodes : ℕ) (s : NodeState) (what : HistoryEvent) (m : Envelope) → IsPossible self nodes s what
+    → IsAmong m (taken what) → (IsAmong m (brought (event_of what))) × (m.receiver ≡ self)
 entry_takes self nodes s (Did event) m may i = (i, addressed nodes self event s.state m may.1.by_core i)
 entry_takes self nodes s (Faulted event) m may i = (i, addressed nodes self event s.state m may.0.1.by_core i)
 entry_takes self nodes s what m may i = absurd i
@@ -78,12 +82,17 @@ calm (e ∷ es) = calm_by e.what e (calm es)
 abbrev entry : HistoryEvent → List Envelope → Entry
 entry what sent = record { what = what; sent = sent }
 
-keep_one : (self nodes : ℕ) (s : NodeState) (what : HistoryEvent) (sent : List Envelope) (es rest : List Entry) → taken what ≡ brought (event_of what) → IsPossible self nodes s what → sent ≡ sent_at self nodes s what
-    → Covers self nodes (after self nodes s what) es (after self nodes s what) rest → Covers self nodes s (entry what sent ∷ es) s (entry what sent ∷ rest)
+keep_one : (self nodes : ℕ) (s : NodeState) (what : HistoryEvent) (sent : List Envelope) (es rest : List Entry)
+    → taken what ≡ brought (event_of what) → IsPossible self nodes s what → sent ≡ sent_at self nodes s what
+    → Covers self nodes (after self nodes s what) es (after self nodes s what) rest
+    → Covers self nodes s (entry what sent ∷ es) s (entry what sent ∷ rest)
 keep_one self nodes s what sent es rest all may is c = record {
   follows = (may, is, c.follows);
   moments = λ v i up. elim i [ inl e ↦ inl e | inr j ↦ inr (c.moments v j up) ];
-  sends = λ m i. elim (among_either m sent (sent_in es) i) [ inl l ↦ among_left m sent (sent_in rest) l | inr r ↦ among_right m sent (sent_in rest) (c.sends m r) ];
+  sends = λ m i. elim (among_either m sent (sent_in es) i) [
+    | inl l ↦ among_left m sent (sent_in rest) l
+    | inr r ↦ among_right m sent (sent_in rest) (c.sends m r)
+  ];
   takes = λ m i. elim (among_either m (brought (event_of what)) (brought_in rest) i) [
     | inl l ↦ (let here : IsAmong m (taken what) = subst (λ (ms : List Envelope). IsAmong m ms) (sym all) l in
         (among_left m (taken what) (taken_in es) here, (entry_takes self nodes s what m may here).1))
@@ -91,11 +100,17 @@ keep_one self nodes s what sent es rest all may is c = record {
   ];
 }
 
-calm_one : (self nodes : ℕ) (s : NodeState) (what : HistoryEvent) (sent : List Envelope) (es rest : List Entry) → IsPossible self nodes s what → sent ≡ sent_at self nodes s what
-    → Covers self nodes (after self nodes s what) es (after self nodes s what) rest → Covers self nodes s (entry what sent ∷ es) s (calm_by what (entry what sent) rest)
+calm_one : (self nodes : ℕ) (s : NodeState) (what : HistoryEvent) (sent : List Envelope) (es rest : List Entry)
+    → IsPossible self nodes s what → sent ≡ sent_at self nodes s what
+    → Covers self nodes (after self nodes s what) es (after self nodes s what) rest
+    → Covers self nodes s (entry what sent ∷ es) s (calm_by what (entry what sent) rest)
 calm_one self nodes s (Refused event fault) sent es rest may is c = record {
   follows = c.follows;
-  moments = λ v i up. elim i [ inl e ↦ c.moments v (subst (λ (x : State). IsAmong x (vectors self nodes s es)) (sym e) (first_moment self nodes s es)) up | inr j ↦ c.moments v j up ];
+  moments = λ v i up. elim i [
+    | inl e ↦ c.moments v (subst (λ (x : State). IsAmong x (vectors self nodes s es)) (sym e)
+        (first_moment self nodes s es)) up
+    | inr j ↦ c.moments v j up
+  ];
   sends = λ m i. elim (among_either m sent (sent_in es) i) [
     | inl l ↦ (let none : IsAmong m [] = subst (λ (ms : List Envelope). IsAmong m ms) is l in absurd none)
     | inr r ↦ c.sends m r
@@ -111,11 +126,17 @@ calm_covers self nodes s (e ∷ es) follows =
 
 -- ---- behind what was before
 
-follows_both : (self nodes : ℕ) (s : NodeState) (es fs : List Entry) → Follows self nodes s es → Follows self nodes (replay self nodes s es) fs → Follows self nodes s (es ++ fs)
+follows_both : (self nodes : ℕ) (s : NodeState) (es fs : List Entry) → Follows self nodes s es
+    → Follows self nodes (replay self nodes s es) fs → Follows self nodes s (es ++ fs)
 follows_both self nodes s [] fs first second = second
-follows_both self nodes s (e ∷ es) fs first second = (first.0, first.1, follows_both self nodes (after self nodes s e.what) es fs first.2 second)
+follows_both self nodes s (e ∷ es) fs first second = (
+  first.0,
+  first.1,
+  follows_both self nodes (after self nodes s e.what) es fs first.2 second,
+)
 
-moment_behind : (self nodes : ℕ) (s : NodeState) (es fs : List Entry) (v : State) → IsAmong v (vectors self nodes (replay self nodes s es) fs) → IsAmong v (vectors self nodes s (es ++ fs))
+moment_behind : (self nodes : ℕ) (s : NodeState) (es fs : List Entry) (v : State)
+    → IsAmong v (vectors self nodes (replay self nodes s es) fs) → IsAmong v (vectors self nodes s (es ++ fs))
 moment_behind self nodes s [] fs v i = i
 moment_behind self nodes s (e ∷ es) fs v i = inr (moment_behind self nodes (after self nodes s e.what) es fs v i)
 
@@ -123,7 +144,8 @@ sent_behind : (es fs : List Entry) (m : Envelope) → IsAmong m (sent_in fs) →
 sent_behind [] fs m i = i
 sent_behind (e ∷ es) fs m i = among_right m e.sent (sent_in (es ++ fs)) (sent_behind es fs m i)
 
-brought_either : (es fs : List Entry) (m : Envelope) → IsAmong m (brought_in (es ++ fs)) → IsAmong m (brought_in es) ⊎ IsAmong m (brought_in fs)
+brought_either : (es fs : List Entry) (m : Envelope) → IsAmong m (brought_in (es ++ fs))
+    → IsAmong m (brought_in es) ⊎ IsAmong m (brought_in fs)
 brought_either [] fs m i = inr i
 brought_either (e ∷ es) fs m i = elim (among_either m (brought (event_of e.what)) (brought_in (es ++ fs)) i) [
   | inl l ↦ inl (among_left m (brought (event_of e.what)) (brought_in es) l)
@@ -135,13 +157,16 @@ pub record Embedded (self nodes : ℕ) (s : NodeState) (es : List Entry) : Type 
   pub other : List Entry
   pub covers : Covers self nodes s es (opening self) other
 
-reached_embedded : (self nodes : ℕ) (s : NodeState) (es : List Entry) → Reached self nodes s → Follows self nodes s es → Embedded self nodes s es
+reached_embedded : (self nodes : ℕ) (s : NodeState) (es : List Entry) → Reached self nodes s → Follows self nodes s es
+    → Embedded self nodes s es
 reached_embedded self nodes s es reached follows =
     let c = calm_covers self nodes s es follows in record {
       other = reached.before ++ calm es;
       covers = record {
-        follows = follows_both self nodes (opening self) reached.before (calm es) reached.follows (subst (λ (x : NodeState). Follows self nodes x (calm es)) (sym reached.leaves) c.follows);
-        moments = λ v i up. moment_behind self nodes (opening self) reached.before (calm es) v (subst (λ (x : NodeState). IsAmong v (vectors self nodes x (calm es))) (sym reached.leaves) (c.moments v i up));
+        follows = follows_both self nodes (opening self) reached.before (calm es) reached.follows
+            (subst (λ (x : NodeState). Follows self nodes x (calm es)) (sym reached.leaves) c.follows);
+        moments = λ v i up. moment_behind self nodes (opening self) reached.before (calm es) v
+            (subst (λ (x : NodeState). IsAmong v (vectors self nodes x (calm es))) (sym reached.leaves) (c.moments v i up));
         sends = λ m i. sent_behind reached.before (calm es) m (c.sends m i);
         takes = λ m i. elim (brought_either reached.before (calm es) m i) [ inl l ↦ absurd (reached.quiet m l) | inr r ↦ c.takes m r ];
       };
@@ -150,7 +175,8 @@ reached_embedded self nodes s es reached follows =
 -- ---- a file that begins at 0
 
 -- what a node does while it is down is left out
-leave_out : (self nodes : ℕ) (s : NodeState) (what : HistoryEvent) (sent : List Envelope) (es : List Entry) → is_down s.state.phase ≡ true → sent ≡ [] → Embedded self nodes (after self nodes s what) es
+leave_out : (self nodes : ℕ) (s : NodeState) (what : HistoryEvent) (sent : List Envelope) (es : List Entry) → is_down s.state.phase ≡ true
+    → sent ≡ [] → Embedded self nodes (after self nodes s what) es
     → Embedded self nodes s (entry what sent ∷ es)
 leave_out self nodes s what sent es fallen silent it = record {
   other = it.other;
@@ -185,28 +211,37 @@ up_again self nodes = reached_next self nodes _ _ (Recovered false) (again self 
 failed_again : (self nodes : ℕ) → Reached self nodes (after self nodes (after self nodes (opening self) Crashed) (RaiseFailed false))
 failed_again self nodes = reached_next self nodes _ _ (RaiseFailed false) (again self nodes) (refl, (λ e. absurd cc), omega arith) refl refl
 
-low_one : (self nodes : ℕ) (b : Bool) (what : HistoryEvent) (sent : List Envelope) (es : List Entry) → IsPossible self nodes (low self b) what → sent ≡ sent_at self nodes (low self b) what
-    → Follows self nodes (after self nodes (low self b) what) es → ((c : Bool) → Follows self nodes (low self c) es → Embedded self nodes (low self c) es) → Embedded self nodes (low self b) (entry what sent ∷ es)
+low_one : (self nodes : ℕ) (b : Bool) (what : HistoryEvent) (sent : List Envelope) (es : List Entry)
+    → IsPossible self nodes (low self b) what → sent ≡ sent_at self nodes (low self b) what
+    → Follows self nodes (after self nodes (low self b) what) es
+    → ((c : Bool) → Follows self nodes (low self c) es → Embedded self nodes (low self c) es)
+    → Embedded self nodes (low self b) (entry what sent ∷ es)
 low_one self nodes b (Did event) sent es may is follows rest =
     let still = at_down self nodes (low self b) event refl may.0 may.1.by_core in
     let same : after self nodes (low self b) (Did event) ≡ low self b = rw (still.state, still.wants) refl in
     leave_out self nodes (low self b) (Did event) sent es refl (is ∙ still.sent)
-    (subst (λ (x : NodeState). Embedded self nodes x es) (sym same) (rest b (subst (λ (x : NodeState). Follows self nodes x es) same follows)))
+    (subst (λ (x : NodeState). Embedded self nodes x es) (sym same)
+    (rest b (subst (λ (x : NodeState). Follows self nodes x es) same follows)))
 low_one self nodes b (Faulted event) sent es may is follows rest =
     let still = at_down self nodes (low self b) event refl may.0.0 may.0.1.by_core in
     let none : IsSome (doubted false) = subst (λ (x : Option Command). IsSome x) still.wants may.1 in absurd cc
-low_one self nodes b (Refused event fault) sent es may is follows rest = leave_out self nodes (low self b) (Refused event fault) sent es refl is (rest b follows)
+low_one self nodes b (Refused event fault) sent es may is follows rest =
+    leave_out self nodes (low self b) (Refused event fault) sent es refl is (rest b follows)
 low_one self nodes b (NoOp why) sent es may is follows rest = leave_out self nodes (low self b) (NoOp why) sent es refl is (rest b follows)
 low_one self nodes b Crashed sent es may is follows rest = leave_out self nodes (low self b) Crashed sent es refl is (rest b follows)
-low_one self nodes b MountFailed sent es may is follows rest = leave_out self nodes (low self b) MountFailed sent es refl is (rest b follows)
+low_one self nodes b MountFailed sent es may is follows rest =
+    leave_out self nodes (low self b) MountFailed sent es refl is (rest b follows)
 low_one self nodes b (Recovered false) sent es may is follows rest =
-    leave_out self nodes (low self b) (Recovered false) sent es refl is (reached_embedded self nodes (opening self) es (opens self nodes) follows)
+    leave_out self nodes (low self b) (Recovered false) sent es refl is
+    (reached_embedded self nodes (opening self) es (opens self nodes) follows)
 low_one self nodes true (Recovered true) sent es may is follows rest =
     leave_out self nodes (low self true) (Recovered true) sent es refl is (reached_embedded self nodes _ es (up_again self nodes) follows)
 low_one self nodes false (Recovered true) sent es may is follows rest = absurd (let none : IsSome (doubted false) = may.1 refl in cc)
-low_one self nodes b (RaiseFailed false) sent es may is follows rest = leave_out self nodes (low self b) (RaiseFailed false) sent es refl is (rest true follows)
+low_one self nodes b (RaiseFailed false) sent es may is follows rest =
+    leave_out self nodes (low self b) (RaiseFailed false) sent es refl is (rest true follows)
 low_one self nodes true (RaiseFailed true) sent es may is follows rest =
-    leave_out self nodes (low self true) (RaiseFailed true) sent es refl is (reached_embedded self nodes _ es (failed_again self nodes) follows)
+    leave_out self nodes (low self true) (RaiseFailed true) sent es refl is
+    (reached_embedded self nodes _ es (failed_again self nodes) follows)
 low_one self nodes false (RaiseFailed true) sent es may is follows rest = absurd (let none : IsSome (doubted false) = may.1 refl in cc)
 low_one self nodes b (RaiseRefused false) sent es may is follows rest = absurd (omega (arith, may.2))
 low_one self nodes true (RaiseRefused true) sent es may is follows rest = absurd (omega (arith, may.2))
@@ -217,12 +252,16 @@ low_embedded self nodes b [] follows = record {
   other = [];
   covers = record {
     follows = tt;
-    moments = λ v i up. elim i [ inl e ↦ (let both : true ≡ false = ap (λ (x : State). is_down x.phase) (sym e) ∙ up in absurd cc) | inr none ↦ absurd none ];
+    moments = λ v i up. elim i [
+      | inl e ↦ (let both : true ≡ false = ap (λ (x : State). is_down x.phase) (sym e) ∙ up in absurd cc)
+      | inr none ↦ absurd none
+    ];
     sends = λ m i. absurd i;
     takes = λ m i. absurd i;
   };
 }
-low_embedded self nodes b (e ∷ es) follows = low_one self nodes b e.what e.sent es follows.0 follows.1 follows.2 (λ c h. low_embedded self nodes c es h)
+low_embedded self nodes b (e ∷ es) follows = low_one self nodes b e.what e.sent es follows.0 follows.1 follows.2 (λ c h.
+    low_embedded self nodes c es h)
 
 -- ---- any file
 
@@ -236,12 +275,15 @@ no_ids file new zero_count = by_jobs file.pending refl (subst (λ (next : ℕ). 
     by_jobs [] is rise = λ i. record { counter = zero_count i; next = next i; pending = is i }
     by_jobs (job ∷ jobs) is rise = absurd (omega (arith, ids_end (job.id + 1) jobs 0 rise.1))
 
-by_first : (self nodes : ℕ) (file : Durable) (es : List Entry) → IsFormatted file → (file.counter ≡ 0) ⊎ (0 < file.counter) → Follows self nodes (at_first self file) es → Embedded self nodes (at_first self file) es
+by_first : (self nodes : ℕ) (file : Durable) (es : List Entry) → IsFormatted file → (file.counter ≡ 0) ⊎ (0 < file.counter)
+    → Follows self nodes (at_first self file) es → Embedded self nodes (at_first self file) es
 by_first self nodes file es new first follows = elim first [
   | inl none ↦ (let same = no_ids file new none in
-      subst (λ (d : Durable). Embedded self nodes (at_first self d) es) (sym same) (low_embedded self nodes false es (subst (λ (d : Durable). Follows self nodes (at_first self d) es) same follows)))
+      subst (λ (d : Durable). Embedded self nodes (at_first self d) es) (sym same)
+      (low_embedded self nodes false es (subst (λ (d : Durable). Follows self nodes (at_first self d) es) same follows)))
   | inr above ↦ reached_embedded self nodes (at_first self file) es (file_reached self nodes file new above) follows
 ]
 
-pub embedded : (self nodes : ℕ) (file : Durable) (es : List Entry) → IsFormatted file → Follows self nodes (at_first self file) es → Embedded self nodes (at_first self file) es
+pub embedded : (self nodes : ℕ) (file : Durable) (es : List Entry) → IsFormatted file → Follows self nodes (at_first self file) es
+    → Embedded self nodes (at_first self file) es
 embedded self nodes file es new follows = by_first self nodes file es new (eq-zero-or-pos file.counter) follows

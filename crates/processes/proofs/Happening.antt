@@ -1,5 +1,6 @@
 -- The premises can be met.
-use Rattle.std.proofs.Common.{◌≡◌, ℕ, zero, suc, true, false, List, [], ◌∷◌, slice_get, refl, sym, subst, inl, inr, arith, codes, Some, None}
+use Rattle.std.proofs.Common.{◌≡◌, ℕ, zero, suc, true, false, List, [], ◌∷◌, slice_get, refl, sym, subst, inl, inr, arith, codes, Some}
+use Rattle.std.proofs.Common.{None}
 use Rattle.job_model.specs.Durable.{formatted}
 use Rattle.wire_msg.specs.Envelope.{Envelope}
 use Rattle.wire_msg.specs.declared.body.Body.TheVariants as says
@@ -41,7 +42,12 @@ abbrev hears : Envelope → LineOutcome
 hears m = record { turns = Goes (Did (on.Deliver m)) ∷ []; due = None }
 
 abbrev process : List (List ℕ) → List LineOutcome → Process
-process lines all = record { kept = false; keyed = false; life = record { own = []; other = None; drawn = []; unit = 0; lines = lines; all = all } }
+process lines all = record {
+  kept = false;
+  keyed = false;
+  life =
+      record { own = []; other = None; drawn = []; unit = 0; lines = lines; all = all };
+}
 
 abbrev one : NodeProcesses
 one = record {
@@ -52,7 +58,12 @@ one = record {
 }
 
 abbrev other : NodeProcesses
-other = record { file = formatted; slots = 4; processes = process (codes "recover" ∷ codes "deliver 010100010000" ∷ []) (up ∷ hears question ∷ []) ∷ [] }
+other = record {
+  file = formatted;
+  slots = 4;
+  processes =
+      process (codes "recover" ∷ codes "deliver 010100010000" ∷ []) (up ∷ hears question ∷ []) ∷ [];
+}
 
 new : IsFormatted formatted
 new = record { first = refl; within = omega arith; jobs = omega arith }
@@ -82,7 +93,10 @@ one_runs = (
   ((tt, (tt, tt)), ((tt, tt), tt)),
   (
     (λ e. e),
-    ((((refl, (refl, (λ e. e), omega arith), tt), (tt, refl, tt)), refl), ((((refl, ((λ e. refl), hears_answer), (λ e. e)), tt), refl), tt)),
+    (
+      (((refl, (refl, (λ e. e), omega arith), tt), (tt, refl, tt)), refl),
+      ((((refl, ((λ e. refl), hears_answer), (λ e. e)), tt), refl), tt),
+    ),
     ((tt, (tt, tt)), ((tt, tt), tt)),
     tt,
   ),
@@ -92,7 +106,10 @@ other_runs : AreProcesses 1 2 4 (at_first 1 formatted) other.processes
 unfolding timed delivered decode_pairs message_of whole_at below_at body_at short_at named_at answer_at
 other_runs = (
   (λ e. e),
-  ((((refl, (refl, (λ e. e), omega arith), tt), (tt, refl, tt)), refl), ((((refl, ((λ e. refl), hears_question), (λ e. e)), tt), refl), tt)),
+  (
+    (((refl, (refl, (λ e. e), omega arith), tt), (tt, refl, tt)), refl),
+    ((((refl, ((λ e. refl), hears_question), (λ e. e)), tt), refl), tt),
+  ),
   ((tt, (tt, tt)), ((tt, tt), tt)),
   tt,
 )
@@ -119,7 +136,8 @@ abbrev cluster : List NodeProcesses
 cluster = one ∷ other ∷ []
 
 -- node n of the two
-by_node : (P : ℕ → NodeProcesses → Type 0) → P 0 one → P 1 other → (n : ℕ) (node : NodeProcesses) → slice_get cluster n ≡ Some node → P n node
+by_node : (P : ℕ → NodeProcesses → Type 0) → P 0 one → P 1 other → (n : ℕ) (node : NodeProcesses) → slice_get cluster n ≡ Some node
+    → P n node
 by_node P first second zero node at = (let same : one ≡ node = cc at in subst (P 0) same first)
 by_node P first second (suc zero) node at = (let same : other ≡ node = cc at in subst (P 1) same second)
 by_node P first second (suc (suc n)) node at = absurd cc
@@ -134,8 +152,18 @@ are = record {
   files = by_node (λ n node. IsFormatted node.file) new new;
   processes = by_node (λ n node. AreProcesses n 2 node.slots (at_first n node.file) node.processes) one_runs other_runs;
   delivers = by_node (λ n node. (m : Envelope) → IsAmong m (delivered_to n 2 (at_first n node.file) node.processes) → WasPrinted cluster m)
-      (λ m i. only_brought answer m (delivered_to 0 2 (at_first 0 formatted) one.processes) answer_brought (1, other, refl, answer_handed) i)
-      (λ m i. only_brought question m (delivered_to 1 2 (at_first 1 formatted) other.processes) question_brought (0, one, refl, question_handed) i);
+      (λ m i. only_brought answer m (delivered_to 0 2 (at_first 0 formatted) one.processes) answer_brought (
+        1,
+        other,
+        refl,
+        answer_handed,
+      ) i)
+      (λ m i. only_brought question m (delivered_to 1 2 (at_first 1 formatted) other.processes) question_brought (
+        0,
+        one,
+        refl,
+        question_handed,
+      ) i);
 }
 
 abbrev alone_view : ℕ → GroupView

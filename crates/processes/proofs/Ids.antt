@@ -1,5 +1,6 @@
 -- Ids of jobs are new, so a job that is done stays done.
-use Rattle.std.proofs.Common.{◌≡◌, ◌≢◌, ◌⊎◌, ℕ, zero, suc, ◌+◌, ◌<◌, ◌≤◌, Bool, true, false, not, List, [], ◌∷◌, ◌++◌, length, slice_get, refl, sym, subst, inl, inr, arith, Option, Some, None}
+use Rattle.std.proofs.Common.{◌≡◌, ◌≢◌, ◌⊎◌, ℕ, zero, suc, ◌+◌, ◌<◌, ◌≤◌, Bool, true, false, not, List, [], ◌∷◌, ◌++◌, length, slice_get}
+use Rattle.std.proofs.Common.{refl, sym, subst, inl, inr, arith, Option, Some, None}
 use Rattle.std.specs.Prelude.{◌==◌, ◌||◌, if◌then◌else◌}
 use Rattle.std.proofs.lemmas.Bool.Decides.{nat_tests}
 use Rattle.job_model.specs.declared.job.Job.{Job}
@@ -26,7 +27,8 @@ use Rattle.processes.proofs.Prelude.{ids_end}
 record IsStable (P : Durable → Type 0) : Type 0 where
   stable : (d : Durable) (wants : Option Command) → P d → P (after_wanted d wants)
 
-entry_stable : (P : Durable → Type 0) → IsStable P → (self nodes : ℕ) (s : NodeState) (what : HistoryEvent) → P s.durable → P (after self nodes s what).durable
+entry_stable : (P : Durable → Type 0) → IsStable P → (self nodes : ℕ) (s : NodeState) (what : HistoryEvent) → P s.durable
+    → P (after self nodes s what).durable
 entry_stable P is self nodes s (Did event) h = is.stable s.durable (wants_at self nodes s event) h
 entry_stable P is self nodes s (Recovered kept) h = is.stable (settled kept s) (Some Raise) (settled_stable kept)
   where
@@ -37,7 +39,8 @@ entry_stable P is self nodes s (RaiseFailed true) h = is.stable s.durable s.doub
 entry_stable P is self nodes s (RaiseFailed false) h = h
 entry_stable P is self nodes s what h = h
 
-stays : (P : Durable → Type 0) → IsStable P → (self nodes : ℕ) (s : NodeState) (es : List Entry) → P s.durable → P (replay self nodes s es).durable
+stays : (P : Durable → Type 0) → IsStable P → (self nodes : ℕ) (s : NodeState) (es : List Entry) → P s.durable
+    → P (replay self nodes s es).durable
 stays P is self nodes s [] h = h
 stays P is self nodes s (e ∷ es) h = stays P is self nodes (after self nodes s e.what) es (entry_stable P is self nodes s e.what h)
 
@@ -59,7 +62,8 @@ below_stable = record { stable = by_command } where
   by_command d (Some Raise) h = h
   by_command d (Some (Put work)) h =
       each_append (λ (job : Job). job.id < d.next + 1) d.pending (record { id = d.next; work = work } ∷ [])
-      (each_more (λ (job : Job). job.id < d.next) (λ (job : Job). job.id < d.next + 1) d.pending (λ job k. omega (arith, k)) h) (omega arith, tt)
+      (each_more (λ (job : Job). job.id < d.next) (λ (job : Job). job.id < d.next + 1) d.pending (λ job k. omega (arith, k)) h)
+      (omega arith, tt)
   by_command d (Some (Done id)) h = each_without (λ (job : Job). job.id < d.next) d.pending id h
 
 -- an id that was given, and is no job's
@@ -71,8 +75,11 @@ gone_stable id = record { stable = by_command } where
   by_command : (d : Durable) (wants : Option Command) → IsGone id d → IsGone id (after_wanted d wants)
   by_command d None h = h
   by_command d (Some Raise) h = h
-  by_command d (Some (Put work)) h =
-      (omega (arith, h.0), each_append (λ (job : Job). job.id ≢ id) d.pending (record { id = d.next; work = work } ∷ []) h.1 ((λ e. absurd (omega (arith, h.0, e))), tt))
+  by_command d (Some (Put work)) h = (
+    omega (arith, h.0),
+    each_append (λ (job : Job). job.id ≢ id) d.pending (record { id = d.next; work = work } ∷ []) h.1
+        ((λ e. absurd (omega (arith, h.0, e))), tt),
+  )
   by_command d (Some (Done other)) h = (h.0, each_without (λ (job : Job). job.id ≢ id) d.pending other h.1)
 
 -- ---- a job that is done
@@ -80,7 +87,8 @@ gone_stable id = record { stable = by_command } where
 none_left : (jobs : List Job) (id : ℕ) → Each (λ (job : Job). job.id ≢ id) (without_job jobs id)
 none_left [] id = tt
 none_left (job ∷ jobs) id = by_test (job.id == id) refl (none_left jobs id) where
-  by_test : (b : Bool) → (job.id == id) ≡ b → Each (λ (x : Job). x.id ≢ id) (without_job jobs id) → Each (λ (x : Job). x.id ≢ id) (if not b then job ∷ without_job jobs id else without_job jobs id)
+  by_test : (b : Bool) → (job.id == id) ≡ b → Each (λ (x : Job). x.id ≢ id) (without_job jobs id)
+      → Each (λ (x : Job). x.id ≢ id) (if not b then job ∷ without_job jobs id else without_job jobs id)
   by_test true is rest = rest
   by_test false is rest = ((λ e. (let bad : false ≡ true = grind (arith, nat_tests) in cc)), rest)
 
@@ -100,11 +108,15 @@ done_stays_done cluster over n two event sent es is id wants job i =
     let nodes = length cluster in
     let s = at_first n two.node.file in
     let before = replay n nodes s two.first in
-    let below : AreBelow before.durable = stays AreBelow below_stable n nodes s two.first (file_below 0 two.node.file.pending two.node.file.next (over.files n two.node two.at).jobs) in
-    let given = pending_below before.durable.next before.durable.pending id below (wanted_pending n before.durable.pending event before.state id wants) in
+    let below : AreBelow before.durable = stays AreBelow below_stable n nodes s two.first
+    (file_below 0 two.node.file.pending two.node.file.next (over.files n two.node two.at).jobs) in
+    let given = pending_below before.durable.next before.durable.pending id below
+    (wanted_pending n before.durable.pending event before.state id wants) in
     let gone : IsGone id (after n nodes before (Did event)).durable = rw wants (given, none_left before.durable.pending id) in
-    let behind : IsGone id (replay n nodes before two.more).durable = rw is (stays (IsGone id) (gone_stable id) n nodes (after n nodes before (Did event)) es gone) in
-    let all : IsGone id (replay n nodes s (two.first ++ two.more)).durable = subst (λ (x : NodeState). IsGone id x.durable) (sym (replay_both n nodes s two.first two.more)) behind in
+    let behind : IsGone id (replay n nodes before two.more).durable =
+    rw is (stays (IsGone id) (gone_stable id) n nodes (after n nodes before (Did event)) es gone) in
+    let all : IsGone id (replay n nodes s (two.first ++ two.more)).durable =
+    subst (λ (x : NodeState). IsGone id x.durable) (sym (replay_both n nodes s two.first two.more)) behind in
     each_at (λ (x : Job). x.id ≢ id) (replay n nodes s (two.first ++ two.more)).durable.pending job all.1 i
 
 -- ---- ids that are given
@@ -123,7 +135,8 @@ lower : (low high : ℕ) (ids : List ℕ) → low ≤ high → RiseFrom high ids
 lower low high [] le h = tt
 lower low high (id ∷ ids) le h = (omega (arith, le, h.0), h.1)
 
-wanted_rises : (d : Durable) (wants : Option Command) (rest : List ℕ) → RiseFrom (after_wanted d wants).next rest → RiseFrom d.next (id_by d wants ++ rest)
+wanted_rises : (d : Durable) (wants : Option Command) (rest : List ℕ) → RiseFrom (after_wanted d wants).next rest
+    → RiseFrom d.next (id_by d wants ++ rest)
 wanted_rises d None rest h = h
 wanted_rises d (Some Raise) rest h = h
 wanted_rises d (Some (Put work)) rest h = (omega arith, h)
@@ -133,7 +146,8 @@ settled_more : (kept : Bool) (s : NodeState) → s.durable.next ≤ (settled kep
 settled_more true s = next_more s.durable s.doubt
 settled_more false s = omega arith
 
-entry_rises : (self nodes : ℕ) (s : NodeState) (what : HistoryEvent) (rest : List ℕ) → RiseFrom (after self nodes s what).durable.next rest → RiseFrom s.durable.next (id_at self nodes s what ++ rest)
+entry_rises : (self nodes : ℕ) (s : NodeState) (what : HistoryEvent) (rest : List ℕ) → RiseFrom (after self nodes s what).durable.next rest
+    → RiseFrom s.durable.next (id_at self nodes s what ++ rest)
 entry_rises self nodes s (Did event) rest h = wanted_rises s.durable (wants_at self nodes s event) rest h
 entry_rises self nodes s (Recovered kept) rest h = lower s.durable.next (settled kept s).next rest (settled_more kept s) h
 entry_rises self nodes s (RaiseFailed kept) rest h = lower s.durable.next (settled kept s).next rest (settled_more kept s) h
@@ -141,17 +155,20 @@ entry_rises self nodes s what rest h = h
 
 all_rise : (self nodes : ℕ) (s : NodeState) (es : List Entry) → RiseFrom s.durable.next (ids_given self nodes s es)
 all_rise self nodes s [] = tt
-all_rise self nodes s (e ∷ es) = entry_rises self nodes s e.what (ids_given self nodes (after self nodes s e.what) es) (all_rise self nodes (after self nodes s e.what) es)
+all_rise self nodes s (e ∷ es) = entry_rises self nodes s e.what (ids_given self nodes (after self nodes s e.what) es)
+    (all_rise self nodes (after self nodes s e.what) es)
 
 id_above : (low : ℕ) (ids : List ℕ) (i a : ℕ) → RiseFrom low ids → slice_get ids i ≡ Some a → low ≤ a
 id_above low [] i a rise at = absurd cc
 id_above low (id ∷ ids) zero a rise at = (let same : id ≡ a = cc at in omega (arith, rise.0, same))
 id_above low (id ∷ ids) (suc i) a rise at = omega (arith, rise.0, id_above (id + 1) ids i a rise.1 at)
 
-ids_between : (low : ℕ) (ids : List ℕ) (i j a b : ℕ) → RiseFrom low ids → i < j → slice_get ids i ≡ Some a → slice_get ids j ≡ Some b → a < b
+ids_between : (low : ℕ) (ids : List ℕ) (i j a b : ℕ) → RiseFrom low ids → i < j → slice_get ids i ≡ Some a → slice_get ids j ≡ Some b
+    → a < b
 ids_between low [] i j a b rise lt at_i at_j = absurd cc
 ids_between low (id ∷ ids) i zero a b rise lt at_i at_j = absurd (omega (arith, lt))
-ids_between low (id ∷ ids) zero (suc j) a b rise lt at_i at_j = (let same : id ≡ a = cc at_i in omega (arith, same, id_above (id + 1) ids j b rise.1 at_j))
+ids_between low (id ∷ ids) zero (suc j) a b rise lt at_i at_j =
+    (let same : id ≡ a = cc at_i in omega (arith, same, id_above (id + 1) ids j b rise.1 at_j))
 ids_between low (id ∷ ids) (suc i) (suc j) a b rise lt at_i at_j = ids_between (id + 1) ids i j a b rise.1 (omega (arith, lt)) at_i at_j
 
 pub ids_are_new : IdsAreNew
@@ -162,11 +179,13 @@ ids_are_new cluster over n node at i j a b lt at_i at_j =
 
 -- ---- what a start finds
 
-settled_whole : (d : Durable) (doubt : Option Command) → (after_wanted d doubt ≡ d) ⊎ ((command : Command) × (doubt ≡ Some command) × (after_wanted d doubt ≡ after_command d command))
+settled_whole : (d : Durable) (doubt : Option Command) → (after_wanted d doubt ≡ d)
+    ⊎ ((command : Command) × (doubt ≡ Some command) × (after_wanted d doubt ≡ after_command d command))
 settled_whole d None = inl refl
 settled_whole d (Some command) = inr (command, refl, refl)
 
-found_whole : (kept : Bool) (s : NodeState) → (settled kept s ≡ s.durable) ⊎ ((command : Command) × (s.doubt ≡ Some command) × (settled kept s ≡ after_command s.durable command))
+found_whole : (kept : Bool) (s : NodeState) → (settled kept s ≡ s.durable)
+    ⊎ ((command : Command) × (s.doubt ≡ Some command) × (settled kept s ≡ after_command s.durable command))
 found_whole true s = settled_whole s.durable s.doubt
 found_whole false s = inl refl
 
@@ -175,9 +194,21 @@ commands_are_whole cluster over n two what sent es is found mounted = by_what wh
   where
     by_what : (what : HistoryEvent) → mounted_at (earlier cluster n two) what ≡ Some found → IsWhole cluster n two what found
     by_what (Recovered kept) at = (let same : settled kept (earlier cluster n two) ≡ found = cc at in
-        subst (λ (d : Durable). IsWhole cluster n two (Recovered kept) d) same (record { whole = found_whole kept (earlier cluster n two); goes_on = λ k. refl }))
+        subst (λ (d : Durable). IsWhole cluster n two (Recovered kept) d) same (record {
+          whole =
+              found_whole kept (earlier cluster n two);
+          goes_on = λ k. refl;
+        }))
     by_what (RaiseFailed kept) at = (let same : settled kept (earlier cluster n two) ≡ found = cc at in
-        subst (λ (d : Durable). IsWhole cluster n two (RaiseFailed kept) d) same (record { whole = found_whole kept (earlier cluster n two); goes_on = λ k. refl }))
+        subst (λ (d : Durable). IsWhole cluster n two (RaiseFailed kept) d) same (record {
+          whole =
+              found_whole kept (earlier cluster n two);
+          goes_on = λ k. refl;
+        }))
     by_what (RaiseRefused kept) at = (let same : settled kept (earlier cluster n two) ≡ found = cc at in
-        subst (λ (d : Durable). IsWhole cluster n two (RaiseRefused kept) d) same (record { whole = found_whole kept (earlier cluster n two); goes_on = λ k. absurd (k kept refl) }))
+        subst (λ (d : Durable). IsWhole cluster n two (RaiseRefused kept) d) same (record {
+          whole =
+              found_whole kept (earlier cluster n two);
+          goes_on = λ k. absurd (k kept refl);
+        }))
     by_what what at = absurd (let none : None ≡ Some found = at in cc)

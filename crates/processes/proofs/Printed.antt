@@ -1,5 +1,6 @@
 -- What the `group` lines of processes tell are moments of their nodes.
-use Rattle.std.proofs.Common.{◌≡◌, ◌⊎◌, ℕ, Bool, true, false, ◌||◌, List, [], ◌∷◌, ◌++◌, length, refl, sym, ◌∙◌, ap, subst, inl, inr, arith, Some, None, option_to_list}
+use Rattle.std.proofs.Common.{◌≡◌, ◌⊎◌, ℕ, Bool, true, false, ◌||◌, List, [], ◌∷◌, ◌++◌, length, refl, sym, ◌∙◌, ap, subst, inl, inr, arith}
+use Rattle.std.proofs.Common.{Some, None, option_to_list}
 use Rattle.std.specs.Prelude.{if◌then◌else◌}
 use Rattle.group_task.specs.Group.{Group}
 use Rattle.node_core.specs.State.{State}
@@ -20,7 +21,8 @@ use Rattle.node_session.specs.Chains.{LineOutcome, AreGoing, AllGoing, after_tur
 use Rattle.node_session.specs.Chains as chains
 use Rattle.node_session.specs.Serving.{OneHistory}
 use Rattle.processes.specs.Files.{IsMomentOf, at_first}
-use Rattle.processes.specs.Processes.{NodeProcesses, Process, AreProcesses, AreProcessesOf, IsToldBy, carried, entries_from, entries_of, found, histories_of, left, process_entries, settles, told_by, told_in, told_of}
+use Rattle.processes.specs.Processes.{NodeProcesses, Process, AreProcesses, AreProcessesOf, IsToldBy, carried, entries_from, entries_of}
+use Rattle.processes.specs.Processes.{found, histories_of, left, process_entries, settles, told_by, told_in, told_of}
 use Rattle.processes.specs.Printed.{NumberNamesLeader, OneCoordinatorEach, OneLeaderEach, OneLineEach}
 use Rattle.processes.proofs.Clusters.{are_a_cluster, as_many, history_at, history_of}
 use Rattle.processes.proofs.Following.{process_ends, process_simulates}
@@ -48,14 +50,21 @@ more_seen v vs view it = record { state = it.state; among = inr it.among; seen =
 
 -- what turns tell is seen in them, or by what comes behind
 turns_seen : (self nodes : ℕ) (s : NodeState) (ts : List Turn) (later : List Entry) (view : GroupView) → AreGoing ts
-    → IsAmong view (told_by self nodes s ts) ⊎ IsSeen (vectors self nodes (after_turns self nodes s ts) later) view → IsSeen (vectors self nodes s (chains.entries_of self nodes s ts later)) view
+    → IsAmong view (told_by self nodes s ts) ⊎ IsSeen (vectors self nodes (after_turns self nodes s ts) later) view
+    → IsSeen (vectors self nodes s (chains.entries_of self nodes s ts later)) view
 turns_seen self nodes s [] later view going i = elim i [ inl l ↦ absurd l | inr r ↦ r ]
 turns_seen self nodes s (Goes what ∷ ts) later view going i =
     let next = after self nodes s what in
     let rest = chains.entries_of self nodes next ts later in
+    let told = told_by self nodes next ts in
     more_seen s.state (vectors self nodes next rest) view (elim i [
-      | inl l ↦ elim (among_either view (option_to_list (told_anew (view_of s.state) (view_of next.state))) (told_by self nodes next ts) l) [
-        | inl k ↦ record { state = next.state; among = first_vector self nodes next rest; seen = told_last (view_of s.state) (view_of next.state) view k }
+      | inl l ↦ elim (among_either view (option_to_list (told_anew (view_of s.state) (view_of next.state))) told l) [
+        | inl k ↦ record {
+          state = next.state;
+          among = first_vector self nodes next rest;
+          seen =
+              told_last (view_of s.state) (view_of next.state) view k;
+        }
         | inr k ↦ turns_seen self nodes next ts later view going.1 (inl k)
       ]
       | inr r ↦ turns_seen self nodes next ts later view going.1 (inr r)
@@ -63,30 +72,41 @@ turns_seen self nodes s (Goes what ∷ ts) later view going i =
 turns_seen self nodes s (Unmounted fault ∷ ts) later view going i = absurd going.0
 turns_seen self nodes s (Begins mounted what ∷ ts) later view going i = absurd going.0
 
-lines_seen : (self nodes : ℕ) (s : NodeState) (all : List LineOutcome) (view : GroupView) → AllGoing all → IsAmong view (told_in self nodes s all) → IsSeen (vectors self nodes s (entries_in self nodes s all)) view
+lines_seen : (self nodes : ℕ) (s : NodeState) (all : List LineOutcome) (view : GroupView) → AllGoing all
+    → IsAmong view (told_in self nodes s all) → IsSeen (vectors self nodes s (entries_in self nodes s all)) view
 lines_seen self nodes s [] view going i = absurd i
 lines_seen self nodes s (came ∷ all) view going i =
     let next = after_turns self nodes s came.turns in
-    turns_seen self nodes s came.turns (entries_in self nodes next all) view going.0 (elim (among_either view (told_by self nodes s came.turns) (told_in self nodes next all) i) [
+    turns_seen self nodes s came.turns (entries_in self nodes next all) view going.0
+    (elim (among_either view (told_by self nodes s came.turns) (told_in self nodes next all) i) [
       | inl l ↦ inl l
       | inr r ↦ inr (lines_seen self nodes next all view going.1 r)
     ])
 
-seen_left : (self nodes : ℕ) (s : NodeState) (es fs : List Entry) (view : GroupView) → IsSeen (vectors self nodes s es) view → IsSeen (vectors self nodes s (es ++ fs)) view
+seen_left : (self nodes : ℕ) (s : NodeState) (es fs : List Entry) (view : GroupView) → IsSeen (vectors self nodes s es) view
+    → IsSeen (vectors self nodes s (es ++ fs)) view
 seen_left self nodes s [] fs view it = elim it.among [
   | inl e ↦ record { state = s.state; among = first_vector self nodes s fs; seen = it.seen ∙ ap view_of e }
   | inr none ↦ absurd none
 ]
 seen_left self nodes s (e ∷ es) fs view it = elim it.among [
   | inl is ↦ record { state = s.state; among = inl refl; seen = it.seen ∙ ap view_of is }
-  | inr later ↦ more_seen s.state _ view (seen_left self nodes (after self nodes s e.what) es fs view (record { state = it.state; among = later; seen = it.seen }))
+  | inr later ↦ more_seen s.state _ view (seen_left self nodes (after self nodes s e.what) es fs view (record {
+    state = it.state;
+    among =
+        later;
+    seen = it.seen;
+  }))
 ]
 
-seen_right : (self nodes : ℕ) (s t : NodeState) (es fs : List Entry) (view : GroupView) → replay self nodes s es ≡ t → IsSeen (vectors self nodes t fs) view → IsSeen (vectors self nodes s (es ++ fs)) view
+seen_right : (self nodes : ℕ) (s t : NodeState) (es fs : List Entry) (view : GroupView) → replay self nodes s es ≡ t
+    → IsSeen (vectors self nodes t fs) view → IsSeen (vectors self nodes s (es ++ fs)) view
 seen_right self nodes s t [] fs view is it = subst (λ (x : NodeState). IsSeen (vectors self nodes x fs) view) (sym is) it
-seen_right self nodes s t (e ∷ es) fs view is it = more_seen s.state _ view (seen_right self nodes (after self nodes s e.what) t es fs view is it)
+seen_right self nodes s t (e ∷ es) fs view is it = more_seen s.state _ view
+    (seen_right self nodes (after self nodes s e.what) t es fs view is it)
 
-seen_from : OneHistory → (self nodes slots : ℕ) (kept : Bool) (t s : NodeState) (ps : List Process) (view : GroupView) → Ended self kept t s → AreProcesses self nodes slots s ps → IsAmong view (told_of self nodes s ps)
+seen_from : OneHistory → (self nodes slots : ℕ) (kept : Bool) (t s : NodeState) (ps : List Process) (view : GroupView) → Ended self kept t s
+    → AreProcesses self nodes slots s ps → IsAmong view (told_of self nodes s ps)
     → IsSeen (vectors self nodes t (entries_from self nodes kept s ps)) view
 seen_from one self nodes slots kept t s [] view ended are i = absurd i
 seen_from one self nodes slots kept t s (p ∷ ps) view ended are i =
@@ -96,9 +116,15 @@ seen_from one self nodes slots kept t s (p ∷ ps) view ended are i =
     let later = entries_from self nodes (carried k es) (left self nodes s p) ps in
     let it = process_simulates one self nodes slots kept t s p ended are.0 are.1 are.2 in
     let ends = process_ends one self nodes slots kept t s p ended are.0 are.1 are.2 in
-    more_seen t.state (vectors self nodes down (settles k es ++ later)) view (elim (among_either view (told_in self nodes (found self s p) p.life.all) (told_of self nodes (left self nodes s p) ps) i) [
+    more_seen t.state (vectors self nodes down (settles k es ++ later)) view
+    (elim (among_either view (told_in self nodes (found self s p) p.life.all) (told_of self nodes (left self nodes s p) ps) i) [
       | inl l ↦ (let here = lines_seen self nodes (found self s p) p.life.all view are.2 l in
-          seen_left self nodes down (settles k es) later view (record { state = here.state; among = it.moments here.state here.among; seen = here.seen }))
+          seen_left self nodes down (settles k es) later view (record {
+            state = here.state;
+            among = it.moments here.state here.among;
+            seen =
+                here.seen;
+          }))
       | inr r ↦ seen_right self nodes down (replay self nodes down (settles k es)) (settles k es) later view refl
           (seen_from one self nodes slots (carried k es) (replay self nodes down (settles k es)) (left self nodes s p) ps view ends are.3 r)
     ])
@@ -110,14 +136,22 @@ record IsMomentTold (cluster : List NodeProcesses) (n : ℕ) (view : GroupView) 
   moment : IsMomentOf (histories_of cluster) n state
   seen : view ≡ view_of state
 
-told_moment : OneHistory → (cluster : List NodeProcesses) → AreProcessesOf cluster → (n : ℕ) (view : GroupView) → IsToldBy cluster n view → IsMomentTold cluster n view
+told_moment : OneHistory → (cluster : List NodeProcesses) → AreProcessesOf cluster → (n : ℕ) (view : GroupView) → IsToldBy cluster n view
+    → IsMomentTold cluster n view
 told_moment one cluster are n view told =
     let node = told.0 in
     let s = at_first n node.file in
-    let it = seen_from one n (length cluster) node.slots false s s node.processes view (inl (refl, refl)) (are.processes n node told.1) told.2 in
+    let it = seen_from one n (length cluster) node.slots false s s node.processes view (inl (refl, refl))
+    (are.processes n node told.1) told.2 in
     let at = history_at 0 (length cluster) cluster n n node told.1 (omega arith) in record {
       state = it.state;
-      moment = (history_of n (length cluster) node, at, subst (λ (k : ℕ). IsAmong it.state (vectors n k (at_first n node.file) (entries_of n (length cluster) (at_first n node.file) node.processes))) (sym (as_many 0 (length cluster) cluster)) it.among);
+      moment = (
+        history_of n (length cluster) node,
+        at,
+        subst (λ (k : ℕ).
+            IsAmong it.state (vectors n k (at_first n node.file) (entries_of n (length cluster) (at_first n node.file) node.processes)))
+            (sym (as_many 0 (length cluster) cluster)) it.among,
+      );
       seen = it.seen;
     }
 
@@ -125,11 +159,13 @@ pub number_names_leader : OneHistory → NumberNamesLeader
 number_names_leader one cluster are n view told in_it =
     let it = told_moment one cluster are n view told in
     let up : IsInGroup it.state.phase = subst (λ (x : GroupView). IsInGroup x.phase) it.seen in_it in
-    ap (λ (x : GroupView). x.coordinator) it.seen ∙ (creator_leads (histories_of cluster) (are_a_cluster one cluster are) n it.state it.moment up ∙ sym (ap (λ (x : GroupView). x.group.creator) it.seen))
+    ap (λ (x : GroupView). x.coordinator) it.seen ∙ (creator_leads (histories_of cluster) (are_a_cluster one cluster are) n it.state
+    it.moment up ∙ sym (ap (λ (x : GroupView). x.group.creator) it.seen))
 
 pub one_coordinator_each : OneHistory → OneCoordinatorEach
 one_coordinator_each one cluster are n m a b told_a told_b in_a in_b same =
-    number_names_leader one cluster are n a told_a in_a ∙ (ap (λ (g : Group). g.creator) same ∙ sym (number_names_leader one cluster are m b told_b in_b))
+    number_names_leader one cluster are n a told_a in_a ∙ (ap (λ (g : Group). g.creator) same
+    ∙ sym (number_names_leader one cluster are m b told_b in_b))
 
 pub one_leader_each : OneHistory → OneLeaderEach
 one_leader_each one cluster are n m a b told_a told_b in_a in_b leads_a leads_b same =
@@ -145,7 +181,8 @@ one_line_each one cluster are n m a b told_a told_b normal_a normal_b same =
     let group = sym (ap (λ (v : GroupView). v.group) x.seen) ∙ (same ∙ ap (λ (v : GroupView). v.group) y.seen) in
     let task = one_task_each (histories_of cluster) over n m x.state y.state x.moment y.moment normal_x normal_y group in
     let coordinator = one_coordinator_each one cluster are n m a b told_a told_b (inr normal_a) (inr normal_b) same in
-    let members : a.members ≡ b.members = ap (λ (v : GroupView). v.members) x.seen ∙ (ap members_of task ∙ sym (ap (λ (v : GroupView). v.members) y.seen)) in
+    let members : a.members ≡ b.members = ap (λ (v : GroupView). v.members) x.seen
+    ∙ (ap members_of task ∙ sym (ap (λ (v : GroupView). v.members) y.seen)) in
     let phase : a.phase ≡ b.phase = normal_a ∙ sym normal_b in
     let same_view : a ≡ b = λ i. record { phase = phase i; coordinator = coordinator i; group = same i; members = members i } in
     (same_view, ap group_line same_view)

@@ -1,5 +1,6 @@
 -- What processes answer of jobs, as text.
-use Rattle.std.proofs.Common.{◌≡◌, ℕ, ◌+◌, Bool, true, false, List, [], ◌∷◌, ◌++◌, length, refl, sym, ◌∙◌, ap, subst, inl, inr, append_assoc}
+use Rattle.std.proofs.Common.{◌≡◌, ℕ, ◌+◌, Bool, true, false, List, [], ◌∷◌, ◌++◌, length, refl, sym, ◌∙◌, ap, subst, inl, inr}
+use Rattle.std.proofs.Common.{append_assoc}
 use Rattle.std.specs.List.{flat_map}
 use Rattle.job_model.specs.declared.job.Job.{Job}
 use Rattle.node_core.specs.declared.event.Event.TheVariants as on
@@ -39,7 +40,8 @@ piece_of (first ∷ jobs) job i = elim i [
     pending_line first ++ it.0,
     it.1,
     ap (λ (text : List ℕ). pending_line first ++ text) it.2
-        ∙ (sym (append_assoc (pending_line first) (it.0 ++ pending_line job) it.1) ∙ ap (λ (text : List ℕ). text ++ it.1) (sym (append_assoc (pending_line first) it.0 (pending_line job)))),
+        ∙ (sym (append_assoc (pending_line first) (it.0 ++ pending_line job) it.1)
+        ∙ ap (λ (text : List ℕ). text ++ it.1) (sym (append_assoc (pending_line first) it.0 (pending_line job)))),
   ))
 ]
 
@@ -52,20 +54,27 @@ none_after self nodes s (t ∷ ts) none = absurd none
 
 up_jobs : (b : Bool) (s : NodeState) (job : Job) → b ≡ false → IsAmong job s.durable.pending → HasPiece (jobs_by b s) (pending_line job)
 up_jobs true s job up i = absurd cc
-up_jobs false s job up i = piece_in_front (flat_map pending_line s.durable.pending) (flat_map hand_line s.state.hand) (pending_line job) (piece_of s.durable.pending job i)
+up_jobs false s job up i = piece_in_front (flat_map pending_line s.durable.pending) (flat_map hand_line s.state.hand) (pending_line job)
+    (piece_of s.durable.pending job i)
 
 pub accepted_is_told : OneHistory → AcceptedIsTold
 accepted_is_told one cluster are n node at x y before job accepted asks =
     let nodes = length cluster in
-    let line = all_come n nodes node.slots (at_first n node.file) node.processes y (are.processes n node at) (last_among x y (lines_at cluster n node) before) in
-    let first : Comes n nodes node.slots false y.at.state (asked_under y.at.seal y.line) y.came = subst (λ (b : Bool). Comes n nodes node.slots b y.at.state (asked_under y.at.seal y.line) y.came) asks.answered line.comes in
-    let none : MayCome n nodes node.slots y.at.state ask.Jobs y.came.turns = subst (λ (a : Asked). MayCome n nodes node.slots y.at.state a y.came.turns) asks.asked first.0 in
+    let line = all_come n nodes node.slots (at_first n node.file) node.processes y (are.processes n node at)
+    (last_among x y (lines_at cluster n node) before) in
+    let first : Comes n nodes node.slots false y.at.state (asked_under y.at.seal y.line) y.came =
+    subst (λ (b : Bool). Comes n nodes node.slots b y.at.state (asked_under y.at.seal y.line) y.came) asks.answered line.comes in
+    let none : MayCome n nodes node.slots y.at.state ask.Jobs y.came.turns =
+    subst (λ (a : Asked). MayCome n nodes node.slots y.at.state a y.came.turns) asks.asked first.0 in
     let same = none_after n nodes y.at.state y.came.turns none in
     let text : text_of n nodes y ≡ jobs_by (is_down y.at.state.state.phase) y.at.state ++ ok_line (y.at.count + 1) [] =
     ap (λ (a : Asked). answer n nodes (next y.at.count a) y.at.state y.at.waits a y.came) asks.asked in
-    elim (accepted_is_kept one cluster are n node at x y before job accepted (ap (λ (s : NodeState). is_down s.state.phase) same ∙ asks.up)) [
+    let either = accepted_is_kept one cluster are n node at x y before job accepted
+    (ap (λ (s : NodeState). is_down s.state.phase) same ∙ asks.up) in
+    elim either [
       | inl kept ↦ inl (subst (λ (t : List ℕ). HasPiece t (pending_line job)) (sym text)
           (piece_in_front (jobs_by (is_down y.at.state.state.phase) y.at.state) (ok_line (y.at.count + 1) []) (pending_line job)
-          (up_jobs (is_down y.at.state.state.phase) y.at.state job asks.up (subst (λ (s : NodeState). IsAmong job s.durable.pending) same kept))))
+          (up_jobs (is_down y.at.state.state.phase) y.at.state job asks.up
+          (subst (λ (s : NodeState). IsAmong job s.durable.pending) same kept))))
       | inr finished ↦ inr finished
     ]

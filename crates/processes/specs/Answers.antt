@@ -35,12 +35,18 @@ pub record LineAt : Type 0 where
 abbrev pub lines_in : ℕ → ℕ → At → List (List ℕ) → List LineOutcome → List LineAt
 lines_in self nodes a [] all = []
 lines_in self nodes a (line ∷ lines) [] = []
-lines_in self nodes a (line ∷ lines) (came ∷ all) = record { at = a; line = line; came = came } ∷ lines_in self nodes (after_line self nodes a line came) lines all
+lines_in self nodes a (line ∷ lines) (came ∷ all) = record {
+  at = a;
+  line = line;
+  came =
+      came;
+} ∷ lines_in self nodes (after_line self nodes a line came) lines all
 
 -- those of all processes of a node, in their order
 abbrev pub lines_of_all : ℕ → ℕ → NodeState → List Process → List LineAt
 lines_of_all self nodes s [] = []
-lines_of_all self nodes s (p ∷ ps) = lines_in self nodes (begun self nodes s p) p.life.lines p.life.all ++ lines_of_all self nodes (left self nodes s p) ps
+lines_of_all self nodes s (p ∷ ps) = lines_in self nodes (begun self nodes s p) p.life.lines p.life.all
+    ++ lines_of_all self nodes (left self nodes s p) ps
 
 abbrev pub lines_at : List NodeProcesses → ℕ → NodeProcesses → List LineAt
 lines_at cluster n node = lines_of_all n (length cluster) (at_first n node.file) node.processes
@@ -61,14 +67,18 @@ pub record IsAccepted (self nodes : ℕ) (x : LineAt) (job : Job) : Type 0 where
 -- later one, so it is counted in each `keeps` line; unless a node was told that the job is finished, which had the job of this keeper and
 -- id in hand and owned its queue.
 abbrev pub AcceptedIsKept : Type 0
-AcceptedIsKept = (cluster : List NodeProcesses) → AreProcessesOf cluster → (n : ℕ) (node : NodeProcesses) → slice_get cluster n ≡ Some node →
+AcceptedIsKept = (cluster : List NodeProcesses) → AreProcessesOf cluster → (n : ℕ) (node : NodeProcesses) → slice_get cluster n ≡ Some node
+    →
     (x y : LineAt) → StandsBefore x y (lines_at cluster n node) → (job : Job) → IsAccepted n (length cluster) x job →
-    is_down (left_by n (length cluster) y).state.phase ≡ false → IsAmong job (left_by n (length cluster) y).durable.pending ⊎ WasFinished (histories_of cluster) n job.id
+    is_down (left_by n (length cluster) y).state.phase ≡ false
+    → IsAmong job (left_by n (length cluster) y).durable.pending ⊎ WasFinished (histories_of cluster) n job.id
 
 -- a request for an event that is refused, where no device failed, leaves its node as it was, and hands out nothing
 abbrev pub RefusedChangesNothing : Type 0
-RefusedChangesNothing = (cluster : List NodeProcesses) → AreProcessesOf cluster → (n : ℕ) (node : NodeProcesses) → slice_get cluster n ≡ Some node → (x : LineAt) → IsAmong x (lines_at cluster n node) →
-    (event : Event) → asked_under x.at.seal x.line ≡ ask.Event event → x.at.stopped ≡ false → (why : NodeFault) → why ≢ fault.Device → event_line_end n (length cluster) x.at.state x.came.turns ≡ end.Denied why →
+RefusedChangesNothing = (cluster : List NodeProcesses) → AreProcessesOf cluster → (n : ℕ) (node : NodeProcesses)
+    → slice_get cluster n ≡ Some node → (x : LineAt) → IsAmong x (lines_at cluster n node) →
+    (event : Event) → asked_under x.at.seal x.line ≡ ask.Event event → x.at.stopped ≡ false → (why : NodeFault) → why ≢ fault.Device
+    → event_line_end n (length cluster) x.at.state x.came.turns ≡ end.Denied why →
     (left_by n (length cluster) x ≡ x.at.state) × (sent_turns n (length cluster) x.at.state x.came.turns ≡ [])
 
 -- ---- as text
@@ -89,10 +99,12 @@ pub record AsksJobs (x : LineAt) : Type 0 where
 
 -- a job that a node took was answered `ok N id ID`
 abbrev pub AcceptedIsAnswered : Type 0
-AcceptedIsAnswered = (self nodes : ℕ) (x : LineAt) (job : Job) → IsAccepted self nodes x job → (front : List ℕ) × (text_of self nodes x ≡ front ++ ok_line (x.at.count + 1) (codes " id " ++ decimal job.id))
+AcceptedIsAnswered = (self nodes : ℕ) (x : LineAt) (job : Job) → IsAccepted self nodes x job
+    → (front : List ℕ) × (text_of self nodes x ≡ front ++ ok_line (x.at.count + 1) (codes " id " ++ decimal job.id))
 
 -- and each later answer to `jobs` has the line `pending ID ..` of it, unless it was finished
 abbrev pub AcceptedIsTold : Type 0
-AcceptedIsTold = (cluster : List NodeProcesses) → AreProcessesOf cluster → (n : ℕ) (node : NodeProcesses) → slice_get cluster n ≡ Some node →
+AcceptedIsTold = (cluster : List NodeProcesses) → AreProcessesOf cluster → (n : ℕ) (node : NodeProcesses) → slice_get cluster n ≡ Some node
+    →
     (x y : LineAt) → StandsBefore x y (lines_at cluster n node) → (job : Job) → IsAccepted n (length cluster) x job → AsksJobs y →
     HasPiece (text_of n (length cluster) y) (pending_line job) ⊎ WasFinished (histories_of cluster) n job.id

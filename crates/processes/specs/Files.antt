@@ -58,12 +58,15 @@ WasSent cluster m = (n : ℕ) × (node : FileHistory) × (slice_get cluster n �
 -- takes no message but those that one of the nodes sent. Which came before which isn't said, but of one node.
 pub record AreOverFiles (cluster : List FileHistory) : Type 0 where
   pub files : (n : ℕ) (node : FileHistory) → slice_get cluster n ≡ Some node → IsFormatted node.file
-  pub follows : (n : ℕ) (node : FileHistory) → slice_get cluster n ≡ Some node → Follows n (length cluster) (at_first n node.file) node.entries
-  pub delivers : (n : ℕ) (node : FileHistory) → slice_get cluster n ≡ Some node → (m : Envelope) → IsAmong m (taken_in node.entries) → WasSent cluster m
+  pub follows : (n : ℕ) (node : FileHistory) → slice_get cluster n ≡ Some node
+      → Follows n (length cluster) (at_first n node.file) node.entries
+  pub delivers : (n : ℕ) (node : FileHistory) → slice_get cluster n ≡ Some node → (m : Envelope) → IsAmong m (taken_in node.entries)
+      → WasSent cluster m
 
 -- a state that a node has before its entries or after one of them
 abbrev pub IsMomentOf : List FileHistory → ℕ → State → Type 0
-IsMomentOf cluster n v = (node : FileHistory) × (slice_get cluster n ≡ Some node) × IsAmong v (vectors n (length cluster) (at_first n node.file) node.entries)
+IsMomentOf cluster n v = (node : FileHistory) × (slice_get cluster n ≡ Some node)
+    × IsAmong v (vectors n (length cluster) (at_first n node.file) node.entries)
 
 -- the numbers of the groups that a node gave, in their order
 abbrev pub numbers_given : ℕ → ℕ → FileHistory → List Group
@@ -71,4 +74,5 @@ numbers_given n nodes node = map (own_group n) (counts_given n nodes (at_first n
 
 -- node n gave this number as its i-th
 abbrev pub IsGivenAt : List FileHistory → ℕ → ℕ → Group → Type 0
-IsGivenAt cluster n i group = (node : FileHistory) × (slice_get cluster n ≡ Some node) × (slice_get (numbers_given n (length cluster) node) i ≡ Some group)
+IsGivenAt cluster n i group = (node : FileHistory) × (slice_get cluster n ≡ Some node)
+    × (slice_get (numbers_given n (length cluster) node) i ≡ Some group)

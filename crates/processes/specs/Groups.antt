@@ -15,7 +15,8 @@ NumbersAreNew = (cluster : List FileHistory) → AreOverFiles cluster →
 
 abbrev pub NumbersAreAbove : Type 0
 NumbersAreAbove = (cluster : List FileHistory) → AreOverFiles cluster →
-    (n i : ℕ) (group : Group) (node : FileHistory) → slice_get cluster n ≡ Some node → IsGivenAt cluster n i group → (group.creator ≡ n) × (node.file.counter < group.count)
+    (n i : ℕ) (group : Group) (node : FileHistory) → slice_get cluster n ≡ Some node → IsGivenAt cluster n i group
+    → (group.creator ≡ n) × (node.file.counter < group.count)
 
 -- who is in a group, on the way into it or working, has its creator as coordinator
 abbrev pub CreatorLeads : Type 0
@@ -25,7 +26,8 @@ CreatorLeads = (cluster : List FileHistory) → AreOverFiles cluster →
 -- any two moments that work in one group have one task
 abbrev pub OneTaskEach : Type 0
 OneTaskEach = (cluster : List FileHistory) → AreOverFiles cluster →
-    (n m : ℕ) (v w : State) → IsMomentOf cluster n v → IsMomentOf cluster m w → v.phase ≡ Normal → w.phase ≡ Normal → v.group ≡ w.group → v.task ≡ w.task
+    (n m : ℕ) (v w : State) → IsMomentOf cluster n v → IsMomentOf cluster m w → v.phase ≡ Normal → w.phase ≡ Normal → v.group ≡ w.group
+    → v.task ≡ w.task
 
 -- two moments that work in one group with jobs of one queue in hand are of one node
 abbrev pub OneWorkerEach : Type 0

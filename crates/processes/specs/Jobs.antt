@@ -60,22 +60,31 @@ later cluster n two = state_behind cluster n two.node (two.first ++ two.more)
 
 -- a job that the disk keeps is kept at each later moment, unless it was tried to take it out by then
 abbrev pub JobsAreKept : Type 0
-JobsAreKept = (cluster : List FileHistory) → AreOverFiles cluster → (n : ℕ) (two : TwoMoments cluster n) (job : Job) → IsAmong job (earlier cluster n two).durable.pending →
-    IsAmong job (later cluster n two).durable.pending ⊎ Tries n (length cluster) (at_first n two.node.file) (two.first ++ two.more) (Done job.id)
+JobsAreKept = (cluster : List FileHistory) → AreOverFiles cluster → (n : ℕ) (two : TwoMoments cluster n) (job : Job)
+    → IsAmong job (earlier cluster n two).durable.pending →
+    IsAmong job (later cluster n two).durable.pending ⊎ Tries n (length cluster) (at_first n two.node.file) (two.first ++ two.more)
+    (Done job.id)
 
 -- a job that was taken out, as the disk acknowledged, is never kept again
 abbrev pub DoneStaysDone : Type 0
-DoneStaysDone = (cluster : List FileHistory) → AreOverFiles cluster → (n : ℕ) (two : TwoMoments cluster n) (event : Event) (sent : List Envelope) (es : List Entry) → two.more ≡ record { what = Did event; sent = sent } ∷ es →
-    (id : ℕ) → wants_at n (length cluster) (earlier cluster n two) event ≡ Some (Done id) → (job : Job) → IsAmong job (later cluster n two).durable.pending → job.id ≢ id
+DoneStaysDone = (cluster : List FileHistory) → AreOverFiles cluster
+    → (n : ℕ) (two : TwoMoments cluster n) (event : Event) (sent : List Envelope) (es : List Entry)
+    → two.more ≡ record { what = Did event; sent = sent } ∷ es →
+    (id : ℕ) → wants_at n (length cluster) (earlier cluster n two) event ≡ Some (Done id) → (job : Job)
+    → IsAmong job (later cluster n two).durable.pending → job.id ≢ id
 
 -- a start finds what the disk kept before, with the whole of the command that was in doubt or with nothing of it, and the node goes on
 -- from the jobs that it found
 pub record IsWhole (cluster : List FileHistory) (n : ℕ) (two : TwoMoments cluster n) (what : HistoryEvent) (found : Durable) : Type 0 where
-  pub whole : (found ≡ (earlier cluster n two).durable) ⊎ ((command : Command) × ((earlier cluster n two).doubt ≡ Some command) × (found ≡ after_command (earlier cluster n two).durable command))
-  pub goes_on : ((kept : Bool) → what ≢ RaiseRefused kept) → (after n (length cluster) (earlier cluster n two) what).durable.pending ≡ found.pending
+  pub whole : (found ≡ (earlier cluster n two).durable) ⊎ ((command : Command) × ((earlier cluster n two).doubt ≡ Some command)
+      × (found ≡ after_command (earlier cluster n two).durable command))
+  pub goes_on : ((kept : Bool) → what ≢ RaiseRefused kept)
+      → (after n (length cluster) (earlier cluster n two) what).durable.pending ≡ found.pending
 
 abbrev pub CommandsAreWhole : Type 0
-CommandsAreWhole = (cluster : List FileHistory) → AreOverFiles cluster → (n : ℕ) (two : TwoMoments cluster n) (what : HistoryEvent) (sent : List Envelope) (es : List Entry) → two.more ≡ record { what = what; sent = sent } ∷ es →
+CommandsAreWhole = (cluster : List FileHistory) → AreOverFiles cluster
+    → (n : ℕ) (two : TwoMoments cluster n) (what : HistoryEvent) (sent : List Envelope) (es : List Entry)
+    → two.more ≡ record { what = what; sent = sent } ∷ es →
     (found : Durable) → mounted_at (earlier cluster n two) what ≡ Some found → IsWhole cluster n two what found
 
 -- the id that a disk gives to a job that it takes
@@ -94,14 +103,18 @@ ids_given self nodes s (e ∷ es) = id_at self nodes s e.what ++ ids_given self 
 
 -- they rise, above the ids of before the file was formatted
 abbrev pub IdsAreNew : Type 0
-IdsAreNew = (cluster : List FileHistory) → AreOverFiles cluster → (n : ℕ) (node : FileHistory) → slice_get cluster n ≡ Some node → (i j a b : ℕ) → i < j →
-    slice_get (ids_given n (length cluster) (at_first n node.file) node.entries) i ≡ Some a → slice_get (ids_given n (length cluster) (at_first n node.file) node.entries) j ≡ Some b →
+IdsAreNew = (cluster : List FileHistory) → AreOverFiles cluster → (n : ℕ) (node : FileHistory) → slice_get cluster n ≡ Some node
+    → (i j a b : ℕ) → i < j →
+    slice_get (ids_given n (length cluster) (at_first n node.file) node.entries) i ≡ Some a
+    → slice_get (ids_given n (length cluster) (at_first n node.file) node.entries) j ≡ Some b →
     (node.file.next ≤ a) × (a < b)
 
 -- the counts of the groups that a node leads rise
 abbrev pub LeaderCountsRise : Type 0
-LeaderCountsRise = (cluster : List FileHistory) → AreOverFiles cluster → (n : ℕ) (two : TwoMoments cluster n) → IsInGroup (earlier cluster n two).state.phase → IsInGroup (later cluster n two).state.phase →
-    (earlier cluster n two).state.coordinator ≡ n → (later cluster n two).state.coordinator ≡ n → (earlier cluster n two).state.group.count ≤ (later cluster n two).state.group.count
+LeaderCountsRise = (cluster : List FileHistory) → AreOverFiles cluster → (n : ℕ) (two : TwoMoments cluster n)
+    → IsInGroup (earlier cluster n two).state.phase → IsInGroup (later cluster n two).state.phase →
+    (earlier cluster n two).state.coordinator ≡ n → (later cluster n two).state.coordinator ≡ n
+    → (earlier cluster n two).state.group.count ≤ (later cluster n two).state.group.count
 
 -- a node was told that a job is finished, and at some moment worked in a group with the job of this keeper and id in hand, owning its queue
 pub record WasFinished (cluster : List FileHistory) (origin id : ℕ) : Type 0 where
@@ -121,8 +134,11 @@ DoneWasFinished = (cluster : List FileHistory) → AreOverFiles cluster → (n :
 -- at some moment the node that keeps the job had it pending, with this work: its queue, its priority and its payload
 abbrev pub WasPending : List FileHistory → ℕ → ℕ → Work → Type 0
 WasPending cluster origin id work =
-    (node : FileHistory) × (slice_get cluster origin ≡ Some node) × (s : NodeState) × IsAmong s (states origin (length cluster) (at_first origin node.file) node.entries) × IsAmong (record { id = id; work = work }) s.durable.pending
+    (node : FileHistory) × (slice_get cluster origin ≡ Some node) × (s : NodeState)
+    × IsAmong s (states origin (length cluster) (at_first origin node.file) node.entries)
+    × IsAmong (record { id = id; work = work }) s.durable.pending
 
 -- the work in hand at a moment was such a job of its keeper
 abbrev pub WorkIsJob : Type 0
-WorkIsJob = (cluster : List FileHistory) → AreOverFiles cluster → (n : ℕ) (v : State) → IsMomentOf cluster n v → (w : InHand) → IsAmong w v.hand → WasPending cluster w.origin w.id w.work
+WorkIsJob = (cluster : List FileHistory) → AreOverFiles cluster → (n : ℕ) (v : State) → IsMomentOf cluster n v → (w : InHand)
+    → IsAmong w v.hand → WasPending cluster w.origin w.id w.work

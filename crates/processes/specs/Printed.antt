@@ -19,12 +19,14 @@ NumberNamesLeader = (cluster : List NodeProcesses) → AreProcessesOf cluster �
 -- two `group` lines of one number name one coordinator
 abbrev pub OneCoordinatorEach : Type 0
 OneCoordinatorEach = (cluster : List NodeProcesses) → AreProcessesOf cluster →
-    (n m : ℕ) (one other : GroupView) → IsToldBy cluster n one → IsToldBy cluster m other → IsInGroup one.phase → IsInGroup other.phase → one.group ≡ other.group → one.coordinator ≡ other.coordinator
+    (n m : ℕ) (one other : GroupView) → IsToldBy cluster n one → IsToldBy cluster m other → IsInGroup one.phase → IsInGroup other.phase
+    → one.group ≡ other.group → one.coordinator ≡ other.coordinator
 
 -- and where both nodes work, they tell the same, by the same line: the same members, and so the same owner of each queue
 abbrev pub OneLineEach : Type 0
 OneLineEach = (cluster : List NodeProcesses) → AreProcessesOf cluster →
-    (n m : ℕ) (one other : GroupView) → IsToldBy cluster n one → IsToldBy cluster m other → one.phase ≡ Normal → other.phase ≡ Normal → one.group ≡ other.group → (one ≡ other) × (group_line one ≡ group_line other)
+    (n m : ℕ) (one other : GroupView) → IsToldBy cluster n one → IsToldBy cluster m other → one.phase ≡ Normal → other.phase ≡ Normal
+    → one.group ≡ other.group → (one ≡ other) × (group_line one ≡ group_line other)
 
 -- a node that leads a group is the one node that does
 abbrev pub OneLeaderEach : Type 0

@@ -1,5 +1,6 @@
 -- The processes of a cluster: for each node all of them, one after another over its file.
-use Rattle.std.specs.Prelude.{ℕ, suc, ◌≡◌, Bool, true, false, ◌||◌, if◌then◌else◌, List, [], ◌∷◌, ◌++◌, length, slice_get, Some, None, option_to_list}
+use Rattle.std.specs.Prelude.{ℕ, suc, ◌≡◌, Bool, true, false, ◌||◌, if◌then◌else◌, List, [], ◌∷◌, ◌++◌, length, slice_get, Some, None}
+use Rattle.std.specs.Prelude.{option_to_list}
 use Rattle.job_model.specs.Durable.{Durable}
 use Rattle.wire_msg.specs.Envelope.{Envelope}
 use Rattle.node_core.specs.declared.event.Event.TheVariants as on
@@ -38,7 +39,8 @@ abbrev pub found : ℕ → NodeState → Process → NodeState
 found self s p = record { state = down self; durable = settled p.kept s; doubt = None }
 
 abbrev pub begun : ℕ → ℕ → NodeState → Process → At
-begun self nodes s p = if p.keyed then life_begun self nodes (found self s p) p.life else record (life_begun self nodes (found self s p) p.life) { seal = None }
+begun self nodes s p = if p.keyed then life_begun self nodes (found self s p) p.life
+    else record (life_begun self nodes (found self s p) p.life) { seal = None }
 
 -- and leaves this
 abbrev pub left : ℕ → ℕ → NodeState → Process → NodeState
@@ -53,19 +55,22 @@ brings stopped asked = []
 abbrev pub delivered_in : ℕ → ℕ → At → List (List ℕ) → List LineOutcome → List Envelope
 delivered_in self nodes a [] all = []
 delivered_in self nodes a (line ∷ lines) [] = []
-delivered_in self nodes a (line ∷ lines) (came ∷ all) = brings a.stopped (asked_under a.seal line) ++ delivered_in self nodes (after_line self nodes a line came) lines all
+delivered_in self nodes a (line ∷ lines) (came ∷ all) = brings a.stopped (asked_under a.seal line)
+    ++ delivered_in self nodes (after_line self nodes a line came) lines all
 
 -- and those of the `send` lines of the answers
 abbrev pub handed_in : ℕ → ℕ → At → List (List ℕ) → List LineOutcome → List Envelope
 handed_in self nodes a [] all = []
 handed_in self nodes a (line ∷ lines) [] = []
-handed_in self nodes a (line ∷ lines) (came ∷ all) = handed_out self nodes a line came ++ handed_in self nodes (after_line self nodes a line came) lines all
+handed_in self nodes a (line ∷ lines) (came ∷ all) = handed_out self nodes a line came
+    ++ handed_in self nodes (after_line self nodes a line came) lines all
 
 -- what the `group` lines of the answers tell
 abbrev pub told_by : ℕ → ℕ → NodeState → List Turn → List GroupView
 told_by self nodes s [] = []
 told_by self nodes s (turn ∷ turns) =
-    option_to_list (told_anew (view_of s.state) (view_of (after_turn self nodes s turn).state)) ++ told_by self nodes (after_turn self nodes s turn) turns
+    option_to_list (told_anew (view_of s.state) (view_of (after_turn self nodes s turn).state))
+    ++ told_by self nodes (after_turn self nodes s turn) turns
 
 abbrev pub told_in : ℕ → ℕ → NodeState → List LineOutcome → List GroupView
 told_in self nodes s [] = []
@@ -101,7 +106,8 @@ carried kept (e ∷ es) = if mounts e.what then false else carried kept es
 abbrev pub AreProcesses : ℕ → ℕ → ℕ → NodeState → List Process → Type 0
 AreProcesses self nodes slots s [] = Unit {0}
 AreProcesses self nodes slots s (p ∷ ps) =
-    IsSettling p.kept s.doubt × AreOf self nodes slots (begun self nodes s p) p.life.lines p.life.all × AllGoing p.life.all × AreProcesses self nodes slots (left self nodes s p) ps
+    IsSettling p.kept s.doubt × AreOf self nodes slots (begun self nodes s p) p.life.lines p.life.all × AllGoing p.life.all
+    × AreProcesses self nodes slots (left self nodes s p) ps
 
 -- what came of one of them
 abbrev pub process_entries : ℕ → ℕ → NodeState → Process → List Entry
@@ -120,11 +126,13 @@ entries_of self nodes s ps = entries_from self nodes false s ps
 
 abbrev pub delivered_to : ℕ → ℕ → NodeState → List Process → List Envelope
 delivered_to self nodes s [] = []
-delivered_to self nodes s (p ∷ ps) = delivered_in self nodes (begun self nodes s p) p.life.lines p.life.all ++ delivered_to self nodes (left self nodes s p) ps
+delivered_to self nodes s (p ∷ ps) = delivered_in self nodes (begun self nodes s p) p.life.lines p.life.all
+    ++ delivered_to self nodes (left self nodes s p) ps
 
 abbrev pub handed_by : ℕ → ℕ → NodeState → List Process → List Envelope
 handed_by self nodes s [] = []
-handed_by self nodes s (p ∷ ps) = handed_in self nodes (begun self nodes s p) p.life.lines p.life.all ++ handed_by self nodes (left self nodes s p) ps
+handed_by self nodes s (p ∷ ps) = handed_in self nodes (begun self nodes s p) p.life.lines p.life.all
+    ++ handed_by self nodes (left self nodes s p) ps
 
 abbrev pub told_of : ℕ → ℕ → NodeState → List Process → List GroupView
 told_of self nodes s [] = []
@@ -141,24 +149,31 @@ pub record NodeProcesses : Type 0 where
 -- a process of a node printed a `send` line of this message
 abbrev pub WasPrinted : List NodeProcesses → Envelope → Type 0
 WasPrinted cluster m =
-    (n : ℕ) × (node : NodeProcesses) × (slice_get cluster n ≡ Some node) × IsAmong m (handed_by n (length cluster) (at_first n node.file) node.processes)
+    (n : ℕ) × (node : NodeProcesses) × (slice_get cluster n ≡ Some node)
+    × IsAmong m (handed_by n (length cluster) (at_first n node.file) node.processes)
 
 -- The processes of a cluster, those of a node at the place of its id: each node has one file, which was formatted, and one process at a
 -- time over it; and each message that is delivered stood in a `send` line that one of all these processes printed.
 pub record AreProcessesOf (cluster : List NodeProcesses) : Type 0 where
   pub files : (n : ℕ) (node : NodeProcesses) → slice_get cluster n ≡ Some node → IsFormatted node.file
-  pub processes : (n : ℕ) (node : NodeProcesses) → slice_get cluster n ≡ Some node → AreProcesses n (length cluster) node.slots (at_first n node.file) node.processes
+  pub processes : (n : ℕ) (node : NodeProcesses) → slice_get cluster n ≡ Some node
+      → AreProcesses n (length cluster) node.slots (at_first n node.file) node.processes
   pub delivers : (n : ℕ) (node : NodeProcesses) → slice_get cluster n ≡ Some node →
       (m : Envelope) → IsAmong m (delivered_to n (length cluster) (at_first n node.file) node.processes) → WasPrinted cluster m
 
 -- what came of each node, the first being node n of so many
 abbrev pub histories_from : ℕ → ℕ → List NodeProcesses → List FileHistory
 histories_from n nodes [] = []
-histories_from n nodes (node ∷ more) = record { file = node.file; entries = entries_of n nodes (at_first n node.file) node.processes } ∷ histories_from (suc n) nodes more
+histories_from n nodes (node ∷ more) = record {
+  file = node.file;
+  entries =
+      entries_of n nodes (at_first n node.file) node.processes;
+} ∷ histories_from (suc n) nodes more
 
 abbrev pub histories_of : List NodeProcesses → List FileHistory
 histories_of cluster = histories_from 0 (length cluster) cluster
 
 -- a process of node n printed a `group` line that tells this
 abbrev pub IsToldBy : List NodeProcesses → ℕ → GroupView → Type 0
-IsToldBy cluster n view = (node : NodeProcesses) × (slice_get cluster n ≡ Some node) × IsAmong view (told_of n (length cluster) (at_first n node.file) node.processes)
+IsToldBy cluster n view = (node : NodeProcesses) × (slice_get cluster n ≡ Some node)
+    × IsAmong view (told_of n (length cluster) (at_first n node.file) node.processes)

@@ -1,5 +1,6 @@
 -- An act that is refused changes nothing, and one that is done has the effect of its event's row.
-use Rattle.std.proofs.Common.{◌≡◌, ◌≢◌, ℕ, ◌<◌, Bool, true, false, List, [], ◌∷◌, ◌++◌, length, take, slice_get, refl, sym, ◌∙◌, ap, subst, arith, Option, Some, None}
+use Rattle.std.proofs.Common.{◌≡◌, ◌≢◌, ℕ, ◌<◌, Bool, true, false, List, [], ◌∷◌, ◌++◌, length, take, slice_get, refl, sym, ◌∙◌, ap, subst}
+use Rattle.std.proofs.Common.{arith, Option, Some, None}
 use Rattle.std.specs.Prelude.{if◌then◌else◌, ◌==◌, nat_lt, option_map, unwrap_or, flat_map, Result, Ok, Err}
 use Rattle.std.proofs.lemmas.Bool.Decides.{nat_tests}
 use Rattle.std.proofs.lemmas.Grind.{flat_map-append}
@@ -15,7 +16,8 @@ use Rattle.node_core.specs.declared.event.Event.{Event}
 use Rattle.node_core.specs.declared.event.Event.TheVariants as on
 use Rattle.histories.specs.NodeState.{NodeState, opening, wants_at, effect_at}
 use Rattle.histories.specs.declared.history_event.HistoryEvent.{HistoryEvent}
-use Rattle.histories.specs.declared.history_event.HistoryEvent.TheVariants.{Did, Refused, Faulted, NoOp, Crashed, Recovered, MountFailed, RaiseFailed, RaiseRefused}
+use Rattle.histories.specs.declared.history_event.HistoryEvent.TheVariants.{Did, Refused, Faulted, NoOp, Crashed, Recovered, MountFailed}
+use Rattle.histories.specs.declared.history_event.HistoryEvent.TheVariants.{RaiseFailed, RaiseRefused}
 use Rattle.histories.specs.declared.history_event.NoOpKind.TheVariants.{Nothing, Compacted, CompactDown, CompactAreaExhausted}
 use Rattle.node_core.specs.declared.fault.CoreFault.TheVariants.{Down}
 use Rattle.node_core.specs.declared.fault.Refusal.TheVariants.{Core}
@@ -37,7 +39,8 @@ use Rattle.runs.specs.Run.{world_at}
 use Rattle.runs.specs.Acts.{At, IsCompaction, IsStepOf, IsLawful, IsRunOf, act_outcome, what_outcome}
 use Rattle.runs.proofs.Bringing.{Brings}
 use Rattle.runs.specs.Reporting.{Moment, Report, moment_of, tries, commands_at, group_of, grown, first_report, report_from}
-use Rattle.runs.specs.Uses.{report_within, last_of, last_state, all_sent, event_in, RefusedChangesNothing, DoneHasItsEffect, DownRefusesCompaction}
+use Rattle.runs.specs.Uses.{report_within, last_of, last_state, all_sent, event_in, RefusedChangesNothing, DoneHasItsEffect}
+use Rattle.runs.specs.Uses.{DownRefusesCompaction}
 use Rattle.runs.proofs.ExactRuns.{run_in}
 use Rattle.runs.proofs.Finishing.{taken_there}
 use Rattle.runs.proofs.Fronts.{front_of}
@@ -48,7 +51,8 @@ use Rattle.runs.proofs.Runs.{comes_sent, node_there, starts_opened, state_elsewh
 
 -- ---- the state that is shown last
 
-last_append : (n : ℕ) (m : Moment) (ms : List Moment) (s : Option State) → last_of n s (ms ++ m ∷ []) ≡ (if m.node == n then Some m.state else last_of n s ms)
+last_append : (n : ℕ) (m : Moment) (ms : List Moment) (s : Option State)
+    → last_of n s (ms ++ m ∷ []) ≡ (if m.node == n then Some m.state else last_of n s ms)
 last_append n m [] s = refl
 last_append n m (x ∷ ms) s = last_append n m ms (if x.node == n then Some x.state else s)
 
@@ -58,14 +62,17 @@ record IsLast (w : World) (r : Report) (n : ℕ) : Type 0 where
   at : slice_get w.states n ≡ Some now
   shown : last_state r n ≡ Some now.state
 
-kept_last : (n named : ℕ) (w : World) (r : Report) (h : IsLast w r n) → (if named == n then Some (node_in w.states named).state else last_state r n) ≡ Some h.now.state
+kept_last : (n named : ℕ) (w : World) (r : Report) (h : IsLast w r n)
+    → (if named == n then Some (node_in w.states named).state else last_state r n) ≡ Some h.now.state
 kept_last n named w r h = by_node (named == n) refl
   where
     by_node : (b : Bool) → (named == n) ≡ b → (if b then Some (node_in w.states named).state else last_state r n) ≡ Some h.now.state
-    by_node true is = ap (λ (j : ℕ). Some (node_in w.states j).state) (eq_nat named n is) ∙ ap (λ (x : NodeState). Some x.state) (node_there w.states n h.now h.at)
+    by_node true is = ap (λ (j : ℕ). Some (node_in w.states j).state) (eq_nat named n is)
+        ∙ ap (λ (x : NodeState). Some x.state) (node_there w.states n h.now h.at)
     by_node false is = h.shown
 
-step_last : (slots nodes n : ℕ) (w : World) (r : Report) (a : Act) (step : Step) → IsLawful slots nodes w step → IsLast w r n → IsLast (world_after nodes w step) (grown nodes w a step r) n
+step_last : (slots nodes n : ℕ) (w : World) (r : Report) (a : Act) (step : Step) → IsLawful slots nodes w step → IsLast w r n
+    → IsLast (world_after nodes w step) (grown nodes w a step r) n
 step_last slots nodes n w r a (Takes m number what) may h = by_node (m == n) refl
   where
     new : List NodeState
@@ -78,7 +85,8 @@ step_last slots nodes n w r a (Takes m number what) may h = by_node (m == n) ref
           now = after n nodes h.now what;
           at = here;
           shown = last_append n (moment_of nodes w a (Takes m number what)) r.moments (slice_get r.opening n) ∙ rw is
-              (ap (λ (j : ℕ). Some (node_in new j).state) same ∙ ap (λ (x : NodeState). Some x.state) (node_there new n (after n nodes h.now what) here));
+              (ap (λ (j : ℕ). Some (node_in new j).state) same ∙ ap (λ (x : NodeState). Some x.state)
+              (node_there new n (after n nodes h.now what) here));
         }
     by_node false is =
         let ne : n ≢ m = grind (arith, nat_tests) in record {
@@ -97,20 +105,28 @@ step_last slots nodes n w r a (Denies named why) may h = record {
   shown = last_append n (moment_of nodes w a (Denies named why)) r.moments (slice_get r.opening n) ∙ kept_last n named w r h;
 }
 
-run_last : (slots nodes n : ℕ) (acts : List Act) (steps : List Step) (w : World) (r : Report) → IsRunOf nodes slots w acts steps → IsLast w r n → IsLast (world_at nodes w steps) (report_from nodes w r acts steps) n
+run_last : (slots nodes n : ℕ) (acts : List Act) (steps : List Step) (w : World) (r : Report) → IsRunOf nodes slots w acts steps
+    → IsLast w r n → IsLast (world_at nodes w steps) (report_from nodes w r acts steps) n
 run_last slots nodes n [] [] w r run h = h
 run_last slots nodes n [] (step ∷ steps) w r run h = absurd run
 run_last slots nodes n (a ∷ acts) [] w r run h = absurd run
-run_last slots nodes n (a ∷ acts) (step ∷ steps) w r run h = run_last slots nodes n acts steps (world_after nodes w step) (grown nodes w a step r) run.2 (step_last slots nodes n w r a step run.1 h)
+run_last slots nodes n (a ∷ acts) (step ∷ steps) w r run h =
+    run_last slots nodes n acts steps (world_after nodes w step) (grown nodes w a step r) run.2 (step_last slots nodes n w r a step run.1 h)
 
 -- after the first acts
 within_last : (slots nodes n k : ℕ) (acts : List Act) (steps : List Step) → IsRunOf nodes slots (start nodes) acts steps → n < nodes
     → IsLast (world_at nodes (start nodes) (take k steps)) (report_within nodes k acts steps) n
 within_last slots nodes n k acts steps run within =
     let first : IsLast (start nodes) (first_report nodes) n =
-    record { now = opening n; at = starts_opened nodes n within; shown = state_there (start nodes).states n (opening n) (starts_opened nodes n within) } in
+    record {
+      now = opening n;
+      at = starts_opened nodes n within;
+      shown =
+          state_there (start nodes).states n (opening n) (starts_opened nodes n within);
+    } in
     subst (λ (r : Report). IsLast (world_at nodes (start nodes) (take k steps)) r n) (sym (front_report nodes k acts steps))
-    (run_last slots nodes n (take k acts) (take k steps) (start nodes) (first_report nodes) (acts_front k nodes slots acts steps (start nodes) run) first)
+    (run_last slots nodes n (take k acts) (take k steps) (start nodes) (first_report nodes)
+    (acts_front k nodes slots acts steps (start nodes) run) first)
 
 -- ---- what is refused
 
@@ -119,7 +135,8 @@ record IsQuiet (self nodes : ℕ) (s : NodeState) (what : HistoryEvent) : Type 0
   silent : sent_at self nodes s what ≡ []
   untried : tries self nodes s what ≡ []
 
-refused_what : (n nodes first : ℕ) (s : NodeState) (what : HistoryEvent) (a : Act) (why : ActRefusal) → what_outcome n nodes first s what a ≡ outcome.Refused why → IsQuiet n nodes s what
+refused_what : (n nodes first : ℕ) (s : NodeState) (what : HistoryEvent) (a : Act) (why : ActRefusal)
+    → what_outcome n nodes first s what a ≡ outcome.Refused why → IsQuiet n nodes s what
 refused_what n nodes first s (Did event) a why is = absurd cc
 refused_what n nodes first s (Refused event fault) a why is = record { stays = refl; silent = refl; untried = refl }
 refused_what n nodes first s (Faulted event) a why is = absurd cc
@@ -137,24 +154,29 @@ record IsIdle (nodes : ℕ) (w : World) (a : Act) (step : Step) : Type 0 where
   untried : commands_at nodes w step ≡ []
   last : (r : Report) (n : ℕ) → IsLast w r n → last_state (grown nodes w a step r) n ≡ last_state r n
 
-refused_step : (nodes : ℕ) (w : World) (a : Act) (step : Step) (why : ActRefusal) → act_outcome nodes w a step ≡ outcome.Refused why → IsIdle nodes w a step
+refused_step : (nodes : ℕ) (w : World) (a : Act) (step : Step) (why : ActRefusal) → act_outcome nodes w a step ≡ outcome.Refused why
+    → IsIdle nodes w a step
 refused_step nodes w a (Takes m number what) why is =
     let quiet = refused_what m nodes _ (node_in w.states m) what a why is in record {
       silent = quiet.silent;
       untried = rw quiet.untried refl;
-      last = λ r n h. last_append n (moment_of nodes w a (Takes m number what)) r.moments (slice_get r.opening n) ∙ by_node r n h (m == n) refl;
+      last = λ r n h. last_append n (moment_of nodes w a (Takes m number what)) r.moments (slice_get r.opening n)
+          ∙ by_node r n h (m == n) refl;
     }
   where
     new : List NodeState
     new = (world_after nodes w (Takes m number what)).states
 
-    by_node : (r : Report) (n : ℕ) (h : IsLast w r n) (b : Bool) → (m == n) ≡ b → (if b then Some (node_in new m).state else last_state r n) ≡ last_state r n
+    by_node : (r : Report) (n : ℕ) (h : IsLast w r n) (b : Bool) → (m == n) ≡ b
+        → (if b then Some (node_in new m).state else last_state r n) ≡ last_state r n
     by_node r n h true eq =
         let same : m ≡ n = eq_nat m n eq in
-        let stays : after m nodes (node_in w.states m) what ≡ node_in w.states m = (refused_what m nodes _ (node_in w.states m) what a why is).stays in
+        let stays : after m nodes (node_in w.states m) what ≡ node_in w.states m =
+        (refused_what m nodes _ (node_in w.states m) what a why is).stays in
         let here : slice_get w.states m ≡ Some h.now = subst (λ (j : ℕ). slice_get w.states j ≡ Some h.now) (sym same) h.at in
         let was : node_in w.states m ≡ h.now = node_there w.states m h.now here in
-        let now : node_in new m ≡ after m nodes h.now what = node_there new m (after m nodes h.now what) (state_here m m nodes what w.states h.now refl here) in
+        let now : node_in new m ≡ after m nodes h.now what = node_there new m (after m nodes h.now what)
+        (state_here m m nodes what w.states h.now refl here) in
         let is_same : after m nodes h.now what ≡ h.now = subst (λ (x : NodeState). after m nodes x what ≡ x) was stays in
         ap (λ (x : NodeState). Some x.state) (now ∙ is_same) ∙ sym h.shown
     by_node r n h false eq = refl
@@ -162,7 +184,8 @@ refused_step nodes w a (Changes net) why is = absurd cc
 refused_step nodes w a (Denies named reason) why is = record {
   silent = refl;
   untried = refl;
-  last = λ r n h. last_append n (moment_of nodes w a (Denies named reason)) r.moments (slice_get r.opening n) ∙ kept_last n named w r h ∙ sym h.shown;
+  last = λ r n h. last_append n (moment_of nodes w a (Denies named reason)) r.moments (slice_get r.opening n) ∙ kept_last n named w r h
+      ∙ sym h.shown;
 }
 
 pub refused_changes_nothing : RefusedChangesNothing
@@ -174,55 +197,72 @@ refused_changes_nothing nodes slots acts r h k m why at is =
       ap (λ (x : Moment). x.sent) f.is ∙ idle.silent,
       ap (λ (x : Report). x.commands) f.grows ∙ (ap (λ (ts : List AttemptAt). before.commands ++ ts) commands ∙ append-nil before.commands),
       ap (λ (x : Report). x.groups) f.grows
-          ∙ (ap (λ (ts : List AttemptAt). before.groups ++ flat_map (λ (t : AttemptAt). group_of t.node t.tried.command t.tried.acked) ts) commands ∙ append-nil before.groups),
+          ∙ (ap (λ (ts : List AttemptAt). before.groups ++ flat_map (λ (t : AttemptAt). group_of t.node t.tried.command t.tried.acked) ts)
+          commands ∙ append-nil before.groups),
       λ n within. ap (λ (x : Report). last_state x n) f.grows
-          ∙ idle.last before n (subst (λ (w : World). IsLast w before n) (sym f.is_world) (within_last slots nodes n k acts h.steps (run_in nodes slots acts r h) within)),
+          ∙ idle.last before n (subst (λ (w : World). IsLast w before n) (sym f.is_world)
+          (within_last slots nodes n k acts h.steps (run_in nodes slots acts r h) within)),
     )
 
 -- ---- what is done
 
-step_all_sent : (slots nodes : ℕ) (w : World) (r : Report) (a : Act) (step : Step) → IsStepOf nodes w a step → all_sent r ≡ w.net.sent → all_sent (grown nodes w a step r) ≡ (world_after nodes w step).net.sent
+step_all_sent : (slots nodes : ℕ) (w : World) (r : Report) (a : Act) (step : Step) → IsStepOf nodes w a step → all_sent r ≡ w.net.sent
+    → all_sent (grown nodes w a step r) ≡ (world_after nodes w step).net.sent
 step_all_sent slots nodes w r a step of h =
-    flat_map-append (λ (m : Moment). m.sent) r.moments (moment_of nodes w a step ∷ []) ∙ (ap (λ (ms : List Envelope). ms ++ (step_sent nodes w step ++ [])) h ∙ (ap (λ (ms : List Envelope). w.net.sent ++ ms) (append-nil (step_sent nodes w step)) ∙ by_step step of))
+    flat_map-append (λ (m : Moment). m.sent) r.moments (moment_of nodes w a step ∷ [])
+    ∙ (ap (λ (ms : List Envelope). ms ++ (step_sent nodes w step ++ [])) h
+    ∙ (ap (λ (ms : List Envelope). w.net.sent ++ ms) (append-nil (step_sent nodes w step)) ∙ by_step step of))
   where
     by_step : (x : Step) → IsStepOf nodes w a x → w.net.sent ++ step_sent nodes w x ≡ (world_after nodes w x).net.sent
     by_step (Takes m number what) of = refl
     by_step (Changes net) of = append-nil w.net.sent ∙ sym (sent_there nodes w a net of)
     by_step (Denies named why) of = append-nil w.net.sent
 
-run_all_sent : (slots nodes : ℕ) (acts : List Act) (steps : List Step) (w : World) (r : Report) → IsRunOf nodes slots w acts steps → all_sent r ≡ w.net.sent
+run_all_sent : (slots nodes : ℕ) (acts : List Act) (steps : List Step) (w : World) (r : Report) → IsRunOf nodes slots w acts steps
+    → all_sent r ≡ w.net.sent
     → all_sent (report_from nodes w r acts steps) ≡ (world_at nodes w steps).net.sent
 run_all_sent slots nodes [] [] w r run h = h
 run_all_sent slots nodes [] (step ∷ steps) w r run h = absurd run
 run_all_sent slots nodes (a ∷ acts) [] w r run h = absurd run
 run_all_sent slots nodes (a ∷ acts) (step ∷ steps) w r run h =
-    run_all_sent slots nodes acts steps (world_after nodes w step) (grown nodes w a step r) run.2 (step_all_sent slots nodes w r a step run.0 h)
+    run_all_sent slots nodes acts steps (world_after nodes w step)
+    (grown nodes w a step r) run.2 (step_all_sent slots nodes w r a step run.0 h)
 
 -- this event came to this node
 abbrev CameTo : ℕ → HistoryEvent → ℕ → Event → Type 0
 CameTo m what n event = (m ≡ n) × IsOf event what
 
-pair_came : (m j n : ℕ) (what : HistoryEvent) (x event : Event) → (m ≡ j) × IsOf x what → ◌≡◌ {A = Option (ℕ × Event)} (Some (j, x)) (Some (n, event)) → CameTo m what n event
+pair_came : (m j n : ℕ) (what : HistoryEvent) (x event : Event) → (m ≡ j) × IsOf x what
+    → ◌≡◌ {A = Option (ℕ × Event)} (Some (j, x)) (Some (n, event)) → CameTo m what n event
 pair_came m j n what x event there is =
     let both : ◌≡◌ {A = ℕ × Event} (j, x) (n, event) = cc is in
     (there.0 ∙ ap (λ (p : ℕ × Event). p.0) both, subst (λ (e : Event). IsOf e what) (ap (λ (p : ℕ × Event). p.1) both) there.1)
 
-delivery_came : (nodes : ℕ) (net : Network) (k m number n : ℕ) (what : HistoryEvent) (event : Event) (d : Result Envelope NetFault) → delivery net k ≡ d → Brings nodes net k d (Takes m number what)
-    → option_map {U = ℕ × Event} (λ (x : Envelope). (x.receiver, on.Deliver x)) (slice_get net.sent k) ≡ Some (n, event) → CameTo m what n event
+delivery_came : (nodes : ℕ) (net : Network) (k m number n : ℕ) (what : HistoryEvent) (event : Event) (d : Result Envelope NetFault)
+    → delivery net k ≡ d → Brings nodes net k d (Takes m number what)
+    → option_map {U = ℕ × Event} (λ (x : Envelope). (x.receiver, on.Deliver x)) (slice_get net.sent k) ≡ Some (n, event)
+    → CameTo m what n event
 delivery_came nodes net k m number n what event (Ok x) is h named =
-    pair_came m x.receiver n what (on.Deliver x) event (taken_there (nat_lt x.receiver nodes) x.receiver k (IsOf (on.Deliver x)) m number what h)
+    pair_came m x.receiver n what (on.Deliver x) event (taken_there (nat_lt x.receiver nodes) x.receiver k (IsOf (on.Deliver x)) m number
+    what h)
     (ap (option_map {U = ℕ × Event} (λ (y : Envelope). (y.receiver, on.Deliver y))) (sym (comes_sent net k x is)) ∙ named)
 delivery_came nodes net k m number n what event (Err why) is h named = absurd cc
 
-event_came : (nodes : ℕ) (w : World) (r : Report) (a : Act) (m number n : ℕ) (what : HistoryEvent) (event : Event) → all_sent r ≡ w.net.sent → IsStepOf nodes w a (Takes m number what)
+event_came : (nodes : ℕ) (w : World) (r : Report) (a : Act) (m number n : ℕ) (what : HistoryEvent) (event : Event) → all_sent r ≡ w.net.sent
+    → IsStepOf nodes w a (Takes m number what)
     → event_in r a ≡ Some (n, event) → CameTo m what n event
-event_came nodes w r (act.Timer j timer) m number n what event all h is = pair_came m j n what (on.Timer timer) event (taken_there (nat_lt j nodes) j 0 (IsOf (on.Timer timer)) m number what h) is
+event_came nodes w r (act.Timer j timer) m number n what event all h is =
+    pair_came m j n what (on.Timer timer) event (taken_there (nat_lt j nodes) j 0 (IsOf (on.Timer timer)) m number what h) is
 event_came nodes w r (act.Deliver k) m number n what event all h is =
-    delivery_came nodes w.net k m number n what event (delivery w.net k) refl h (ap (λ (ms : List Envelope). option_map {U = ℕ × Event} (λ (x : Envelope). (x.receiver, on.Deliver x)) (slice_get ms k)) (sym all) ∙ is)
-event_came nodes w r (act.Submit j work) m number n what event all h is = pair_came m j n what (on.Submit work) event (taken_there (nat_lt j nodes) j 0 (IsOf (on.Submit work)) m number what h) is
+    delivery_came nodes w.net k m number n what event (delivery w.net k) refl h
+    (ap (λ (ms : List Envelope). option_map {U = ℕ × Event} (λ (x : Envelope). (x.receiver, on.Deliver x)) (slice_get ms k)) (sym all)
+    ∙ is)
+event_came nodes w r (act.Submit j work) m number n what event all h is =
+    pair_came m j n what (on.Submit work) event (taken_there (nat_lt j nodes) j 0 (IsOf (on.Submit work)) m number what h) is
 event_came nodes w r (act.Finish j origin id) m number n what event all h is =
     pair_came m j n what (on.Finish origin id) event (taken_there (nat_lt j nodes) j 0 (IsOf (on.Finish origin id)) m number what h) is
-event_came nodes w r (act.Recover j) m number n what event all h is = pair_came m j n what on.Recover event (taken_there (nat_lt j nodes) j 0 (IsOf on.Recover) m number what h) is
+event_came nodes w r (act.Recover j) m number n what event all h is =
+    pair_came m j n what on.Recover event (taken_there (nat_lt j nodes) j 0 (IsOf on.Recover) m number what h) is
 event_came nodes w r (act.Lose k) m number n what event all h is = absurd cc
 event_came nodes w r (act.Cut x y) m number n what event all h is = absurd cc
 event_came nodes w r (act.Mend x y) m number n what event all h is = absurd cc
@@ -231,7 +271,8 @@ event_came nodes w r (act.Crash j fill) m number n what event all h is = absurd 
 event_came nodes w r (act.Compact j) m number n what event all h is = absurd cc
 
 -- the network alone changes in no such act
-no_event : (nodes : ℕ) (w : World) (r : Report) (a : Act) (net : Network) (n : ℕ) (event : Event) → IsStepOf nodes w a (Changes net) → event_in r a ≡ Some (n, event) → ⊥
+no_event : (nodes : ℕ) (w : World) (r : Report) (a : Act) (net : Network) (n : ℕ) (event : Event) → IsStepOf nodes w a (Changes net)
+    → event_in r a ≡ Some (n, event) → ⊥
 no_event nodes w r (act.Timer j timer) net n event h is = no_change (nat_lt j nodes) j 0 (IsOf (on.Timer timer)) net h
 no_event nodes w r (act.Deliver k) net n event h is = no_delivery nodes w.net k (delivery w.net k) net h
 no_event nodes w r (act.Submit j work) net n event h is = no_change (nat_lt j nodes) j 0 (IsOf (on.Submit work)) net h
@@ -249,7 +290,8 @@ record IsHandled (n nodes : ℕ) (s : NodeState) (what : HistoryEvent) (event : 
   did : what ≡ Did event
   answers : answer ≡ option_map (answer_of s.durable) (wants_at n nodes s event)
 
-done_what : (n nodes first p q : ℕ) (s : NodeState) (what : HistoryEvent) (a : Act) (event : Event) (answer : Option ℕ) → IsPossible n nodes s what → is_down s.state.phase ≡ false → IsOf event what
+done_what : (n nodes first p q : ℕ) (s : NodeState) (what : HistoryEvent) (a : Act) (event : Event) (answer : Option ℕ)
+    → IsPossible n nodes s what → is_down s.state.phase ≡ false → IsOf event what
     → what_outcome n nodes first s what a ≡ outcome.Done answer p q → IsHandled n nodes s what event answer
 done_what n nodes first p q s (Did e) a event answer may up of is =
     let same : e ≡ event = cc of in
@@ -271,31 +313,42 @@ answer_given d (Some c) = refl
 -- the row's effect on a node, whose disk keeps these jobs
 abbrev Effected : ℕ → ℕ → NodeState → Event → Option ℕ → Moment → Type 0
 Effected nodes n s event answer m =
-    (m.node ≡ n) × (m.state ≡ (effect_of nodes n s.durable.pending event (unwrap_or answer 0) s.state).state) × (m.sent ≡ (effect_of nodes n s.durable.pending event (unwrap_or answer 0) s.state).sent)
+    (m.node ≡ n) × (m.state ≡ (effect_of nodes n s.durable.pending event (unwrap_or answer 0) s.state).state)
+    × (m.sent ≡ (effect_of nodes n s.durable.pending event (unwrap_or answer 0) s.state).sent)
 
-effect_given : (nodes n : ℕ) (s : NodeState) (event : Event) (answer : Option ℕ) → answer ≡ option_map (answer_of s.durable) (wants_at n nodes s event)
+effect_given : (nodes n : ℕ) (s : NodeState) (event : Event) (answer : Option ℕ)
+    → answer ≡ option_map (answer_of s.durable) (wants_at n nodes s event)
     → effect_at n nodes s event ≡ effect_of nodes n s.durable.pending event (unwrap_or answer 0) s.state
 effect_given nodes n s event answer is =
-    ap (λ (x : ℕ). effect_of nodes n s.durable.pending event x s.state) (sym (answer_given s.durable (wants_at n nodes s event)) ∙ ap (λ (x : Option ℕ). unwrap_or x 0) (sym is))
+    ap (λ (x : ℕ). effect_of nodes n s.durable.pending event x s.state)
+    (sym (answer_given s.durable (wants_at n nodes s event)) ∙ ap (λ (x : Option ℕ). unwrap_or x 0) (sym is))
 
-done_step : (slots nodes n p q : ℕ) (w : World) (r : Report) (a : Act) (step : Step) (event : Event) (answer : Option ℕ) (s : NodeState) → IsStepOf nodes w a step → IsLawful slots nodes w step → all_sent r ≡ w.net.sent
-    → event_in r a ≡ Some (n, event) → slice_get w.states n ≡ Some s → is_down s.state.phase ≡ false → act_outcome nodes w a step ≡ outcome.Done answer p q → Effected nodes n s event answer (moment_of nodes w a step)
+done_step : (slots nodes n p q : ℕ) (w : World) (r : Report) (a : Act) (step : Step) (event : Event) (answer : Option ℕ) (s : NodeState)
+    → IsStepOf nodes w a step → IsLawful slots nodes w step → all_sent r ≡ w.net.sent
+    → event_in r a ≡ Some (n, event) → slice_get w.states n ≡ Some s → is_down s.state.phase ≡ false
+    → act_outcome nodes w a step ≡ outcome.Done answer p q → Effected nodes n s event answer (moment_of nodes w a step)
 done_step slots nodes n p q w r a (Takes m number what) event answer s of may all named at up is =
     let came = event_came nodes w r a m number n what event all of named in
     let there : slice_get w.states m ≡ Some s = subst (λ (j : ℕ). slice_get w.states j ≡ Some s) (sym came.0) at in
     let was : node_in w.states m ≡ s = node_there w.states m s there in
     let same : may.0 ≡ s = cc (may.1, there) in
     let possible : IsPossible m nodes s what = subst (λ (x : NodeState). IsPossible m nodes x what) same may.2 in
-    let handled = done_what m nodes (length w.net.sent) p q s what a event answer possible up came.1 (subst (λ (x : NodeState). what_outcome m nodes (length w.net.sent) x what a ≡ outcome.Done answer p q) was is) in
+    let handled = done_what m nodes (length w.net.sent) p q s what a event answer possible up came.1
+    (subst (λ (x : NodeState). what_outcome m nodes (length w.net.sent) x what a ≡ outcome.Done answer p q) was is) in
     let new : List NodeState = (world_after nodes w (Takes m number what)).states in
-    let now : node_in new m ≡ after m nodes s what = node_there new m (after m nodes s what) (state_here m m nodes what w.states s refl there) in
+    let now : node_in new m ≡ after m nodes s what = node_there new m (after m nodes s what)
+    (state_here m m nodes what w.states s refl there) in
     let at_n : effect_at m nodes s event ≡ effect_of nodes n s.durable.pending event (unwrap_or answer 0) s.state =
-    effect_given nodes m s event answer handled.answers ∙ ap (λ (j : ℕ). effect_of nodes j s.durable.pending event (unwrap_or answer 0) s.state) came.0 in (
+    effect_given nodes m s event answer handled.answers ∙ ap (λ (j : ℕ).
+    effect_of nodes j s.durable.pending event (unwrap_or answer 0) s.state) came.0 in (
       came.0,
-      ap (λ (x : NodeState). x.state) now ∙ (ap (λ (x : HistoryEvent). (after m nodes s x).state) handled.did ∙ ap (λ (e : Effect). e.state) at_n),
-      ap (λ (x : NodeState). sent_at m nodes x what) was ∙ (ap (λ (x : HistoryEvent). sent_at m nodes s x) handled.did ∙ ap (λ (e : Effect). e.sent) at_n),
+      ap (λ (x : NodeState). x.state) now ∙ (ap (λ (x : HistoryEvent). (after m nodes s x).state) handled.did
+          ∙ ap (λ (e : Effect). e.state) at_n),
+      ap (λ (x : NodeState). sent_at m nodes x what) was ∙ (ap (λ (x : HistoryEvent). sent_at m nodes s x) handled.did
+          ∙ ap (λ (e : Effect). e.sent) at_n),
     )
-done_step slots nodes n p q w r a (Changes net) event answer s of may all named at up is = absurd (no_event nodes w r a net n event of named)
+done_step slots nodes n p q w r a (Changes net) event answer s of may all named at up is =
+    absurd (no_event nodes w r a net n event of named)
 done_step slots nodes n p q w r a (Denies m why) event answer s of may all named at up is = absurd cc
 
 pub done_has_its_effect : DoneHasItsEffect
@@ -303,19 +356,22 @@ done_has_its_effect nodes slots acts r h k m answer first many n event s within 
     let f = front_of nodes slots acts r h k m at in
     let before : Report = report_within nodes k acts h.steps in
     let all : all_sent before ≡ f.before.net.sent = ap all_sent (front_report nodes k acts h.steps)
-    ∙ run_all_sent slots nodes (take k acts) (take k h.steps) (start nodes) (first_report nodes) (acts_front k nodes slots acts h.steps (start nodes) (run_in nodes slots acts r h)) refl
+    ∙ run_all_sent slots nodes (take k acts) (take k h.steps) (start nodes) (first_report nodes)
+    (acts_front k nodes slots acts h.steps (start nodes) (run_in nodes slots acts r h)) refl
     ∙ ap (λ (w : World). w.net.sent) (sym f.is_world) in
     let last = within_last slots nodes n k acts h.steps (run_in nodes slots acts r h) within in
     let here : slice_get f.before.states n ≡ Some last.now = ap (λ (w : World). slice_get w.states n) f.is_world ∙ last.at in
     let same : last.now.state ≡ s = cc (last.shown, shown) in
     let was : node_in (world_at nodes (start nodes) (take k h.steps)).states n ≡ last.now = node_there _ n last.now last.at in
     let is_act : m.act ≡ f.act = ap (λ (x : Moment). x.act) f.is in
-    let done = done_step slots nodes n first many f.before before f.act f.step event answer last.now f.of_act f.lawful all (ap (event_in before) (sym is_act) ∙ named) here
+    let done = done_step slots nodes n first many f.before before f.act f.step event answer last.now f.of_act f.lawful all
+    (ap (event_in before) (sym is_act) ∙ named) here
     (subst (λ (x : State). is_down x.phase ≡ false) (sym same) up) (ap (λ (x : Moment). x.outcome) (sym f.is) ∙ is) in
     let effect : effect_of nodes n last.now.durable.pending event (unwrap_or answer 0) last.now.state
     ≡ effect_of nodes n (node_in (world_at nodes (start nodes) (take k h.steps)).states n).durable.pending event (unwrap_or answer 0) s =
     ap (λ (x : NodeState). effect_of nodes n x.durable.pending event (unwrap_or answer 0) last.now.state) (sym was)
-    ∙ ap (λ (x : State). effect_of nodes n (node_in (world_at nodes (start nodes) (take k h.steps)).states n).durable.pending event (unwrap_or answer 0) x) same in (
+    ∙ ap (λ (x : State). effect_of nodes n (node_in (world_at nodes (start nodes) (take k h.steps)).states n).durable.pending event
+    (unwrap_or answer 0) x) same in (
       ap (λ (x : Moment). x.node) f.is ∙ done.0,
       ap (λ (x : Moment). x.state) f.is ∙ (done.1 ∙ ap (λ (e : Effect). e.state) effect),
       ap (λ (x : Moment). x.sent) f.is ∙ (done.2 ∙ ap (λ (e : Effect). e.sent) effect),
@@ -323,7 +379,8 @@ done_has_its_effect nodes slots acts r h k m answer first many n event s within 
 
 -- ---- a compaction at a node that is down
 
-compaction_down : (n nodes first m : ℕ) (s : NodeState) (what : HistoryEvent) → IsCompaction s what → IsPossible n nodes s what → is_down s.state.phase ≡ true
+compaction_down : (n nodes first m : ℕ) (s : NodeState) (what : HistoryEvent) → IsCompaction s what → IsPossible n nodes s what
+    → is_down s.state.phase ≡ true
     → what_outcome n nodes first s what (act.Compact m) ≡ outcome.Refused (OfNode (Core Down))
 compaction_down n nodes first m s (NoOp Nothing) is may down = absurd is
 compaction_down n nodes first m s (NoOp Compacted) is may down = absurd (let both : true ≡ false = sym down ∙ may in cc)
@@ -332,15 +389,18 @@ compaction_down n nodes first m s (NoOp CompactAreaExhausted) is may down = absu
 compaction_down n nodes first m s Crashed is may down = absurd (let both : true ≡ false = sym down ∙ is in cc)
 compaction_down n nodes first m s _ is may down = absurd is
 
-down_step : (slots nodes n : ℕ) (w : World) (step : Step) (s : NodeState) (known : Bool) → known ≡ true → At known n 0 (IsCompaction (node_in w.states n)) step → IsLawful slots nodes w step
-    → slice_get w.states n ≡ Some s → is_down s.state.phase ≡ true → act_outcome nodes w (act.Compact n) step ≡ outcome.Refused (OfNode (Core Down))
+down_step : (slots nodes n : ℕ) (w : World) (step : Step) (s : NodeState) (known : Bool) → known ≡ true
+    → At known n 0 (IsCompaction (node_in w.states n)) step → IsLawful slots nodes w step
+    → slice_get w.states n ≡ Some s → is_down s.state.phase ≡ true
+    → act_outcome nodes w (act.Compact n) step ≡ outcome.Refused (OfNode (Core Down))
 down_step slots nodes n w step s true is h may at down =
     let lawful : IsLawful slots nodes w (Takes n 0 h.0) = subst (IsLawful slots nodes w) h.1 may in
     let same : lawful.0 ≡ s = cc (lawful.1, at) in
     let here : node_in w.states n ≡ s = node_there w.states n s at in
     let possible : IsPossible n nodes s h.0 = subst (λ (x : NodeState). IsPossible n nodes x h.0) same lawful.2 in
     let of : IsCompaction s h.0 = subst (λ (x : NodeState). IsCompaction x h.0) here h.2 in
-    ap (act_outcome nodes w (act.Compact n)) h.1 ∙ ap (λ (x : NodeState). what_outcome n nodes (length w.net.sent) x h.0 (act.Compact n)) here
+    ap (act_outcome nodes w (act.Compact n)) h.1 ∙ ap (λ (x : NodeState). what_outcome n nodes (length w.net.sent) x h.0 (act.Compact n))
+    here
     ∙ compaction_down n nodes (length w.net.sent) n s h.0 of possible down
 down_step slots nodes n w step s false is h may at down = absurd cc
 
@@ -353,5 +413,6 @@ down_refuses_compaction nodes slots acts r h k m n s within at is_compact shown 
     let of : f.act ≡ act.Compact n = ap (λ (x : Moment). x.act) (sym f.is) ∙ is_compact in
     let known : nat_lt n nodes ≡ true = grind (arith, nat_tests, within) in
     ap (λ (x : Moment). x.outcome) f.is ∙ ap (λ (x : Act). act_outcome nodes f.before x f.step) of
-    ∙ down_step slots nodes n f.before f.step last.now (nat_lt n nodes) known (subst (λ (x : Act). IsStepOf nodes f.before x f.step) of f.of_act) f.lawful here
+    ∙ down_step slots nodes n f.before f.step last.now (nat_lt n nodes) known (subst (λ (x : Act). IsStepOf nodes f.before x f.step) of
+    f.of_act) f.lawful here
     (ap (λ (x : State). is_down x.phase) same ∙ down)

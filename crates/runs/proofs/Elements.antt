@@ -35,7 +35,8 @@ rest_pairs R x xs h i j d lt within = h (suc i) (suc j) d (omega (arith, lt)) (o
 
 pub once_pairs : (gs : List Group) → IsOnceEach gs → AllPairs (λ (g h : Group). g ≢ h) gs
 once_pairs [] once = none_pairs (λ (g h : Group). g ≢ h)
-once_pairs (g ∷ gs) once = AllPairs-cons (λ (g h : Group). g ≢ h) g gs (λ k d within same. once.0 (found g d gs k within (sym same))) (once_pairs gs once.1)
+once_pairs (g ∷ gs) once = AllPairs-cons (λ (g h : Group). g ≢ h) g gs (λ k d within same. once.0 (found g d gs k within (sym same)))
+    (once_pairs gs once.1)
 
 pub pairs_once : (gs : List Group) → AllPairs (λ (g h : Group). g ≢ h) gs → IsOnceEach gs
 pairs_once [] h = tt

@@ -1,5 +1,6 @@
 -- Where a job is done in a run, an act before was its finish, at a worker that had it in hand.
-use Rattle.std.proofs.Common.{◌≡◌, ◌≢◌, ◌⊎◌, ℕ, suc, ◌+◌, ◌<◌, List, [], ◌∷◌, length, map, take, slice_get, refl, sym, ◌∙◌, ap, subst, inl, inr, arith, Option, Some, None}
+use Rattle.std.proofs.Common.{◌≡◌, ◌≢◌, ◌⊎◌, ℕ, suc, ◌+◌, ◌<◌, List, [], ◌∷◌, length, map, take, slice_get, refl, sym, ◌∙◌, ap, subst, inl}
+use Rattle.std.proofs.Common.{inr, arith, Option, Some, None}
 use Rattle.std.specs.Prelude.{option_to_list}
 use Rattle.job_model.specs.declared.node_command.NodeCommand.{NodeCommand as Command}
 use Rattle.job_model.specs.declared.node_command.NodeCommand.TheVariants.{Raise, Done}
@@ -11,7 +12,8 @@ use Rattle.node_core.specs.declared.event.Event.TheVariants as on
 use Rattle.histories.specs.Lists.{IsAmong}
 use Rattle.histories.specs.NodeState.{NodeState, wants_at, settled}
 use Rattle.histories.specs.declared.history_event.HistoryEvent.{HistoryEvent}
-use Rattle.histories.specs.declared.history_event.HistoryEvent.TheVariants.{Did, Refused, Faulted, NoOp, Crashed, Recovered, MountFailed, RaiseFailed, RaiseRefused}
+use Rattle.histories.specs.declared.history_event.HistoryEvent.TheVariants.{Did, Refused, Faulted, NoOp, Crashed, Recovered, MountFailed}
+use Rattle.histories.specs.declared.history_event.HistoryEvent.TheVariants.{RaiseFailed, RaiseRefused}
 use Rattle.histories.specs.HistoryEvent.{event_of, brought, AreAddressed}
 use Rattle.histories.specs.After.{sent_at}
 use Rattle.histories.specs.Owners.{acted}
@@ -45,13 +47,20 @@ pub record Finishes (nodes : ℕ) (w : World) (acts : List Act) (steps : List St
   pub work : HasWork worker was.state origin id
 
 -- an entry that says so is an event that was taken
-says_taken : (self nodes : ℕ) (s : NodeState) (what : HistoryEvent) (origin id : ℕ) → IsPossible self nodes s what → SaysFinished what origin id → TakesEvent self nodes s (on.Finish origin id)
-says_taken self nodes s (Did event) origin id may i = elim i [ inl e ↦ subst (λ (x : Event). TakesEvent self nodes s x) (sym e) may | inr none ↦ absurd none ]
-says_taken self nodes s (Faulted event) origin id may i = elim i [ inl e ↦ subst (λ (x : Event). TakesEvent self nodes s x) (sym e) may.0 | inr none ↦ absurd none ]
+says_taken : (self nodes : ℕ) (s : NodeState) (what : HistoryEvent) (origin id : ℕ) → IsPossible self nodes s what
+    → SaysFinished what origin id → TakesEvent self nodes s (on.Finish origin id)
+says_taken self nodes s (Did event) origin id may i = elim i [
+  | inl e ↦ subst (λ (x : Event). TakesEvent self nodes s x) (sym e) may
+  | inr none ↦ absurd none
+]
+says_taken self nodes s (Faulted event) origin id may i =
+    elim i [ inl e ↦ subst (λ (x : Event). TakesEvent self nodes s x) (sym e) may.0 | inr none ↦ absurd none ]
 says_taken self nodes s _ origin id may i = absurd i
 
-finishes_now : (slots nodes : ℕ) (w : World) (a : Act) (m number : ℕ) (what : HistoryEvent) (acts : List Act) (steps : List Step) (origin id : ℕ) → IsStepOf nodes w a (Takes m number what)
-    → IsLawful slots nodes w (Takes m number what) → AllStates OwnedAt w → SaysFinished what origin id → Finishes nodes w (a ∷ acts) (Takes m number what ∷ steps) m origin id 0
+finishes_now : (slots nodes : ℕ) (w : World) (a : Act) (m number : ℕ) (what : HistoryEvent) (acts : List Act) (steps : List Step)
+    (origin id : ℕ) → IsStepOf nodes w a (Takes m number what)
+    → IsLawful slots nodes w (Takes m number what) → AllStates OwnedAt w → SaysFinished what origin id
+    → Finishes nodes w (a ∷ acts) (Takes m number what ∷ steps) m origin id 0
 finishes_now slots nodes w a m number what acts steps origin id of may owned says =
     let s : NodeState = may.0 in
     let at : slice_get w.states m ≡ Some s = may.1 in
@@ -65,14 +74,25 @@ finishes_now slots nodes w a m number what acts steps origin id of may owned say
       work = has_work m s origin id (owned m s at) (held_finish nodes m origin id s.state taken.1.by_core).1;
     }
 
-finishes_later : (nodes : ℕ) (w : World) (a : Act) (step : Step) (acts : List Act) (steps : List Step) (worker origin id place : ℕ) → Finishes nodes (world_after nodes w step) acts steps worker origin id place
+finishes_later : (nodes : ℕ) (w : World) (a : Act) (step : Step) (acts : List Act) (steps : List Step) (worker origin id place : ℕ)
+    → Finishes nodes (world_after nodes w step) acts steps worker origin id place
     → Finishes nodes w (a ∷ acts) (step ∷ steps) worker origin id (suc place)
 finishes_later nodes w a step acts steps worker origin id place h =
-    record { moment = h.moment; at = h.at; of_act = h.of_act; not_refused = h.not_refused; was = h.was; is_state = h.is_state; work = h.work }
+    record {
+      moment = h.moment;
+      at = h.at;
+      of_act = h.of_act;
+      not_refused = h.not_refused;
+      was = h.was;
+      is_state = h.is_state;
+      work =
+          h.work;
+    }
 
 -- finished in this run, by another node before the last of its acts
 abbrev pub EndedIn : ℕ → World → List Act → List Step → ℕ → ℕ → Type 0
-EndedIn nodes w acts steps origin id = (worker : ℕ) × (place : ℕ) × Finishes nodes w acts steps worker origin id place × (place < length steps) × (worker ≢ origin → suc place < length steps)
+EndedIn nodes w acts steps origin id = (worker : ℕ) × (place : ℕ) × Finishes nodes w acts steps worker origin id place
+    × (place < length steps) × (worker ≢ origin → suc place < length steps)
 
 -- or before it, as F says
 abbrev Ended : (ℕ → ℕ → Type 0) → ℕ → World → List Act → List Step → ℕ → ℕ → Type 0
@@ -86,21 +106,26 @@ Underway F ms = (m : Envelope) (id : ℕ) → IsAmong m ms → m.body ≡ DoneMe
 abbrev Now : ℕ → World → List Act → List Step → ℕ → ℕ → Type 0
 Now nodes w acts steps origin id = (worker : ℕ) × Finishes nodes w acts steps worker origin id 0
 
-did_say : (self nodes : ℕ) (s : NodeState) (what : HistoryEvent) (m : Envelope) (id : ℕ) → IsPossible self nodes s what → IsAmong m (sent_at self nodes s what) → m.body ≡ DoneMessage id → SaysFinished what m.receiver id
-did_say self nodes s (Did event) m id may i body = (let said : Some event ≡ Some (on.Finish m.receiver id) = done_said self nodes s (Did event) m id may i body in
+did_say : (self nodes : ℕ) (s : NodeState) (what : HistoryEvent) (m : Envelope) (id : ℕ) → IsPossible self nodes s what
+    → IsAmong m (sent_at self nodes s what) → m.body ≡ DoneMessage id → SaysFinished what m.receiver id
+did_say self nodes s (Did event) m id may i body = (let said : Some event ≡ Some (on.Finish m.receiver id) =
+    done_said self nodes s (Did event) m id may i body in
     let same : event ≡ on.Finish m.receiver id = cc said in inl (sym same))
 did_say self nodes s _ m id may i body = absurd i
 
-step_underway : (F : ℕ → ℕ → Type 0) (slots nodes : ℕ) (w : World) (a : Act) (step : Step) (acts : List Act) (steps : List Step) → IsStepOf nodes w a step → IsLawful slots nodes w step → AllStates OwnedAt w
+step_underway : (F : ℕ → ℕ → Type 0) (slots nodes : ℕ) (w : World) (a : Act) (step : Step) (acts : List Act) (steps : List Step)
+    → IsStepOf nodes w a step → IsLawful slots nodes w step → AllStates OwnedAt w
     → Underway F w.net.sent → Underway (λ o i. F o i ⊎ Now nodes w (a ∷ acts) (step ∷ steps) o i) (world_after nodes w step).net.sent
 step_underway F slots nodes w a (Takes n number what) acts steps of may owned h m id i body =
     let was : node_in w.states n ≡ may.0 = node_there w.states n may.0 may.1 in
     elim (among_either m w.net.sent (sent_at n nodes (node_in w.states n) what) i) [
       | inl old ↦ inl (h m id old body)
-      | inr new ↦ (let says = did_say n nodes may.0 what m id may.2 (subst (λ (x : NodeState). IsAmong m (sent_at n nodes x what)) was new) body in
+      | inr new ↦ (let says = did_say n nodes may.0 what m id may.2 (subst (λ (x : NodeState). IsAmong m (sent_at n nodes x what)) was new)
+          body in
           inr (n, finishes_now slots nodes w a n number what acts steps m.receiver id of may owned says))
     ]
-step_underway F slots nodes w a (Changes net) acts steps of may owned h m id i body = inl (h m id (subst (λ (ms : List Envelope). IsAmong m ms) (sent_there nodes w a net of) i) body)
+step_underway F slots nodes w a (Changes net) acts steps of may owned h m id i body =
+    inl (h m id (subst (λ (ms : List Envelope). IsAmong m ms) (sent_there nodes w a net of) i) body)
 step_underway F slots nodes w a (Denies named why) acts steps of may owned h m id i body = inl (h m id i body)
 
 -- ---- a command that ends a job
@@ -112,9 +137,13 @@ record Tries (n : ℕ) (s : NodeState) (what : HistoryEvent) (t : Attempt) (id :
   of : event_of what ≡ Some event
   wants : (nodes : ℕ) → wants_at n nodes s event ≡ Some (Done id)
 
-command_wanted : (f : Command → Attempt) (wants : Option Command) (t : Attempt) (id : ℕ) → ((c : Command) → (f c).command ≡ c) → IsAmong t (map f (option_to_list wants)) → t.command ≡ Done id → wants ≡ Some (Done id)
+command_wanted : (f : Command → Attempt) (wants : Option Command) (t : Attempt) (id : ℕ) → ((c : Command) → (f c).command ≡ c)
+    → IsAmong t (map f (option_to_list wants)) → t.command ≡ Done id → wants ≡ Some (Done id)
 command_wanted f None t id same i is = absurd i
-command_wanted f (Some c) t id same i is = elim i [ inl e ↦ ap Some (sym (same c) ∙ (ap (λ (x : Attempt). x.command) (sym e) ∙ is)) | inr none ↦ absurd none ]
+command_wanted f (Some c) t id same i is = elim i [
+  | inl e ↦ ap Some (sym (same c) ∙ (ap (λ (x : Attempt). x.command) (sym e) ∙ is))
+  | inr none ↦ absurd none
+]
 
 raise_only : (u t : Attempt) (id : ℕ) → u.command ≡ Raise → IsAmong t (u ∷ []) → t.command ≡ Done id → ⊥
 raise_only u t id raise i is = elim i [
@@ -122,12 +151,14 @@ raise_only u t id raise i is = elim i [
   | inr none ↦ absurd none
 ]
 
-who_tries : (n nodes : ℕ) (s : NodeState) (what : HistoryEvent) (t : Attempt) (id : ℕ) → IsAmong t (tries n nodes s what) → t.command ≡ Done id → Tries n s what t id
+who_tries : (n nodes : ℕ) (s : NodeState) (what : HistoryEvent) (t : Attempt) (id : ℕ) → IsAmong t (tries n nodes s what)
+    → t.command ≡ Done id → Tries n s what t id
 who_tries n nodes s (Did event) t id i is = record {
   event = event;
   acts = refl;
   of = refl;
-  wants = λ _. command_wanted (λ (c : Command). record { command = c; acked = Some (answer_of s.durable c) }) (wants_at n nodes s event) t id (λ c. refl) i is;
+  wants = λ _. command_wanted (λ (c : Command). record { command = c; acked = Some (answer_of s.durable c) })
+      (wants_at n nodes s event) t id (λ c. refl) i is;
 }
 who_tries n nodes s (Faulted event) t id i is = record {
   event = event;
@@ -138,7 +169,11 @@ who_tries n nodes s (Faulted event) t id i is = record {
 who_tries n nodes s (Refused event fault) t id i is = absurd i
 who_tries n nodes s (NoOp rest) t id i is = absurd i
 who_tries n nodes s Crashed t id i is = absurd i
-who_tries n nodes s (Recovered kept) t id i is = absurd (raise_only (record { command = Raise; acked = Some ((settled kept s).counter + 1) }) t id refl i is)
+who_tries n nodes s (Recovered kept) t id i is = absurd (raise_only (record {
+  command = Raise;
+  acked =
+      Some ((settled kept s).counter + 1);
+}) t id refl i is)
 who_tries n nodes s MountFailed t id i is = absurd i
 who_tries n nodes s (RaiseFailed kept) t id i is = absurd (raise_only (record { command = Raise; acked = None }) t id refl i is)
 who_tries n nodes s (RaiseRefused kept) t id i is = absurd i
@@ -156,20 +191,30 @@ of_node n (x ∷ ts) t i = elim i [
 ]
 
 -- the first step tries it
-step_ended : (F : ℕ → ℕ → Type 0) (slots nodes : ℕ) (w : World) (a : Act) (step : Step) (acts : List Act) (steps : List Step) (t : AttemptAt) (id : ℕ) → IsStepOf nodes w a step → IsLawful slots nodes w step
-    → AllStates OwnedAt w → Underway F w.net.sent → IsAmong t (commands_at nodes w step) → t.tried.command ≡ Done id → Ended F nodes w (a ∷ acts) (step ∷ steps) t.node id
+step_ended : (F : ℕ → ℕ → Type 0) (slots nodes : ℕ) (w : World) (a : Act) (step : Step) (acts : List Act) (steps : List Step)
+    (t : AttemptAt) (id : ℕ) → IsStepOf nodes w a step → IsLawful slots nodes w step
+    → AllStates OwnedAt w → Underway F w.net.sent → IsAmong t (commands_at nodes w step) → t.tried.command ≡ Done id
+    → Ended F nodes w (a ∷ acts) (step ∷ steps) t.node id
 step_ended F slots nodes w a (Takes n number what) acts steps t id of may owned h i is =
     let mine = of_node n (tries n nodes (node_in w.states n) what) t i in
     let was : node_in w.states n ≡ may.0 = node_there w.states n may.0 may.1 in
-    let it = who_tries n nodes may.0 what t.tried id (subst (λ (x : NodeState). IsAmong t.tried (tries n nodes x what)) was mine.among) is in
+    let it = who_tries n nodes may.0 what t.tried id (subst (λ (x : NodeState). IsAmong t.tried (tries n nodes x what)) was mine.among) is
+    in
     let allowed : IsAllowed nodes w (Takes n number what) = allowed_of slots nodes w a (Takes n number what) of may in
     subst (λ (o : ℕ). Ended F nodes w (a ∷ acts) (Takes n number what ∷ steps) o id) (sym mine.node)
     (elim (causes n may.0.durable.pending it.event may.0.state id (it.wants nodes)) [
-      | inl own ↦ inr (n, 0, finishes_now slots nodes w a n number what acts steps n id of may owned (rw it.acts (inl (sym own))), omega arith, (λ ne. absurd (ne refl)))
+      | inl own ↦ inr (
+        n,
+        0,
+        finishes_now slots nodes w a n number what acts steps n id of may owned (rw it.acts (inl (sym own))),
+        omega arith,
+        (λ ne. absurd (ne refl)),
+      )
       | inr told ↦ inl (delivered told.0 (it.of ∙ ap Some told.1) told.2 allowed, omega arith)
     ])
   where
-    delivered : (m : Envelope) → event_of what ≡ Some (on.Deliver m) → m.body ≡ DoneMessage id → IsAllowed nodes w (Takes n number what) → F n id
+    delivered : (m : Envelope) → event_of what ≡ Some (on.Deliver m) → m.body ≡ DoneMessage id → IsAllowed nodes w (Takes n number what)
+        → F n id
     delivered m is_event body allowed =
         let here : brought (event_of what) ≡ m ∷ [] = ap brought is_event in
         let sent : IsAmong m w.net.sent = brought_sent w number (brought (event_of what)) m allowed.3 (rw here (inl refl)) in
@@ -178,14 +223,18 @@ step_ended F slots nodes w a (Takes n number what) acts steps t id of may owned 
 step_ended F slots nodes w a (Changes net) acts steps t id of may owned h i is = absurd i
 step_ended F slots nodes w a (Denies named why) acts steps t id of may owned h i is = absurd i
 
-pub done_ended : (F : ℕ → ℕ → Type 0) (slots nodes : ℕ) (acts : List Act) (steps : List Step) (w : World) (r : Report) → IsRunOf nodes slots w acts steps → AllStates OwnedAt w → Underway F w.net.sent
-    → (t : AttemptAt) (id : ℕ) → IsAmong t (report_from nodes w r acts steps).commands → t.tried.command ≡ Done id → IsAmong t r.commands ⊎ Ended F nodes w acts steps t.node id
+pub done_ended : (F : ℕ → ℕ → Type 0) (slots nodes : ℕ) (acts : List Act) (steps : List Step) (w : World) (r : Report)
+    → IsRunOf nodes slots w acts steps → AllStates OwnedAt w → Underway F w.net.sent
+    → (t : AttemptAt) (id : ℕ) → IsAmong t (report_from nodes w r acts steps).commands → t.tried.command ≡ Done id
+    → IsAmong t r.commands ⊎ Ended F nodes w acts steps t.node id
 done_ended F slots nodes [] [] w r run owned h t id i is = inl i
 done_ended F slots nodes [] (step ∷ steps) w r run owned h t id i is = absurd run
 done_ended F slots nodes (a ∷ acts) [] w r run owned h t id i is = absurd run
 done_ended F slots nodes (a ∷ acts) (step ∷ steps) w r run owned h t id i is =
-    elim (done_ended (λ o j. F o j ⊎ Now nodes w (a ∷ acts) (step ∷ steps) o j) slots nodes acts steps (world_after nodes w step) (grown nodes w a step r) run.2
-    (lawful_keeps OwnedAt OwnedAt nodes slots (λ n s h. h) (λ n s what may fits h. owned_after n nodes s what may h) w step run.1 owned) (step_underway F slots nodes w a step acts steps run.0 run.1 owned h) t id i is) [
+    elim (done_ended (λ o j. F o j ⊎ Now nodes w (a ∷ acts) (step ∷ steps) o j) slots nodes acts steps (world_after nodes w step)
+    (grown nodes w a step r) run.2
+    (lawful_keeps OwnedAt OwnedAt nodes slots (λ n s h. h) (λ n s what may fits h. owned_after n nodes s what may h) w step run.1 owned)
+    (step_underway F slots nodes w a step acts steps run.0 run.1 owned h) t id i is) [
       | inl among ↦ elim (among_either t r.commands (commands_at nodes w step) among) [
         | inl old ↦ inl old
         | inr new ↦ inr (step_ended F slots nodes w a step acts steps t id run.0 run.1 owned h new is)
@@ -195,6 +244,12 @@ done_ended F slots nodes (a ∷ acts) (step ∷ steps) w r run owned h t id i is
           | inl f ↦ inr (inl (f, omega arith))
           | inr now ↦ inr (inr (now.0, 0, now.1, omega arith, (λ ne. omega (arith, before.1))))
         ]
-        | inr it ↦ inr (inr (it.0, suc it.1, finishes_later nodes w a step acts steps it.0 t.node id it.1 it.2, omega (arith, it.3), (λ ne. omega (arith, it.4 ne))))
+        | inr it ↦ inr (inr (
+          it.0,
+          suc it.1,
+          finishes_later nodes w a step acts steps it.0 t.node id it.1 it.2,
+          omega (arith, it.3),
+          (λ ne. omega (arith, it.4 ne)),
+        ))
       ]
     ]

@@ -1,5 +1,6 @@
 -- A run in which nothing is used up is exact; and an exact run is a run, as long as it is short.
-use Rattle.std.proofs.Common.{◌≡◌, ◌≢◌, ◌⊎◌, ℕ, zero, suc, ◌+◌, ◌^◌, ◌<◌, Bool, true, false, List, [], ◌∷◌, length, slice_get, refl, sym, ◌∙◌, ap, subst, inl, inr, arith, Option, Some, None}
+use Rattle.std.proofs.Common.{◌≡◌, ◌≢◌, ◌⊎◌, ℕ, zero, suc, ◌+◌, ◌^◌, ◌<◌, Bool, true, false, List, [], ◌∷◌, length, slice_get, refl, sym}
+use Rattle.std.proofs.Common.{◌∙◌, ap, subst, inl, inr, arith, Option, Some, None}
 use Rattle.std.specs.Prelude.{nat_lt, ◌&&◌, if◌then◌else◌, Result, Ok, Err, option_map, IsSome, MatchBool, MatchOption}
 use Rattle.std.specs.Option.{option_or}
 use Rattle.std.proofs.lemmas.Bool.Decides.{nat_tests}
@@ -29,7 +30,8 @@ use Rattle.histories.specs.NodeState.{NodeState, wants_at, settled}
 use Rattle.histories.specs.Possible.{IsForNode, IsPossible, IsOfSlots}
 use Rattle.histories.specs.HistoryEvent.{IsOf}
 use Rattle.histories.specs.declared.history_event.HistoryEvent.{HistoryEvent}
-use Rattle.histories.specs.declared.history_event.HistoryEvent.TheVariants.{Did, Refused, Faulted, NoOp, Crashed, Recovered, MountFailed, RaiseFailed, RaiseRefused}
+use Rattle.histories.specs.declared.history_event.HistoryEvent.TheVariants.{Did, Refused, Faulted, NoOp, Crashed, Recovered, MountFailed}
+use Rattle.histories.specs.declared.history_event.HistoryEvent.TheVariants.{RaiseFailed, RaiseRefused}
 use Rattle.histories.specs.declared.history_event.NoOpKind.TheVariants.{Nothing, Compacted, CompactDown, CompactAreaExhausted}
 use Rattle.schedule.specs.declared.act.Act.{Act}
 use Rattle.schedule.specs.declared.act.Act.TheVariants as act
@@ -75,7 +77,8 @@ lacks_room : (slots : ℕ) (d : Durable) (wants : Option Command) → IsFull slo
 lacks_room slots d None full = absurd full
 lacks_room slots d (Some Raise) full = absurd full
 lacks_room slots d (Some (Done id)) full = absurd full
-lacks_room slots d (Some (Put work)) full = (let known : nat_lt slots (length d.pending + 3) ≡ true = grind (arith, nat_tests, full) in rw known refl)
+lacks_room slots d (Some (Put work)) full = (let known : nat_lt slots (length d.pending + 3) ≡ true = grind (arith, nat_tests, full) in
+    rw known refl)
 
 fits_room : (slots : ℕ) (d : Durable) (wants : Option Command) → no_room slots d wants ≡ None → IsFull slots d wants → ⊥
 fits_room slots d wants none full = (let both : None ≡ Some Full = sym none ∙ lacks_room slots d wants full in absurd cc)
@@ -86,13 +89,15 @@ record IsPutRefused (slots : ℕ) (d : Durable) (wants : Option Command) (why : 
   full : IsFull slots d wants
   appended : IsAppended wants
 
-full_why : (slots : ℕ) (d : Durable) (wants : Option Command) (why : Refusal) → no_room slots d wants ≡ Some why → IsPutRefused slots d wants why
+full_why : (slots : ℕ) (d : Durable) (wants : Option Command) (why : Refusal) → no_room slots d wants ≡ Some why
+    → IsPutRefused slots d wants why
 full_why slots d None why is = absurd cc
 full_why slots d (Some Raise) why is = absurd cc
 full_why slots d (Some (Done id)) why is = absurd cc
 full_why slots d (Some (Put work)) why is = pick (nat_lt slots (length d.pending + 3)) refl is
   where
-    pick : (b : Bool) → nat_lt slots (length d.pending + 3) ≡ b → (if b then Some Full else None) ≡ Some why → IsPutRefused slots d (Some (Put work)) why
+    pick : (b : Bool) → nat_lt slots (length d.pending + 3) ≡ b → (if b then Some Full else None) ≡ Some why
+        → IsPutRefused slots d (Some (Put work)) why
     pick true known e = record { is = (let same : Full ≡ why = cc e in sym same); full = grind (arith, nat_tests, known); appended = tt }
     pick false known e = absurd cc
 
@@ -112,14 +117,16 @@ timer_room slots n d clock.Ready s = raise_room slots d _
 timer_room slots n d clock.Coord s = raise_room slots d _
 timer_room slots n d _ s = refl
 
-delivered_room : (slots from : ℕ) (d : Durable) (pending : List Job) (body : Body) (s : State) → no_room slots d (delivered_wants from pending body s) ≡ None
+delivered_room : (slots from : ℕ) (d : Durable) (pending : List Job) (body : Body) (s : State)
+    → no_room slots d (delivered_wants from pending body s) ≡ None
 delivered_room slots from d pending (says.Here group agreed) s = raise_room slots d _
 delivered_room slots from d pending (says.Done id) s = done_room slots d id _
 delivered_room slots from d pending _ s = refl
 
 -- why a node refuses an event, by the event's command
 abbrev refused_by : ℕ → ℕ → ℕ → NodeState → Event → Option Refusal
-refused_by slots n nodes s event = option_or (option_map Core (refusal_of nodes n event s.state)) (no_room slots s.durable (wants_at n nodes s event))
+refused_by slots n nodes s event = option_or (option_map Core (refusal_of nodes n event s.state))
+    (no_room slots s.durable (wants_at n nodes s event))
 
 with_room : (core room : Option Refusal) → room ≡ None → core ≡ option_or core room
 with_room (Some why) room none = refl
@@ -136,7 +143,8 @@ refusal_is slots n nodes s on.Recover = refl
 
 -- what may come of an event that is refused for this reason, if it is
 abbrev ComesOf : Option Refusal → ℕ → ℕ → NodeState → Event → HistoryEvent → Type 0
-ComesOf refusal n nodes s event what = MatchOption refusal ((what ≡ Did event) ⊎ ((what ≡ Faulted event) × IsSome (wants_at n nodes s event))) (λ why. what ≡ Refused event why)
+ComesOf refusal n nodes s event what = MatchOption refusal ((what ≡ Did event)
+    ⊎ ((what ≡ Faulted event) × IsSome (wants_at n nodes s event))) (λ why. what ≡ Refused event why)
 
 -- what may come where a node is to recover: one that is down mounts its disk
 abbrev Recovers : Bool → NodeState → HistoryEvent → Type 0
@@ -149,46 +157,61 @@ IsUsedUp (NoOp CompactAreaExhausted) = Unit {0}
 IsUsedUp (RaiseRefused kept) = Unit {0}
 IsUsedUp what = ⊥
 
-unless_mounting : (slots n nodes : ℕ) (s : NodeState) (event : Event) (what : HistoryEvent) → IsForNode s.state event → ComesOf (refusal_at slots n nodes s event) n nodes s event what → MayCome slots n nodes s event what
-unless_mounting slots n nodes s on.Recover what up h = subst (λ (b : Bool). Recovers b s what) (sym (up refl)) (elim h [ inl did ↦ inl did | inr failed ↦ inr failed.0 ])
+unless_mounting : (slots n nodes : ℕ) (s : NodeState) (event : Event) (what : HistoryEvent) → IsForNode s.state event
+    → ComesOf (refusal_at slots n nodes s event) n nodes s event what → MayCome slots n nodes s event what
+unless_mounting slots n nodes s on.Recover what up h = subst (λ (b : Bool). Recovers b s what) (sym (up refl))
+    (elim h [ inl did ↦ inl did | inr failed ↦ inr failed.0 ])
 unless_mounting slots n nodes s (on.Timer timer) what up h = h
 unless_mounting slots n nodes s (on.Deliver m) what up h = h
 unless_mounting slots n nodes s (on.Submit work) what up h = h
 unless_mounting slots n nodes s (on.Finish origin id) what up h = h
 
-by_mounting : (slots n nodes : ℕ) (s : NodeState) (what : HistoryEvent) → is_down s.state.phase ≡ true → ComesOfMounting s what → MayCome slots n nodes s on.Recover what
+by_mounting : (slots n nodes : ℕ) (s : NodeState) (what : HistoryEvent) → is_down s.state.phase ≡ true → ComesOfMounting s what
+    → MayCome slots n nodes s on.Recover what
 by_mounting slots n nodes s what down h = subst (λ (b : Bool). Recovers b s what) (sym down) h
 
 -- what comes of the event e came of this one
-of_same : (slots n nodes : ℕ) (s : NodeState) (e event : Event) (what : HistoryEvent) (r : Option Refusal) → e ≡ event → IsForNode s.state e → refused_by slots n nodes s e ≡ r → ComesOf r n nodes s e what → MayCome slots n nodes s event what
+of_same : (slots n nodes : ℕ) (s : NodeState) (e event : Event) (what : HistoryEvent) (r : Option Refusal) → e ≡ event → IsForNode s.state e
+    → refused_by slots n nodes s e ≡ r → ComesOf r n nodes s e what → MayCome slots n nodes s event what
 of_same slots n nodes s e event what r same up is h =
-    subst (λ (x : Event). MayCome slots n nodes s x what) same (unless_mounting slots n nodes s e what up (subst (λ (x : Option Refusal). ComesOf x n nodes s e what) (sym (refusal_is slots n nodes s e ∙ is)) h))
+    subst (λ (x : Event). MayCome slots n nodes s x what) same
+    (unless_mounting slots n nodes s e what up (subst (λ (x : Option Refusal). ComesOf x n nodes s e what)
+    (sym (refusal_is slots n nodes s e ∙ is)) h))
 
-event_exact : (slots n nodes : ℕ) (s : NodeState) (event : Event) (what : HistoryEvent) → IsOf event what → IsPossible n nodes s what → IsOfSlots slots n nodes s what → (IsUsedUp what → ⊥) → MayCome slots n nodes s event what
+event_exact : (slots n nodes : ℕ) (s : NodeState) (event : Event) (what : HistoryEvent) → IsOf event what → IsPossible n nodes s what
+    → IsOfSlots slots n nodes s what → (IsUsedUp what → ⊥) → MayCome slots n nodes s event what
 event_exact slots n nodes s event (Did e) is may fits up =
-    of_same slots n nodes s e event (Did e) None (cc is) may.0 (λ i. option_or (option_map Core (may.1.by_core i)) (has_room slots s.durable (wants_at n nodes s e) fits i)) (inl refl)
+    of_same slots n nodes s e event (Did e) None (cc is) may.0 (λ i.
+    option_or (option_map Core (may.1.by_core i)) (has_room slots s.durable (wants_at n nodes s e) fits i)) (inl refl)
 event_exact slots n nodes s event (Faulted e) is may fits up =
-    of_same slots n nodes s e event (Faulted e) None (cc is) may.0.0 (λ i. option_or (option_map Core (may.0.1.by_core i)) (has_room slots s.durable (wants_at n nodes s e) fits i)) (inr (refl, may.1))
+    of_same slots n nodes s e event (Faulted e) None (cc is) may.0.0 (λ i.
+    option_or (option_map Core (may.0.1.by_core i)) (has_room slots s.durable (wants_at n nodes s e) fits i)) (inr (refl, may.1))
 event_exact slots n nodes s event (Refused e (Core fault)) is may fits up =
-    of_same slots n nodes s e event (Refused e (Core fault)) (Some (Core fault)) (cc is) may.0 (λ i. option_or (option_map Core (may.1 i)) (no_room slots s.durable (wants_at n nodes s e))) refl
+    of_same slots n nodes s e event (Refused e (Core fault)) (Some (Core fault))
+    (cc is) may.0 (λ i. option_or (option_map Core (may.1 i)) (no_room slots s.durable (wants_at n nodes s e))) refl
 event_exact slots n nodes s event (Refused e Full) is may fits up =
-    of_same slots n nodes s e event (Refused e Full) (Some Full) (cc is) may.0 (λ i. option_or (option_map Core (may.1.0 i)) (lacks_room slots s.durable (wants_at n nodes s e) fits i)) refl
+    of_same slots n nodes s e event (Refused e Full) (Some Full)
+    (cc is) may.0 (λ i. option_or (option_map Core (may.1.0 i)) (lacks_room slots s.durable (wants_at n nodes s e) fits i)) refl
 event_exact slots n nodes s event (Refused e Exhausted) is may fits up = absurd (up tt)
 event_exact slots n nodes s event (Refused e AreaExhausted) is may fits up = absurd (up tt)
 event_exact slots n nodes s event (NoOp rest) is may fits up = absurd cc
 event_exact slots n nodes s event Crashed is may fits up = absurd cc
 event_exact slots n nodes s event (Recovered kept) is may fits up =
-    (let same : on.Recover ≡ event = cc is in subst (λ (x : Event). MayCome slots n nodes s x (Recovered kept)) same (by_mounting slots n nodes s (Recovered kept) may.0 (inr (kept, may.1, inl refl))))
+    (let same : on.Recover ≡ event = cc is in subst (λ (x : Event). MayCome slots n nodes s x (Recovered kept)) same
+    (by_mounting slots n nodes s (Recovered kept) may.0 (inr (kept, may.1, inl refl))))
 event_exact slots n nodes s event MountFailed is may fits up =
-    (let same : on.Recover ≡ event = cc is in subst (λ (x : Event). MayCome slots n nodes s x MountFailed) same (by_mounting slots n nodes s MountFailed may (inl refl)))
+    (let same : on.Recover ≡ event = cc is in subst (λ (x : Event). MayCome slots n nodes s x MountFailed) same
+    (by_mounting slots n nodes s MountFailed may (inl refl)))
 event_exact slots n nodes s event (RaiseFailed kept) is may fits up =
-    (let same : on.Recover ≡ event = cc is in subst (λ (x : Event). MayCome slots n nodes s x (RaiseFailed kept)) same (by_mounting slots n nodes s (RaiseFailed kept) may.0 (inr (kept, may.1, inr refl))))
+    (let same : on.Recover ≡ event = cc is in subst (λ (x : Event). MayCome slots n nodes s x (RaiseFailed kept)) same
+    (by_mounting slots n nodes s (RaiseFailed kept) may.0 (inr (kept, may.1, inr refl))))
 event_exact slots n nodes s event (RaiseRefused kept) is may fits up = absurd (up tt)
 
 abbrev ByPhase : Bool → HistoryEvent → Type 0
 ByPhase down what = MatchBool down (what ≡ NoOp CompactDown) ((what ≡ NoOp Compacted) ⊎ (what ≡ Crashed))
 
-compact_exact : (n nodes : ℕ) (s : NodeState) (what : HistoryEvent) → IsCompaction s what → IsPossible n nodes s what → (IsUsedUp what → ⊥) → MayCompact s what
+compact_exact : (n nodes : ℕ) (s : NodeState) (what : HistoryEvent) → IsCompaction s what → IsPossible n nodes s what → (IsUsedUp what → ⊥)
+    → MayCompact s what
 compact_exact n nodes s (NoOp Nothing) is may up = absurd is
 compact_exact n nodes s (NoOp Compacted) is may up = subst (λ (b : Bool). ByPhase b (NoOp Compacted)) (sym may) (inl refl)
 compact_exact n nodes s (NoOp CompactDown) is may up = subst (λ (b : Bool). ByPhase b (NoOp CompactDown)) (sym may) refl
@@ -208,9 +231,11 @@ module _ (slots n nodes limit : ℕ) (s : NodeState) (few : FewGiven limit n s) 
   unspent : (wants : Option Command) → IsSpent s.durable wants → ⊥
   unspent wants spent = spent_high few.low s.durable wants few.below (omega (arith, few.sum, short)) spent
 
-  came_of : (event : Event) (what : HistoryEvent) → IsForNode s.state event → (core : Option CoreFault) (room : Option Refusal) → refusal_of nodes n event s.state ≡ core → no_room slots s.durable (wants_at n nodes s event) ≡ room
+  came_of : (event : Event) (what : HistoryEvent) → IsForNode s.state event → (core : Option CoreFault) (room : Option Refusal)
+      → refusal_of nodes n event s.state ≡ core → no_room slots s.durable (wants_at n nodes s event) ≡ room
       → ComesOf (option_or (option_map Core core) room) n nodes s event what → MayHaveCome (IsOf event) slots n nodes s what
-  came_of event what up (Some fault) room core_is room_is h = subst (MayHaveCome (IsOf event) slots n nodes s) (sym h) (record { of = refl; possible = (up, core_is); of_slots = tt })
+  came_of event what up (Some fault) room core_is room_is h =
+      subst (MayHaveCome (IsOf event) slots n nodes s) (sym h) (record { of = refl; possible = (up, core_is); of_slots = tt })
   came_of event what up None (Some why) core_is room_is h =
       let put = full_why slots s.durable (wants_at n nodes s event) why room_is in
       subst (MayHaveCome (IsOf event) slots n nodes s) (sym (h ∙ ap (λ (x : Refusal). Refused event x) put.is)) (record {
@@ -222,12 +247,16 @@ module _ (slots n nodes limit : ℕ) (s : NodeState) (few : FewGiven limit n s) 
       let fits = fits_room slots s.durable (wants_at n nodes s event) room_is in
       let taken : IsTaken nodes n s.state s.durable event = record { by_core = core_is; not_spent = unspent (wants_at n nodes s event) } in
       elim h [
-        | inl did ↦ subst (MayHaveCome (IsOf event) slots n nodes s) (sym did) (record { of = refl; possible = (up, taken); of_slots = fits })
-        | inr failed ↦ subst (MayHaveCome (IsOf event) slots n nodes s) (sym failed.0) (record { of = refl; possible = ((up, taken), failed.1); of_slots = fits })
+        | inl did ↦ subst (MayHaveCome (IsOf event) slots n nodes s) (sym did)
+            (record { of = refl; possible = (up, taken); of_slots = fits })
+        | inr failed ↦ subst (MayHaveCome (IsOf event) slots n nodes s) (sym failed.0)
+            (record { of = refl; possible = ((up, taken), failed.1); of_slots = fits })
       ]
 
-  came_up : (event : Event) (what : HistoryEvent) → IsForNode s.state event → ComesOf (refusal_at slots n nodes s event) n nodes s event what → MayHaveCome (IsOf event) slots n nodes s what
-  came_up event what up h = came_of event what up _ _ refl refl (subst (λ (x : Option Refusal). ComesOf x n nodes s event what) (refusal_is slots n nodes s event) h)
+  came_up : (event : Event) (what : HistoryEvent) → IsForNode s.state event
+      → ComesOf (refusal_at slots n nodes s event) n nodes s event what → MayHaveCome (IsOf event) slots n nodes s what
+  came_up event what up h = came_of event what up _ _ refl refl
+      (subst (λ (x : Option Refusal). ComesOf x n nodes s event what) (refusal_is slots n nodes s event) h)
 
   low : (kept : Bool) → (settled kept s).counter + 1 < 2 ^ 64
   low kept = (let below = settled_below few.low kept s few.below in omega (arith, below.counts, few.sum, short))
@@ -241,15 +270,19 @@ module _ (slots n nodes limit : ℕ) (s : NodeState) (few : FewGiven limit n s) 
     where
       pick : (b : Bool) → is_down s.state.phase ≡ b → Recovers b s what → MayHaveCome (IsOf on.Recover) slots n nodes s what
       pick true down it = elim it [
-        | inl failed ↦ subst (MayHaveCome (IsOf on.Recover) slots n nodes s) (sym failed) (record { of = refl; possible = down; of_slots = tt })
+        | inl failed ↦ subst (MayHaveCome (IsOf on.Recover) slots n nodes s) (sym failed)
+            (record { of = refl; possible = down; of_slots = tt })
         | inr mounts ↦ elim mounts.2 [
-          | inl e ↦ subst (MayHaveCome (IsOf on.Recover) slots n nodes s) (sym e) (record { of = refl; possible = (down, mounts.1, low mounts.0); of_slots = tt })
-          | inr e ↦ subst (MayHaveCome (IsOf on.Recover) slots n nodes s) (sym e) (record { of = refl; possible = (down, mounts.1, low mounts.0); of_slots = tt })
+          | inl e ↦ subst (MayHaveCome (IsOf on.Recover) slots n nodes s) (sym e)
+              (record { of = refl; possible = (down, mounts.1, low mounts.0); of_slots = tt })
+          | inr e ↦ subst (MayHaveCome (IsOf on.Recover) slots n nodes s) (sym e)
+              (record { of = refl; possible = (down, mounts.1, low mounts.0); of_slots = tt })
         ]
       ]
       pick false up it = came_up on.Recover what (λ e. up) (elim it [ inl did ↦ inl did | inr failed ↦ inr (failed, refl) ])
 
-compacted : (slots n nodes : ℕ) (s : NodeState) (what : HistoryEvent) → MayCompact s what → MayHaveCome (IsCompaction s) slots n nodes s what
+compacted : (slots n nodes : ℕ) (s : NodeState) (what : HistoryEvent) → MayCompact s what
+    → MayHaveCome (IsCompaction s) slots n nodes s what
 compacted slots n nodes s what h = pick (is_down s.state.phase) refl h
   where
     pick : (b : Bool) → is_down s.state.phase ≡ b → ByPhase b what → MayHaveCome (IsCompaction s) slots n nodes s what
@@ -261,12 +294,15 @@ compacted slots n nodes s what h = pick (is_down s.state.phase) refl h
 
 -- ---- the step of an act
 
-at_by : (known : Bool) (n k : ℕ) (P Q : HistoryEvent → Type 0) (step : Step) → ((what : HistoryEvent) → known ≡ true → step ≡ Takes n k what → P what → Q what) → At known n k P step → At known n k Q step
+at_by : (known : Bool) (n k : ℕ) (P Q : HistoryEvent → Type 0) (step : Step)
+    → ((what : HistoryEvent) → known ≡ true → step ≡ Takes n k what → P what → Q what) → At known n k P step → At known n k Q step
 at_by true n k P Q step f h = (h.0, h.1, f h.0 refl h.1 h.2)
 at_by false n k P Q step f h = h
 
 -- what may come by other words, where it comes at a node of the cluster
-module _ (E F : ℕ → Event → HistoryEvent → Type 0) (C D : ℕ → HistoryEvent → Type 0) (nodes : ℕ) (step : Step) (f : (n number : ℕ) (event : Event) (what : HistoryEvent) → nat_lt n nodes ≡ true → step ≡ Takes n number what → E n event what → F n event what)
+module _ (E F : ℕ → Event → HistoryEvent → Type 0) (C D : ℕ → HistoryEvent → Type 0) (nodes : ℕ) (step : Step)
+    (f : (n number : ℕ) (event : Event) (what : HistoryEvent) → nat_lt n nodes ≡ true → step ≡ Takes n number what → E n event what
+    → F n event what)
     (g : (n number : ℕ) (what : HistoryEvent) → nat_lt n nodes ≡ true → step ≡ Takes n number what → C n what → D n what) where
   event_by : (n k : ℕ) (event : Event) → At (nat_lt n nodes) n k (E n event) step → At (nat_lt n nodes) n k (F n event) step
   event_by n k event h = at_by (nat_lt n nodes) n k (E n event) (F n event) step (λ what known is e. f n k event what known is e) h
@@ -288,7 +324,8 @@ module _ (E F : ℕ → Event → HistoryEvent → Type 0) (C D : ℕ → Histor
   step_by net (act.Recover n) h = event_by n 0 on.Recover h
   step_by net (act.Compact n) h = at_by (nat_lt n nodes) n 0 (C n) (D n) step (λ what known is c. g n 0 what known is c) h
 
-at_there : (known : Bool) (n k : ℕ) (P : HistoryEvent → Type 0) (Q : ℕ → HistoryEvent → Type 0) (m number : ℕ) (what : HistoryEvent) → ((x : HistoryEvent) → known ≡ true → P x → Q n x) → At known n k P (Takes m number what) → Q m what
+at_there : (known : Bool) (n k : ℕ) (P : HistoryEvent → Type 0) (Q : ℕ → HistoryEvent → Type 0) (m number : ℕ) (what : HistoryEvent)
+    → ((x : HistoryEvent) → known ≡ true → P x → Q n x) → At known n k P (Takes m number what) → Q m what
 at_there true n k P Q m number what f h =
     let step : Takes m number what ≡ Takes n k h.0 = h.1 in
     let node : m ≡ n = cc step in
@@ -297,8 +334,10 @@ at_there true n k P Q m number what f h =
 at_there false n k P Q m number what f h = absurd cc
 
 -- what holds of all that comes, at nodes of the cluster, holds of the step that a node takes
-module _ (E : ℕ → Event → HistoryEvent → Type 0) (C Q : ℕ → HistoryEvent → Type 0) (nodes m number : ℕ) (what : HistoryEvent) (f : (n : ℕ) (event : Event) (x : HistoryEvent) → nat_lt n nodes ≡ true → E n event x → Q n x)
-    (g : (n : ℕ) (x : HistoryEvent) → nat_lt n nodes ≡ true → C n x → Q n x) (rests : (n : ℕ) → nat_lt n nodes ≡ true → Q n (NoOp Nothing) × Q n Crashed) where
+module _ (E : ℕ → Event → HistoryEvent → Type 0) (C Q : ℕ → HistoryEvent → Type 0) (nodes m number : ℕ) (what : HistoryEvent)
+    (f : (n : ℕ) (event : Event) (x : HistoryEvent) → nat_lt n nodes ≡ true → E n event x → Q n x)
+    (g : (n : ℕ) (x : HistoryEvent) → nat_lt n nodes ≡ true → C n x → Q n x)
+    (rests : (n : ℕ) → nat_lt n nodes ≡ true → Q n (NoOp Nothing) × Q n Crashed) where
   event_there : (n k : ℕ) (event : Event) → At (nat_lt n nodes) n k (E n event) (Takes m number what) → Q m what
   event_there n k event h = at_there (nat_lt n nodes) n k (E n event) Q m number what (λ x known e. f n event x known e) h
 
@@ -314,15 +353,18 @@ module _ (E : ℕ → Event → HistoryEvent → Type 0) (C Q : ℕ → HistoryE
   step_there net (act.Mend x y) h = absurd (link_none (nat_lt x nodes && nat_lt y nodes) (after_mend net x y) m number what h)
   step_there net (act.Submit n work) h = event_there n 0 (on.Submit work) h
   step_there net (act.Finish n origin id) h = event_there n 0 (on.Finish origin id) h
-  step_there net (act.Arm n calls) h = at_there (nat_lt n nodes) n 0 (λ (x : HistoryEvent). x ≡ NoOp Nothing) Q m number what (λ x known e. subst (Q n) (sym e) (rests n known).0) h
-  step_there net (act.Crash n fill) h = at_there (nat_lt n nodes) n 0 (λ (x : HistoryEvent). x ≡ Crashed) Q m number what (λ x known e. subst (Q n) (sym e) (rests n known).1) h
+  step_there net (act.Arm n calls) h = at_there (nat_lt n nodes) n 0 (λ (x : HistoryEvent). x
+      ≡ NoOp Nothing) Q m number what (λ x known e. subst (Q n) (sym e) (rests n known).0) h
+  step_there net (act.Crash n fill) h = at_there (nat_lt n nodes) n 0 (λ (x : HistoryEvent). x
+      ≡ Crashed) Q m number what (λ x known e. subst (Q n) (sym e) (rests n known).1) h
   step_there net (act.Recover n) h = event_there n 0 on.Recover h
   step_there net (act.Compact n) h = at_there (nat_lt n nodes) n 0 (C n) Q m number what (λ x known c. g n x known c) h
 
 -- ---- a run in which nothing is used up is exact
 
 used_up_outcome : (n nodes first : ℕ) (s : NodeState) (what : HistoryEvent) (a : Act) → IsUsedUp what
-    → (what_outcome n nodes first s what a ≡ outcome.Refused (Node Exhausted)) ⊎ (what_outcome n nodes first s what a ≡ outcome.Refused (Node AreaExhausted))
+    → (what_outcome n nodes first s what a ≡ outcome.Refused (Node Exhausted))
+    ⊎ (what_outcome n nodes first s what a ≡ outcome.Refused (Node AreaExhausted))
 used_up_outcome n nodes first s (Refused event Exhausted) a up = inl refl
 used_up_outcome n nodes first s (Refused event AreaExhausted) a up = inr refl
 used_up_outcome n nodes first s (NoOp CompactAreaExhausted) a up = inr refl
@@ -330,18 +372,24 @@ used_up_outcome n nodes first s (RaiseRefused kept) a up = inl refl
 used_up_outcome n nodes first s _ a up = absurd up
 
 -- what comes there may come there
-there : (slots nodes : ℕ) (w : World) (n number : ℕ) (what : HistoryEvent) → IsLawful slots nodes w (Takes n number what) → MayHaveCome (λ x. Unit {0}) slots n nodes (node_in w.states n) what
-there slots nodes w n number what may = subst (λ (x : NodeState). MayHaveCome (λ y. Unit {0}) slots n nodes x what) (sym (node_there w.states n may.0 may.1)) (record { of = tt; possible = may.2; of_slots = may.3 })
+there : (slots nodes : ℕ) (w : World) (n number : ℕ) (what : HistoryEvent) → IsLawful slots nodes w (Takes n number what)
+    → MayHaveCome (λ x. Unit {0}) slots n nodes (node_in w.states n) what
+there slots nodes w n number what may = subst (λ (x : NodeState). MayHaveCome (λ y. Unit {0}) slots n nodes x what)
+    (sym (node_there w.states n may.0 may.1)) (record { of = tt; possible = may.2; of_slots = may.3 })
 
 exact_step : (slots nodes : ℕ) (w : World) (a : Act) (step : Step) → IsStepOf nodes w a step → IsLawful slots nodes w step
-    → act_outcome nodes w a step ≢ outcome.Refused (Node Exhausted) → act_outcome nodes w a step ≢ outcome.Refused (Node AreaExhausted) → IsExactStep nodes slots w a step
+    → act_outcome nodes w a step ≢ outcome.Refused (Node Exhausted) → act_outcome nodes w a step ≢ outcome.Refused (Node AreaExhausted)
+    → IsExactStep nodes slots w a step
 exact_step slots nodes w a step of may unspent never_area_exhausted =
     step_by _ _ _ _ nodes step
-    (λ n number event what known is of. let it = came_there n number what is in event_exact slots n nodes (node_in w.states n) event what of it.possible it.of_slots (left n number what is))
-    (λ n number what known is of. let it = came_there n number what is in compact_exact n nodes (node_in w.states n) what of it.possible (left n number what is))
+    (λ n number event what known is of. let it = came_there n number what is in
+    event_exact slots n nodes (node_in w.states n) event what of it.possible it.of_slots (left n number what is))
+    (λ n number what known is of. let it = came_there n number what is in
+    compact_exact n nodes (node_in w.states n) what of it.possible (left n number what is))
     w.net a of
   where
-    came_there : (n number : ℕ) (what : HistoryEvent) → step ≡ Takes n number what → MayHaveCome (λ x. Unit {0}) slots n nodes (node_in w.states n) what
+    came_there : (n number : ℕ) (what : HistoryEvent) → step ≡ Takes n number what
+        → MayHaveCome (λ x. Unit {0}) slots n nodes (node_in w.states n) what
     came_there n number what is = there slots nodes w n number what (subst (IsLawful slots nodes w) is may)
 
     left : (n number : ℕ) (what : HistoryEvent) → step ≡ Takes n number what → IsUsedUp what → ⊥
@@ -352,16 +400,20 @@ exact_step slots nodes w a step of may unspent never_area_exhausted =
 
 exact_from : (slots nodes : ℕ) (acts : List Act) (steps : List Step) (w : World) → IsRunOf nodes slots w acts steps
     → ((m : Moment) → IsAmong m (moments_from nodes w acts steps) → m.outcome ≢ outcome.Refused (Node Exhausted))
-    → ((k : ℕ) (m : Moment) → slice_get (moments_from nodes w acts steps) k ≡ Some m → m.outcome ≢ outcome.Refused (Node AreaExhausted)) → IsExactRun nodes slots w acts steps
+    → ((k : ℕ) (m : Moment) → slice_get (moments_from nodes w acts steps) k ≡ Some m → m.outcome ≢ outcome.Refused (Node AreaExhausted))
+    → IsExactRun nodes slots w acts steps
 exact_from slots nodes [] [] w run unspent never_area_exhausted = tt
 exact_from slots nodes [] (step ∷ steps) w run unspent never_area_exhausted = absurd run
 exact_from slots nodes (a ∷ acts) [] w run unspent never_area_exhausted = absurd run
 exact_from slots nodes (a ∷ acts) (step ∷ steps) w run unspent never_area_exhausted = (
-  exact_step slots nodes w a step run.0 run.1 (unspent (moment_of nodes w a step) (inl refl)) (never_area_exhausted 0 (moment_of nodes w a step) refl),
-  exact_from slots nodes acts steps (world_after nodes w step) run.2 (λ m i. unspent m (inr i)) (λ k m at. never_area_exhausted (suc k) m at),
+  exact_step slots nodes w a step run.0 run.1 (unspent (moment_of nodes w a step) (inl refl))
+      (never_area_exhausted 0 (moment_of nodes w a step) refl),
+  exact_from slots nodes acts steps (world_after nodes w step) run.2 (λ m i. unspent m (inr i))
+      (λ k m at. never_area_exhausted (suc k) m at),
 )
 
-pub exact_run : (slots nodes : ℕ) (acts : List Act) (steps : List Step) → IsShort acts → IsRunOf nodes slots (start nodes) acts steps → NoAreaExhausted (report_of nodes acts steps) → IsExactRun nodes slots (start nodes) acts steps
+pub exact_run : (slots nodes : ℕ) (acts : List Act) (steps : List Step) → IsShort acts → IsRunOf nodes slots (start nodes) acts steps
+    → NoAreaExhausted (report_of nodes acts steps) → IsExactRun nodes slots (start nodes) acts steps
 exact_run slots nodes acts steps short run never_area_exhausted =
     let same = moments_are nodes acts steps in
     exact_from slots nodes acts steps (start nodes) run
@@ -370,10 +422,12 @@ exact_run slots nodes acts steps short run never_area_exhausted =
 
 -- ---- an exact run is a run
 
-run_step : (slots nodes limit : ℕ) (w : World) (a : Act) (step : Step) → IsExactStep nodes slots w a step → length w.states ≡ nodes → AllStates (FewGiven limit) w → limit + 1 < 2 ^ 64 → IsStepOf nodes w a step × IsLawful slots nodes w step
+run_step : (slots nodes limit : ℕ) (w : World) (a : Act) (step : Step) → IsExactStep nodes slots w a step → length w.states ≡ nodes
+    → AllStates (FewGiven limit) w → limit + 1 < 2 ^ 64 → IsStepOf nodes w a step × IsLawful slots nodes w step
 run_step slots nodes limit w a step exact many few short = (
   step_by _ _ _ _ nodes step (λ n number event what known is (e : MayHaveCome (IsOf event) slots n nodes (node_in w.states n) what). e.of)
-      (λ n number what known is (c : MayHaveCome (IsCompaction (node_in w.states n)) slots n nodes (node_in w.states n) what). c.of) w.net a by,
+      (λ n number what known is (c : MayHaveCome (IsCompaction (node_in w.states n)) slots n nodes (node_in w.states n) what). c.of) w.net a
+      by,
   lawful step by,
 )
   where
@@ -383,75 +437,106 @@ run_step slots nodes limit w a step exact many few short = (
     few_here : (n : ℕ) → nat_lt n nodes ≡ true → FewGiven limit n (node_in w.states n)
     few_here n known = (let at = here n known in subst (FewGiven limit n) (sym (node_there w.states n at.0 at.1)) (few n at.0 at.1))
 
-    by : IsStepBy (λ (n : ℕ) (event : Event). MayHaveCome (IsOf event) slots n nodes (node_in w.states n)) (λ (n : ℕ). MayHaveCome (IsCompaction (node_in w.states n)) slots n nodes (node_in w.states n)) nodes w.net a step
-    by = step_by _ _ _ _ nodes step (λ n number event what known is e. came slots n nodes limit (node_in w.states n) (few_here n known) short event what e)
+    by : IsStepBy (λ (n : ℕ) (event : Event). MayHaveCome (IsOf event) slots n nodes (node_in w.states n))
+        (λ (n : ℕ). MayHaveCome (IsCompaction (node_in w.states n)) slots n nodes (node_in w.states n)) nodes w.net a step
+    by = step_by _ _ _ _ nodes step (λ n number event what known is e.
+        came slots n nodes limit (node_in w.states n) (few_here n known) short event what e)
         (λ n number what known is c. compacted slots n nodes (node_in w.states n) what c) w.net a exact
 
     Lawful : ℕ → HistoryEvent → Type 0
     Lawful n what = IsLawful slots nodes w (Takes n 0 what)
 
-    lawful_at : (P : HistoryEvent → Type 0) (n : ℕ) (what : HistoryEvent) → nat_lt n nodes ≡ true → MayHaveCome P slots n nodes (node_in w.states n) what → Lawful n what
+    lawful_at : (P : HistoryEvent → Type 0) (n : ℕ) (what : HistoryEvent) → nat_lt n nodes ≡ true
+        → MayHaveCome P slots n nodes (node_in w.states n) what → Lawful n what
     lawful_at P n what known it =
         let at = here n known in
-        let is = node_there w.states n at.0 at.1 in
-        (at.0, at.1, subst (λ (x : NodeState). IsPossible n nodes x what) is it.possible, subst (λ (x : NodeState). IsOfSlots slots n nodes x what) is it.of_slots)
+        let is = node_there w.states n at.0 at.1 in (
+          at.0,
+          at.1,
+          subst (λ (x : NodeState). IsPossible n nodes x what) is it.possible,
+          subst (λ (x : NodeState). IsOfSlots slots n nodes x what) is it.of_slots,
+        )
 
-    lawful : (x : Step) → IsStepBy (λ (n : ℕ) (event : Event). MayHaveCome (IsOf event) slots n nodes (node_in w.states n)) (λ (n : ℕ). MayHaveCome (IsCompaction (node_in w.states n)) slots n nodes (node_in w.states n)) nodes w.net a x → IsLawful slots nodes w x
-    lawful (Takes m number what) h = step_there _ _ Lawful nodes m number what (λ n event x known e. lawful_at (IsOf event) n x known e) (λ n x known c. lawful_at (IsCompaction (node_in w.states n)) n x known c)
-        (λ n known. (lawful_at (λ x. Unit {0}) n (NoOp Nothing) known (record { of = tt; possible = tt; of_slots = tt }), lawful_at (λ x. Unit {0}) n Crashed known (record { of = tt; possible = tt; of_slots = tt }))) w.net a h
+    lawful : (x : Step) → IsStepBy (λ (n : ℕ) (event : Event). MayHaveCome (IsOf event) slots n nodes (node_in w.states n))
+        (λ (n : ℕ). MayHaveCome (IsCompaction (node_in w.states n)) slots n nodes (node_in w.states n)) nodes w.net a x
+        → IsLawful slots nodes w x
+    lawful (Takes m number what) h = step_there _ _ Lawful nodes m number what (λ n event x known e. lawful_at (IsOf event) n x known e)
+        (λ n x known c. lawful_at (IsCompaction (node_in w.states n)) n x known c)
+        (λ n known. (
+          lawful_at (λ x. Unit {0}) n (NoOp Nothing) known (record { of = tt; possible = tt; of_slots = tt }),
+          lawful_at (λ x. Unit {0}) n Crashed known (record { of = tt; possible = tt; of_slots = tt }),
+        )) w.net a h
     lawful (Changes net) h = tt
     lawful (Denies named why) h = tt
 
-run_from : (slots nodes limit : ℕ) (acts : List Act) (steps : List Step) (w : World) → IsExactRun nodes slots w acts steps → length w.states ≡ nodes → AllStates (FewGiven limit) w → limit + length acts < 2 ^ 64 → IsRunOf nodes slots w acts steps
+run_from : (slots nodes limit : ℕ) (acts : List Act) (steps : List Step) (w : World) → IsExactRun nodes slots w acts steps
+    → length w.states ≡ nodes → AllStates (FewGiven limit) w → limit + length acts < 2 ^ 64 → IsRunOf nodes slots w acts steps
 run_from slots nodes limit [] [] w exact many few short = tt
 run_from slots nodes limit [] (step ∷ steps) w exact many few short = absurd exact
 run_from slots nodes limit (a ∷ acts) [] w exact many few short = absurd exact
 run_from slots nodes limit (a ∷ acts) (step ∷ steps) w exact many few short =
-    let it = run_step slots nodes limit w a step exact.0 many few (omega (arith, short)) in
-    (it.0, it.1, run_from slots nodes (limit + 1) acts steps (world_after nodes w step) exact.1 (step_length nodes w step ∙ many) (step_few slots nodes limit w step it.1 few) (omega (arith, short)))
+    let it = run_step slots nodes limit w a step exact.0 many few (omega (arith, short)) in (
+      it.0,
+      it.1,
+      run_from slots nodes (limit + 1) acts steps (world_after nodes w step) exact.1 (step_length nodes w step
+          ∙ many) (step_few slots nodes limit w step it.1 few) (omega (arith, short)),
+    )
 
-pub run_of : (slots nodes : ℕ) (acts : List Act) (steps : List Step) → IsShort acts → IsExactRun nodes slots (start nodes) acts steps → IsRunOf nodes slots (start nodes) acts steps
-run_of slots nodes acts steps short exact = run_from slots nodes 1 acts steps (start nodes) exact (length_openings 0 nodes) (opens_few nodes) (omega (arith, short))
+pub run_of : (slots nodes : ℕ) (acts : List Act) (steps : List Step) → IsShort acts → IsExactRun nodes slots (start nodes) acts steps
+    → IsRunOf nodes slots (start nodes) acts steps
+run_of slots nodes acts steps short exact = run_from slots nodes 1 acts steps (start nodes) exact (length_openings 0 nodes)
+    (opens_few nodes) (omega (arith, short))
 
 -- that of a headline is one
-pub run_in : (nodes slots : ℕ) (acts : List Act) (r : Report) (h : Headline nodes slots acts r) → IsRunOf nodes slots (start nodes) acts h.steps
+pub run_in : (nodes slots : ℕ) (acts : List Act) (r : Report) (h : Headline nodes slots acts r)
+    → IsRunOf nodes slots (start nodes) acts h.steps
 run_in nodes slots acts r h = run_of slots nodes acts h.steps h.short h.is_run
 
 -- and that which left a cluster
-pub left_run : (nodes slots : ℕ) (w : World) (r : Report) (left : IsLeft nodes slots w r) → IsRunOf nodes slots (start nodes) (acts_in r) left.steps
+pub left_run : (nodes slots : ℕ) (w : World) (r : Report) (left : IsLeft nodes slots w r)
+    → IsRunOf nodes slots (start nodes) (acts_in r) left.steps
 left_run nodes slots w r left = run_of slots nodes (acts_in r) left.steps left.short left.is_run
 
 -- ---- one act more
 
-run_few : (slots nodes limit : ℕ) (acts : List Act) (steps : List Step) (w : World) → IsRunOf nodes slots w acts steps → AllStates (FewGiven limit) w → AllStates (FewGiven (limit + length acts)) (world_at nodes w steps)
+run_few : (slots nodes limit : ℕ) (acts : List Act) (steps : List Step) (w : World) → IsRunOf nodes slots w acts steps
+    → AllStates (FewGiven limit) w → AllStates (FewGiven (limit + length acts)) (world_at nodes w steps)
 run_few slots nodes limit [] [] w run few = subst (λ (k : ℕ). AllStates (FewGiven k) w) (let e : limit ≡ limit + 0 = omega arith in e) few
 run_few slots nodes limit [] (step ∷ steps) w run few = absurd run
 run_few slots nodes limit (a ∷ acts) [] w run few = absurd run
 run_few slots nodes limit (a ∷ acts) (step ∷ steps) w run few =
-    subst (λ (k : ℕ). AllStates (FewGiven k) (world_at nodes (world_after nodes w step) steps)) (let e : limit + 1 + length acts ≡ limit + suc (length acts) = omega arith in e)
+    subst (λ (k : ℕ). AllStates (FewGiven k) (world_at nodes (world_after nodes w step) steps))
+    (let e : limit + 1 + length acts ≡ limit + suc (length acts) = omega arith in e)
     (run_few slots nodes (limit + 1) acts steps (world_after nodes w step) run.2 (step_few slots nodes limit w step run.1 few))
 
 -- the step of the next act is exact, unless it is refused because the areas of a disk are used up
-pub exact_next : (slots nodes : ℕ) (acts : List Act) (steps : List Step) (a : Act) (step : Step) → length acts + 2 < 2 ^ 64 → IsRunOf nodes slots (start nodes) acts steps → IsNext nodes slots (world_at nodes (start nodes) steps) a step
-    → act_outcome nodes (world_at nodes (start nodes) steps) a step ≢ outcome.Refused (Node AreaExhausted) → IsExactStep nodes slots (world_at nodes (start nodes) steps) a step
+pub exact_next : (slots nodes : ℕ) (acts : List Act) (steps : List Step) (a : Act) (step : Step) → length acts + 2 < 2 ^ 64
+    → IsRunOf nodes slots (start nodes) acts steps → IsNext nodes slots (world_at nodes (start nodes) steps) a step
+    → act_outcome nodes (world_at nodes (start nodes) steps) a step ≢ outcome.Refused (Node AreaExhausted)
+    → IsExactStep nodes slots (world_at nodes (start nodes) steps) a step
 exact_next slots nodes acts steps a step short run next never_area_exhausted =
     let w : World = world_at nodes (start nodes) steps in
     let lawful = lawful_of slots nodes w step next.allowed next.of_slots in
     exact_step slots nodes w a step next.of_act lawful
-    (step_unspent slots nodes (1 + length acts) w a step next.of_act lawful (run_few slots nodes 1 acts steps (start nodes) run (opens_few nodes)) (omega (arith, short))) never_area_exhausted
+    (step_unspent slots nodes (1 + length acts) w a step next.of_act lawful
+    (run_few slots nodes 1 acts steps (start nodes) run (opens_few nodes)) (omega (arith, short))) never_area_exhausted
 
 -- ---- nothing is used up in an exact run
 
 module _ (slots n nodes : ℕ) (s : NodeState) where
-  comes_by : (event : Event) (what : HistoryEvent) (core : Option CoreFault) (room : Option Refusal) → no_room slots s.durable (wants_at n nodes s event) ≡ room → ComesOf (option_or (option_map Core core) room) n nodes s event what → IsUsedUp what → ⊥
+  comes_by : (event : Event) (what : HistoryEvent) (core : Option CoreFault) (room : Option Refusal)
+      → no_room slots s.durable (wants_at n nodes s event) ≡ room → ComesOf (option_or (option_map Core core) room) n nodes s event what
+      → IsUsedUp what → ⊥
   comes_by event what (Some fault) room is h up = subst IsUsedUp h up
   comes_by event what None (Some why) is h up =
-      (let put = full_why slots s.durable (wants_at n nodes s event) why is in subst IsUsedUp (h ∙ ap (λ (x : Refusal). Refused event x) put.is) up)
+      (let put = full_why slots s.durable (wants_at n nodes s event) why is in
+      subst IsUsedUp (h ∙ ap (λ (x : Refusal). Refused event x) put.is) up)
   comes_by event what None None is h up = elim h [ inl did ↦ subst IsUsedUp did up | inr failed ↦ subst IsUsedUp failed.0 up ]
 
   comes_usable : (event : Event) (what : HistoryEvent) → ComesOf (refusal_at slots n nodes s event) n nodes s event what → IsUsedUp what → ⊥
   comes_usable event what h up =
-      comes_by event what (refusal_of nodes n event s.state) (no_room slots s.durable (wants_at n nodes s event)) refl (subst (λ (x : Option Refusal). ComesOf x n nodes s event what) (refusal_is slots n nodes s event) h) up
+      comes_by event what (refusal_of nodes n event s.state) (no_room slots s.durable (wants_at n nodes s event)) refl
+      (subst (λ (x : Option Refusal). ComesOf x n nodes s event what) (refusal_is slots n nodes s event) h) up
 
   mounting_usable : (what : HistoryEvent) → ComesOfMounting s what → IsUsedUp what → ⊥
   mounting_usable what h up = elim h [
@@ -480,7 +565,8 @@ compact_usable s what h up = pick (is_down s.state.phase) h
 abbrev SaysUsedUp : Outcome → Type 0
 SaysUsedUp o = (o ≡ outcome.Refused (Node Exhausted)) ⊎ (o ≡ outcome.Refused (Node AreaExhausted))
 
-usable_outcome : (n nodes first : ℕ) (s : NodeState) (what : HistoryEvent) (a : Act) → (IsUsedUp what → ⊥) → SaysUsedUp (what_outcome n nodes first s what a) → ⊥
+usable_outcome : (n nodes first : ℕ) (s : NodeState) (what : HistoryEvent) (a : Act) → (IsUsedUp what → ⊥)
+    → SaysUsedUp (what_outcome n nodes first s what a) → ⊥
 usable_outcome n nodes first s (Did event) a may says = elim says [ inl is ↦ absurd cc | inr is ↦ absurd cc ]
 usable_outcome n nodes first s (Refused event (Core fault)) a may says = elim says [ inl is ↦ absurd cc | inr is ↦ absurd cc ]
 usable_outcome n nodes first s (Refused event Full) a may says = elim says [ inl is ↦ absurd cc | inr is ↦ absurd cc ]
@@ -498,23 +584,29 @@ usable_outcome n nodes first s MountFailed a may says = elim says [ inl is ↦ a
 usable_outcome n nodes first s (RaiseFailed kept) a may says = elim says [ inl is ↦ absurd cc | inr is ↦ absurd cc ]
 usable_outcome n nodes first s (RaiseRefused kept) a may says = may tt
 
-usable_step : (slots nodes : ℕ) (w : World) (a : Act) (step : Step) → IsExactStep nodes slots w a step → SaysUsedUp (act_outcome nodes w a step) → ⊥
+usable_step : (slots nodes : ℕ) (w : World) (a : Act) (step : Step) → IsExactStep nodes slots w a step
+    → SaysUsedUp (act_outcome nodes w a step) → ⊥
 usable_step slots nodes w a (Takes m number what) h says =
     usable_outcome m nodes (length w.net.sent) (node_in w.states m) what a
-    (step_there (λ (n : ℕ). MayCome slots n nodes (node_in w.states n)) (λ (n : ℕ). MayCompact (node_in w.states n)) (λ (n : ℕ) (x : HistoryEvent). IsUsedUp x → ⊥) nodes m number what
-    (λ n event x known e. usable slots n nodes (node_in w.states n) event x e) (λ n x known c. compact_usable (node_in w.states n) x c) (λ n known. (λ up. up, λ up. up)) w.net a h) says
+    (step_there (λ (n : ℕ). MayCome slots n nodes (node_in w.states n)) (λ (n : ℕ). MayCompact (node_in w.states n))
+    (λ (n : ℕ) (x : HistoryEvent). IsUsedUp x → ⊥) nodes m number what
+    (λ n event x known e. usable slots n nodes (node_in w.states n) event x e) (λ n x known c. compact_usable (node_in w.states n) x c)
+    (λ n known. (λ up. up, λ up. up)) w.net a h) says
 usable_step slots nodes w a (Changes net) h says = elim says [ inl is ↦ absurd cc | inr is ↦ absurd cc ]
 usable_step slots nodes w a (Denies named why) h says =
-    let none = no_fault (λ (n : ℕ). MayCome slots n nodes (node_in w.states n)) (λ (n : ℕ). MayCompact (node_in w.states n)) nodes w.net a named why h in
+    let none = no_fault (λ (n : ℕ). MayCome slots n nodes (node_in w.states n))
+    (λ (n : ℕ). MayCompact (node_in w.states n)) nodes w.net a named why h in
     elim says [ inl is ↦ none Exhausted (cc is) | inr is ↦ none AreaExhausted (cc is) ]
 
-usable_from : (slots nodes : ℕ) (acts : List Act) (steps : List Step) (w : World) → IsExactRun nodes slots w acts steps → (k : ℕ) (m : Moment) → slice_get (moments_from nodes w acts steps) k ≡ Some m → SaysUsedUp m.outcome → ⊥
+usable_from : (slots nodes : ℕ) (acts : List Act) (steps : List Step) (w : World) → IsExactRun nodes slots w acts steps
+    → (k : ℕ) (m : Moment) → slice_get (moments_from nodes w acts steps) k ≡ Some m → SaysUsedUp m.outcome → ⊥
 usable_from slots nodes [] steps w run k m at says = absurd cc
 usable_from slots nodes (a ∷ acts) [] w run k m at says = absurd cc
 usable_from slots nodes (a ∷ acts) (step ∷ steps) w run zero m at says =
     let it : moment_of nodes w a step ≡ m = cc at in
     usable_step slots nodes w a step run.0 (subst (λ (x : Moment). SaysUsedUp x.outcome) (sym it) says)
-usable_from slots nodes (a ∷ acts) (step ∷ steps) w run (suc k) m at says = usable_from slots nodes acts steps (world_after nodes w step) run.1 k m at says
+usable_from slots nodes (a ∷ acts) (step ∷ steps) w run (suc k) m at says =
+    usable_from slots nodes acts steps (world_after nodes w step) run.1 k m at says
 
 pub none_is_spent : NoneIsSpent
 none_is_spent nodes slots acts r h k m at =

@@ -3,7 +3,8 @@ use Rattle.std.proofs.Common.{◌≡◌, ℕ, true, false, List, [], ◌∷◌, 
 use Rattle.std.specs.Prelude.{map}
 use Rattle.group_task.specs.Group.{Group}
 use Rattle.wire_msg.specs.Envelope.{Envelope}
-use Rattle.wire_msg.specs.declared.body.Body.TheVariants.{AreYouCoordinator, Coordinator, AreYouThere, Here, Invitation, Accept, Ready, ReadyAck}
+use Rattle.wire_msg.specs.declared.body.Body.TheVariants.{AreYouCoordinator, Coordinator, AreYouThere, Here, Invitation, Accept, Ready}
+use Rattle.wire_msg.specs.declared.body.Body.TheVariants.{ReadyAck}
 use Rattle.node_core.specs.declared.phase.Phase.TheVariants.{Election, Normal}
 use Rattle.node_core.specs.declared.event.Event.TheVariants.{Timer, Deliver}
 use Rattle.node_core.specs.declared.timer.Timer.TheVariants as timer
@@ -40,10 +41,34 @@ late_accept = comes 5 (letter 0 2 (Invitation group)) ∷ comes 9 (letter 2 0 (A
     ∷ comes 10 (letter 2 0 (AreYouThere group)) ∷ comes 11 (letter 0 2 (Here group false)) ∷ []
 
 abbrev calling : State
-calling = record { phase = Election; coordinator = 0; group = group; up = []; task = None; found = []; unready = []; checking = false; probing = false; hand = [] }
+calling = record {
+  phase = Election;
+  coordinator = 0;
+  group = group;
+  up = [];
+  task = None;
+  found = [];
+  unready = [];
+  checking =
+      false;
+  probing = false;
+  hand = [];
+}
 
 abbrev working : List ℕ → State
-working up = record { phase = Normal; coordinator = 0; group = group; up = up; task = Some (task_of group (0 ∷ 1 ∷ [])); found = []; unready = []; checking = false; probing = false; hand = [] }
+working up = record {
+  phase = Normal;
+  coordinator = 0;
+  group = group;
+  up = up;
+  task = Some (task_of group (0 ∷ 1 ∷ []));
+  found =
+      [];
+  unready = [];
+  checking = false;
+  probing = false;
+  hand = [];
+}
 
 abbrev states_of : World → List State
 states_of w = map (λ (s : NodeState). s.state) w.states
@@ -85,7 +110,8 @@ pub late_accept_sent : (world_at 3 (start 3) (merge_of_three ++ two_join ++ late
 unfolding timed delivered
 late_accept_sent = refl
 
-pub late_accept_states : states_of (world_at 3 (start 3) (merge_of_three ++ two_join ++ late_accept)) ≡ working (1 ∷ []) ∷ working [] ∷ alone 2 2 ∷ []
+pub late_accept_states : states_of (world_at 3 (start 3) (merge_of_three ++ two_join ++ late_accept))
+    ≡ working (1 ∷ []) ∷ working [] ∷ alone 2 2 ∷ []
 unfolding timed delivered
 late_accept_states = refl
 

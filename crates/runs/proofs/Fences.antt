@@ -27,7 +27,8 @@ one_owner_each nodes slots acts r h n m s t by_s by_t same queue =
     ap (λ (task : Option Assignment). owner_of (members_of task) queue) (h.one_task n m s t by_s by_t same)
 
 -- a node that works has the members of the book, and is one of them
-shown_by : (nodes slots : ℕ) (acts : List Act) (r : Report) (h : Headline nodes slots acts r) (n : ℕ) (s : State) → IsWorking r n s → (members_of s.task ≡ h.members s.group) × (has (members_of s.task) n ≡ true)
+shown_by : (nodes slots : ℕ) (acts : List Act) (r : Report) (h : Headline nodes slots acts r) (n : ℕ) (s : State) → IsWorking r n s
+    → (members_of s.task ≡ h.members s.group) × (has (members_of s.task) n ≡ true)
 shown_by nodes slots acts r h n s by =
     let task = h.task n s by in
     let same : members_of s.task ≡ h.members s.group = ap members_of task.0 in

@@ -1,5 +1,6 @@
 -- A job is done only after an owner of its queue finished it, which the report shows.
-use Rattle.std.proofs.Common.{◌≡◌, ◌≢◌, ℕ, zero, suc, ◌<◌, ◌≤◌, List, [], ◌∷◌, length, map, take, slice_get, refl, sym, ◌∙◌, ap, subst, inl, inr, arith, rules, Option, Some, Contains}
+use Rattle.std.proofs.Common.{◌≡◌, ◌≢◌, ℕ, zero, suc, ◌<◌, ◌≤◌, List, [], ◌∷◌, length, map, take, slice_get, refl, sym, ◌∙◌, ap, subst, inl}
+use Rattle.std.proofs.Common.{inr, arith, rules, Option, Some, Contains}
 use Rattle.std.specs.Prelude.{option_map}
 use Rattle.std.proofs.lemmas.Option.{slice_get-map, slice_get_within}
 use Rattle.runs.specs.declared.outcome.Outcome.TheVariants as outcome
@@ -42,7 +43,8 @@ use Rattle.runs.proofs.Reports.{commands_reported, moments_are, moments_from, op
 use Rattle.runs.proofs.Shown.{vector_shown, moments_front}
 
 -- what the histories say of a node, the moments show
-report_shows : (nodes slots n : ℕ) (acts : List Act) (steps : List Step) (v : State) → IsRunOf nodes slots (start nodes) acts steps → IsMoment (histories_of nodes steps) n v
+report_shows : (nodes slots n : ℕ) (acts : List Act) (steps : List Step) (v : State) → IsRunOf nodes slots (start nodes) acts steps
+    → IsMoment (histories_of nodes steps) n v
     → IsShown (report_of nodes acts steps) n v
 report_shows nodes slots n acts steps v run moment =
     let it = node_of nodes 0 n nodes steps moment.0 n (omega arith) moment.1 in
@@ -51,7 +53,8 @@ report_shows nodes slots n acts steps v run moment =
     (subst (λ (j : ℕ). IsAmong v (vectors n j (opening n) moment.0)) (how_many nodes 0 nodes steps) moment.2) in
     elim (vector_shown nodes slots n acts steps (start nodes) (opening n) v it.is_node run here) [
       | inl e ↦ inl (rw (opening_is nodes acts steps, e) (state_there (start nodes).states n (opening n) it.is_node))
-      | inr m ↦ (let place = among_at m.0 (report_of nodes acts steps).moments (subst (λ (ms : List Moment). IsAmong m.0 ms) (sym (moments_are nodes acts steps)) m.1) in
+      | inr m ↦ (let place = among_at m.0 (report_of nodes acts steps).moments
+          (subst (λ (ms : List Moment). IsAmong m.0 ms) (sym (moments_are nodes acts steps)) m.1) in
           inr (m.0, contains m.0 (report_of nodes acts steps).moments (among_of _ place.0 m.0 place.1), m.2, m.3))
     ]
 
@@ -71,32 +74,38 @@ get_front (suc k) (suc j) (y ∷ xs) x at = get_front k j xs x at
 
 -- ---- a job in hand was put
 
-in_hand_put : (nodes slots n : ℕ) (acts : List Act) (steps : List Step) (v : State) (job : InHand) → IsRunOf nodes slots (start nodes) acts steps → IsMoment (histories_of nodes steps) n v → IsAmong job v.hand
+in_hand_put : (nodes slots n : ℕ) (acts : List Act) (steps : List Step) (v : State) (job : InHand)
+    → IsRunOf nodes slots (start nodes) acts steps → IsMoment (histories_of nodes steps) n v → IsAmong job v.hand
     → job.origin < nodes → WasPut (own_commands job.origin (report_of nodes acts steps).commands) job.id job.work
 in_hand_put nodes slots n acts steps v job run moment held within =
     let hs : List (List Entry) = histories_of nodes steps in
     let bundle = runs_are_bundles nodes steps (all_acts_run nodes slots (start nodes) acts steps run) in
     let of = work_is_job hs bundle n v moment job held in
     let it = node_of nodes 0 job.origin nodes steps of.history job.origin (omega arith) of.at in
-    let put = pending_was_put job.origin (length hs) of.history (bundle.follows job.origin of.history of.at) of.state of.is_state of.job of.pending in
+    let put = pending_was_put job.origin (length hs) of.history (bundle.follows job.origin of.history of.at) of.state of.is_state of.job
+    of.pending in
     let mine : own_commands job.origin (report_of nodes acts steps).commands ≡ commands_of (marks_of job.origin (length hs) of.history) =
     commands_reported nodes slots job.origin acts steps run within
-    ∙ (ap (λ (h : List Entry). commands_of (marks_of job.origin nodes h)) (sym it.is_history) ∙ ap (λ (k : ℕ). commands_of (marks_of job.origin k of.history)) (sym (how_many nodes 0 nodes steps))) in
+    ∙ (ap (λ (h : List Entry). commands_of (marks_of job.origin nodes h)) (sym it.is_history)
+    ∙ ap (λ (k : ℕ). commands_of (marks_of job.origin k of.history)) (sym (how_many nodes 0 nodes steps))) in
     subst (λ (ts : List Attempt). WasPut ts job.id job.work) (sym mine)
     (subst (λ (work : Work). WasPut (commands_of (marks_of job.origin (length hs) of.history)) job.id work) of.of_work
     (subst (λ (k : ℕ). WasPut (commands_of (marks_of job.origin (length hs) of.history)) k of.job.work) of.of_id put))
 
 -- ---- a job that is done
 
-only_raises : (ids : List ℕ) (t : AttemptAt) → IsAmong t (map (λ (n : ℕ). record { node = n; tried = record { command = Raise; acked = Some 1 } }) ids) → t.tried.command ≡ Raise
+only_raises : (ids : List ℕ) (t : AttemptAt) → IsAmong t
+    (map (λ (n : ℕ). record { node = n; tried = record { command = Raise; acked = Some 1 } }) ids) → t.tried.command ≡ Raise
 only_raises [] t i = absurd i
 only_raises (n ∷ ids) t i = elim i [ inl e ↦ ap (λ (x : AttemptAt). x.tried.command) e | inr j ↦ only_raises ids t j ]
 
 opens_owned : (nodes : ℕ) → AllStates OwnedAt (start nodes)
-opens_owned nodes n s at = (let first : s ≡ opening n = opened nodes 0 n s n (omega arith) at in subst (λ (x : NodeState). OwnedAt n x) (sym first) tt)
+opens_owned nodes n s at = (let first : s ≡ opening n = opened nodes 0 n s n (omega arith) at in
+    subst (λ (x : NodeState). OwnedAt n x) (sym first) tt)
 
 -- what is finished in the first acts, the whole report shows
-finished_within : (nodes slots k : ℕ) (acts : List Act) (steps : List Step) (origin id : ℕ) → IsRunOf nodes slots (start nodes) acts steps → origin < nodes
+finished_within : (nodes slots k : ℕ) (acts : List Act) (steps : List Step) (origin id : ℕ) → IsRunOf nodes slots (start nodes) acts steps
+    → origin < nodes
     → EndedIn nodes (start nodes) (take k acts) (take k steps) origin id → IsFinished nodes acts steps k origin id
 finished_within nodes slots k acts steps origin id run within ended =
     let worker : ℕ = ended.0 in
@@ -106,43 +115,66 @@ finished_within nodes slots k acts steps origin id run within ended =
     let le : place ≤ k = omega (arith, ended.3, few) in
     let front = acts_front place nodes slots acts steps (start nodes) run in
     let there : slice_get (world_at nodes (start nodes) (take place steps)).states worker ≡ Some f.was =
-    subst (λ (xs : List Step). slice_get (world_at nodes (start nodes) xs).states worker ≡ Some f.was) (take_front place k steps le) f.is_state in
+    subst (λ (xs : List Step). slice_get (world_at nodes (start nodes) xs).states worker ≡ Some f.was)
+    (take_front place k steps le) f.is_state in
     let moment = state_moment nodes (take place steps) (take place steps) [] (append-nil (take place steps)) worker f.was there in
-    let put = in_hand_put nodes slots worker (take place acts) (take place steps) f.was.state f.work.job front moment f.work.held (rw f.work.of_origin within) in
+    let put = in_hand_put nodes slots worker (take place acts)
+    (take place steps) f.was.state f.work.job front moment f.work.held (rw f.work.of_origin within) in
     let was_put : WasPut (own_commands origin (report_of nodes (take place acts) (take place steps)).commands) id f.work.job.work =
-    subst (λ (o : ℕ). WasPut (own_commands o (report_of nodes (take place acts) (take place steps)).commands) id f.work.job.work) f.work.of_origin
-    (subst (λ (j : ℕ). WasPut (own_commands f.work.job.origin (report_of nodes (take place acts) (take place steps)).commands) j f.work.job.work) f.work.of_id put) in
+    subst (λ (o : ℕ). WasPut (own_commands o (report_of nodes (take place acts) (take place steps)).commands) id f.work.job.work)
+    f.work.of_origin
+    (subst (λ (j : ℕ). WasPut (own_commands f.work.job.origin (report_of nodes (take place acts) (take place steps)).commands) j
+    f.work.job.work) f.work.of_id put) in
     let before = sym (front_report nodes place acts steps) in
-    let by_then : (t : Attempt) × Contains (own_commands origin (report_of nodes (take place acts) steps).commands) t × (t.command ≡ Put f.work.job.work) × ((a : ℕ) → t.acked ≡ Some a → a ≡ id) =
-    (was_put.0, subst (λ (x : Report). Contains (own_commands origin x.commands) was_put.0) before (contains was_put.0 _ was_put.1), was_put.2, was_put.3) in
+    let by_then : (t : Attempt) × Contains (own_commands origin (report_of nodes (take place acts) steps).commands) t
+    × (t.command ≡ Put f.work.job.work) × ((a : ℕ) → t.acked ≡ Some a → a ≡ id) = (
+      was_put.0,
+      subst (λ (x : Report). Contains (own_commands origin x.commands) was_put.0) before (contains was_put.0 _ was_put.1),
+      was_put.2,
+      was_put.3,
+    ) in
     let soon : worker ≢ origin → suc place < k = λ ne. omega (arith, ended.4 ne, few) in
     let at_front : slice_get (moments_from nodes (start nodes) acts steps) place ≡ Some f.moment =
-    get_front k place (moments_from nodes (start nodes) acts steps) f.moment (subst (λ (ms : List Moment). slice_get ms place ≡ Some f.moment) (moments_front k nodes acts steps (start nodes)) f.at) in
+    get_front k place (moments_from nodes (start nodes) acts steps) f.moment
+    (subst (λ (ms : List Moment). slice_get ms place ≡ Some f.moment) (moments_front k nodes acts steps (start nodes)) f.at) in
     let told : slice_get (report_of nodes acts steps).moments place ≡ Some f.moment =
     subst (λ (ms : List Moment). slice_get ms place ≡ Some f.moment) (sym (moments_are nodes acts steps)) at_front in
     record {
       worker = worker;
       place = place;
-      at = ap (λ (xs : List Act). slice_get xs place) (sym (acts_reported nodes slots (take k acts) (take k steps) (start nodes) (acts_front k nodes slots acts steps (start nodes) run)))
-          ∙ slice_get-map (λ (m : Moment). m.act) (moments_from nodes (start nodes) (take k acts) (take k steps)) place ∙ ap (λ (o : Option Moment). option_map (λ (m : Moment). m.act) o) f.at ∙ ap Some f.of_act;
+      at = ap (λ (xs : List Act). slice_get xs place) (sym (acts_reported nodes slots (take k acts) (take k steps) (start nodes)
+          (acts_front k nodes slots acts steps (start nodes) run)))
+          ∙ slice_get-map (λ (m : Moment). m.act) (moments_from nodes (start nodes) (take k acts) (take k steps)) place
+          ∙ ap (λ (o : Option Moment). option_map (λ (m : Moment). m.act) o) f.at ∙ ap Some f.of_act;
       moment = f.moment;
       told = told;
       not_refused = f.not_refused;
       earlier = search (rules, soon);
       state = f.was.state;
-      works = (subst (λ (x : Report). IsShown x worker f.was.state) before (report_shows nodes slots worker (take place acts) (take place steps) f.was.state front moment), f.work.is_normal);
+      works = (
+        subst (λ (x : Report). IsShown x worker f.was.state) before
+            (report_shows nodes slots worker (take place acts) (take place steps) f.was.state front moment),
+        f.work.is_normal,
+      );
       work = f.work.job.work;
       in_hand = contains _ f.was.state.hand
-          (subst (λ (j : InHand). IsAmong j f.was.state.hand) (λ i. record { origin = f.work.of_origin i; id = f.work.of_id i; work = f.work.job.work }) f.work.held);
+          (subst (λ (j : InHand). IsAmong j f.was.state.hand) (λ i. record {
+            origin = f.work.of_origin i;
+            id = f.work.of_id i;
+            work =
+                f.work.job.work;
+          }) f.work.held);
       owned = f.work.owned;
       put = search (rules, by_then);
     }
 
-pub finished_at : (nodes slots : ℕ) (acts : List Act) (steps : List Step) → IsRunOf nodes slots (start nodes) acts steps → (k : ℕ) (t : AttemptAt) (id : ℕ) → IsAmong t (report_of nodes (take k acts) steps).commands → t.node < nodes
+pub finished_at : (nodes slots : ℕ) (acts : List Act) (steps : List Step) → IsRunOf nodes slots (start nodes) acts steps
+    → (k : ℕ) (t : AttemptAt) (id : ℕ) → IsAmong t (report_of nodes (take k acts) steps).commands → t.node < nodes
     → t.tried.command ≡ Done id → IsFinished nodes acts steps k t.node id
 finished_at nodes slots acts steps run k t id among within done =
     let tried = subst (λ (x : Report). IsAmong t x.commands) (front_report nodes k acts steps) among in
-    elim (done_ended (λ o j. ⊥) slots nodes (take k acts) (take k steps) (start nodes) (first_report nodes) (acts_front k nodes slots acts steps (start nodes) run) (opens_owned nodes) (λ m j i body. i) t id tried done) [
+    elim (done_ended (λ o j. ⊥) slots nodes (take k acts) (take k steps) (start nodes) (first_report nodes)
+    (acts_front k nodes slots acts steps (start nodes) run) (opens_owned nodes) (λ m j i body. i) t id tried done) [
       | inl first ↦ absurd (let both : Raise ≡ Done id = sym (only_raises (range_with_len 0 nodes) t first) ∙ done in cc)
       | inr ended ↦ elim ended [
         | inl none ↦ absurd none.0
@@ -152,20 +184,25 @@ finished_at nodes slots acts steps run k t id among within done =
 
 -- ---- what a user takes
 
-front_moments : (nodes k : ℕ) (acts : List Act) (steps : List Step) → (report_of nodes (take k acts) steps).moments ≡ take k (report_of nodes acts steps).moments
+front_moments : (nodes k : ℕ) (acts : List Act) (steps : List Step)
+    → (report_of nodes (take k acts) steps).moments ≡ take k (report_of nodes acts steps).moments
 front_moments nodes k acts steps =
     ap (λ (x : Report). x.moments) (front_report nodes k acts steps)
-    ∙ (moments_are nodes (take k acts) (take k steps) ∙ (moments_front k nodes acts steps (start nodes) ∙ ap (λ (ms : List Moment). take k ms) (sym (moments_are nodes acts steps))))
+    ∙ (moments_are nodes (take k acts) (take k steps) ∙ (moments_front k nodes acts steps (start nodes)
+    ∙ ap (λ (ms : List Moment). take k ms) (sym (moments_are nodes acts steps))))
 
 -- what the report of the first acts shows, the first moments show
-front_shows : (nodes k n : ℕ) (acts : List Act) (steps : List Step) (v : State) → IsShown (report_of nodes (take k acts) steps) n v → IsShown (first_moments k (report_of nodes acts steps)) n v
+front_shows : (nodes k n : ℕ) (acts : List Act) (steps : List Step) (v : State) → IsShown (report_of nodes (take k acts) steps) n v
+    → IsShown (first_moments k (report_of nodes acts steps)) n v
 front_shows nodes k n acts steps v shown = elim shown [
-  | inl first ↦ inl (subst (λ (xs : List State). slice_get xs n ≡ Some v) (opening_is nodes (take k acts) steps ∙ sym (opening_is nodes acts steps)) first)
+  | inl first ↦ inl (subst (λ (xs : List State). slice_get xs n ≡ Some v) (opening_is nodes (take k acts) steps
+      ∙ sym (opening_is nodes acts steps)) first)
   | inr it ↦ inr (it.0, subst (λ (ms : List Moment). Contains ms it.0) (front_moments nodes k acts steps) it.1, it.2, it.3)
 ]
 
 -- an act that is reported has its moment
-moment_at : (ms : List Moment) (place : ℕ) (a : Act) → slice_get (map (λ (m : Moment). m.act) ms) place ≡ Some a → (m : Moment) × (slice_get ms place ≡ Some m) × (m.act ≡ a)
+moment_at : (ms : List Moment) (place : ℕ) (a : Act) → slice_get (map (λ (m : Moment). m.act) ms) place ≡ Some a
+    → (m : Moment) × (slice_get ms place ≡ Some m) × (m.act ≡ a)
 moment_at [] place a at = absurd cc
 moment_at (m ∷ ms) zero a at = (m, refl, cc at)
 moment_at (m ∷ ms) (suc place) a at = moment_at ms place a at
@@ -179,10 +216,12 @@ done_was_finished nodes slots acts r h k t id i within is =
     let of_act : slice_get (map (λ (m : Moment). m.act) r.moments) by.place ≡ Some (act.Finish by.worker t.node id) =
     ap (λ (xs : List Act). slice_get xs by.place) (acts_are_reported nodes slots acts r h).0 ∙ get_front k by.place acts _ by.at in
     let m = moment_at r.moments by.place (act.Finish by.worker t.node id) of_act in
-    let at : slice_get (report_of nodes acts h.steps).moments by.place ≡ Some m.0 = subst (λ (x : Report). slice_get x.moments by.place ≡ Some m.0) h.reported m.1 in
+    let at : slice_get (report_of nodes acts h.steps).moments by.place ≡ Some m.0 =
+    subst (λ (x : Report). slice_get x.moments by.place ≡ Some m.0) h.reported m.1 in
     let same : by.moment ≡ m.0 = cc (by.told, at) in
     let shows : IsShown (first_moments by.place r) by.worker by.state =
-    subst (λ (x : Report). IsShown (first_moments by.place x) by.worker by.state) (sym h.reported) (front_shows nodes by.place by.worker acts h.steps by.state by.works.0) in (
+    subst (λ (x : Report). IsShown (first_moments by.place x) by.worker by.state) (sym h.reported)
+    (front_shows nodes by.place by.worker acts h.steps by.state by.works.0) in (
       by.worker,
       by.place,
       m.0,
@@ -191,5 +230,14 @@ done_was_finished nodes slots acts r h k t id i within is =
       m.1,
       m.2,
       subst (λ (x : Moment). (why : ActRefusal) → x.outcome ≢ outcome.Refused why) same by.not_refused,
-      (by.state, job, (shows, by.works.1), among job by.state.hand by.in_hand, refl, refl, by.owned, (by.put.0, among by.put.0 commands by.put.1, by.put.2, by.put.3)),
+      (
+        by.state,
+        job,
+        (shows, by.works.1),
+        among job by.state.hand by.in_hand,
+        refl,
+        refl,
+        by.owned,
+        (by.put.0, among by.put.0 commands by.put.1, by.put.2, by.put.3),
+      ),
     )

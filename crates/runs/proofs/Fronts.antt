@@ -21,7 +21,8 @@ pub record Front (nodes slots : ℕ) (w : World) (r : Report) (acts : List Act) 
   pub is : m ≡ moment_of nodes before act step
   pub grows : report_from nodes w r (take (suc k) acts) steps ≡ grown nodes before act step (report_from nodes w r (take k acts) steps)
 
-pub front : (k nodes slots : ℕ) (acts : List Act) (steps : List Step) (w : World) (r : Report) (m : Moment) → IsRunOf nodes slots w acts steps
+pub front : (k nodes slots : ℕ) (acts : List Act) (steps : List Step) (w : World) (r : Report) (m : Moment)
+    → IsRunOf nodes slots w acts steps
     → slice_get (moments_from nodes w acts steps) k ≡ Some m → Front nodes slots w r acts steps k m
 front k nodes slots [] steps w r m run at = absurd cc
 front k nodes slots (a ∷ acts) [] w r m run at = absurd run
@@ -49,7 +50,8 @@ front (suc k) nodes slots (a ∷ acts) (step ∷ steps) w r m run at =
     }
 
 -- the same of a report with a headline
-pub front_of : (nodes slots : ℕ) (acts : List Act) (r : Report) (h : Headline nodes slots acts r) (k : ℕ) (m : Moment) → slice_get r.moments k ≡ Some m
+pub front_of : (nodes slots : ℕ) (acts : List Act) (r : Report) (h : Headline nodes slots acts r) (k : ℕ) (m : Moment)
+    → slice_get r.moments k ≡ Some m
     → Front nodes slots (start nodes) (first_report nodes) acts h.steps k m
 front_of nodes slots acts r h k m at =
     front k nodes slots acts h.steps (start nodes) (first_report nodes) m (run_in nodes slots acts r h)

@@ -1,5 +1,6 @@
 -- The groups that a run names were given before, each of them once.
-use Rattle.std.proofs.Common.{◌≡◌, ◌≢◌, ℕ, zero, suc, ◌+◌, ◌<◌, ◌≤◌, Bool, true, false, List, [], ◌∷◌, ◌++◌, map, slice_get, refl, sym, ◌∙◌, ap, subst, inl, inr, arith, Option, Some, None, IfSome, append_assoc}
+use Rattle.std.proofs.Common.{◌≡◌, ◌≢◌, ℕ, zero, suc, ◌+◌, ◌<◌, ◌≤◌, Bool, true, false, List, [], ◌∷◌, ◌++◌, map, slice_get, refl, sym, ◌∙◌}
+use Rattle.std.proofs.Common.{ap, subst, inl, inr, arith, Option, Some, None, IfSome, append_assoc}
 use Rattle.job_model.specs.declared.work.Work.{Work}
 use Rattle.std.proofs.lemmas.List.{append-nil}
 use Rattle.std.proofs.lemmas.Option.{IfSome_then, slice_get_within}
@@ -21,11 +22,13 @@ use Rattle.node_core.specs.State.{State}
 use Rattle.histories.specs.Lists.{IsAmong}
 use Rattle.histories.specs.NodeState.{NodeState, opening, wants_at, settled}
 use Rattle.histories.specs.declared.history_event.HistoryEvent.{HistoryEvent}
-use Rattle.histories.specs.declared.history_event.HistoryEvent.TheVariants.{Did, Refused, Faulted, NoOp, Crashed, Recovered, MountFailed, RaiseFailed, RaiseRefused}
+use Rattle.histories.specs.declared.history_event.HistoryEvent.TheVariants.{Did, Refused, Faulted, NoOp, Crashed, Recovered, MountFailed}
+use Rattle.histories.specs.declared.history_event.HistoryEvent.TheVariants.{RaiseFailed, RaiseRefused}
 use Rattle.histories.specs.HistoryEvent.{event_of, brought}
 use Rattle.histories.specs.After.{after, sent_at, given_at, raised}
 use Rattle.histories.specs.Named.{AllHold, StateHolds}
-use Rattle.histories.proofs.PublicLaws.{eq_nat, among_left, among_right, among_either, each_append, each_at, each_of, each_more, AnyWork, any_pending, GivenHold, Knows, SaysIn, Says, entry_does, settled_grows}
+use Rattle.histories.proofs.PublicLaws.{eq_nat, among_left, among_right, among_either, each_append, each_at, each_of, each_more, AnyWork}
+use Rattle.histories.proofs.PublicLaws.{any_pending, GivenHold, Knows, SaysIn, Says, entry_does, settled_grows}
 use Rattle.std.specs.List.{range_with_len}
 use Rattle.runs.specs.World.{World, start, node_in}
 use Rattle.runs.specs.Step.{Step, Takes, Changes, Denies, world_after}
@@ -36,7 +39,8 @@ use Rattle.runs.proofs.Opened.{length_openings}
 use Rattle.runs.proofs.Runs.{brought_sent, node_there, state_here, state_elsewhere, opened}
 
 -- what is said names groups
-says_names : (P : Group → Type 0) (J : ℕ → ℕ → Work → Type 0) (self sender receiver : ℕ) (made : List Assignment) (event : Option Event) (body : Body) → SaysIn P J self made event sender receiver body → IfSome (group_in body) P
+says_names : (P : Group → Type 0) (J : ℕ → ℕ → Work → Type 0) (self sender receiver : ℕ) (made : List Assignment) (event : Option Event)
+    (body : Body) → SaysIn P J self made event sender receiver body → IfSome (group_in body) P
 says_names P J self sender receiver made event (Ready task) h = h.2
 says_names P J self sender receiver made event (WorkMessage group id work) h = h.0
 says_names P J self sender receiver made event (DoneMessage id) h = tt
@@ -49,18 +53,21 @@ place_more : (P Q : Group → Type 0) (v : State) → Stronger P Q → StateHold
 place_more P Q v sub h = λ up. (sub v.group (h up).0, IfSome_then v.task (h up).1 (λ t. sub t.group))
 
 all_more : (P Q : Group → Type 0) (ms : List Envelope) → Stronger P Q → AllHold P ms → AllHold Q ms
-all_more P Q ms sub h = each_more (λ (m : Envelope). IfSome (group_in m.body) P) (λ (m : Envelope). IfSome (group_in m.body) Q) ms (λ m named. IfSome_then (group_in m.body) named sub) h
+all_more P Q ms sub h = each_more (λ (m : Envelope). IfSome (group_in m.body) P)
+    (λ (m : Envelope). IfSome (group_in m.body) Q) ms (λ m named. IfSome_then (group_in m.body) named sub) h
 
 -- what is brought names what was sent
 brought_holds : (P : Group → Type 0) (w : World) (k : ℕ) (ms : List Envelope) → AllHold P w.net.sent → IsBrought w k ms → AllHold P ms
-brought_holds P w k ms h b = each_of (λ (m : Envelope). IfSome (group_in m.body) P) ms (λ m i. each_at (λ (m : Envelope). IfSome (group_in m.body) P) w.net.sent m h (brought_sent w k ms m b i))
+brought_holds P w k ms h b = each_of (λ (m : Envelope). IfSome (group_in m.body) P) ms (λ m i.
+    each_at (λ (m : Envelope). IfSome (group_in m.body) P) w.net.sent m h (brought_sent w k ms m b i))
 
 given_holds : (P : Group → Type 0) (n : ℕ) (ks : List ℕ) → ((g : Group) → IsAmong g (map (own_group n) ks) → P g) → GivenHold P n ks
 given_holds P n [] h = tt
 given_holds P n (k ∷ ks) h = (h (own_group n k) (inl refl), given_holds P n ks (λ g i. h g (inr i)))
 
 -- the groups so far, in every node and on the way
-step_given : (nodes : ℕ) (w : World) (step : Step) (given : List Group) → AllGiven w given → IsAllowed nodes w step → AllGiven (world_after nodes w step) (given ++ groups_at nodes w step)
+step_given : (nodes : ℕ) (w : World) (step : Step) (given : List Group) → AllGiven w given → IsAllowed nodes w step
+    → AllGiven (world_after nodes w step) (given ++ groups_at nodes w step)
 step_given nodes w (Takes n number what) given all may =
     let s : NodeState = may.0 in
     let now : List Group = given ++ map (own_group n) (given_at n nodes (node_in w.states n) what) in
@@ -75,35 +82,47 @@ step_given nodes w (Takes n number what) given all may =
       fresh = given_holds Q n (given_at n nodes s what) new;
       heard = all_more P Q (brought (event_of what)) sub (brought_holds P w number (brought (event_of what)) all.messages may.3);
     } in
-    let said : AllHold Q (sent_at n nodes s what) = each_more (Says Q AnyWork n row.made (event_of what)) (λ (m : Envelope). IfSome (group_in m.body) Q) (sent_at n nodes s what)
-    (λ m h. says_names Q AnyWork n m.sender m.receiver row.made (event_of what) m.body h) (row.says knows (any_pending n s.durable.pending) (any_pending n (after n nodes s what).durable.pending)) in record {
+    let said : AllHold Q (sent_at n nodes s what) = each_more (Says Q AnyWork n row.made (event_of what))
+    (λ (m : Envelope). IfSome (group_in m.body) Q) (sent_at n nodes s what)
+    (λ m h. says_names Q AnyWork n m.sender m.receiver row.made (event_of what) m.body h)
+    (row.says knows (any_pending n s.durable.pending) (any_pending n (after n nodes s what).durable.pending)) in record {
       vectors = λ j t at. by_node j t at (n == j) refl (row.names knows) (λ x was. place_more P Q x.state sub (all.vectors j x was));
-      messages = each_append (λ (m : Envelope). IfSome (group_in m.body) Q) w.net.sent (sent_at n nodes (node_in w.states n) what) (all_more P Q w.net.sent sub all.messages) (subst (λ (x : NodeState). AllHold Q (sent_at n nodes x what)) (sym (node_there w.states n s may.1)) said);
+      messages = each_append (λ (m : Envelope). IfSome (group_in m.body) Q) w.net.sent (sent_at n nodes (node_in w.states n) what)
+          (all_more P Q w.net.sent sub all.messages) (subst (λ (x : NodeState). AllHold Q (sent_at n nodes x what))
+          (sym (node_there w.states n s may.1)) said);
     }
   where
     by_node : (j : ℕ) (t : NodeState) → slice_get (world_after nodes w (Takes n number what)).states j ≡ Some t → (b : Bool) → (n == j) ≡ b
-        → StateHolds (λ g. IsAmong g (given ++ map (own_group n) (given_at n nodes (node_in w.states n) what))) (after n nodes may.0 what).state
-        → ((x : NodeState) → slice_get w.states j ≡ Some x → StateHolds (λ g. IsAmong g (given ++ map (own_group n) (given_at n nodes (node_in w.states n) what))) x.state)
+        → StateHolds (λ g. IsAmong g (given ++ map (own_group n) (given_at n nodes (node_in w.states n) what)))
+        (after n nodes may.0 what).state
+        → ((x : NodeState) → slice_get w.states j ≡ Some x → StateHolds (λ g.
+        IsAmong g (given ++ map (own_group n) (given_at n nodes (node_in w.states n) what))) x.state)
         → StateHolds (λ g. IsAmong g (given ++ map (own_group n) (given_at n nodes (node_in w.states n) what))) t.state
     by_node j t at true is here other =
         let same : n ≡ j = eq_nat n j is in
         let mine : slice_get w.states j ≡ Some may.0 = subst (λ (x : ℕ). slice_get w.states x ≡ Some may.0) same may.1 in
-        let new : slice_get (world_after nodes w (Takes n number what)).states j ≡ Some (after j nodes may.0 what) = state_here n j nodes what w.states may.0 same mine in
+        let new : slice_get (world_after nodes w (Takes n number what)).states j ≡ Some (after j nodes may.0 what) =
+        state_here n j nodes what w.states may.0 same mine in
         let it : after j nodes may.0 what ≡ t = cc (new, at) in
-        subst (λ (x : NodeState). StateHolds (λ g. IsAmong g (given ++ map (own_group n) (given_at n nodes (node_in w.states n) what))) x.state) it
-        (subst (λ (x : ℕ). StateHolds (λ g. IsAmong g (given ++ map (own_group n) (given_at n nodes (node_in w.states n) what))) (after x nodes may.0 what).state) same here)
+        subst (λ (x : NodeState). StateHolds (λ g. IsAmong g (given ++ map (own_group n) (given_at n nodes (node_in w.states n) what)))
+        x.state) it
+        (subst (λ (x : ℕ). StateHolds (λ g. IsAmong g (given ++ map (own_group n) (given_at n nodes (node_in w.states n) what)))
+        (after x nodes may.0 what).state) same here)
     by_node j t at false is here other =
         let ne : j ≢ n = grind (arith, nat_tests) in
         other t (sym (state_elsewhere n j nodes what w.states ne) ∙ at)
 step_given nodes w (Changes net) given all may = rw append-nil (record { vectors = all.vectors; messages = rw may all.messages })
 step_given nodes w (Denies named why) given all may = rw append-nil all
 
-run_given : (nodes : ℕ) (steps : List Step) (w : World) (given : List Group) → AllGiven w given → RunFrom nodes w steps → AllGiven (world_at nodes w steps) (given ++ groups_from nodes w steps)
+run_given : (nodes : ℕ) (steps : List Step) (w : World) (given : List Group) → AllGiven w given → RunFrom nodes w steps
+    → AllGiven (world_at nodes w steps) (given ++ groups_from nodes w steps)
 run_given nodes [] w given all run = rw append-nil all
 run_given nodes (step ∷ steps) w given all run =
-    rw (← append_assoc) (run_given nodes steps (world_after nodes w step) (given ++ groups_at nodes w step) (step_given nodes w step given all run.0) run.1)
+    rw (← append_assoc) (run_given nodes steps (world_after nodes w step) (given
+    ++ groups_at nodes w step) (step_given nodes w step given all run.0) run.1)
 
-opening_among : (k i j m : ℕ) (s : NodeState) → m ≡ i + j → slice_get (map opening (range_with_len i k)) j ≡ Some s → IsAmong (own_group m 1) (map (λ (x : ℕ). own_group x 1) (range_with_len i k))
+opening_among : (k i j m : ℕ) (s : NodeState) → m ≡ i + j → slice_get (map opening (range_with_len i k)) j ≡ Some s
+    → IsAmong (own_group m 1) (map (λ (x : ℕ). own_group x 1) (range_with_len i k))
 opening_among zero i j m s is at = absurd cc
 opening_among (suc k) i zero m s is at = inl (let number : m ≡ i = omega (arith, is) in ap (λ (x : ℕ). own_group x 1) number)
 opening_among (suc k) i (suc j) m s is at = inr (opening_among k (i + 1) j m s (omega (arith, is)) at)
@@ -113,7 +132,8 @@ given_before nodes steps run = run_given nodes steps (start nodes) (map (λ (x :
   vectors = λ n s at.
       (let is : s ≡ opening n = opened nodes 0 n s n (omega arith) at in
       let among = opening_among nodes 0 n n s (omega arith) at in
-      subst (λ (x : NodeState). StateHolds (λ g. IsAmong g (map (λ (x : ℕ). own_group x 1) (range_with_len 0 nodes))) x.state) (sym is) (λ up. (among, among)));
+      subst (λ (x : NodeState). StateHolds (λ g. IsAmong g (map (λ (x : ℕ). own_group x 1) (range_with_len 0 nodes))) x.state) (sym is)
+      (λ up. (among, among)));
   messages = tt;
 }) run
 
@@ -139,13 +159,15 @@ wanted_raises self d (Some Raise) = one_raised self d.counter (d.counter + 1) (o
 wanted_raises self d (Some (Put work)) = none_raised self d.counter d.counter (omega arith)
 wanted_raises self d (Some (Done id)) = none_raised self d.counter d.counter (omega arith)
 
-entry_raises : (self nodes : ℕ) (s : NodeState) (what : HistoryEvent) → Raises self s.durable.counter (after self nodes s what).durable.counter (given_at self nodes s what)
+entry_raises : (self nodes : ℕ) (s : NodeState) (what : HistoryEvent)
+    → Raises self s.durable.counter (after self nodes s what).durable.counter (given_at self nodes s what)
 entry_raises self nodes s (Did event) = wanted_raises self s.durable (wants_at self nodes s event)
 entry_raises self nodes s (Refused event fault) = none_raised self s.durable.counter s.durable.counter (omega arith)
 entry_raises self nodes s (NoOp why) = none_raised self s.durable.counter s.durable.counter (omega arith)
 entry_raises self nodes s (Faulted event) = none_raised self s.durable.counter s.durable.counter (omega arith)
 entry_raises self nodes s Crashed = none_raised self s.durable.counter s.durable.counter (omega arith)
-entry_raises self nodes s (Recovered kept) = one_raised self s.durable.counter ((settled kept s).counter + 1) (omega (arith, settled_grows kept s))
+entry_raises self nodes s (Recovered kept) = one_raised self s.durable.counter ((settled kept s).counter + 1)
+    (omega (arith, settled_grows kept s))
 entry_raises self nodes s MountFailed = none_raised self s.durable.counter s.durable.counter (omega arith)
 entry_raises self nodes s (RaiseFailed kept) = none_raised self s.durable.counter (settled kept s).counter (settled_grows kept s)
 entry_raises self nodes s (RaiseRefused kept) = none_raised self s.durable.counter s.durable.counter (omega arith)
@@ -169,18 +191,25 @@ record Bounded (w : World) (given : List Group) : Type 0 where
   bound : (g : Group) → IsAmong g given → (s : NodeState) × (slice_get w.states g.creator ≡ Some s) × (g.count ≤ s.durable.counter)
   once : IsOnceEach given
 
-step_bounded : (nodes : ℕ) (w : World) (step : Step) (given : List Group) → Bounded w given → IsAllowed nodes w step → Bounded (world_after nodes w step) (given ++ groups_at nodes w step)
+step_bounded : (nodes : ℕ) (w : World) (step : Step) (given : List Group) → Bounded w given → IsAllowed nodes w step
+    → Bounded (world_after nodes w step) (given ++ groups_at nodes w step)
 step_bounded nodes w (Takes n number what) given all may =
     let s : NodeState = may.0 in
     let ks : List ℕ = given_at n nodes s what in
     let raises : Raises n s.durable.counter (after n nodes s what).durable.counter ks = entry_raises n nodes s what in
-    let mine : slice_get (world_after nodes w (Takes n number what)).states n ≡ Some (after n nodes s what) = state_here n n nodes what w.states s refl may.1 in
-    let these : map (own_group n) (given_at n nodes (node_in w.states n) what) ≡ map (own_group n) ks = ap (λ (x : NodeState). map (own_group n) (given_at n nodes x what)) (node_there w.states n s may.1) in
+    let mine : slice_get (world_after nodes w (Takes n number what)).states n ≡ Some (after n nodes s what) =
+    state_here n n nodes what w.states s refl may.1 in
+    let these : map (own_group n) (given_at n nodes (node_in w.states n) what) ≡ map (own_group n) ks =
+    ap (λ (x : NodeState). map (own_group n) (given_at n nodes x what)) (node_there w.states n s may.1) in
     subst (λ (gs : List Group). Bounded (world_after nodes w (Takes n number what)) (given ++ gs)) (sym these) (record {
       bound = λ g i. elim (among_either g given (map (own_group n) ks) i) [
         | inl old ↦ old_bound g (n == g.creator) refl (all.bound g old) mine raises.grows
-        | inr new ↦ (let parts = numbered_parts n ks g new in
-            (after n nodes s what, subst (λ (c : ℕ). slice_get (world_after nodes w (Takes n number what)).states c ≡ Some (after n nodes s what)) (sym parts.0) mine, (raises.between g.count parts.1).1))
+        | inr new ↦ (let parts = numbered_parts n ks g new in (
+          after n nodes s what,
+          subst (λ (c : ℕ). slice_get (world_after nodes w (Takes n number what)).states c
+              ≡ Some (after n nodes s what)) (sym parts.0) mine,
+          (raises.between g.count parts.1).1,
+        ))
       ];
       once = once_append given (map (own_group n) ks) all.once raises.once (λ g old new.
           (let parts = numbered_parts n ks g new in
@@ -192,31 +221,44 @@ step_bounded nodes w (Takes n number what) given all may =
           omega (arith, low, above)));
     })
   where
-    old_bound : (g : Group) (b : Bool) → (n == g.creator) ≡ b → ((x : NodeState) × (slice_get w.states g.creator ≡ Some x) × (g.count ≤ x.durable.counter))
+    old_bound : (g : Group) (b : Bool) → (n == g.creator) ≡ b
+        → ((x : NodeState) × (slice_get w.states g.creator ≡ Some x) × (g.count ≤ x.durable.counter))
         → slice_get (world_after nodes w (Takes n number what)).states n ≡ Some (after n nodes may.0 what)
         → may.0.durable.counter ≤ (after n nodes may.0 what).durable.counter
-        → (x : NodeState) × (slice_get (world_after nodes w (Takes n number what)).states g.creator ≡ Some x) × (g.count ≤ x.durable.counter)
+        → (x : NodeState) × (slice_get (world_after nodes w (Takes n number what)).states g.creator ≡ Some x)
+        × (g.count ≤ x.durable.counter)
     old_bound g true is was mine grows =
         let same : n ≡ g.creator = eq_nat n g.creator is in
         let here : slice_get w.states n ≡ Some was.0 = subst (λ (c : ℕ). slice_get w.states c ≡ Some was.0) (sym same) was.1 in
         let it : was.0 ≡ may.0 = cc (here, may.1) in
-        let low : g.count ≤ may.0.durable.counter = subst (λ (x : NodeState). g.count ≤ x.durable.counter) it was.2 in
-        (after n nodes may.0 what, subst (λ (c : ℕ). slice_get (world_after nodes w (Takes n number what)).states c ≡ Some (after n nodes may.0 what)) same mine, omega (arith, low, grows))
+        let low : g.count ≤ may.0.durable.counter = subst (λ (x : NodeState). g.count ≤ x.durable.counter) it was.2 in (
+          after n nodes may.0 what,
+          subst (λ (c : ℕ). slice_get (world_after nodes w (Takes n number what)).states c
+              ≡ Some (after n nodes may.0 what)) same mine,
+          omega (arith, low, grows),
+        )
     old_bound g false is was mine grows =
         let ne : g.creator ≢ n = grind (arith, nat_tests) in
         (was.0, state_elsewhere n g.creator nodes what w.states ne ∙ was.1, was.2)
 step_bounded nodes w (Changes net) given all may = rw append-nil (record { bound = all.bound; once = all.once })
 step_bounded nodes w (Denies named why) given all may = rw append-nil all
 
-run_bounded : (nodes : ℕ) (steps : List Step) (w : World) (given : List Group) → Bounded w given → RunFrom nodes w steps → Bounded (world_at nodes w steps) (given ++ groups_from nodes w steps)
+run_bounded : (nodes : ℕ) (steps : List Step) (w : World) (given : List Group) → Bounded w given → RunFrom nodes w steps
+    → Bounded (world_at nodes w steps) (given ++ groups_from nodes w steps)
 run_bounded nodes [] w given all run = rw append-nil all
 run_bounded nodes (step ∷ steps) w given all run =
-    rw (← append_assoc) (run_bounded nodes steps (world_after nodes w step) (given ++ groups_at nodes w step) (step_bounded nodes w step given all run.0) run.1)
+    rw (← append_assoc) (run_bounded nodes steps (world_after nodes w step) (given
+    ++ groups_at nodes w step) (step_bounded nodes w step given all run.0) run.1)
 
-openings_bound : (k i : ℕ) (g : Group) → IsAmong g (map (λ (x : ℕ). own_group x 1) (range_with_len i k)) → (j : ℕ) × (g ≡ own_group (i + j) 1) × (slice_get (map opening (range_with_len i k)) j ≡ Some (opening (i + j)))
+openings_bound : (k i : ℕ) (g : Group) → IsAmong g (map (λ (x : ℕ). own_group x 1) (range_with_len i k))
+    → (j : ℕ) × (g ≡ own_group (i + j) 1) × (slice_get (map opening (range_with_len i k)) j ≡ Some (opening (i + j)))
 openings_bound zero i g h = absurd h
 openings_bound (suc k) i g h = elim h [
-  | inl e ↦ (0, e ∙ ap (λ (x : ℕ). own_group x 1) (let n : i ≡ i + 0 = omega arith in n), ap (λ (x : ℕ). Some (opening x)) (let n : i ≡ i + 0 = omega arith in n))
+  | inl e ↦ (
+    0,
+    e ∙ ap (λ (x : ℕ). own_group x 1) (let n : i ≡ i + 0 = omega arith in n),
+    ap (λ (x : ℕ). Some (opening x)) (let n : i ≡ i + 0 = omega arith in n),
+  )
   | inr j ↦ (let rest = openings_bound k (i + 1) g j in
       let n : i + 1 + rest.0 ≡ i + suc rest.0 = omega arith in
       (suc rest.0, rest.1 ∙ ap (λ (x : ℕ). own_group x 1) n, rest.2 ∙ ap (λ (x : ℕ). Some (opening x)) n))
@@ -224,14 +266,23 @@ openings_bound (suc k) i g h = elim h [
 
 openings_once : (k i : ℕ) → IsOnceEach (map (λ (x : ℕ). own_group x 1) (range_with_len i k))
 openings_once zero i = tt
-openings_once (suc k) i = (λ h. (let it = openings_bound k (i + 1) (own_group i 1) h in let c : i ≡ i + 1 + it.0 = ap (λ (x : Group). x.creator) it.1 in absurd (omega (arith, c))), openings_once k (i + 1))
+openings_once (suc k) i = (
+  λ h. (let it = openings_bound k (i + 1) (own_group i 1) h in
+      let c : i ≡ i + 1 + it.0 = ap (λ (x : Group). x.creator) it.1 in absurd (omega (arith, c))),
+  openings_once k (i + 1),
+)
 
-all_bounded : (nodes : ℕ) (steps : List Step) → RunFrom nodes (start nodes) steps → Bounded (world_at nodes (start nodes) steps) (groups_of nodes steps)
+all_bounded : (nodes : ℕ) (steps : List Step) → RunFrom nodes (start nodes) steps
+    → Bounded (world_at nodes (start nodes) steps) (groups_of nodes steps)
 all_bounded nodes steps run = run_bounded nodes steps (start nodes) (map (λ (x : ℕ). own_group x 1) (range_with_len 0 nodes)) (record {
   bound = λ g h.
       (let it = openings_bound nodes 0 g h in
-      let creator : g.creator ≡ it.0 = ap (λ (x : Group). x.creator) it.1 ∙ (let n : 0 + it.0 ≡ it.0 = omega arith in n) in
-      (opening (0 + it.0), subst (λ (c : ℕ). slice_get (map opening (range_with_len 0 nodes)) c ≡ Some (opening (0 + it.0))) (sym creator) it.2, omega (arith, ap (λ (x : Group). x.count) it.1)));
+      let creator : g.creator ≡ it.0 = ap (λ (x : Group). x.creator) it.1 ∙ (let n : 0 + it.0 ≡ it.0 = omega arith in n) in (
+        opening (0 + it.0),
+        subst (λ (c : ℕ). slice_get (map opening (range_with_len 0 nodes)) c
+            ≡ Some (opening (0 + it.0))) (sym creator) it.2,
+        omega (arith, ap (λ (x : Group). x.count) it.1),
+      ));
   once = openings_once nodes 0;
 }) run
 
@@ -239,7 +290,13 @@ pub none_twice : NoneTwice
 none_twice nodes steps run = (all_bounded nodes steps run).once
 
 -- who gives a group is a node of the cluster
-pub given_inside : (nodes : ℕ) (steps : List Step) → RunFrom nodes (start nodes) steps → (g : Group) → IsAmong g (groups_of nodes steps) → g.creator < nodes
+pub given_inside : (nodes : ℕ) (steps : List Step) → RunFrom nodes (start nodes) steps → (g : Group) → IsAmong g (groups_of nodes steps)
+    → g.creator < nodes
 given_inside nodes steps run g i =
     let it = (all_bounded nodes steps run).bound g i in
-    omega (arith, slice_get_within (world_at nodes (start nodes) steps).states g.creator it.0 it.1, run_length nodes steps (start nodes), length_openings 0 nodes)
+    omega (
+      arith,
+      slice_get_within (world_at nodes (start nodes) steps).states g.creator it.0 it.1,
+      run_length nodes steps (start nodes),
+      length_openings 0 nodes,
+    )

@@ -1,5 +1,6 @@
 -- Every run of a schedule keeps groups and jobs.
-use Rattle.std.proofs.Common.{◌≡◌, ◌≢◌, ℕ, suc, ◌<◌, List, [], take, drop, slice_get, refl, sym, ◌∙◌, ap, subst, inl, inr, arith, rules, Option, Some, None, IfSome}
+use Rattle.std.proofs.Common.{◌≡◌, ◌≢◌, ℕ, suc, ◌<◌, List, [], take, drop, slice_get, refl, sym, ◌∙◌, ap, subst, inl, inr, arith, rules}
+use Rattle.std.proofs.Common.{Option, Some, None, IfSome}
 use Rattle.std.proofs.lemmas.List.{take-append-drop}
 use Rattle.group_task.specs.Group.{Group}
 use Rattle.group_task.specs.Assignment.{Assignment}
@@ -53,25 +54,32 @@ use Rattle.runs.proofs.Moments.{run_front, acts_front, as_many, front_report, mo
 kept_by_history : (nodes : ℕ) (steps : List Step) → RunFrom nodes (start nodes) steps → IsShort steps → (n : ℕ) → n < nodes
     → let h = history_in n nodes (start nodes) steps in CommandsKept (commands_of (marks_of n nodes h)) (mountings_of (marks_of n nodes h))
 kept_by_history nodes steps run few n lt =
-    each_kept n nodes (history_in n nodes (start nodes) steps) (history_follows n nodes steps (start nodes) (opening n) (starts_opened nodes n lt) run)
+    each_kept n nodes (history_in n nodes (start nodes) steps)
+    (history_follows n nodes steps (start nodes) (opening n) (starts_opened nodes n lt) run)
     (omega (arith, few, history_few n nodes steps (start nodes)))
 
-kept_by_report : (nodes slots : ℕ) (acts : List Act) (steps : List Step) → IsRunOf nodes slots (start nodes) acts steps → IsShort steps → (n : ℕ) → n < nodes
+kept_by_report : (nodes slots : ℕ) (acts : List Act) (steps : List Step) → IsRunOf nodes slots (start nodes) acts steps → IsShort steps
+    → (n : ℕ) → n < nodes
     → CommandsKept (own_commands n (report_of nodes acts steps).commands) (own_mountings n (report_of nodes acts steps).mounted)
 kept_by_report nodes slots acts steps is_run few n lt =
-    rw (commands_reported nodes slots n acts steps is_run lt, mounted_reported nodes slots n acts steps is_run lt) (kept_by_history nodes steps (all_acts_run nodes slots (start nodes) acts steps is_run) few n lt)
+    rw (commands_reported nodes slots n acts steps is_run lt, mounted_reported nodes slots n acts steps is_run lt)
+    (kept_by_history nodes steps (all_acts_run nodes slots (start nodes) acts steps is_run) few n lt)
 
 -- ---- 3
 
-each_rises : (nodes slots : ℕ) (acts : List Act) (steps : List Step) → IsRunOf nodes slots (start nodes) acts steps → (n : ℕ) → n < nodes → Rises 0 (own_counts n (report_of nodes acts steps).groups)
+each_rises : (nodes slots : ℕ) (acts : List Act) (steps : List Step) → IsRunOf nodes slots (start nodes) acts steps → (n : ℕ) → n < nodes
+    → Rises 0 (own_counts n (report_of nodes acts steps).groups)
 each_rises nodes slots acts steps is_run n lt =
-    rw (groups_are nodes slots acts steps is_run, own_counts_of nodes n steps lt) (omega arith, counts_rise n nodes (opening n) (history_in n nodes (start nodes) steps) 1 (omega arith))
+    rw (groups_are nodes slots acts steps is_run, own_counts_of nodes n steps lt)
+    (omega arith, counts_rise n nodes (opening n) (history_in n nodes (start nodes) steps) 1 (omega arith))
 
 -- so have the groups, whoever gave them
 module _ (nodes slots : ℕ) (acts : List Act) (steps : List Step) (is_run : IsRunOf nodes slots (start nodes) acts steps) where
-  giver_rises : (g : Group) → IsAmong g (report_of nodes acts steps).groups → Rises 0 (own_counts g.creator (report_of nodes acts steps).groups)
+  giver_rises : (g : Group) → IsAmong g (report_of nodes acts steps).groups
+      → Rises 0 (own_counts g.creator (report_of nodes acts steps).groups)
   giver_rises g i = each_rises nodes slots acts steps is_run g.creator
-      (given_inside nodes steps (all_acts_run nodes slots (start nodes) acts steps is_run) g (subst (IsAmong g) (groups_are nodes slots acts steps is_run) i))
+      (given_inside nodes steps (all_acts_run nodes slots (start nodes) acts steps is_run) g
+      (subst (IsAmong g) (groups_are nodes slots acts steps is_run) i))
 
   each_counted : All (λ (g : Group). 1 ≤ g.count) (report_of nodes acts steps).groups
   each_counted k d within =
@@ -86,35 +94,45 @@ module _ (nodes slots : ℕ) (acts : List Act) (steps : List Step) (is_run : IsR
       let gs : List Group = (report_of nodes acts steps).groups in
       let at_i = slice_get-get_or gs i d (omega (arith, lt, within)) in
       let g : Group = slice_index_or gs i d in
-      rising_places g.creator gs 0 (giver_rises g (among_of gs i g at_i)) i j g (slice_index_or gs j d) lt at_i (slice_get-get_or gs j d within) refl (sym same)
+      rising_places g.creator gs 0 (giver_rises g (among_of gs i g at_i)) i j g (slice_index_or gs j d) lt at_i
+      (slice_get-get_or gs j d within) refl (sym same)
 
-given_once : (nodes slots : ℕ) (acts : List Act) (steps : List Step) → IsRunOf nodes slots (start nodes) acts steps → IsOnceEach (report_of nodes acts steps).groups
-given_once nodes slots acts steps is_run = rw (groups_are nodes slots acts steps is_run) (none_twice nodes steps (all_acts_run nodes slots (start nodes) acts steps is_run))
+given_once : (nodes slots : ℕ) (acts : List Act) (steps : List Step) → IsRunOf nodes slots (start nodes) acts steps
+    → IsOnceEach (report_of nodes acts steps).groups
+given_once nodes slots acts steps is_run = rw (groups_are nodes slots acts steps is_run)
+    (none_twice nodes steps (all_acts_run nodes slots (start nodes) acts steps is_run))
 
-down_or_given : (P : Group → Type 0) (states : List NodeState) (n : ℕ) → ((s : NodeState) → slice_get states n ≡ Some s → StateHolds P s.state) → StateHolds P (node_in states n).state
+down_or_given : (P : Group → Type 0) (states : List NodeState) (n : ℕ)
+    → ((s : NodeState) → slice_get states n ≡ Some s → StateHolds P s.state) → StateHolds P (node_in states n).state
 down_or_given P states n h = by_state (slice_get states n) h
   where
-    by_state : (o : Option NodeState) → ((s : NodeState) → o ≡ Some s → StateHolds P s.state) → StateHolds P (unwrap_or o (record { state = down n; durable = formatted; doubt = None })).state
+    by_state : (o : Option NodeState) → ((s : NodeState) → o ≡ Some s → StateHolds P s.state)
+        → StateHolds P (unwrap_or o (record { state = down n; durable = formatted; doubt = None })).state
     by_state None h = λ up. absurd (up refl)
     by_state (Some s) h = h s refl
 
-moment_given : (nodes slots : ℕ) (acts : List Act) (steps : List Step) → IsRunOf nodes slots (start nodes) acts steps → (k : ℕ) (m : Moment) → slice_get (report_of nodes acts steps).moments k ≡ Some m
+moment_given : (nodes slots : ℕ) (acts : List Act) (steps : List Step) → IsRunOf nodes slots (start nodes) acts steps → (k : ℕ) (m : Moment)
+    → slice_get (report_of nodes acts steps).moments k ≡ Some m
     → NamesGiven (report_of nodes (take (suc k) acts) steps).groups m
 moment_given nodes slots acts steps is_run k m at =
     let front : List Step = take (suc k) steps in
     let run : RunFrom nodes (start nodes) steps = all_acts_run nodes slots (start nodes) acts steps is_run in
     let given : List Group = groups_of nodes front in
-    let all : AllGiven (world_at nodes (start nodes) front) given = given_before nodes front (run_front (suc k) nodes steps (start nodes) run) in
-    let there : slice_get (moments_from nodes (start nodes) acts steps) k ≡ Some m = subst (λ (ms : List Moment). slice_get ms k ≡ Some m) (moments_are nodes acts steps) at in
+    let all : AllGiven (world_at nodes (start nodes) front) given =
+    given_before nodes front (run_front (suc k) nodes steps (start nodes) run) in
+    let there : slice_get (moments_from nodes (start nodes) acts steps) k ≡ Some m =
+    subst (λ (ms : List Moment). slice_get ms k ≡ Some m) (moments_are nodes acts steps) at in
     let P : Group → Type 0 = λ g. IsAmong g given in
     let by_state : StateHolds P m.state = rw (moment_state k nodes acts steps (start nodes) m there)
     (down_or_given P (world_at nodes (start nodes) front).states m.node (λ s here. all.vectors m.node s here)) in
     let by_messages = moment_says (λ (x : Envelope). IfSome (group_in x.body) P) k nodes acts steps (start nodes) m there all.messages in
     subst (λ (gs : List Group). NamesGiven gs m)
-    (sym (ap (λ (x : Report). x.groups) (front_report nodes (suc k) acts steps) ∙ groups_are nodes slots (take (suc k) acts) front (acts_front (suc k) nodes slots acts steps (start nodes) is_run))) (record {
+    (sym (ap (λ (x : Report). x.groups) (front_report nodes (suc k) acts steps)
+    ∙ groups_are nodes slots (take (suc k) acts) front (acts_front (suc k) nodes slots acts steps (start nodes) is_run))) (record {
       by_state = λ up. (
         contains m.state.group given (by_state up).0,
-        some_more (λ (t : Assignment). P t.group) (λ (t : Assignment). Contains given t.group) m.state.task (λ t i. contains t.group given i) (by_state up).1,
+        some_more (λ (t : Assignment). P t.group) (λ (t : Assignment). Contains given t.group) m.state.task (λ t i.
+            contains t.group given i) (by_state up).1,
       );
       by_messages = λ x sent. some_more P (Contains given) (group_in x.body) (λ g i. contains g given i)
           (each_at (λ (y : Envelope). IfSome (group_in y.body) P) m.sent x by_messages (among x m.sent sent));
@@ -122,10 +140,12 @@ moment_given nodes slots acts steps is_run k m at =
 
 -- ---- 4
 
-down_or_agrees : (book : List Assignment) (states : List NodeState) (n : ℕ) → ((s : NodeState) → slice_get states n ≡ Some s → AgreesAt book n s.state) → AgreesAt book n (node_in states n).state
+down_or_agrees : (book : List Assignment) (states : List NodeState) (n : ℕ)
+    → ((s : NodeState) → slice_get states n ≡ Some s → AgreesAt book n s.state) → AgreesAt book n (node_in states n).state
 down_or_agrees book states n h = by_state (slice_get states n) h
   where
-    by_state : (o : Option NodeState) → ((s : NodeState) → o ≡ Some s → AgreesAt book n s.state) → AgreesAt book n (unwrap_or o (record { state = down n; durable = formatted; doubt = None })).state
+    by_state : (o : Option NodeState) → ((s : NodeState) → o ≡ Some s → AgreesAt book n s.state)
+        → AgreesAt book n (unwrap_or o (record { state = down n; durable = formatted; doubt = None })).state
     by_state None h = (λ in_it. elim in_it [ inl e ↦ absurd cc | inr e ↦ absurd cc ], λ e. absurd cc)
     by_state (Some s) h = h s refl
 
@@ -140,7 +160,8 @@ its_book nodes acts steps run =
     record {
       book = law.0;
       agrees = λ n s shown. elim shown [
-        | inl first ↦ (let it = opening_shown (start nodes).states n s (subst (λ (xs : List State). slice_get xs n ≡ Some s) (opening_is nodes acts steps) first) in
+        | inl first ↦ (let it = opening_shown (start nodes).states n s
+            (subst (λ (xs : List State). slice_get xs n ≡ Some s) (opening_is nodes acts steps) first) in
             subst (λ (x : State). AgreesAt law.0 n x) it.2 (law.1 [] steps refl n it.0 it.1))
         | inr moment ↦ (
             let m : Moment = moment.0 in
@@ -151,14 +172,17 @@ its_book nodes acts steps run =
             down_or_agrees law.0 (world_at nodes (start nodes) front).states m.node
             (λ x here. law.1 front (drop (suc k) steps) (take-append-drop (suc k) steps) m.node x here) in
             subst (λ (x : State). AgreesAt law.0 n x) moment.3
-            (subst (λ (j : ℕ). AgreesAt law.0 j m.state) moment.2 (rw (moment_state k nodes acts steps (start nodes) m (subst (λ (ms : List Moment). slice_get ms k ≡ Some m) (moments_are nodes acts steps) place.1)) agrees)))
+            (subst (λ (j : ℕ). AgreesAt law.0 j m.state) moment.2 (rw
+            (moment_state k nodes acts steps (start nodes) m (subst (λ (ms : List Moment). slice_get ms k
+            ≡ Some m) (moments_are nodes acts steps) place.1)) agrees)))
       ];
     }
 
 abbrev members_by : List Assignment → Group → List ℕ
 members_by book g = unwrap_or (members_in book g) []
 
-task_by : (book : List Assignment) (n : ℕ) (g : Group) (task : Option Assignment) → IsTaskOf book n g task → (task ≡ Some (task_of g (members_by book g))) × (has (members_by book g) n ≡ true)
+task_by : (book : List Assignment) (n : ℕ) (g : Group) (task : Option Assignment) → IsTaskOf book n g task
+    → (task ≡ Some (task_of g (members_by book g))) × (has (members_by book g) n ≡ true)
 task_by book n g None h = absurd h
 task_by book n g (Some t) h =
     let same : members_by book g ≡ t.members = ap (λ (o : Option (List ℕ)). unwrap_or o []) h.1 in
@@ -179,8 +203,10 @@ book_by r it = record {
 
 -- ---- 5
 
-shown_coordinator : (r : Report) (h : HasBook r) (n m : ℕ) (s t : State) → IsShown r n s → IsShown r m t → IsInGroup s.phase → IsInGroup t.phase → s.group ≡ t.group → s.coordinator ≡ t.coordinator
-shown_coordinator r h n m s t a b in_s in_t same = h.coordinator n s a in_s ∙ (ap (λ (g : Group). g.creator) same ∙ sym (h.coordinator m t b in_t))
+shown_coordinator : (r : Report) (h : HasBook r) (n m : ℕ) (s t : State) → IsShown r n s → IsShown r m t → IsInGroup s.phase
+    → IsInGroup t.phase → s.group ≡ t.group → s.coordinator ≡ t.coordinator
+shown_coordinator r h n m s t a b in_s in_t same = h.coordinator n s a in_s
+    ∙ (ap (λ (g : Group). g.creator) same ∙ sym (h.coordinator m t b in_t))
 
 shown_task : (r : Report) (h : HasBook r) (n m : ℕ) (s t : State) → IsWorking r n s → IsWorking r m t → s.group ≡ t.group → s.task ≡ t.task
 shown_task r h n m s t a b same = (h.task n s a).0 ∙ (ap (λ (g : Group). Some (task_of g (h.members g))) same ∙ sym (h.task m t b).0)
@@ -188,9 +214,11 @@ shown_task r h n m s t a b same = (h.task n s a).0 ∙ (ap (λ (g : Group). Some
 -- ---- jobs
 
 -- a state that is shown in Normal is a moment of the node's history
-shown_moment : (nodes : ℕ) (acts : List Act) (steps : List Step) (n : ℕ) (s : State) → IsWorking (report_of nodes acts steps) n s → IsMoment (histories_of nodes steps) n s
+shown_moment : (nodes : ℕ) (acts : List Act) (steps : List Step) (n : ℕ) (s : State) → IsWorking (report_of nodes acts steps) n s
+    → IsMoment (histories_of nodes steps) n s
 shown_moment nodes acts steps n s works = elim works.0 [
-  | inl first ↦ (let it = opening_shown (start nodes).states n s (subst (λ (xs : List State). slice_get xs n ≡ Some s) (opening_is nodes acts steps) first) in
+  | inl first ↦ (let it = opening_shown (start nodes).states n s
+      (subst (λ (xs : List State). slice_get xs n ≡ Some s) (opening_is nodes acts steps) first) in
       subst (λ (x : State). IsMoment (histories_of nodes steps) n x) it.2 (state_moment nodes steps [] steps refl n it.0 it.1))
   | inr moment ↦ (
       let m : Moment = moment.0 in
@@ -198,12 +226,15 @@ shown_moment nodes acts steps n s works = elim works.0 [
       let k : ℕ = place.0 in
       let front : List Step = take (suc k) steps in
       let states : List NodeState = (world_at nodes (start nodes) front).states in
-      let here : (node_in states m.node).state ≡ s = sym (moment_state k nodes acts steps (start nodes) m (subst (λ (ms : List Moment). slice_get ms k ≡ Some m) (moments_are nodes acts steps) place.1)) ∙ moment.3 in
+      let here : (node_in states m.node).state ≡ s = sym (moment_state k nodes acts steps (start nodes) m
+      (subst (λ (ms : List Moment). slice_get ms k ≡ Some m) (moments_are nodes acts steps) place.1)) ∙ moment.3 in
       subst (λ (j : ℕ). IsMoment (histories_of nodes steps) j s) moment.2
-      (is_up m.node (slice_get states m.node) here (λ x at. state_moment nodes steps front (drop (suc k) steps) (take-append-drop (suc k) steps) m.node x at)))
+      (is_up m.node (slice_get states m.node) here (λ x at. state_moment nodes steps front (drop (suc k) steps)
+      (take-append-drop (suc k) steps) m.node x at)))
 ]
   where
-    is_up : (j : ℕ) (o : Option NodeState) → (unwrap_or o (record { state = down j; durable = formatted; doubt = None })).state ≡ s → ((x : NodeState) → o ≡ Some x → IsMoment (histories_of nodes steps) j x.state)
+    is_up : (j : ℕ) (o : Option NodeState) → (unwrap_or o (record { state = down j; durable = formatted; doubt = None })).state ≡ s
+        → ((x : NodeState) → o ≡ Some x → IsMoment (histories_of nodes steps) j x.state)
         → IsMoment (histories_of nodes steps) j s
     is_up j None here at = (let none : Down ≡ Normal = ap (λ (x : State). x.phase) here ∙ works.1 in absurd cc)
     is_up j (Some x) here at = subst (λ (y : State). IsMoment (histories_of nodes steps) j y) here (at x refl)
@@ -212,11 +243,13 @@ worker_of_two : (nodes : ℕ) (acts : List Act) (steps : List Step) → RunFrom 
     → IsWorking (report_of nodes acts steps) n s → IsWorking (report_of nodes acts steps) m t → s.group ≡ t.group
     → (a b : InHand) → Contains s.hand a → Contains t.hand b → a.work.queue ≡ b.work.queue → n ≡ m
 worker_of_two nodes acts steps run n m s t of_s of_t same a b in_s in_t queue =
-    one_worker (histories_of nodes steps) (runs_are_bundles nodes steps run) n m s t (shown_moment nodes acts steps n s of_s) (shown_moment nodes acts steps m t of_t)
+    one_worker (histories_of nodes steps) (runs_are_bundles nodes steps run) n m s t (shown_moment nodes acts steps n s of_s)
+    (shown_moment nodes acts steps m t of_t)
     of_s.1 of_t.1 same a b (among a s.hand in_s) (among b t.hand in_t) queue
 
 -- each part by its law, which may take fewer premises than the part has
-pub keeps : (nodes slots : ℕ) (acts : List Act) (steps : List Step) → IsShort acts → IsExactRun nodes slots (start nodes) acts steps → Headline nodes slots acts (report_of nodes acts steps)
+pub keeps : (nodes slots : ℕ) (acts : List Act) (steps : List Step) → IsShort acts → IsExactRun nodes slots (start nodes) acts steps
+    → Headline nodes slots acts (report_of nodes acts steps)
 keeps nodes slots acts steps short exact =
     let is_run : IsRunOf nodes slots (start nodes) acts steps = run_of slots nodes acts steps short exact in
     let run : RunFrom nodes (start nodes) steps = all_acts_run nodes slots (start nodes) acts steps is_run in
@@ -224,8 +257,10 @@ keeps nodes slots acts steps short exact =
     let r : Report = report_of nodes acts steps in
     let the_book : HasBook r = book_by r (its_book nodes acts steps run) in
     let apart : AllPairs (λ (g h : Group). g ≢ h) r.groups = once_pairs r.groups (given_once nodes slots acts steps is_run) in
-    let ended : (k : ℕ) (t : AttemptAt) (id : ℕ) → Contains (report_of nodes (take k acts) steps).commands t → t.node < nodes → t.tried.command ≡ Done id → IsFinished nodes acts steps k t.node id =
-    λ k t id tried within done. finished_at nodes slots acts steps is_run k t id (among t (report_of nodes (take k acts) steps).commands tried) within done in
+    let ended : (k : ℕ) (t : AttemptAt) (id : ℕ) → Contains (report_of nodes (take k acts) steps).commands t → t.node < nodes
+    → t.tried.command ≡ Done id → IsFinished nodes acts steps k t.node id =
+    λ k t id tried within done. finished_at nodes slots acts steps is_run k t id
+    (among t (report_of nodes (take k acts) steps).commands tried) within done in
     record {
       short = short;
       steps = steps;
@@ -246,4 +281,5 @@ keeps nodes slots acts steps short exact =
     }
 
 pub every_schedule : EverySchedule
-every_schedule nodes slots acts steps short is_run never_area_exhausted = keeps nodes slots acts steps short (exact_run slots nodes acts steps short is_run never_area_exhausted)
+every_schedule nodes slots acts steps short is_run never_area_exhausted =
+    keeps nodes slots acts steps short (exact_run slots nodes acts steps short is_run never_area_exhausted)

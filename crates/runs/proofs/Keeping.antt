@@ -19,7 +19,8 @@ abbrev pub AllStates : (ℕ → NodeState → Type 0) → World → Type 0
 AllStates P w = (n : ℕ) (s : NodeState) → slice_get w.states n ≡ Some s → P n s
 
 -- where it holds of a node after its step, it holds of all nodes after that step
-pub states_keep : (P : ℕ → NodeState → Type 0) (nodes : ℕ) (w : World) (m number : ℕ) (what : HistoryEvent) (s : NodeState) → slice_get w.states m ≡ Some s → P m (after m nodes s what)
+pub states_keep : (P : ℕ → NodeState → Type 0) (nodes : ℕ) (w : World) (m number : ℕ) (what : HistoryEvent) (s : NodeState)
+    → slice_get w.states m ≡ Some s → P m (after m nodes s what)
     → AllStates P w → AllStates P (world_after nodes w (Takes m number what))
 states_keep P nodes w m number what s at kept all n t at_n = by_place (m == n) refl
   where
@@ -27,7 +28,8 @@ states_keep P nodes w m number what s at kept all n t at_n = by_place (m == n) r
     by_place true is =
         let same : m ≡ n = eq_nat m n is in
         let now = state_here m m nodes what w.states s refl at in
-        let at_m : slice_get (world_after nodes w (Takes m number what)).states m ≡ Some t = subst (λ (j : ℕ). slice_get (world_after nodes w (Takes m number what)).states j ≡ Some t) (sym same) at_n in
+        let at_m : slice_get (world_after nodes w (Takes m number what)).states m ≡ Some t =
+        subst (λ (j : ℕ). slice_get (world_after nodes w (Takes m number what)).states j ≡ Some t) (sym same) at_n in
         let is_after : after m nodes s what ≡ t = cc (now, at_m) in
         subst (λ (j : ℕ). P j t) same (subst (λ (x : NodeState). P m x) is_after kept)
     by_place false is =
@@ -36,9 +38,11 @@ states_keep P nodes w m number what s at kept all n t at_n = by_place (m == n) r
 
 -- so it does after any step that may come where it does
 pub lawful_keeps : (P Q : ℕ → NodeState → Type 0) (nodes slots : ℕ) → ((n : ℕ) (s : NodeState) → P n s → Q n s)
-    → ((n : ℕ) (s : NodeState) (what : HistoryEvent) → IsPossible n nodes s what → IsOfSlots slots n nodes s what → P n s → Q n (after n nodes s what))
+    → ((n : ℕ) (s : NodeState) (what : HistoryEvent) → IsPossible n nodes s what → IsOfSlots slots n nodes s what → P n s
+    → Q n (after n nodes s what))
     → (w : World) (step : Step) → IsLawful slots nodes w step → AllStates P w → AllStates Q (world_after nodes w step)
-lawful_keeps P Q nodes slots stays moves w (Takes n number what) may all = states_keep Q nodes w n number what may.0 may.1 (moves n may.0 what may.2 may.3 (all n may.0 may.1)) (λ k s at. stays k s (all k s at))
+lawful_keeps P Q nodes slots stays moves w (Takes n number what) may all =
+    states_keep Q nodes w n number what may.0 may.1 (moves n may.0 what may.2 may.3 (all n may.0 may.1)) (λ k s at. stays k s (all k s at))
 lawful_keeps P Q nodes slots stays moves w _ may all = λ k s at. stays k s (all k s at)
 
 -- there are as many nodes as there were

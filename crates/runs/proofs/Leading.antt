@@ -1,5 +1,6 @@
 -- The counts of the groups that a node leads rise.
-use Rattle.std.proofs.Common.{◌≡◌, ◌≢◌, ◌⊎◌, ℕ, zero, suc, ◌<◌, ◌≤◌, Bool, true, false, List, [], ◌∷◌, slice_get, refl, sym, ◌∙◌, ap, subst, inl, inr, arith, Option, Some, None}
+use Rattle.std.proofs.Common.{◌≡◌, ◌≢◌, ◌⊎◌, ℕ, zero, suc, ◌<◌, ◌≤◌, Bool, true, false, List, [], ◌∷◌, slice_get, refl, sym, ◌∙◌, ap, subst}
+use Rattle.std.proofs.Common.{inl, inr, arith, Option, Some, None}
 use Rattle.std.specs.Prelude.{◌==◌}
 use Rattle.std.proofs.lemmas.Bool.Decides.{nat_tests}
 use Rattle.group_task.specs.Group.{Group}
@@ -15,10 +16,12 @@ use Rattle.node_core.specs.State.{State}
 use Rattle.node_core.specs.Words.{own_group}
 use Rattle.histories.specs.NodeState.{NodeState, opening, wants_at}
 use Rattle.histories.specs.declared.history_event.HistoryEvent.{HistoryEvent}
-use Rattle.histories.specs.declared.history_event.HistoryEvent.TheVariants.{Did, Refused, Faulted, NoOp, Crashed, Recovered, MountFailed, RaiseFailed, RaiseRefused}
+use Rattle.histories.specs.declared.history_event.HistoryEvent.TheVariants.{Did, Refused, Faulted, NoOp, Crashed, Recovered, MountFailed}
+use Rattle.histories.specs.declared.history_event.HistoryEvent.TheVariants.{RaiseFailed, RaiseRefused}
 use Rattle.histories.specs.After.{after, raised}
 use Rattle.histories.specs.Possible.{IsPossible}
-use Rattle.histories.proofs.PublicLaws.{AnyGroup, AnyWork, GroupMove, assigns, calls, completes, entry_does, eq_nat, falls, joins, starts_alone, settled_grows, stays, takes, wanted_grows}
+use Rattle.histories.proofs.PublicLaws.{AnyGroup, AnyWork, GroupMove, assigns, calls, completes, entry_does, eq_nat, falls, joins}
+use Rattle.histories.proofs.PublicLaws.{starts_alone, settled_grows, stays, takes, wanted_grows}
 use Rattle.schedule.specs.declared.act.Act.{Act}
 use Rattle.runs.specs.World.{World, start, node_in}
 use Rattle.runs.specs.Step.{Step, Takes, Changes, Denies, world_after}
@@ -40,12 +43,14 @@ LeadsLast self s = GivesLast self s.state s.durable.counter
 up_by : (p q : Phase) → p ≡ q → q ≢ Down → p ≢ Down
 up_by p q is up down = up (sym is ∙ down)
 
-moved : (self before now : ℕ) (old new : State) (came : List Envelope) (given : List ℕ) (made : List Assignment) → GroupMove self old came given made new → (given ≡ [] → now ≡ before)
+moved : (self before now : ℕ) (old new : State) (came : List Envelope) (given : List ℕ) (made : List Assignment)
+    → GroupMove self old came given made new → (given ≡ [] → now ≡ before)
     → ((k : ℕ) → given ≡ k ∷ [] → now ≡ k) → GivesLast self old before → GivesLast self new now
 moved self before now old new came given made (stays ph co gr ta gi ma) same raised h up leads =
     gr ∙ h (up_by old.phase new.phase (sym ph) up) (sym co ∙ leads) ∙ ap (own_group self) (sym (same gi))
 moved self before now old new came given made (falls ph gi ma) same raised h up leads = absurd (up ph)
-moved self before now old new came given made (starts_alone k gi is ma) same raised h up leads = ap (λ (s : State). s.group) is ∙ ap (own_group self) (sym (raised k gi))
+moved self before now old new came given made (starts_alone k gi is ma) same raised h up leads = ap (λ (s : State). s.group) is
+    ∙ ap (own_group self) (sym (raised k gi))
 moved self before now old new came given made (calls k gi ph co gr ma) same raised h up leads = gr ∙ ap (own_group self) (sym (raised k gi))
 moved self before now old new came given made (joins group ne ph co gr gi ma) same raised h up leads = absurd (ne (sym co ∙ leads))
 moved self before now old new came given made (assigns members ph has ta co gr either gi ma) same raised h up leads =
@@ -67,10 +72,12 @@ one_raised d (Some Raise) k is = cc is
 one_raised d (Some (Put work)) k is = absurd cc
 one_raised d (Some (Done id)) k is = absurd cc
 
-leads_after : (self nodes : ℕ) (s : NodeState) (what : HistoryEvent) → IsPossible self nodes s what → LeadsLast self s → LeadsLast self (after self nodes s what)
+leads_after : (self nodes : ℕ) (s : NodeState) (what : HistoryEvent) → IsPossible self nodes s what → LeadsLast self s
+    → LeadsLast self (after self nodes s what)
 leads_after self nodes s (Did event) may h =
     let row = entry_does AnyGroup AnyWork AnyWork self nodes s (Did event) may in
-    moved self s.durable.counter (after self nodes s (Did event)).durable.counter s.state _ _ _ row.made row.moves (none_raised s.durable (wants_at self nodes s event)) (one_raised s.durable (wants_at self nodes s event)) h
+    moved self s.durable.counter (after self nodes s (Did event)).durable.counter s.state _ _ _ row.made row.moves
+    (none_raised s.durable (wants_at self nodes s event)) (one_raised s.durable (wants_at self nodes s event)) h
 leads_after self nodes s (Refused event fault) may h = h
 leads_after self nodes s (Faulted event) may h = λ up leads. absurd (up refl)
 leads_after self nodes s (NoOp rest) may h = h
@@ -95,7 +102,8 @@ counter_more self nodes s (RaiseRefused kept) = omega arith
 
 -- ---- a step
 
-step_leads : (slots nodes : ℕ) (w : World) (step : Step) → IsLawful slots nodes w step → AllStates LeadsLast w → AllStates LeadsLast (world_after nodes w step)
+step_leads : (slots nodes : ℕ) (w : World) (step : Step) → IsLawful slots nodes w step → AllStates LeadsLast w
+    → AllStates LeadsLast (world_after nodes w step)
 step_leads slots nodes = lawful_keeps LeadsLast LeadsLast nodes slots (λ n s h. h) (λ n s what may fits h. leads_after n nodes s what may h)
 
 -- a node after a step
@@ -124,49 +132,73 @@ is_up s either down = elim either [
 ]
 
 -- the moment of a step at which a node leads shows the count that its disk has then
-shown_count : (nodes n : ℕ) (w : World) (a : Act) (step : Step) (now : NodeState) → AllStates LeadsLast (world_after nodes w step) → slice_get (world_after nodes w step).states n ≡ Some now
-    → (moment_of nodes w a step).node ≡ n → Leads n (moment_of nodes w a step).state → (moment_of nodes w a step).state.group.count ≡ now.durable.counter
+shown_count : (nodes n : ℕ) (w : World) (a : Act) (step : Step) (now : NodeState) → AllStates LeadsLast (world_after nodes w step)
+    → slice_get (world_after nodes w step).states n ≡ Some now
+    → (moment_of nodes w a step).node ≡ n → Leads n (moment_of nodes w a step).state
+    → (moment_of nodes w a step).state.group.count ≡ now.durable.counter
 shown_count nodes n w a step now all at named leads =
     let is : (moment_of nodes w a step).state ≡ now.state =
-    ap (λ (j : ℕ). (node_in (world_after nodes w step).states j).state) named ∙ ap (λ (x : NodeState). x.state) (node_there (world_after nodes w step).states n now at) in
+    ap (λ (j : ℕ). (node_in (world_after nodes w step).states j).state) named
+    ∙ ap (λ (x : NodeState). x.state) (node_there (world_after nodes w step).states n now at) in
     let lead : Leads n now.state = subst (λ (x : State). Leads n x) is leads in
     ap (λ (x : State). x.group.count) is ∙ ap (λ (g : Group). g.count) (all n now at (is_up now.state lead.0) lead.1)
 
 -- what a moment shows that n leads has no smaller count than its disk before
-later_count : (k slots nodes n : ℕ) (acts : List Act) (steps : List Step) (w : World) (s : NodeState) (l : Moment) → IsRunOf nodes slots w acts steps → AllStates LeadsLast w → slice_get w.states n ≡ Some s
+later_count : (k slots nodes n : ℕ) (acts : List Act) (steps : List Step) (w : World) (s : NodeState) (l : Moment)
+    → IsRunOf nodes slots w acts steps → AllStates LeadsLast w → slice_get w.states n ≡ Some s
     → slice_get (moments_from nodes w acts steps) k ≡ Some l → l.node ≡ n → Leads n l.state → s.durable.counter ≤ l.state.group.count
 later_count k slots nodes n [] steps w s l run all at is named leads = absurd cc
 later_count k slots nodes n (a ∷ acts) [] w s l run all at is named leads = absurd run
 later_count zero slots nodes n (a ∷ acts) (step ∷ steps) w s l run all at is named leads =
     let on = node_goes_on nodes w step n s at in
     let it : moment_of nodes w a step ≡ l = cc is in
-    let count = shown_count nodes n w a step on.now (step_leads slots nodes w step run.1 all) on.at (ap (λ (x : Moment). x.node) it ∙ named) (subst (λ (x : Moment). Leads n x.state) (sym it) leads) in
+    let count = shown_count nodes n w a step on.now (step_leads slots nodes w step run.1 all) on.at (ap (λ (x : Moment). x.node) it ∙ named)
+    (subst (λ (x : Moment). Leads n x.state) (sym it) leads) in
     omega (arith, on.more, count, ap (λ (x : Moment). x.state.group.count) it)
 later_count (suc k) slots nodes n (a ∷ acts) (step ∷ steps) w s l run all at is named leads =
     let on = node_goes_on nodes w step n s at in
-    omega (arith, on.more, later_count k slots nodes n acts steps (world_after nodes w step) on.now l run.2 (step_leads slots nodes w step run.1 all) on.at is named leads)
+    omega (
+      arith,
+      on.more,
+      later_count k slots nodes n acts steps (world_after nodes w step) on.now l run.2
+          (step_leads slots nodes w step run.1 all) on.at is named leads,
+    )
 
-counts_rise : (j k slots nodes n : ℕ) (acts : List Act) (steps : List Step) (w : World) (s : NodeState) (m l : Moment) → IsRunOf nodes slots w acts steps → AllStates LeadsLast w → slice_get w.states n ≡ Some s → j < k
-    → slice_get (moments_from nodes w acts steps) j ≡ Some m → slice_get (moments_from nodes w acts steps) k ≡ Some l → m.node ≡ n → l.node ≡ n → Leads n m.state → Leads n l.state
+counts_rise : (j k slots nodes n : ℕ) (acts : List Act) (steps : List Step) (w : World) (s : NodeState) (m l : Moment)
+    → IsRunOf nodes slots w acts steps → AllStates LeadsLast w → slice_get w.states n ≡ Some s → j < k
+    → slice_get (moments_from nodes w acts steps) j ≡ Some m → slice_get (moments_from nodes w acts steps) k ≡ Some l → m.node ≡ n
+    → l.node ≡ n → Leads n m.state → Leads n l.state
     → m.state.group.count ≤ l.state.group.count
-counts_rise j zero slots nodes n acts steps w s m l run all at lt at_m at_l named_m named_l leads_m leads_l = absurd (let bad : j < 0 = lt in omega (arith, bad))
+counts_rise j zero slots nodes n acts steps w s m l run all at lt at_m at_l named_m named_l leads_m leads_l =
+    absurd (let bad : j < 0 = lt in omega (arith, bad))
 counts_rise j (suc k) slots nodes n [] steps w s m l run all at lt at_m at_l named_m named_l leads_m leads_l = absurd cc
 counts_rise j (suc k) slots nodes n (a ∷ acts) [] w s m l run all at lt at_m at_l named_m named_l leads_m leads_l = absurd run
 counts_rise zero (suc k) slots nodes n (a ∷ acts) (step ∷ steps) w s m l run all at lt at_m at_l named_m named_l leads_m leads_l =
     let on = node_goes_on nodes w step n s at in
     let it : moment_of nodes w a step ≡ m = cc at_m in
     let next = step_leads slots nodes w step run.1 all in
-    let count = shown_count nodes n w a step on.now next on.at (ap (λ (x : Moment). x.node) it ∙ named_m) (subst (λ (x : Moment). Leads n x.state) (sym it) leads_m) in
-    omega (arith, count, ap (λ (x : Moment). x.state.group.count) it, later_count k slots nodes n acts steps (world_after nodes w step) on.now l run.2 next on.at at_l named_l leads_l)
+    let count = shown_count nodes n w a step on.now next on.at (ap (λ (x : Moment). x.node) it ∙ named_m)
+    (subst (λ (x : Moment). Leads n x.state) (sym it) leads_m) in
+    omega (
+      arith,
+      count,
+      ap (λ (x : Moment). x.state.group.count) it,
+      later_count k slots nodes n acts steps (world_after nodes w step) on.now l run.2 next on.at at_l named_l leads_l,
+    )
 counts_rise (suc j) (suc k) slots nodes n (a ∷ acts) (step ∷ steps) w s m l run all at lt at_m at_l named_m named_l leads_m leads_l =
     let on = node_goes_on nodes w step n s at in
-    counts_rise j k slots nodes n acts steps (world_after nodes w step) on.now m l run.2 (step_leads slots nodes w step run.1 all) on.at (omega (arith, lt)) at_m at_l named_m named_l leads_m leads_l
+    counts_rise j k slots nodes n acts steps (world_after nodes w step) on.now m l run.2 (step_leads slots nodes w step run.1 all) on.at
+    (omega (arith, lt)) at_m at_l named_m named_l leads_m leads_l
 
 opens_last : (nodes : ℕ) → AllStates LeadsLast (start nodes)
-opens_last nodes n s at = (let first : s ≡ opening n = opened nodes 0 n s n (omega arith) at in subst (λ (x : NodeState). LeadsLast n x) (sym first) (λ up leads. refl))
+opens_last nodes n s at = (let first : s ≡ opening n = opened nodes 0 n s n (omega arith) at in
+    subst (λ (x : NodeState). LeadsLast n x) (sym first) (λ up leads. refl))
 
 pub leader_counts_rise : LeaderCountsRise
 leader_counts_rise nodes slots acts r h n j k m l within lt at_m at_l named_m named_l leads_m leads_l =
-    let moments : r.moments ≡ moments_from nodes (start nodes) acts h.steps = ap (λ (x : Report). x.moments) h.reported ∙ moments_are nodes acts h.steps in
-    counts_rise j k slots nodes n acts h.steps (start nodes) (opening n) m l (run_in nodes slots acts r h) (opens_last nodes) (starts_opened nodes n within) lt
-    (subst (λ (ms : List Moment). slice_get ms j ≡ Some m) moments at_m) (subst (λ (ms : List Moment). slice_get ms k ≡ Some l) moments at_l) named_m named_l leads_m leads_l
+    let moments : r.moments ≡ moments_from nodes (start nodes) acts h.steps = ap (λ (x : Report). x.moments) h.reported
+    ∙ moments_are nodes acts h.steps in
+    counts_rise j k slots nodes n acts h.steps (start nodes) (opening n) m l (run_in nodes slots acts r h) (opens_last nodes)
+    (starts_opened nodes n within) lt
+    (subst (λ (ms : List Moment). slice_get ms j ≡ Some m) moments at_m)
+    (subst (λ (ms : List Moment). slice_get ms k ≡ Some l) moments at_l) named_m named_l leads_m leads_l

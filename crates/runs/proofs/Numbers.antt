@@ -38,6 +38,10 @@ pub named_was_given : NamedWasGiven
 named_was_given nodes slots acts r head k m at =
     let given : List Group = (report_within nodes (suc k) acts head.steps).groups in
     let named = head.given k m at in (
-      elim (group_shown (Contains given) m.state m.state.phase refl named.by_state) [ inl down ↦ inl down | inr it ↦ inr (among m.state.group given it) ],
-      λ x g here says. among g given (subst (λ (o : Option Group). IfSome o (Contains given)) says (named.by_messages x (contains x m.sent here))),
+      elim (group_shown (Contains given) m.state m.state.phase refl named.by_state) [
+        | inl down ↦ inl down
+        | inr it ↦ inr (among m.state.group given it)
+      ],
+      λ x g here says. among g given (subst (λ (o : Option Group). IfSome o (Contains given)) says
+          (named.by_messages x (contains x m.sent here))),
     )

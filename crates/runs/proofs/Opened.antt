@@ -27,9 +27,11 @@ pub opened_more : (k : ℕ) → record {
   mounted = (first_report k).mounted ++ (k, record { before = 0; state = formatted }) ∷ [];
 } ≡ first_report (suc k)
 opened_more k = (λ i. record {
-  opening = (sym (map-append (λ (s : NodeState). s.state) (map opening (range_with_len 0 k)) (opening k ∷ [])) ∙ ap (λ (ss : List NodeState). map (λ (s : NodeState). s.state) ss) (one_more opening k 0 k (omega arith))) i;
+  opening = (sym (map-append (λ (s : NodeState). s.state) (map opening (range_with_len 0 k)) (opening k ∷ []))
+      ∙ ap (λ (ss : List NodeState). map (λ (s : NodeState). s.state) ss) (one_more opening k 0 k (omega arith))) i;
   moments = [];
   groups = one_more (λ (n : ℕ). own_group n 1) k 0 k (omega arith) i;
-  commands = one_more {A = AttemptAt} (λ (n : ℕ). record { node = n; tried = record { command = Raise; acked = Some 1 } }) k 0 k (omega arith) i;
+  commands = one_more {A = AttemptAt} (λ (n : ℕ). record { node = n; tried = record { command = Raise; acked = Some 1 } }) k 0 k
+      (omega arith) i;
   mounted = one_more {A = ℕ × Mounting} (λ (n : ℕ). (n, record { before = 0; state = formatted })) k 0 k (omega arith) i;
 })

@@ -1,5 +1,6 @@
 -- The counts that a node gives in a run are those of its history.
-use Rattle.std.proofs.Common.{◌≡◌, ◌≢◌, ℕ, zero, suc, ◌<◌, Bool, true, false, List, [], ◌∷◌, ◌++◌, map, slice_get, refl, sym, ◌∙◌, ap, subst, arith, Some}
+use Rattle.std.proofs.Common.{◌≡◌, ◌≢◌, ℕ, zero, suc, ◌<◌, Bool, true, false, List, [], ◌∷◌, ◌++◌, map, slice_get, refl, sym, ◌∙◌, ap}
+use Rattle.std.proofs.Common.{subst, arith, Some}
 use Rattle.std.specs.Prelude.{if◌then◌else◌, ◌==◌, cond}
 use Rattle.std.proofs.lemmas.Bool.Decides.{nat_tests}
 use Rattle.group_task.specs.Group.{Group}
@@ -39,33 +40,43 @@ counts_from : (n nodes : ℕ) (steps : List Step) (w : World) (s : NodeState) �
     → own_counts n (groups_from nodes w steps) ≡ counts_given n nodes s (history_in n nodes w steps)
 counts_from n nodes [] w s at = refl
 counts_from n nodes (Takes m number what ∷ steps) w s at =
-    counts_append n (map (own_group m) (given_at m nodes (node_in w.states m) what)) (groups_from nodes (world_after nodes w (Takes m number what)) steps)
+    counts_append n (map (own_group m) (given_at m nodes (node_in w.states m) what))
+    (groups_from nodes (world_after nodes w (Takes m number what)) steps)
     ∙ pick (m == n) refl (λ t u. counts_from n nodes steps (world_after nodes w (Takes m number what)) t u)
   where
     pick : (b : Bool) → (m == n) ≡ b
         → ((t : NodeState) → slice_get (world_after nodes w (Takes m number what)).states n ≡ Some t
-        → own_counts n (groups_from nodes (world_after nodes w (Takes m number what)) steps) ≡ counts_given n nodes t (history_in n nodes (world_after nodes w (Takes m number what)) steps))
-        → own_counts n (map (own_group m) (given_at m nodes (node_in w.states m) what)) ++ own_counts n (groups_from nodes (world_after nodes w (Takes m number what)) steps)
-        ≡ counts_given n nodes s ((if b then record { what = what; sent = sent_at m nodes (node_in w.states m) what } ∷ [] else []) ++ history_in n nodes (world_after nodes w (Takes m number what)) steps)
+        → own_counts n (groups_from nodes (world_after nodes w (Takes m number what)) steps)
+        ≡ counts_given n nodes t (history_in n nodes (world_after nodes w (Takes m number what)) steps))
+        → own_counts n (map (own_group m) (given_at m nodes (node_in w.states m) what))
+        ++ own_counts n (groups_from nodes (world_after nodes w (Takes m number what)) steps)
+        ≡ counts_given n nodes s ((if b then record { what = what; sent = sent_at m nodes (node_in w.states m) what } ∷ [] else [])
+        ++ history_in n nodes (world_after nodes w (Takes m number what)) steps)
     pick true e rest =
         let same : m ≡ n = eq_nat m n e in
         let here : slice_get w.states m ≡ Some s = subst (λ (j : ℕ). slice_get w.states j ≡ Some s) (sym same) at in
         let mine : own_counts n (map (own_group m) (given_at m nodes (node_in w.states m) what)) ≡ given_at n nodes s what =
-        counts_same m n (given_at m nodes (node_in w.states m) what) e ∙ ap (λ (x : NodeState). given_at m nodes x what) (node_there w.states m s here) ∙ ap (λ (j : ℕ). given_at j nodes s what) same in
+        counts_same m n (given_at m nodes (node_in w.states m) what) e
+        ∙ ap (λ (x : NodeState). given_at m nodes x what) (node_there w.states m s here)
+        ∙ ap (λ (j : ℕ). given_at j nodes s what) same in
         ap (λ (ks : List ℕ). ks ++ own_counts n (groups_from nodes (world_after nodes w (Takes m number what)) steps)) mine
         ∙ ap (λ (ks : List ℕ). given_at n nodes s what ++ ks) (rest (after n nodes s what) (state_here m n nodes what w.states s same at))
     pick false e rest =
         let ne : n ≢ m = grind (arith, nat_tests) in
-        ap (λ (ks : List ℕ). ks ++ own_counts n (groups_from nodes (world_after nodes w (Takes m number what)) steps)) (counts_other m n (given_at m nodes (node_in w.states m) what) e)
+        ap (λ (ks : List ℕ). ks ++ own_counts n (groups_from nodes (world_after nodes w (Takes m number what)) steps))
+        (counts_other m n (given_at m nodes (node_in w.states m) what) e)
         ∙ rest s (state_elsewhere m n nodes what w.states ne ∙ at)
 counts_from n nodes (Changes net ∷ steps) w s at = counts_from n nodes steps (world_after nodes w (Changes net)) s at
 counts_from n nodes (Denies named why ∷ steps) w s at = counts_from n nodes steps w s at
 
 -- the counts of a node in a run
-pub own_counts_of : (nodes n : ℕ) (steps : List Step) → n < nodes → own_counts n (groups_of nodes steps) ≡ 1 ∷ counts_given n nodes (opening n) (history_in n nodes (start nodes) steps)
+pub own_counts_of : (nodes n : ℕ) (steps : List Step) → n < nodes
+    → own_counts n (groups_of nodes steps) ≡ 1 ∷ counts_given n nodes (opening n) (history_in n nodes (start nodes) steps)
 own_counts_of nodes n steps lt =
     counts_append n (map (λ (x : ℕ). own_group x 1) (range_with_len 0 nodes)) (groups_from nodes (start nodes) steps)
-    ∙ ap (λ (ks : List ℕ). ks ++ own_counts n (groups_from nodes (start nodes) steps)) (one_each (λ (g : Group). g.creator) (λ (g : Group). g.count) (λ (x : ℕ). own_group x 1) (λ i. refl) nodes 0 n (omega arith) (omega (arith, lt)))
+    ∙ ap (λ (ks : List ℕ). ks ++ own_counts n (groups_from nodes (start nodes) steps))
+    (one_each (λ (g : Group). g.creator) (λ (g : Group). g.count) (λ (x : ℕ). own_group x 1) (λ i. refl) nodes 0 n (omega arith)
+    (omega (arith, lt)))
     ∙ ap (λ (ks : List ℕ). 1 ∷ ks) (counts_from n nodes steps (start nodes) (opening n) (starts_opened nodes n lt))
 
 -- ---- counts that rise, by the places of their groups
@@ -78,27 +89,34 @@ not_equal : (a b : ℕ) → (a == b) ≡ false → a ≡ b → ⊥
 not_equal a b is e = grind (arith, nat_tests)
 
 -- each count of the node is above the last one before the list
-pub above : (n : ℕ) (gs : List Group) (last : ℕ) → Rises last (own_counts n gs) → (j : ℕ) (h : Group) → slice_get gs j ≡ Some h → h.creator ≡ n → last < h.count
+pub above : (n : ℕ) (gs : List Group) (last : ℕ) → Rises last (own_counts n gs) → (j : ℕ) (h : Group) → slice_get gs j ≡ Some h
+    → h.creator ≡ n → last < h.count
 above n [] last rises j h at own = absurd cc
 above n (x ∷ gs) last rises j h at own = pick (x.creator == n) refl rises j at (λ low risen i at_i. above n gs low risen i h at_i own)
   where
-    pick : (b : Bool) → (x.creator == n) ≡ b → Rises last (map (λ (y : Group). y.count) (cond b (x ∷ of_node n gs) (of_node n gs))) → (j : ℕ) → slice_get (x ∷ gs) j ≡ Some h
+    pick : (b : Bool) → (x.creator == n) ≡ b → Rises last (map (λ (y : Group). y.count) (cond b (x ∷ of_node n gs) (of_node n gs)))
+        → (j : ℕ) → slice_get (x ∷ gs) j ≡ Some h
         → ((low : ℕ) → Rises low (own_counts n gs) → (i : ℕ) → slice_get gs i ≡ Some h → low < h.count) → last < h.count
     pick true is rises zero at rest = (let same : x ≡ h = cc at in subst (λ (y : Group). last < y.count) same rises.0)
     pick true is rises (suc j) at rest = rest last (rises_lower last x.count (own_counts n gs) rises.0 rises.1) j at
-    pick false is rises zero at rest = (let same : x ≡ h = cc at in absurd (not_equal x.creator n is (ap (λ (y : Group). y.creator) same ∙ own)))
+    pick false is rises zero at rest = (let same : x ≡ h = cc at in
+        absurd (not_equal x.creator n is (ap (λ (y : Group). y.creator) same ∙ own)))
     pick false is rises (suc j) at rest = rest last rises j at
 
-pub rising_places : (n : ℕ) (gs : List Group) (last : ℕ) → Rises last (own_counts n gs) → (i j : ℕ) (g h : Group) → i < j → slice_get gs i ≡ Some g → slice_get gs j ≡ Some h
+pub rising_places : (n : ℕ) (gs : List Group) (last : ℕ) → Rises last (own_counts n gs) → (i j : ℕ) (g h : Group) → i < j
+    → slice_get gs i ≡ Some g → slice_get gs j ≡ Some h
     → g.creator ≡ n → h.creator ≡ n → g.count < h.count
 rising_places n [] last rises i j g h lt at_i at_j of_g of_h = absurd cc
 rising_places n (x ∷ gs) last rises i zero g h lt at_i at_j of_g of_h = absurd (let bad : i < 0 = lt in omega (arith, bad))
 rising_places n (x ∷ gs) last rises i (suc j) g h lt at_i at_j of_g of_h =
     pick (x.creator == n) refl rises i lt at_i (λ low risen k less at. rising_places n gs low risen k j g h less at at_j of_g of_h)
   where
-    pick : (b : Bool) → (x.creator == n) ≡ b → Rises last (map (λ (y : Group). y.count) (cond b (x ∷ of_node n gs) (of_node n gs))) → (i : ℕ) → i < suc j → slice_get (x ∷ gs) i ≡ Some g
+    pick : (b : Bool) → (x.creator == n) ≡ b → Rises last (map (λ (y : Group). y.count) (cond b (x ∷ of_node n gs) (of_node n gs)))
+        → (i : ℕ) → i < suc j → slice_get (x ∷ gs) i ≡ Some g
         → ((low : ℕ) → Rises low (own_counts n gs) → (k : ℕ) → k < j → slice_get gs k ≡ Some g → g.count < h.count) → g.count < h.count
-    pick true is rises zero lt at rest = (let same : x ≡ g = cc at in subst (λ (y : Group). y.count < h.count) same (above n gs x.count rises.1 j h at_j of_h))
+    pick true is rises zero lt at rest = (let same : x ≡ g = cc at in
+        subst (λ (y : Group). y.count < h.count) same (above n gs x.count rises.1 j h at_j of_h))
     pick true is rises (suc i) lt at rest = rest x.count rises.1 i (omega (arith, lt)) at
-    pick false is rises zero lt at rest = (let same : x ≡ g = cc at in absurd (not_equal x.creator n is (ap (λ (y : Group). y.creator) same ∙ of_g)))
+    pick false is rises zero lt at rest = (let same : x ≡ g = cc at in
+        absurd (not_equal x.creator n is (ap (λ (y : Group). y.creator) same ∙ of_g)))
     pick false is rises (suc i) lt at rest = rest last rises i (omega (arith, lt)) at

@@ -23,6 +23,7 @@ pub use Rattle.runs.proofs.Reports.{groups_by, with_node}
 -- No more jobs are pending than a disk has slots, with the command in doubt or without it.
 pub use Rattle.runs.proofs.Rooms.{mounted_few, left_few}
 -- A run of a cluster, seen from each node, is a bundle of histories.
-pub use Rattle.runs.proofs.Runs.{all_more, at_place, brought_sent, comes_sent, get_set_other, get_set_same, history_at, how_many, node_there, opened, starts_opened, state_elsewhere, state_here}
+pub use Rattle.runs.proofs.Runs.{all_more, at_place, brought_sent, comes_sent, get_set_other, get_set_same, history_at, how_many}
+pub use Rattle.runs.proofs.Runs.{node_there, opened, starts_opened, state_elsewhere, state_here}
 -- Messages sent one after another.
 pub use Rattle.runs.proofs.Sending.{none_sent}

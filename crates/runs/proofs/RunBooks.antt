@@ -27,22 +27,27 @@ run_moment nodes n (Takes m number what ∷ done) left w t at =
     let was = was_node m n w.states _ rest.0 rest.1 in
     (was.0, was.1, by_node (m == n) refl was.0 was.1 rest.0 rest.1 rest.2)
   where
-    by_node : (b : Bool) → (m == n) ≡ b → (s : NodeState) → slice_get w.states n ≡ Some s → (u : NodeState) → slice_get (world_after nodes w (Takes m number what)).states n ≡ Some u
+    by_node : (b : Bool) → (m == n) ≡ b → (s : NodeState) → slice_get w.states n ≡ Some s → (u : NodeState)
+        → slice_get (world_after nodes w (Takes m number what)).states n ≡ Some u
         → IsAmong t.state (vectors n nodes u (history_in n nodes (world_after nodes w (Takes m number what)) (done ++ left)))
-        → IsAmong t.state (vectors n nodes s ((if b then record { what = what; sent = sent_at m nodes (node_in w.states m) what } ∷ [] else []) ++ history_in n nodes (world_after nodes w (Takes m number what)) (done ++ left)))
+        → IsAmong t.state (vectors n nodes s ((if b then record { what = what; sent = sent_at m nodes (node_in w.states m) what } ∷ []
+        else []) ++ history_in n nodes (world_after nodes w (Takes m number what)) (done ++ left)))
     by_node true is s at_s u at_u i =
         let now = state_here m n nodes what w.states s (eq_nat m n is) at_s in
         let same : u ≡ after n nodes s what = cc (at_u, now) in
-        inr (subst (λ (x : NodeState). IsAmong t.state (vectors n nodes x (history_in n nodes (world_after nodes w (Takes m number what)) (done ++ left)))) same i)
+        inr (subst (λ (x : NodeState). IsAmong t.state (vectors n nodes x
+        (history_in n nodes (world_after nodes w (Takes m number what)) (done ++ left)))) same i)
     by_node false is s at_s u at_u i =
         let ne : n ≢ m = grind (arith, nat_tests) in
         let stays = state_elsewhere m n nodes what w.states ne in
         let same : u ≡ s = cc (at_u, stays, at_s) in
-        subst (λ (x : NodeState). IsAmong t.state (vectors n nodes x (history_in n nodes (world_after nodes w (Takes m number what)) (done ++ left)))) same i
+        subst (λ (x : NodeState). IsAmong t.state (vectors n nodes x
+        (history_in n nodes (world_after nodes w (Takes m number what)) (done ++ left)))) same i
 run_moment nodes n (Changes net ∷ done) left w t at = run_moment nodes n done left (world_after nodes w (Changes net)) t at
 run_moment nodes n (Denies named why ∷ done) left w t at = run_moment nodes n done left w t at
 
-pub state_moment : (nodes : ℕ) (steps done left : List Step) → done ++ left ≡ steps → (n : ℕ) (s : NodeState) → slice_get (world_at nodes (start nodes) done).states n ≡ Some s
+pub state_moment : (nodes : ℕ) (steps done left : List Step) → done ++ left ≡ steps → (n : ℕ) (s : NodeState)
+    → slice_get (world_at nodes (start nodes) done).states n ≡ Some s
     → IsMoment (histories_of nodes steps) n s.state
 state_moment nodes steps done left whole n s at =
     let it = run_moment nodes n done left (start nodes) s at in
@@ -52,7 +57,8 @@ state_moment nodes steps done left whole n s at =
     (subst (λ (x : NodeState). IsAmong s.state (vectors n nodes x (history_in n nodes (start nodes) (done ++ left)))) first it.2) in (
       history_in n nodes (start nodes) steps,
       history_at nodes 0 n nodes steps it.0 n (omega arith) it.1,
-      subst (λ (k : ℕ). IsAmong s.state (vectors n k (opening n) (history_in n nodes (start nodes) steps))) (sym (how_many nodes 0 nodes steps)) among,
+      subst (λ (k : ℕ). IsAmong s.state (vectors n k (opening n) (history_in n nodes (start nodes) steps)))
+          (sym (how_many nodes 0 nodes steps)) among,
     )
 
 pub run_book : RunBook

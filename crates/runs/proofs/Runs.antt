@@ -1,5 +1,6 @@
 -- A run of a cluster, seen from each node, is a bundle of histories.
-use Rattle.std.proofs.Common.{◌≡◌, ◌≢◌, ◌⊎◌, ℕ, zero, suc, ◌+◌, ◌<◌, Bool, true, false, List, [], ◌∷◌, ◌++◌, length, slice_get, refl, sym, ◌∙◌, ap, subst, inl, inr, arith, Option, Some, None, map}
+use Rattle.std.proofs.Common.{◌≡◌, ◌≢◌, ◌⊎◌, ℕ, zero, suc, ◌+◌, ◌<◌, Bool, true, false, List, [], ◌∷◌, ◌++◌, length, slice_get, refl, sym}
+use Rattle.std.proofs.Common.{◌∙◌, ap, subst, inl, inr, arith, Option, Some, None, map}
 use Rattle.std.specs.Prelude.{if◌then◌else◌, ◌==◌, slice_set, slice_index_or, Result, Ok, Err}
 use Rattle.std.proofs.lemmas.Bool.Decides.{nat_tests}
 use Rattle.wire_msg.specs.Envelope.{Envelope}
@@ -26,7 +27,8 @@ at_place (x ∷ xs) zero within = (x, refl)
 at_place (x ∷ xs) (suc n) within = at_place xs n (omega (arith, within))
 
 -- what holds of each, and of one more
-pub all_more : {A : Type 0} (P : ℕ → A → Type 0) (xs : List A) (x : A) → ((k : ℕ) (y : A) → slice_get xs k ≡ Some y → P k y) → P (length xs) x → (k : ℕ) (y : A) → slice_get (xs ++ x ∷ []) k ≡ Some y → P k y
+pub all_more : {A : Type 0} (P : ℕ → A → Type 0) (xs : List A) (x : A) → ((k : ℕ) (y : A) → slice_get xs k ≡ Some y → P k y)
+    → P (length xs) x → (k : ℕ) (y : A) → slice_get (xs ++ x ∷ []) k ≡ Some y → P k y
 all_more {A} P [] x all here zero y at = subst (λ (z : A). P 0 z) (let same : x ≡ y = cc at in same) here
 all_more P [] x all here (suc k) y at = absurd cc
 all_more P (z ∷ xs) x all here zero y at = all zero y at
@@ -54,20 +56,25 @@ pub state_here : (m n nodes : ℕ) (what : HistoryEvent) (states : List NodeStat
     → slice_get (slice_set states m (after m nodes (node_in states m) what)) n ≡ Some (after n nodes s what)
 state_here m n nodes what states s same at =
     subst (λ (j : ℕ). slice_get (slice_set states j (after j nodes (node_in states j) what)) n ≡ Some (after n nodes s what)) (sym same)
-    (subst (λ (x : NodeState). slice_get (slice_set states n (after n nodes x what)) n ≡ Some (after n nodes s what)) (sym (node_there states n s at)) (get_set_same states n s (after n nodes s what) at))
+    (subst (λ (x : NodeState). slice_get (slice_set states n (after n nodes x what)) n
+    ≡ Some (after n nodes s what)) (sym (node_there states n s at)) (get_set_same states n s (after n nodes s what) at))
 
-pub state_elsewhere : (m n nodes : ℕ) (what : HistoryEvent) (states : List NodeState) → n ≢ m → slice_get (slice_set states m (after m nodes (node_in states m) what)) n ≡ slice_get states n
+pub state_elsewhere : (m n nodes : ℕ) (what : HistoryEvent) (states : List NodeState) → n ≢ m
+    → slice_get (slice_set states m (after m nodes (node_in states m) what)) n ≡ slice_get states n
 state_elsewhere m n nodes what states ne = get_set_other states n m (after m nodes (node_in states m) what) ne
 
 -- the history of node n follows its own steps
-pub history_follows : (n nodes : ℕ) (steps : List Step) (w : World) (s : NodeState) → slice_get w.states n ≡ Some s → RunFrom nodes w steps → Follows n nodes s (history_in n nodes w steps)
+pub history_follows : (n nodes : ℕ) (steps : List Step) (w : World) (s : NodeState) → slice_get w.states n ≡ Some s → RunFrom nodes w steps
+    → Follows n nodes s (history_in n nodes w steps)
 history_follows n nodes [] w s at run = tt
 history_follows n nodes (Takes m number what ∷ steps) w s at run =
     pick (m == n) refl (λ t u. history_follows n nodes steps (world_after nodes w (Takes m number what)) t u run.1)
   where
     pick : (b : Bool) → (m == n) ≡ b
-        → ((t : NodeState) → slice_get (world_after nodes w (Takes m number what)).states n ≡ Some t → Follows n nodes t (history_in n nodes (world_after nodes w (Takes m number what)) steps))
-        → Follows n nodes s ((if b then record { what = what; sent = sent_at m nodes (node_in w.states m) what } ∷ [] else []) ++ history_in n nodes (world_after nodes w (Takes m number what)) steps)
+        → ((t : NodeState) → slice_get (world_after nodes w (Takes m number what)).states n ≡ Some t
+        → Follows n nodes t (history_in n nodes (world_after nodes w (Takes m number what)) steps))
+        → Follows n nodes s ((if b then record { what = what; sent = sent_at m nodes (node_in w.states m) what } ∷ [] else [])
+        ++ history_in n nodes (world_after nodes w (Takes m number what)) steps)
     pick true is rest =
         let same : m ≡ n = eq_nat m n is in
         let here : slice_get w.states m ≡ Some s = subst (λ (j : ℕ). slice_get w.states j ≡ Some s) (sym same) at in
@@ -88,12 +95,16 @@ unless_so : (b : Bool) (why : NetFault) (x m : Envelope) → (if b then Err why 
 unless_so true why x m h = absurd cc
 unless_so false why x m h = cc h
 
-message_sent : (net : Network) (k : ℕ) (m : Envelope) (o : Option Envelope) → slice_get net.sent k ≡ o → message_at net k ≡ Ok m → o ≡ Some m
+message_sent : (net : Network) (k : ℕ) (m : Envelope) (o : Option Envelope) → slice_get net.sent k ≡ o → message_at net k ≡ Ok m
+    → o ≡ Some m
 message_sent net k m None is h = (let none : message_at net k ≡ Err NoSuch = rw (is, message_at) refl in absurd cc (none, h))
-message_sent net k m (Some x) is h = ap (λ (y : Envelope). Some y) (unless_so (slice_index_or net.lost k false) Lost x m (rw (is, message_at) at h))
+message_sent net k m (Some x) is h = ap (λ (y : Envelope). Some y)
+    (unless_so (slice_index_or net.lost k false) Lost x m (rw (is, message_at) at h))
 
-comes_at : (net : Network) (k : ℕ) (m : Envelope) (r : Result Envelope NetFault) → message_at net k ≡ r → delivery net k ≡ Ok m → message_at net k ≡ Ok m
-comes_at net k m (Ok x) is h = is ∙ ap (λ (y : Envelope). Ok y) (unless_so (is_cut net.cuts x.sender x.receiver) Cut x m (rw (is, delivery) at h))
+comes_at : (net : Network) (k : ℕ) (m : Envelope) (r : Result Envelope NetFault) → message_at net k ≡ r → delivery net k ≡ Ok m
+    → message_at net k ≡ Ok m
+comes_at net k m (Ok x) is h = is ∙ ap (λ (y : Envelope). Ok y)
+    (unless_so (is_cut net.cuts x.sender x.receiver) Cut x m (rw (is, delivery) at h))
 comes_at net k m (Err why) is h = (let none : delivery net k ≡ Err why = rw (is, delivery) refl in absurd cc (none, h))
 
 pub comes_sent : (net : Network) (k : ℕ) (m : Envelope) → delivery net k ≡ Ok m → slice_get net.sent k ≡ Some m
@@ -112,37 +123,52 @@ brought_sent w k (x ∷ xs) m h i = elim i [
 ]
 
 -- what was sent stays sent
-sent_stays : (nodes : ℕ) (steps : List Step) (w : World) (m : Envelope) → RunFrom nodes w steps → IsAmong m w.net.sent → IsAmong m (world_at nodes w steps).net.sent
+sent_stays : (nodes : ℕ) (steps : List Step) (w : World) (m : Envelope) → RunFrom nodes w steps → IsAmong m w.net.sent
+    → IsAmong m (world_at nodes w steps).net.sent
 sent_stays nodes [] w m run i = i
-sent_stays nodes (Takes n number what ∷ steps) w m run i = sent_stays nodes steps (world_after nodes w (Takes n number what)) m run.1 (among_left m w.net.sent (sent_at n nodes (node_in w.states n) what) i)
-sent_stays nodes (Changes net ∷ steps) w m run i = sent_stays nodes steps (world_after nodes w (Changes net)) m run.1 (subst (λ (ms : List Envelope). IsAmong m ms) (sym run.0) i)
+sent_stays nodes (Takes n number what ∷ steps) w m run i =
+    sent_stays nodes steps (world_after nodes w (Takes n number what)) m run.1
+    (among_left m w.net.sent (sent_at n nodes (node_in w.states n) what) i)
+sent_stays nodes (Changes net ∷ steps) w m run i = sent_stays nodes steps (world_after nodes w (Changes net)) m run.1
+    (subst (λ (ms : List Envelope). IsAmong m ms) (sym run.0) i)
 sent_stays nodes (Denies named why ∷ steps) w m run i = sent_stays nodes steps w m run.1 i
 
 -- what a node is brought was sent in the run
-brought_in_run : (n nodes : ℕ) (steps : List Step) (w : World) (m : Envelope) → RunFrom nodes w steps → IsAmong m (brought_in (history_in n nodes w steps)) → IsAmong m (world_at nodes w steps).net.sent
+brought_in_run : (n nodes : ℕ) (steps : List Step) (w : World) (m : Envelope) → RunFrom nodes w steps
+    → IsAmong m (brought_in (history_in n nodes w steps)) → IsAmong m (world_at nodes w steps).net.sent
 brought_in_run n nodes [] w m run i = absurd i
-brought_in_run n nodes (Takes j number what ∷ steps) w m run i = pick (j == n) i (λ k. brought_in_run n nodes steps (world_after nodes w (Takes j number what)) m run.1 k)
+brought_in_run n nodes (Takes j number what ∷ steps) w m run i =
+    pick (j == n) i (λ k. brought_in_run n nodes steps (world_after nodes w (Takes j number what)) m run.1 k)
   where
     pick : (b : Bool)
-        → IsAmong m (brought_in ((if b then record { what = what; sent = sent_at j nodes (node_in w.states j) what } ∷ [] else []) ++ history_in n nodes (world_after nodes w (Takes j number what)) steps))
-        → (IsAmong m (brought_in (history_in n nodes (world_after nodes w (Takes j number what)) steps)) → IsAmong m (world_at nodes (world_after nodes w (Takes j number what)) steps).net.sent)
+        → IsAmong m (brought_in ((if b then record { what = what; sent = sent_at j nodes (node_in w.states j) what } ∷ [] else [])
+        ++ history_in n nodes (world_after nodes w (Takes j number what)) steps))
+        → (IsAmong m (brought_in (history_in n nodes (world_after nodes w (Takes j number what)) steps))
+        → IsAmong m (world_at nodes (world_after nodes w (Takes j number what)) steps).net.sent)
         → IsAmong m (world_at nodes (world_after nodes w (Takes j number what)) steps).net.sent
-    pick true i rest = elim (among_either m (brought (event_of what)) (brought_in (history_in n nodes (world_after nodes w (Takes j number what)) steps)) i) [
-      | inl l ↦ sent_stays nodes steps (world_after nodes w (Takes j number what)) m run.1 (among_left m w.net.sent (sent_at j nodes (node_in w.states j) what) (brought_sent w number (brought (event_of what)) m run.0.3 l))
-      | inr r ↦ rest r
-    ]
+    pick true i rest = elim (among_either m (brought (event_of what))
+        (brought_in (history_in n nodes (world_after nodes w (Takes j number what)) steps)) i) [
+          | inl l ↦ sent_stays nodes steps (world_after nodes w (Takes j number what)) m run.1
+              (among_left m w.net.sent (sent_at j nodes (node_in w.states j) what)
+              (brought_sent w number (brought (event_of what)) m run.0.3 l))
+          | inr r ↦ rest r
+        ]
     pick false i rest = rest i
 brought_in_run n nodes (Changes net ∷ steps) w m run i = brought_in_run n nodes steps (world_after nodes w (Changes net)) m run.1 i
 brought_in_run n nodes (Denies named why ∷ steps) w m run i = brought_in_run n nodes steps w m run.1 i
 
 -- what a node is brought is addressed to it
-addressed_in_run : (n nodes : ℕ) (steps : List Step) (w : World) → RunFrom nodes w steps → AreAddressed n (brought_in (history_in n nodes w steps))
+addressed_in_run : (n nodes : ℕ) (steps : List Step) (w : World) → RunFrom nodes w steps
+    → AreAddressed n (brought_in (history_in n nodes w steps))
 addressed_in_run n nodes [] w run = tt
-addressed_in_run n nodes (Takes j number what ∷ steps) w run = pick (j == n) refl (addressed_in_run n nodes steps (world_after nodes w (Takes j number what)) run.1)
+addressed_in_run n nodes (Takes j number what ∷ steps) w run =
+    pick (j == n) refl (addressed_in_run n nodes steps (world_after nodes w (Takes j number what)) run.1)
   where
     pick : (b : Bool) → (j == n) ≡ b → AreAddressed n (brought_in (history_in n nodes (world_after nodes w (Takes j number what)) steps))
-        → AreAddressed n (brought_in ((if b then record { what = what; sent = sent_at j nodes (node_in w.states j) what } ∷ [] else []) ++ history_in n nodes (world_after nodes w (Takes j number what)) steps))
-    pick true is rest = each_append (λ (m : Envelope). m.receiver ≡ n) (brought (event_of what)) (brought_in (history_in n nodes (world_after nodes w (Takes j number what)) steps))
+        → AreAddressed n (brought_in ((if b then record { what = what; sent = sent_at j nodes (node_in w.states j) what } ∷ [] else [])
+        ++ history_in n nodes (world_after nodes w (Takes j number what)) steps))
+    pick true is rest = each_append (λ (m : Envelope). m.receiver ≡ n) (brought (event_of what))
+        (brought_in (history_in n nodes (world_after nodes w (Takes j number what)) steps))
         (subst (λ (k : ℕ). AreAddressed k (brought (event_of what))) (eq_nat j n is) run.0.4) rest
     pick false is rest = rest
 addressed_in_run n nodes (Changes net ∷ steps) w run = addressed_in_run n nodes steps (world_after nodes w (Changes net)) run.1
@@ -156,7 +182,8 @@ record SentInRun (m : Envelope) (nodes : ℕ) (w : World) (steps : List Step) : 
   sent : IsAmong m (sent_in (history_in node nodes w steps))
 
 -- a node after a step was one before it
-pub was_node : (j n : ℕ) (states : List NodeState) (new s : NodeState) → slice_get (slice_set states j new) n ≡ Some s → (t : NodeState) × (slice_get states n ≡ Some t)
+pub was_node : (j n : ℕ) (states : List NodeState) (new s : NodeState) → slice_get (slice_set states j new) n ≡ Some s
+    → (t : NodeState) × (slice_get states n ≡ Some t)
 was_node j n [] new s at = absurd cc
 was_node zero zero (x ∷ states) new s at = (x, refl)
 was_node (suc j) zero (x ∷ states) new s at = (x, refl)
@@ -167,7 +194,8 @@ eq_self : (n : ℕ) → (n == n) ≡ true
 eq_self n = grind (arith, nat_tests)
 
 -- all that was sent by the end was there at the start, or a node of the run sent it
-sent_by_node : (nodes : ℕ) (steps : List Step) (w : World) (m : Envelope) → RunFrom nodes w steps → IsAmong m (world_at nodes w steps).net.sent
+sent_by_node : (nodes : ℕ) (steps : List Step) (w : World) (m : Envelope) → RunFrom nodes w steps
+    → IsAmong m (world_at nodes w steps).net.sent
     → IsAmong m w.net.sent ⊎ SentInRun m nodes w steps
 sent_by_node nodes [] w m run i = inl i
 sent_by_node nodes (Takes j number what ∷ steps) w m run i =
@@ -180,13 +208,17 @@ sent_by_node nodes (Takes j number what ∷ steps) w m run i =
           record { node = later.node; state = was.0; is_node = was.1; sent = after_other later.node (j == later.node) later.sent })
     ]
   where
-    by_self : IsAmong m (sent_at j nodes (node_in w.states j) what) → IsAmong m (sent_in (history_in j nodes w (Takes j number what ∷ steps)))
+    by_self : IsAmong m (sent_at j nodes (node_in w.states j) what)
+        → IsAmong m (sent_in (history_in j nodes w (Takes j number what ∷ steps)))
     by_self now = let itself : (j == j) ≡ true = eq_self j in
-        rw itself (among_left m (sent_at j nodes (node_in w.states j) what) (sent_in (history_in j nodes (world_after nodes w (Takes j number what)) steps)) now)
+        rw itself (among_left m (sent_at j nodes (node_in w.states j) what)
+        (sent_in (history_in j nodes (world_after nodes w (Takes j number what)) steps)) now)
 
     after_other : (n : ℕ) (b : Bool) → IsAmong m (sent_in (history_in n nodes (world_after nodes w (Takes j number what)) steps))
-        → IsAmong m (sent_in ((if b then record { what = what; sent = sent_at j nodes (node_in w.states j) what } ∷ [] else []) ++ history_in n nodes (world_after nodes w (Takes j number what)) steps))
-    after_other n true k = among_right m (sent_at j nodes (node_in w.states j) what) (sent_in (history_in n nodes (world_after nodes w (Takes j number what)) steps)) k
+        → IsAmong m (sent_in ((if b then record { what = what; sent = sent_at j nodes (node_in w.states j) what } ∷ [] else [])
+        ++ history_in n nodes (world_after nodes w (Takes j number what)) steps))
+    after_other n true k = among_right m (sent_at j nodes (node_in w.states j) what)
+        (sent_in (history_in n nodes (world_after nodes w (Takes j number what)) steps)) k
     after_other n false k = k
 sent_by_node nodes (Changes net ∷ steps) w m run i = elim (sent_by_node nodes steps (world_after nodes w (Changes net)) m run.1 i) [
   | inl l ↦ inl (subst (λ (ms : List Envelope). IsAmong m ms) run.0 l)
@@ -209,12 +241,14 @@ opened (suc k) i (suc j) s m is at = opened k (i + 1) j s m (omega (arith, is)) 
 pub opened_at : (k i j : ℕ) → j < k → slice_get (map opening (range_with_len i k)) j ≡ Some (opening (i + j))
 opened_at zero i j lt = absurd (omega (arith, lt))
 opened_at (suc k) i zero lt = ap (λ (x : ℕ). Some (opening x)) (let n : i ≡ i + 0 = omega arith in n)
-opened_at (suc k) i (suc j) lt = opened_at k (i + 1) j (omega (arith, lt)) ∙ ap (λ (x : ℕ). Some (opening x)) (let n : i + 1 + j ≡ i + suc j = omega arith in n)
+opened_at (suc k) i (suc j) lt = opened_at k (i + 1) j (omega (arith, lt))
+    ∙ ap (λ (x : ℕ). Some (opening x)) (let n : i + 1 + j ≡ i + suc j = omega arith in n)
 
 pub starts_opened : (nodes n : ℕ) → n < nodes → slice_get (start nodes).states n ≡ Some (opening n)
 starts_opened nodes n lt = opened_at nodes 0 n lt ∙ ap (λ (x : ℕ). Some (opening x)) (let e : 0 + n ≡ n = omega arith in e)
 
-pub history_at : (k i j nodes : ℕ) (steps : List Step) (s : NodeState) (m : ℕ) → m ≡ i + j → slice_get (map opening (range_with_len i k)) j ≡ Some s
+pub history_at : (k i j nodes : ℕ) (steps : List Step) (s : NodeState) (m : ℕ) → m ≡ i + j
+    → slice_get (map opening (range_with_len i k)) j ≡ Some s
     → slice_get (histories_from i k nodes steps) j ≡ Some (history_in m nodes (start nodes) steps)
 history_at zero i j nodes steps s m is at = absurd cc
 history_at (suc k) i zero nodes steps s m is at =
@@ -226,7 +260,8 @@ pub record IsNodeOf (k i j nodes : ℕ) (steps : List Step) (h : List Entry) (m 
   pub is_node : slice_get (map opening (range_with_len i k)) j ≡ Some (opening m)
   pub is_history : h ≡ history_in m nodes (start nodes) steps
 
-pub node_of : (k i j nodes : ℕ) (steps : List Step) (h : List Entry) (m : ℕ) → m ≡ i + j → slice_get (histories_from i k nodes steps) j ≡ Some h → IsNodeOf k i j nodes steps h m
+pub node_of : (k i j nodes : ℕ) (steps : List Step) (h : List Entry) (m : ℕ) → m ≡ i + j
+    → slice_get (histories_from i k nodes steps) j ≡ Some h → IsNodeOf k i j nodes steps h m
 node_of zero i j nodes steps h m is at = absurd cc
 node_of (suc k) i zero nodes steps h m is at =
     let number : i ≡ m = omega (arith, is) in
@@ -249,7 +284,8 @@ runs_are_bundles nodes steps run = record {
       rw (how_many nodes 0 nodes steps, it.is_history) (history_follows n nodes steps (start nodes) (opening n) it.is_node run));
   delivers = λ n h at m i.
       (let it = node_of nodes 0 n nodes steps h n (omega arith) at in
-      let brought_here : IsAmong m (brought_in (history_in n nodes (start nodes) steps)) = subst (λ (x : List Entry). IsAmong m (brought_in x)) it.is_history i in
+      let brought_here : IsAmong m (brought_in (history_in n nodes (start nodes) steps)) =
+      subst (λ (x : List Entry). IsAmong m (brought_in x)) it.is_history i in
       elim (sent_by_node nodes steps (start nodes) m run (brought_in_run n nodes steps (start nodes) m run brought_here)) [
         | inl none ↦ absurd none
         | inr x ↦ sent_of_one m (histories_of nodes steps) x.node (history_in x.node nodes (start nodes) steps)

@@ -21,20 +21,27 @@ record AllInside (nodes : ℕ) (w : World) : Type 0 where
   states : AllStates (IsInside nodes) w
   sent : AreToNodes nodes w.net.sent
 
-step_inside : (nodes : ℕ) (w : World) (step : Step) → IsAllowed nodes w step → AllInside nodes w → AllInside nodes (world_after nodes w step)
+step_inside : (nodes : ℕ) (w : World) (step : Step) → IsAllowed nodes w step → AllInside nodes w
+    → AllInside nodes (world_after nodes w step)
 step_inside nodes w (Takes n number what) allowed all =
     let s : NodeState = allowed.0 in
     let inside : IsInside nodes n s = all.states n s allowed.1 in
     let said : AreToNodes nodes (sent_at n nodes (node_in w.states n) what) =
-    subst (λ (x : NodeState). AreToNodes nodes (sent_at n nodes x what)) (sym (node_there w.states n s allowed.1)) (sent_inside nodes n s what allowed.2 inside) in
+    subst (λ (x : NodeState). AreToNodes nodes (sent_at n nodes x what)) (sym (node_there w.states n s allowed.1))
+    (sent_inside nodes n s what allowed.2 inside) in
     record {
-      states = states_keep (IsInside nodes) nodes w n number what s allowed.1 (record { node = inside.node; names = after_inside nodes n s what allowed.2 inside }) all.states;
+      states = states_keep (IsInside nodes) nodes w n number what s allowed.1 (record {
+        node = inside.node;
+        names =
+            after_inside nodes n s what allowed.2 inside;
+      }) all.states;
       sent = each_append (λ (m : Envelope). m.receiver < nodes) w.net.sent (sent_at n nodes (node_in w.states n) what) all.sent said;
     }
 step_inside nodes w (Changes net) allowed all = record { states = all.states; sent = rw allowed all.sent }
 step_inside nodes w (Denies named why) allowed all = all
 
-run_inside : (nodes : ℕ) (steps : List Step) (w : World) → RunFrom nodes w steps → AllInside nodes w → AllInside nodes (world_at nodes w steps)
+run_inside : (nodes : ℕ) (steps : List Step) (w : World) → RunFrom nodes w steps → AllInside nodes w
+    → AllInside nodes (world_at nodes w steps)
 run_inside nodes [] w run all = all
 run_inside nodes (step ∷ steps) w run all = run_inside nodes steps (world_after nodes w step) run.1 (step_inside nodes w step run.0 all)
 

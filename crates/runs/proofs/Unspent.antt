@@ -1,5 +1,6 @@
 -- No run of acts is long enough to use up a counter or the ids.
-use Rattle.std.proofs.Common.{◌≡◌, ◌≢◌, ℕ, ◌+◌, ◌^◌, ◌<◌, ◌≤◌, Bool, true, false, List, [], ◌∷◌, length, slice_get, refl, sym, ◌∙◌, ap, subst, inl, inr, arith, Option, Some, None}
+use Rattle.std.proofs.Common.{◌≡◌, ◌≢◌, ℕ, ◌+◌, ◌^◌, ◌<◌, ◌≤◌, Bool, true, false, List, [], ◌∷◌, length, slice_get, refl, sym, ◌∙◌, ap}
+use Rattle.std.proofs.Common.{subst, inl, inr, arith, Option, Some, None}
 use Rattle.std.specs.Prelude.{nat_lt, ◌&&◌, if◌then◌else◌, MatchResult, Result, Ok, Err}
 use Rattle.job_model.specs.declared.node_command.NodeCommand.{NodeCommand as Command}
 use Rattle.job_model.specs.declared.node_command.NodeCommand.TheVariants.{Raise, Put, Done}
@@ -16,7 +17,8 @@ use Rattle.node_core.specs.declared.fault.Refusal.TheVariants.{Core, Full, Exhau
 use Rattle.histories.specs.Lists.{IsAmong}
 use Rattle.histories.specs.NodeState.{NodeState, opening, wants_at, settled}
 use Rattle.histories.specs.declared.history_event.HistoryEvent.{HistoryEvent}
-use Rattle.histories.specs.declared.history_event.HistoryEvent.TheVariants.{Did, Refused, Faulted, NoOp, Crashed, Recovered, MountFailed, RaiseFailed, RaiseRefused}
+use Rattle.histories.specs.declared.history_event.HistoryEvent.TheVariants.{Did, Refused, Faulted, NoOp, Crashed, Recovered, MountFailed}
+use Rattle.histories.specs.declared.history_event.HistoryEvent.TheVariants.{RaiseFailed, RaiseRefused}
 use Rattle.histories.specs.declared.history_event.NoOpKind.TheVariants.{Nothing, Compacted, CompactDown, CompactAreaExhausted}
 use Rattle.histories.specs.After.{after}
 use Rattle.histories.specs.Possible.{IsPossible}
@@ -79,10 +81,12 @@ low_doubts : (wants : Option Command) → doubts wants ≤ 1
 low_doubts None = omega arith
 low_doubts (Some c) = omega arith
 
-no_doubt : (self nodes : ℕ) (s : NodeState) (what : HistoryEvent) → IsPossible self nodes s what → DoubtIsDown self s → DoubtIsDown self (after self nodes s what)
+no_doubt : (self nodes : ℕ) (s : NodeState) (what : HistoryEvent) → IsPossible self nodes s what → DoubtIsDown self s
+    → DoubtIsDown self (after self nodes s what)
 no_doubt self nodes s what may h = doubt_after self nodes s what may h
 
-few_more : (limit self nodes : ℕ) (s : NodeState) (what : HistoryEvent) → IsPossible self nodes s what → FewGiven limit self s → FewGiven (limit + 1) self (after self nodes s what)
+few_more : (limit self nodes : ℕ) (s : NodeState) (what : HistoryEvent) → IsPossible self nodes s what → FewGiven limit self s
+    → FewGiven (limit + 1) self (after self nodes s what)
 few_more limit self nodes s (Did event) may h = record {
   low = h.low + doubts (wants_at self nodes s event);
   sum = elim h.doubt [
@@ -110,9 +114,16 @@ few_more limit self nodes s (RaiseFailed kept) may h = record {
   below = settled_below h.low kept s h.below;
   doubt = no_doubt self nodes s (RaiseFailed kept) may h.doubt;
 }
-few_more limit self nodes s (Refused event fault) may h = record { low = h.low; sum = omega (arith, h.sum); below = h.below; doubt = h.doubt }
+few_more limit self nodes s (Refused event fault) may h =
+    record { low = h.low; sum = omega (arith, h.sum); below = h.below; doubt = h.doubt }
 few_more limit self nodes s (NoOp rest) may h = record { low = h.low; sum = omega (arith, h.sum); below = h.below; doubt = h.doubt }
-few_more limit self nodes s Crashed may h = record { low = h.low; sum = omega (arith, h.sum); below = h.below; doubt = no_doubt self nodes s Crashed may h.doubt }
+few_more limit self nodes s Crashed may h = record {
+  low = h.low;
+  sum = omega (arith, h.sum);
+  below = h.below;
+  doubt =
+      no_doubt self nodes s Crashed may h.doubt;
+}
 few_more limit self nodes s MountFailed may h = record { low = h.low; sum = omega (arith, h.sum); below = h.below; doubt = h.doubt }
 few_more limit self nodes s (RaiseRefused kept) may h = record { low = h.low; sum = omega (arith, h.sum); below = h.below; doubt = h.doubt }
 
@@ -121,8 +132,10 @@ few_more limit self nodes s (RaiseRefused kept) may h = record { low = h.low; su
 few_stay : (limit self : ℕ) (s : NodeState) → FewGiven limit self s → FewGiven (limit + 1) self s
 few_stay limit self s h = record { low = h.low; sum = omega (arith, h.sum); below = h.below; doubt = h.doubt }
 
-pub step_few : (slots nodes limit : ℕ) (w : World) (step : Step) → IsLawful slots nodes w step → AllStates (FewGiven limit) w → AllStates (FewGiven (limit + 1)) (world_after nodes w step)
-step_few slots nodes limit = lawful_keeps (FewGiven limit) (FewGiven (limit + 1)) nodes slots (few_stay limit) (λ n s what may fits h. few_more limit n nodes s what may h)
+pub step_few : (slots nodes limit : ℕ) (w : World) (step : Step) → IsLawful slots nodes w step → AllStates (FewGiven limit) w
+    → AllStates (FewGiven (limit + 1)) (world_after nodes w step)
+step_few slots nodes limit = lawful_keeps (FewGiven limit) (FewGiven (limit + 1)) nodes slots (few_stay limit)
+    (λ n s what may fits h. few_more limit n nodes s what may h)
 
 -- ---- what is refused
 
@@ -132,11 +145,13 @@ spent_high limit d (Some Raise) h short spent = omega (arith, h.counts, short, s
 spent_high limit d (Some (Put work)) h short spent = omega (arith, h.ids, short, spent)
 spent_high limit d (Some (Done id)) h short spent = spent
 
-what_unspent : (limit self nodes first : ℕ) (s : NodeState) (what : HistoryEvent) (a : Act) → IsPossible self nodes s what → FewGiven limit self s → limit + 1 < 2 ^ 64 → what_outcome self nodes first s what a ≢ outcome.Refused (Node Exhausted)
+what_unspent : (limit self nodes first : ℕ) (s : NodeState) (what : HistoryEvent) (a : Act) → IsPossible self nodes s what
+    → FewGiven limit self s → limit + 1 < 2 ^ 64 → what_outcome self nodes first s what a ≢ outcome.Refused (Node Exhausted)
 what_unspent limit self nodes first s (Did event) a may h short is = absurd cc
 what_unspent limit self nodes first s (Refused event (Core fault)) a may h short is = absurd cc
 what_unspent limit self nodes first s (Refused event Full) a may h short is = absurd cc
-what_unspent limit self nodes first s (Refused event Exhausted) a may h short is = spent_high h.low s.durable (wants_at self nodes s event) h.below (omega (arith, h.sum, short)) may.1.1
+what_unspent limit self nodes first s (Refused event Exhausted) a may h short is =
+    spent_high h.low s.durable (wants_at self nodes s event) h.below (omega (arith, h.sum, short)) may.1.1
 what_unspent limit self nodes first s (Refused event AreaExhausted) a may h short is = absurd cc
 what_unspent limit self nodes first s (Faulted event) a may h short is = absurd cc
 what_unspent limit self nodes first s (NoOp Nothing) a may h short is = absurd cc
@@ -148,33 +163,41 @@ what_unspent limit self nodes first s Crashed _ may h short is = absurd cc
 what_unspent limit self nodes first s (Recovered kept) a may h short is = absurd cc
 what_unspent limit self nodes first s MountFailed a may h short is = absurd cc
 what_unspent limit self nodes first s (RaiseFailed kept) a may h short is = absurd cc
-what_unspent limit self nodes first s (RaiseRefused kept) a may h short is = omega (arith, may.2, (settled_below h.low kept s h.below).counts, h.sum, short)
+what_unspent limit self nodes first s (RaiseRefused kept) a may h short is =
+    omega (arith, may.2, (settled_below h.low kept s h.below).counts, h.sum, short)
 
 -- what no node refuses, the network refuses, or it is at a node outside the cluster
 abbrev pub NoFault : ActRefusal → Type 0
 NoFault why = (fault : Refusal) → why ≡ Node fault → ⊥
 
-at_denied : (known : Bool) (n k : ℕ) (P : HistoryEvent → Type 0) (named : ℕ) (why : ActRefusal) → At known n k P (Denies named why) → NoFault why
+at_denied : (known : Bool) (n k : ℕ) (P : HistoryEvent → Type 0) (named : ℕ) (why : ActRefusal) → At known n k P (Denies named why)
+    → NoFault why
 at_denied true n k P named why h fault is = absurd cc (h.1)
-at_denied false n k P named why h fault is = (let stranger : why ≡ Stranger = cc h in let both : Stranger ≡ Node fault = sym stranger ∙ is in absurd cc)
+at_denied false n k P named why h fault is = (let stranger : why ≡ Stranger = cc h in
+    let both : Stranger ≡ Node fault = sym stranger ∙ is in absurd cc)
 
 net_denied : (f : NetFault) (n named : ℕ) (why : ActRefusal) → Denies named why ≡ Denies n (OfNet f) → NoFault why
 net_denied f n named why h fault is = (let net : why ≡ OfNet f = cc h in let both : OfNet f ≡ Node fault = sym net ∙ is in absurd cc)
 
-brings_denied : (E : ℕ → Event → HistoryEvent → Type 0) (nodes : ℕ) (net : Network) (k : ℕ) (d : Result Envelope NetFault) (named : ℕ) (why : ActRefusal) → BringsBy E nodes net k d (Denies named why) → NoFault why
+brings_denied : (E : ℕ → Event → HistoryEvent → Type 0) (nodes : ℕ) (net : Network) (k : ℕ) (d : Result Envelope NetFault) (named : ℕ)
+    (why : ActRefusal) → BringsBy E nodes net k d (Denies named why) → NoFault why
 brings_denied E nodes net k (Ok x) named why h = at_denied (nat_lt x.receiver nodes) x.receiver k (E x.receiver (on.Deliver x)) named why h
 brings_denied E nodes net k (Err f) named why h = net_denied f (receiver_or_first nodes (slice_get net.sent k)) named why h
 
 loses_denied : (net : Network) (k : ℕ) (d : Result Envelope NetFault) (named : ℕ) (why : ActRefusal)
-    → MatchResult d (λ (x : Envelope). Denies named why ≡ Changes (after_lost net k)) (λ (f : NetFault). Denies named why ≡ Denies 0 (OfNet f)) → NoFault why
+    → MatchResult d (λ (x : Envelope). Denies named why ≡ Changes (after_lost net k))
+    (λ (f : NetFault). Denies named why ≡ Denies 0 (OfNet f)) → NoFault why
 loses_denied net k (Ok x) named why h fault is = absurd cc
 loses_denied net k (Err f) named why h fault is = net_denied f 0 named why h fault is
 
-link_denied : (known : Bool) (net : Network) (named : ℕ) (why : ActRefusal) → Denies named why ≡ (if known then Changes net else Denies 0 Stranger) → NoFault why
+link_denied : (known : Bool) (net : Network) (named : ℕ) (why : ActRefusal)
+    → Denies named why ≡ (if known then Changes net else Denies 0 Stranger) → NoFault why
 link_denied true net named why h fault is = absurd cc
-link_denied false net named why h fault is = (let stranger : why ≡ Stranger = cc h in let both : Stranger ≡ Node fault = sym stranger ∙ is in absurd cc)
+link_denied false net named why h fault is = (let stranger : why ≡ Stranger = cc h in
+    let both : Stranger ≡ Node fault = sym stranger ∙ is in absurd cc)
 
-pub no_fault : (E : ℕ → Event → HistoryEvent → Type 0) (C : ℕ → HistoryEvent → Type 0) (nodes : ℕ) (net : Network) (a : Act) (named : ℕ) (why : ActRefusal) → IsStepBy E C nodes net a (Denies named why) → NoFault why
+pub no_fault : (E : ℕ → Event → HistoryEvent → Type 0) (C : ℕ → HistoryEvent → Type 0) (nodes : ℕ) (net : Network) (a : Act) (named : ℕ)
+    (why : ActRefusal) → IsStepBy E C nodes net a (Denies named why) → NoFault why
 no_fault E C nodes net (act.Timer n timer) named why h = at_denied (nat_lt n nodes) n 0 (E n (on.Timer timer)) named why h
 no_fault E C nodes net (act.Deliver k) named why h = brings_denied E nodes net k (delivery net k) named why h
 no_fault E C nodes net (act.Lose k) named why h = loses_denied net k (message_at net k) named why h
@@ -187,27 +210,41 @@ no_fault E C nodes net (act.Crash n fill) named why h = at_denied (nat_lt n node
 no_fault E C nodes net (act.Recover n) named why h = at_denied (nat_lt n nodes) n 0 (E n on.Recover) named why h
 no_fault E C nodes net (act.Compact n) named why h = at_denied (nat_lt n nodes) n 0 (C n) named why h
 
-pub step_unspent : (slots nodes limit : ℕ) (w : World) (a : Act) (step : Step) → IsStepOf nodes w a step → IsLawful slots nodes w step → AllStates (FewGiven limit) w → limit + 1 < 2 ^ 64 → act_outcome nodes w a step ≢ outcome.Refused (Node Exhausted)
+pub step_unspent : (slots nodes limit : ℕ) (w : World) (a : Act) (step : Step) → IsStepOf nodes w a step → IsLawful slots nodes w step
+    → AllStates (FewGiven limit) w → limit + 1 < 2 ^ 64 → act_outcome nodes w a step ≢ outcome.Refused (Node Exhausted)
 step_unspent slots nodes limit w a (Takes n number what) of may h short is =
-    what_unspent limit n nodes (length w.net.sent) may.0 what a may.2 (h n may.0 may.1) short (subst (λ (x : NodeState). what_outcome n nodes (length w.net.sent) x what a ≡ outcome.Refused (Node Exhausted)) (node_there w.states n may.0 may.1) is)
+    what_unspent limit n nodes (length w.net.sent) may.0 what a may.2 (h n may.0 may.1) short
+    (subst (λ (x : NodeState). what_outcome n nodes (length w.net.sent) x what a
+    ≡ outcome.Refused (Node Exhausted)) (node_there w.states n may.0 may.1) is)
 step_unspent slots nodes limit w a (Changes net) of may h short is = absurd cc
-step_unspent slots nodes limit w a (Denies named why) of may h short is = no_fault (λ (n : ℕ) (event : Event). IsOf event) (λ (n : ℕ). IsCompaction (node_in w.states n)) nodes w.net a named why of Exhausted (cc is)
+step_unspent slots nodes limit w a (Denies named why) of may h short is =
+    no_fault (λ (n : ℕ) (event : Event). IsOf event) (λ (n : ℕ). IsCompaction (node_in w.states n)) nodes w.net a named why of
+    Exhausted (cc is)
 
-all_unspent : (slots nodes limit : ℕ) (acts : List Act) (steps : List Step) (w : World) → IsRunOf nodes slots w acts steps → AllStates (FewGiven limit) w → limit + length acts < 2 ^ 64
+all_unspent : (slots nodes limit : ℕ) (acts : List Act) (steps : List Step) (w : World) → IsRunOf nodes slots w acts steps
+    → AllStates (FewGiven limit) w → limit + length acts < 2 ^ 64
     → (m : Moment) → IsAmong m (moments_from nodes w acts steps) → m.outcome ≢ outcome.Refused (Node Exhausted)
 all_unspent slots nodes limit [] steps w run h short m i is = absurd i
 all_unspent slots nodes limit (a ∷ acts) [] w run h short m i is = absurd i
 all_unspent slots nodes limit (a ∷ acts) (step ∷ steps) w run h short m i is = elim i [
   | inl e ↦ step_unspent slots nodes limit w a step run.0 run.1 h (omega (arith, short)) (ap (λ (x : Moment). x.outcome) (sym e) ∙ is)
-  | inr later ↦ all_unspent slots nodes (limit + 1) acts steps (world_after nodes w step) run.2 (step_few slots nodes limit w step run.1 h) (omega (arith, short)) m later is
+  | inr later ↦ all_unspent slots nodes (limit + 1) acts steps (world_after nodes w step) run.2 (step_few slots nodes limit w step run.1 h)
+      (omega (arith, short)) m later is
 ]
 
 pub opens_few : (nodes : ℕ) → AllStates (FewGiven 1) (start nodes)
 opens_few nodes n s at =
     let first : s ≡ opening n = opened nodes 0 n s n (omega arith) at in
-    subst (λ (x : NodeState). FewGiven 1 n x) (sym first) (record { low = 1; sum = omega arith; below = record { counts = omega arith; ids = omega arith }; doubt = inl tt })
+    subst (λ (x : NodeState). FewGiven 1 n x) (sym first) (record {
+      low = 1;
+      sum = omega arith;
+      below =
+          record { counts = omega arith; ids = omega arith };
+      doubt = inl tt;
+    })
 
 pub none_spent : (nodes slots : ℕ) (acts : List Act) (steps : List Step) → IsShort acts → IsRunOf nodes slots (start nodes) acts steps
     → (m : Moment) → IsAmong m (report_of nodes acts steps).moments → m.outcome ≢ outcome.Refused (Node Exhausted)
 none_spent nodes slots acts steps short run m i is =
-    all_unspent slots nodes 1 acts steps (start nodes) run (opens_few nodes) (omega (arith, short)) m (subst (λ (ms : List Moment). IsAmong m ms) (moments_are nodes acts steps) i) is
+    all_unspent slots nodes 1 acts steps (start nodes) run (opens_few nodes)
+    (omega (arith, short)) m (subst (λ (ms : List Moment). IsAmong m ms) (moments_are nodes acts steps) i) is

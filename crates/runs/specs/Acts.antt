@@ -1,5 +1,6 @@
 -- The acts of a schedule, each with the step that it is and with its outcome.
-use Rattle.std.specs.Prelude.{ℕ, ◌≡◌, ◌+◌, ◌&&◌, Bool, true, false, nat_lt, if◌then◌else◌, List, [], ◌∷◌, length, slice_get, Option, Some, None, MatchResult, option_map, unwrap_or}
+use Rattle.std.specs.Prelude.{ℕ, ◌≡◌, ◌+◌, ◌&&◌, Bool, true, false, nat_lt, if◌then◌else◌, List, [], ◌∷◌, length, slice_get, Option, Some}
+use Rattle.std.specs.Prelude.{None, MatchResult, option_map, unwrap_or}
 use Rattle.wire_msg.specs.Envelope.{Envelope}
 use Rattle.node_core.specs.declared.event.Event.{Event}
 use Rattle.node_core.specs.declared.event.Event.TheVariants as on
@@ -69,7 +70,8 @@ IsStepOf nodes w a step = IsStepBy (λ (n : ℕ) (event : Event). IsOf event) (�
 
 -- what comes at a node may come there, where disks have so many slots
 abbrev pub IsLawful : ℕ → ℕ → World → Step → Type 0
-IsLawful slots nodes w (Takes n number what) = (s : NodeState) × (slice_get w.states n ≡ Some s) × IsPossible n nodes s what × IsOfSlots slots n nodes s what
+IsLawful slots nodes w (Takes n number what) = (s : NodeState) × (slice_get w.states n ≡ Some s) × IsPossible n nodes s what
+    × IsOfSlots slots n nodes s what
 IsLawful slots nodes w step = Unit {0}
 
 -- the steps are a run of the acts, in a cluster whose disks have so many slots

@@ -19,7 +19,8 @@ use Rattle.runs.specs.Acts.{IsStepOf, IsRunOf}
 
 -- the network doesn't deny a message that comes
 abbrev pub NoIdleDenial : Type 0
-NoIdleDenial = (nodes : ℕ) (w : World) (k : ℕ) (m : Envelope) (n : ℕ) (why : ActRefusal) → delivery w.net k ≡ Ok m → m.receiver < nodes → IsStepOf nodes w (act.Deliver k) (Denies n why) → ⊥
+NoIdleDenial = (nodes : ℕ) (w : World) (k : ℕ) (m : Envelope) (n : ℕ) (why : ActRefusal) → delivery w.net k ≡ Ok m → m.receiver < nodes
+    → IsStepOf nodes w (act.Deliver k) (Denies n why) → ⊥
 
 -- an event that a node may handle can be refused only where no area of its disk is left, which the layout alone decides
 abbrev pub OneOutcome : Type 0

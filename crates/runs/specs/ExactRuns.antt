@@ -1,5 +1,6 @@
 -- A run of a schedule's acts, in which nothing is used up: what may come of each act, and nothing else.
-use Rattle.std.specs.Prelude.{ℕ, ◌≡◌, ◌+◌, ◌⊎◌, Bool, true, nat_lt, if◌then◌else◌, List, [], ◌∷◌, length, Option, Some, None, option_map, IsSome, MatchBool, MatchOption}
+use Rattle.std.specs.Prelude.{ℕ, ◌≡◌, ◌+◌, ◌⊎◌, Bool, true, nat_lt, if◌then◌else◌, List, [], ◌∷◌, length, Option, Some, None, option_map}
+use Rattle.std.specs.Prelude.{IsSome, MatchBool, MatchOption}
 use Rattle.std.specs.Option.{option_or}
 use Rattle.node_core.specs.declared.event.Event.{Event}
 use Rattle.node_core.specs.declared.event.Event.TheVariants.{Submit, Recover}
@@ -10,7 +11,8 @@ use Rattle.node_core.specs.declared.phase.Phase.TheVariants as phases
 use Rattle.node_core.specs.State.{in_phase}
 use Rattle.histories.specs.NodeState.{NodeState, wants_at}
 use Rattle.histories.specs.declared.history_event.HistoryEvent.{HistoryEvent}
-use Rattle.histories.specs.declared.history_event.HistoryEvent.TheVariants.{Did, Refused, Faulted, NoOp, Crashed, Recovered, MountFailed, RaiseFailed}
+use Rattle.histories.specs.declared.history_event.HistoryEvent.TheVariants.{Did, Refused, Faulted, NoOp, Crashed, Recovered, MountFailed}
+use Rattle.histories.specs.declared.history_event.HistoryEvent.TheVariants.{RaiseFailed}
 use Rattle.histories.specs.declared.history_event.NoOpKind.TheVariants.{Compacted, CompactDown}
 use Rattle.schedule.specs.declared.act.Act.{Act}
 use Rattle.runs.specs.World.{World, node_in}

@@ -32,7 +32,8 @@ pub record AllGiven (w : World) (given : List Group) : Type 0 where
 
 -- after each run, so at each of its moments
 abbrev pub GivenBefore : Type 0
-GivenBefore = (nodes : ℕ) (steps : List Step) → RunFrom nodes (start nodes) steps → AllGiven (world_at nodes (start nodes) steps) (groups_of nodes steps)
+GivenBefore = (nodes : ℕ) (steps : List Step) → RunFrom nodes (start nodes) steps
+    → AllGiven (world_at nodes (start nodes) steps) (groups_of nodes steps)
 
 -- no group number is given twice
 abbrev pub IsOnceEach : List Group → Type 0
@@ -44,6 +45,7 @@ NoneTwice = (nodes : ℕ) (steps : List Step) → RunFrom nodes (start nodes) st
 
 -- one more step of a run
 abbrev pub RunGoesOn : Type 0
-RunGoesOn = (nodes : ℕ) (w : World) (steps : List Step) (step : Step) → RunFrom nodes w steps → IsAllowed nodes (world_at nodes w steps) step →
+RunGoesOn = (nodes : ℕ) (w : World) (steps : List Step) (step : Step) → RunFrom nodes w steps
+    → IsAllowed nodes (world_at nodes w steps) step →
     RunFrom nodes w (steps ++ step ∷ []) × (world_at nodes w (steps ++ step ∷ []) ≡ world_after nodes (world_at nodes w steps) step) ×
     (groups_from nodes w (steps ++ step ∷ []) ≡ groups_from nodes w steps ++ groups_at nodes (world_at nodes w steps) step)

@@ -1,5 +1,6 @@
 -- What is promised of every schedule.
-use Rattle.std.specs.Prelude.{ℕ, suc, ◌≡◌, ◌≢◌, ◌+◌, ◌^◌, ◌⊎◌, ◌<◌, ◌≤◌, true, List, length, take, slice_get, Some, IfSome, All, AllPairs, Contains}
+use Rattle.std.specs.Prelude.{ℕ, suc, ◌≡◌, ◌≢◌, ◌+◌, ◌^◌, ◌⊎◌, ◌<◌, ◌≤◌, true, List, length, take, slice_get, Some, IfSome, All, AllPairs}
+use Rattle.std.specs.Prelude.{Contains}
 use Rattle.job_model.specs.declared.node_command.NodeCommand.TheVariants.{Put, Done}
 use Rattle.job_model.specs.declared.work.Work.{Work}
 use Rattle.group_task.specs.Group.{Group}
@@ -96,4 +97,5 @@ pub record Headline (nodes slots : ℕ) (acts : List Act) (r : Report) : Type 0 
 -- whatever run of its acts a schedule has, in which the areas of no disk are used up, its report keeps groups and jobs
 abbrev pub EverySchedule : Type 0
 EverySchedule = (nodes slots : ℕ) (acts : List Act) (steps : List Step) →
-    IsShort acts → IsRunOf nodes slots (start nodes) acts steps → NoAreaExhausted (report_of nodes acts steps) → Headline nodes slots acts (report_of nodes acts steps)
+    IsShort acts → IsRunOf nodes slots (start nodes) acts steps → NoAreaExhausted (report_of nodes acts steps)
+    → Headline nodes slots acts (report_of nodes acts steps)

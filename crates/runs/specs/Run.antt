@@ -20,7 +20,8 @@ IsBrought w number ms = Each (λ (m : Envelope). delivery w.net number ≡ Ok m)
 -- the step may happen: it is possible at its node, which is brought what comes under its number; and what was sent stays sent
 abbrev pub IsAllowed : ℕ → World → Step → Type 0
 IsAllowed nodes w (Takes n number what) =
-    (s : NodeState) × (slice_get w.states n ≡ Some s) × IsPossible n nodes s what × IsBrought w number (brought (event_of what)) × AreAddressed n (brought (event_of what))
+    (s : NodeState) × (slice_get w.states n ≡ Some s) × IsPossible n nodes s what × IsBrought w number (brought (event_of what))
+    × AreAddressed n (brought (event_of what))
 IsAllowed nodes w (Changes net) = net.sent ≡ w.net.sent
 IsAllowed nodes w (Denies n why) = Unit {0}
 
@@ -36,7 +37,8 @@ world_at nodes w (step ∷ steps) = world_at nodes (world_after nodes w step) st
 
 -- the entry of a node in a step
 abbrev pub entry_at : ℕ → ℕ → World → Step → List Entry
-entry_at n nodes w (Takes m number what) = if m == n then record { what = what; sent = sent_at m nodes (node_in w.states m) what } ∷ [] else []
+entry_at n nodes w (Takes m number what) = if m == n then record { what = what; sent = sent_at m nodes (node_in w.states m) what } ∷ []
+    else []
 entry_at n nodes w step = []
 
 -- the history of a node in a run
@@ -59,4 +61,5 @@ RunsAreBundles = (nodes : ℕ) (steps : List Step) → RunFrom nodes (start node
 -- in every run one book agrees with every node's vector, at the start and after each step
 abbrev pub RunBook : Type 0
 RunBook = (nodes : ℕ) (steps : List Step) → RunFrom nodes (start nodes) steps →
-    (book : List Assignment) × ((done left : List Step) → done ++ left ≡ steps → (n : ℕ) (s : NodeState) → slice_get (world_at nodes (start nodes) done).states n ≡ Some s → AgreesAt book n s.state)
+    (book : List Assignment) × ((done left : List Step) → done ++ left ≡ steps → (n : ℕ) (s : NodeState)
+    → slice_get (world_at nodes (start nodes) done).states n ≡ Some s → AgreesAt book n s.state)

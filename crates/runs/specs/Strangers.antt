@@ -7,4 +7,5 @@ use Rattle.runs.specs.Run.{RunFrom, world_at}
 
 -- in every run all messages that were ever sent are
 abbrev pub NoStrangers : Type 0
-NoStrangers = (nodes : ℕ) (steps : List Step) → RunFrom nodes (start nodes) steps → AreToNodes nodes (world_at nodes (start nodes) steps).net.sent
+NoStrangers = (nodes : ℕ) (steps : List Step) → RunFrom nodes (start nodes) steps
+    → AreToNodes nodes (world_at nodes (start nodes) steps).net.sent

@@ -28,9 +28,12 @@ counts_after counts marks n = counts n + length (commands_of (own n marks))
 -- the marks of a run, from w on
 abbrev pub run_marks : ℕ → World → (ℕ → ℕ) → List Step → List (ℕ × Mark)
 run_marks nodes w counts [] = []
-run_marks nodes w counts (step ∷ steps) = step_marks nodes w counts step ++ run_marks nodes (world_after nodes w step) (counts_after counts (step_marks nodes w counts step)) steps
+run_marks nodes w counts (step ∷ steps) = step_marks nodes w counts step ++ run_marks nodes (world_after nodes w step)
+    (counts_after counts (step_marks nodes w counts step)) steps
 
 -- each node's commands and mountings in a run are kept; the opening's raise came first
 abbrev pub RunsAreKept : Type 0
-RunsAreKept = (nodes : ℕ) (steps : List Step) → RunFrom nodes (start nodes) steps → IsShort steps → (n : ℕ) (s : NodeState) → slice_get (start nodes).states n ≡ Some s →
-    CommandsKept (commands_of (opening_marks ++ own n (run_marks nodes (start nodes) (λ k. 1) steps))) (mountings_of (opening_marks ++ own n (run_marks nodes (start nodes) (λ k. 1) steps)))
+RunsAreKept = (nodes : ℕ) (steps : List Step) → RunFrom nodes (start nodes) steps → IsShort steps → (n : ℕ) (s : NodeState)
+    → slice_get (start nodes).states n ≡ Some s →
+    CommandsKept (commands_of (opening_marks ++ own n (run_marks nodes (start nodes) (λ k. 1) steps)))
+    (mountings_of (opening_marks ++ own n (run_marks nodes (start nodes) (λ k. 1) steps)))

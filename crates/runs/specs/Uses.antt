@@ -1,7 +1,8 @@
 -- What a user of a cluster takes from the headline, each in words of its own.
 use Rattle.job_model.specs.declared.job.Job.{Job}
 use Rattle.job_model.specs.declared.work.Work.{Work}
-use Rattle.std.specs.Prelude.{ℕ, suc, ◌≡◌, ◌≢◌, ◌⊎◌, ◌<◌, ◌≤◌, ◌==◌, if◌then◌else◌, true, false, option_map, unwrap_or, flat_map, List, [], ◌∷◌, ◌++◌, length, map, take, slice_get, Option, Some, None}
+use Rattle.std.specs.Prelude.{ℕ, suc, ◌≡◌, ◌≢◌, ◌⊎◌, ◌<◌, ◌≤◌, ◌==◌, if◌then◌else◌, true, false, option_map, unwrap_or, flat_map, List, []}
+use Rattle.std.specs.Prelude.{◌∷◌, ◌++◌, length, map, take, slice_get, Option, Some, None}
 use Rattle.job_model.specs.declared.node_command.NodeCommand.{NodeCommand as Command}
 use Rattle.job_model.specs.declared.node_command.NodeCommand.TheVariants.{Raise, Put, Done}
 use Rattle.group_task.specs.Group.{Group}
@@ -40,7 +41,8 @@ use Rattle.runs.specs.Headline.{Headline, IsShown, IsWorking}
 -- each act is reported, in order, and each node opens Normal, alone in the group of its first count
 abbrev pub ActsAreReported : Type 0
 ActsAreReported = (nodes slots : ℕ) (acts : List Act) (r : Report) → Headline nodes slots acts r →
-    (map (λ (m : Moment). m.act) r.moments ≡ acts) × (length r.opening ≡ nodes) × ((n : ℕ) → n < nodes → slice_get r.opening n ≡ Some (alone n 1))
+    (map (λ (m : Moment). m.act) r.moments ≡ acts) × (length r.opening ≡ nodes)
+    × ((n : ℕ) → n < nodes → slice_get r.opening n ≡ Some (alone n 1))
 
 -- ---- what an act does
 
@@ -68,24 +70,31 @@ event_in r a = event_at a
 
 -- an act that is refused changes nothing: nothing is sent, no command is tried and no group given, and each node is as it was shown last
 abbrev pub RefusedChangesNothing : Type 0
-RefusedChangesNothing = (nodes slots : ℕ) (acts : List Act) (r : Report) (h : Headline nodes slots acts r) (k : ℕ) (m : Moment) (why : ActRefusal) →
+RefusedChangesNothing = (nodes slots : ℕ) (acts : List Act) (r : Report) (h : Headline nodes slots acts r) (k : ℕ) (m : Moment)
+    (why : ActRefusal) →
     slice_get r.moments k ≡ Some m → m.outcome ≡ outcome.Refused why →
-    (m.sent ≡ []) × ((report_within nodes (suc k) acts h.steps).commands ≡ (report_within nodes k acts h.steps).commands) × ((report_within nodes (suc k) acts h.steps).groups ≡ (report_within nodes k acts h.steps).groups)
+    (m.sent ≡ []) × ((report_within nodes (suc k) acts h.steps).commands ≡ (report_within nodes k acts h.steps).commands)
+    × ((report_within nodes (suc k) acts h.steps).groups ≡ (report_within nodes k acts h.steps).groups)
     × ((n : ℕ) → n < nodes → last_state (report_within nodes (suc k) acts h.steps) n ≡ last_state (report_within nodes k acts h.steps) n)
 
 -- an act that is done has its row's effect: where it is an event at a node that was shown up last, the node's state and the messages that
 -- are sent are the effect of the event's row on that state, over the jobs that its disk keeps in the run
 abbrev pub DoneHasItsEffect : Type 0
-DoneHasItsEffect = (nodes slots : ℕ) (acts : List Act) (r : Report) (h : Headline nodes slots acts r) (k : ℕ) (m : Moment) (answer : Option ℕ) (first many : ℕ) (n : ℕ) (event : Event) (s : State) →
-    n < nodes → slice_get r.moments k ≡ Some m → m.outcome ≡ outcome.Done answer first many → event_in (report_within nodes k acts h.steps) m.act ≡ Some (n, event) →
+DoneHasItsEffect = (nodes slots : ℕ) (acts : List Act) (r : Report) (h : Headline nodes slots acts r) (k : ℕ) (m : Moment)
+    (answer : Option ℕ) (first many : ℕ) (n : ℕ) (event : Event) (s : State) →
+    n < nodes → slice_get r.moments k ≡ Some m → m.outcome ≡ outcome.Done answer first many
+    → event_in (report_within nodes k acts h.steps) m.act ≡ Some (n, event) →
     last_state (report_within nodes k acts h.steps) n ≡ Some s → is_down s.phase ≡ false →
     (m.node ≡ n)
-    × (m.state ≡ (effect_of nodes n (node_in (world_at nodes (start nodes) (take k h.steps)).states n).durable.pending event (unwrap_or answer 0) s).state)
-    × (m.sent ≡ (effect_of nodes n (node_in (world_at nodes (start nodes) (take k h.steps)).states n).durable.pending event (unwrap_or answer 0) s).sent)
+    × (m.state ≡ (effect_of nodes n (node_in (world_at nodes (start nodes) (take k h.steps)).states n).durable.pending event
+    (unwrap_or answer 0) s).state)
+    × (m.sent ≡ (effect_of nodes n (node_in (world_at nodes (start nodes) (take k h.steps)).states n).durable.pending event
+    (unwrap_or answer 0) s).sent)
 
 -- no act is refused because its node's counter or its ids are used up, or the areas of its disk
 abbrev pub NoneIsSpent : Type 0
-NoneIsSpent = (nodes slots : ℕ) (acts : List Act) (r : Report) → Headline nodes slots acts r → (k : ℕ) (m : Moment) → slice_get r.moments k ≡ Some m →
+NoneIsSpent = (nodes slots : ℕ) (acts : List Act) (r : Report) → Headline nodes slots acts r → (k : ℕ) (m : Moment)
+    → slice_get r.moments k ≡ Some m →
     (m.outcome ≢ outcome.Refused (OfNode Exhausted)) × (m.outcome ≢ outcome.Refused (OfNode AreaExhausted))
 
 -- a compaction at a node that was shown Down last is refused as Down: it never meets a device
@@ -105,42 +114,50 @@ asks a = None
 -- what an act was answered is acknowledged: in it its node tried one command, the one that the act asks for if it asks for one, and
 -- the disk took it with that answer
 abbrev pub AnsweredIsAcknowledged : Type 0
-AnsweredIsAcknowledged = (nodes slots : ℕ) (acts : List Act) (r : Report) (h : Headline nodes slots acts r) (k : ℕ) (m : Moment) (a first many : ℕ) →
+AnsweredIsAcknowledged = (nodes slots : ℕ) (acts : List Act) (r : Report) (h : Headline nodes slots acts r) (k : ℕ) (m : Moment)
+    (a first many : ℕ) →
     slice_get r.moments k ≡ Some m → m.outcome ≡ outcome.Done (Some a) first many →
-    (t : Attempt) × ((report_within nodes (suc k) acts h.steps).commands ≡ (report_within nodes k acts h.steps).commands ++ record { node = m.node; tried = t } ∷ [])
+    (t : Attempt) × ((report_within nodes (suc k) acts h.steps).commands
+    ≡ (report_within nodes k acts h.steps).commands ++ record { node = m.node; tried = t } ∷ [])
     × (t.acked ≡ Some a) × ((c : Command) → asks m.act ≡ Some c → t.command ≡ c)
 
 -- ---- what a disk keeps
 
 -- an acknowledged raise is kept: no later mounting of the node gives a smaller count than the raise gave
 abbrev pub RaisesAreKept : Type 0
-RaisesAreKept = (nodes slots : ℕ) (acts : List Act) (r : Report) → Headline nodes slots acts r → (n : ℕ) (w : Mounting) → IsAmong (n, w) r.mounted → n < nodes →
+RaisesAreKept = (nodes slots : ℕ) (acts : List Act) (r : Report) → Headline nodes slots acts r → (n : ℕ) (w : Mounting)
+    → IsAmong (n, w) r.mounted → n < nodes →
     (k count : ℕ) → slice_get (own_commands n r.commands) k ≡ Some (record { command = Raise; acked = Some count }) → k < w.before →
     count ≤ w.state.counter
 
 -- an acknowledged job is kept: each later mounting of the node has it pending, with its work, unless its Done was
 -- tried between
 abbrev pub JobsAreKept : Type 0
-JobsAreKept = (nodes slots : ℕ) (acts : List Act) (r : Report) → Headline nodes slots acts r → (n : ℕ) (w : Mounting) → IsAmong (n, w) r.mounted → n < nodes →
-    (k id : ℕ) (work : Work) → slice_get (own_commands n r.commands) k ≡ Some (record { command = Put work; acked = Some id }) → k < w.before →
+JobsAreKept = (nodes slots : ℕ) (acts : List Act) (r : Report) → Headline nodes slots acts r → (n : ℕ) (w : Mounting)
+    → IsAmong (n, w) r.mounted → n < nodes →
+    (k id : ℕ) (work : Work) → slice_get (own_commands n r.commands) k ≡ Some (record { command = Put work; acked = Some id })
+    → k < w.before →
     ((j : ℕ) (t : Attempt) → k < j → j < w.before → slice_get (own_commands n r.commands) j ≡ Some t → t.command ≡ Done id → ⊥) →
     IsAmong (record { id = id; work = work }) w.state.pending
 
 -- a job that was acknowledged as done stays done: no later mounting of the node has a job of its id pending
 abbrev pub DonesAreKept : Type 0
-DonesAreKept = (nodes slots : ℕ) (acts : List Act) (r : Report) → Headline nodes slots acts r → (n : ℕ) (w : Mounting) → IsAmong (n, w) r.mounted → n < nodes →
+DonesAreKept = (nodes slots : ℕ) (acts : List Act) (r : Report) → Headline nodes slots acts r → (n : ℕ) (w : Mounting)
+    → IsAmong (n, w) r.mounted → n < nodes →
     (k id a : ℕ) → slice_get (own_commands n r.commands) k ≡ Some (record { command = Done id; acked = Some a }) → k < w.before →
     (job : Job) → IsAmong job w.state.pending → job.id ≢ id
 
 -- a command that wasn't acknowledged is the last of its life: a mounting of the node comes before its next command
 abbrev pub DoubtsApart : Type 0
 DoubtsApart = (nodes slots : ℕ) (acts : List Act) (r : Report) → Headline nodes slots acts r → (n : ℕ) → n < nodes →
-    (j k : ℕ) (t u : Attempt) → j < k → slice_get (own_commands n r.commands) j ≡ Some t → t.acked ≡ None → slice_get (own_commands n r.commands) k ≡ Some u →
+    (j k : ℕ) (t u : Attempt) → j < k → slice_get (own_commands n r.commands) j ≡ Some t → t.acked ≡ None
+    → slice_get (own_commands n r.commands) k ≡ Some u →
     (w : Mounting) × IsAmong (n, w) r.mounted × (j < w.before) × (w.before ≤ k)
 
 -- ids of jobs are new: of two jobs that a node took, the later one has the greater id
 abbrev pub IdsAreNew : Type 0
-IdsAreNew = (nodes slots : ℕ) (acts : List Act) (r : Report) → Headline nodes slots acts r → (n : ℕ) → n < nodes → (j k : ℕ) (work more : Work) (id later : ℕ) → j < k →
+IdsAreNew = (nodes slots : ℕ) (acts : List Act) (r : Report) → Headline nodes slots acts r → (n : ℕ) → n < nodes
+    → (j k : ℕ) (work more : Work) (id later : ℕ) → j < k →
     slice_get (own_commands n r.commands) j ≡ Some (record { command = Put work; acked = Some id }) →
     slice_get (own_commands n r.commands) k ≡ Some (record { command = Put more; acked = Some later }) → id < later
 
@@ -154,14 +171,17 @@ GivenAtOnePlace = (nodes slots : ℕ) (acts : List Act) (r : Report) → Headlin
 -- of two groups of one node, the one that was given later has the greater count
 abbrev pub LaterIsGreater : Type 0
 LaterIsGreater = (nodes slots : ℕ) (acts : List Act) (r : Report) → Headline nodes slots acts r →
-    (i j : ℕ) (g h : Group) → i < j → slice_get r.groups i ≡ Some g → slice_get r.groups j ≡ Some h → g.creator ≡ h.creator → g.count < h.count
+    (i j : ℕ) (g h : Group) → i < j → slice_get r.groups i ≡ Some g → slice_get r.groups j ≡ Some h → g.creator ≡ h.creator
+    → g.count < h.count
 
 -- what a moment shows is no number that was yet to be given: the group of a node that is up, and the group that a message names,
 -- were given in the openings, by an earlier act or by this one
 abbrev pub NamedWasGiven : Type 0
-NamedWasGiven = (nodes slots : ℕ) (acts : List Act) (r : Report) (h : Headline nodes slots acts r) (k : ℕ) (m : Moment) → slice_get r.moments k ≡ Some m →
+NamedWasGiven = (nodes slots : ℕ) (acts : List Act) (r : Report) (h : Headline nodes slots acts r) (k : ℕ) (m : Moment)
+    → slice_get r.moments k ≡ Some m →
     ((m.state.phase ≡ Down) ⊎ IsAmong m.state.group (report_within nodes (suc k) acts h.steps).groups)
-    × ((x : Envelope) (g : Group) → IsAmong x m.sent → group_in x.body ≡ Some g → IsAmong g (report_within nodes (suc k) acts h.steps).groups)
+    × ((x : Envelope) (g : Group) → IsAmong x m.sent → group_in x.body ≡ Some g
+    → IsAmong g (report_within nodes (suc k) acts h.steps).groups)
 
 -- ---- fences
 
@@ -175,12 +195,15 @@ ShowsLeading r n s = IsShown r n s × Leads n s
 
 -- who leads a group is the node that its number names
 abbrev pub LeaderIsCreator : Type 0
-LeaderIsCreator = (nodes slots : ℕ) (acts : List Act) (r : Report) → Headline nodes slots acts r → (n : ℕ) (s : State) → ShowsLeading r n s → s.group.creator ≡ n
+LeaderIsCreator = (nodes slots : ℕ) (acts : List Act) (r : Report) → Headline nodes slots acts r → (n : ℕ) (s : State) → ShowsLeading r n s
+    → s.group.creator ≡ n
 
 -- a leader's counts rise: of two moments of a node that lead a group the later one has no smaller count
 abbrev pub LeaderCountsRise : Type 0
-LeaderCountsRise = (nodes slots : ℕ) (acts : List Act) (r : Report) → Headline nodes slots acts r → (n j k : ℕ) (m l : Moment) → n < nodes → j < k →
-    slice_get r.moments j ≡ Some m → slice_get r.moments k ≡ Some l → m.node ≡ n → l.node ≡ n → Leads n m.state → Leads n l.state → m.state.group.count ≤ l.state.group.count
+LeaderCountsRise = (nodes slots : ℕ) (acts : List Act) (r : Report) → Headline nodes slots acts r → (n j k : ℕ) (m l : Moment) → n < nodes
+    → j < k →
+    slice_get r.moments j ≡ Some m → slice_get r.moments k ≡ Some l → m.node ≡ n → l.node ≡ n → Leads n m.state → Leads n l.state
+    → m.state.group.count ≤ l.state.group.count
 
 -- a group number is a fence: two moments, of any nodes, that lead one group are of one node
 abbrev pub OneLeader : Type 0
@@ -194,7 +217,8 @@ OneOwnerEach = (nodes slots : ℕ) (acts : List Act) (r : Report) → Headline n
 
 -- two moments that work in one group have the same members, each of the two nodes among them
 abbrev pub MembersAgree : Type 0
-MembersAgree = (nodes slots : ℕ) (acts : List Act) (r : Report) → Headline nodes slots acts r → (n m : ℕ) (s t : State) → IsWorking r n s → IsWorking r m t → s.group ≡ t.group →
+MembersAgree = (nodes slots : ℕ) (acts : List Act) (r : Report) → Headline nodes slots acts r → (n m : ℕ) (s t : State) → IsWorking r n s
+    → IsWorking r m t → s.group ≡ t.group →
     (members_of s.task ≡ members_of t.task) × (has (members_of s.task) n ≡ true) × (has (members_of s.task) m ≡ true)
 
 -- two moments, of any nodes, that work in one group and have jobs of one queue in hand are of one node
@@ -215,7 +239,10 @@ first_moments k r = record r { moments = take k r.moments }
 -- the payload that are in hand. A worker that isn't the origin finished it in an earlier act than that of the Done
 abbrev pub DoneWasFinished : Type 0
 DoneWasFinished = (nodes slots : ℕ) (acts : List Act) (r : Report) (h : Headline nodes slots acts r) →
-    (k : ℕ) (t : AttemptAt) (id : ℕ) → IsAmong t (report_within nodes k acts h.steps).commands → t.node < nodes → t.tried.command ≡ Done id →
-    (worker : ℕ) × (place : ℕ) × (m : Moment) × (place < k) × (worker ≢ t.node → suc place < k) × (slice_get r.moments place ≡ Some m) × (m.act ≡ act.Finish worker t.node id) × ((why : ActRefusal) → m.outcome ≢ outcome.Refused why)
-    × ((s : State) × (job : InHand) × IsWorking (first_moments place r) worker s × IsAmong job s.hand × (job.origin ≡ t.node) × (job.id ≡ id) × (owner s job.work.queue ≡ worker)
+    (k : ℕ) (t : AttemptAt) (id : ℕ) → IsAmong t (report_within nodes k acts h.steps).commands → t.node < nodes → t.tried.command ≡ Done id
+    →
+    (worker : ℕ) × (place : ℕ) × (m : Moment) × (place < k) × (worker ≢ t.node → suc place < k) × (slice_get r.moments place ≡ Some m)
+    × (m.act ≡ act.Finish worker t.node id) × ((why : ActRefusal) → m.outcome ≢ outcome.Refused why)
+    × ((s : State) × (job : InHand) × IsWorking (first_moments place r) worker s × IsAmong job s.hand × (job.origin ≡ t.node)
+    × (job.id ≡ id) × (owner s job.work.queue ≡ worker)
     × WasPut (own_commands t.node (report_within nodes place acts h.steps).commands) id job.work)

@@ -17,8 +17,10 @@ unsealed (Some body) is = absurd cc
 none_there : (c : Image) (at : ℕ) → slot_at c at ≡ None → slot_at c (at + 2) ≡ None → cell_at c at ≡ None
 none_there c at first second = λ i. cell_of (first i) (second i)
 
-some_there : (c : Image) (at value : ℕ) (body : List ℕ) → body ≡ body_of value → value < 2 ^ 64 → slot_at c at ≡ Some body → slot_at c (at + 2) ≡ None → cell_at c at ≡ Some value
-some_there c at value body is fits first second = (λ i. cell_of ((first ∙ ap (λ b. Some b) is) i) (second i)) ∙ body_value-body_of value fits
+some_there : (c : Image) (at value : ℕ) (body : List ℕ) → body ≡ body_of value → value < 2 ^ 64 → slot_at c at ≡ Some body
+    → slot_at c (at + 2) ≡ None → cell_at c at ≡ Some value
+some_there c at value body is fits first second = (λ i. cell_of ((first ∙ ap (λ b. Some b) is) i) (second i))
+    ∙ body_value-body_of value fits
 
 -- each image since the start
 pub begin_images : (at value : ℕ) (old new : DiskState) (body : List ℕ) → body ≡ body_of value → value < 2 ^ 64

@@ -11,5 +11,6 @@ pub body_value-body_of : (value : ℕ) → value < 2 ^ 64 → body_value (body_o
 unfolding body_value body_of
 body_value-body_of value fits =
     let all = to_be_bytes w64 value ++ replicate 504 0 in
-    ap (λ b. if b then Some (from_be_bytes w64 all) else None) (ap is_blank (drop_at (to_be_bytes w64 value) (replicate 504 0) 8 refl) ∙ blank 504)
+    ap (λ b. if b then Some (from_be_bytes w64 all) else None)
+    (ap is_blank (drop_at (to_be_bytes w64 value) (replicate 504 0) 8 refl) ∙ blank 504)
     ∙ ap (λ v. Some v) (from_be_bytes-to_be_bytes_8 value fits)

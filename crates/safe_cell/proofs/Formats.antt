@@ -17,7 +17,8 @@ synced_slot : (disk : DiskState) (slot : ℕ) (c : Image) → AllSynced disk →
 synced_slot disk slot c synced image = slot_synced disk slot c (synced slot) (synced (slot + 1)) image
 
 -- while the gates are opened
-pub erase_images : (at value : ℕ) (old new : DiskState) → Run (IsGate at) old new → old.synced at → old.synced (at + 2) → Each old new (IsNotTorn at value old.contents)
+pub erase_images : (at value : ℕ) (old new : DiskState) → Run (IsGate at) old new → old.synced at → old.synced (at + 2)
+    → Each old new (IsNotTorn at value old.contents)
 erase_images at value old new run first second c since =
     let f = run.follows c since in
     record {

@@ -18,11 +18,14 @@ raised_way at cell way = ⊎_elim (λ w. inr (w.1, w.0)) (λ w. inl (w.1, w.0)) 
 pub raised_to_way : (at value : ℕ) (cell : CellState) → IsCellAt at cell → IsCellAt at (raised_to value cell)
 raised_to_way at value cell way = ⊎_elim (λ w. inr (w.1, w.0)) (λ w. inl (w.1, w.0)) way
 
-present_same : (at : ℕ) (cell : CellState) (d c : Image) → IsCellAt at cell → SameBut (InSlot cell.spare) d c → slot_at c cell.present ≡ slot_at d cell.present
-present_same at cell d c way same = slot_same c d cell.present (same.same (cell.present + 1) (omega arith)) (same.same cell.present (omega arith))
+present_same : (at : ℕ) (cell : CellState) (d c : Image) → IsCellAt at cell → SameBut (InSlot cell.spare) d c
+    → slot_at c cell.present ≡ slot_at d cell.present
+present_same at cell d c way same = slot_same c d cell.present (same.same (cell.present + 1) (omega arith))
+    (same.same cell.present (omega arith))
 
 -- with a greater value sealed in the spare slot
-stands_raised : (at value : ℕ) (cell : CellState) (d c : Image) → IsCellAt at cell → cell.value < value → value < 2 ^ 64 → Stands cell d → SameBut (InSlot cell.spare) d c → slot_at c cell.spare ≡ Some (body_of value) → Stands (raised_to value cell) c
+stands_raised : (at value : ℕ) (cell : CellState) (d c : Image) → IsCellAt at cell → cell.value < value → value < 2 ^ 64 → Stands cell d
+    → SameBut (InSlot cell.spare) d c → slot_at c cell.spare ≡ Some (body_of value) → Stands (raised_to value cell) c
 stands_raised at value cell d c way above fits h same sealed = record {
   body = body_of value;
   present = sealed;
@@ -31,7 +34,8 @@ stands_raised at value cell d c way above fits h same sealed = record {
 }
 
 -- in each image while a greater value is put into the spare slot, the value is as it was or that one
-pub raise_images : (at value : ℕ) (cell : CellState) (old new : DiskState) (body : List ℕ) → body ≡ body_of value → cell.value < value → value < 2 ^ 64
+pub raise_images : (at value : ℕ) (cell : CellState) (old new : DiskState) (body : List ℕ) → body ≡ body_of value → cell.value < value
+    → value < 2 ^ 64
     → IsCellAt at cell → AllStand cell old
     → (Knows old cell.spare cell.spare_sealed → Each old new (Follows (InSlot cell.spare) old cell.spare (IsStored body)))
     → Each old new (λ c. (cell_at c at ≡ Some cell.value) ⊎ (cell_at c at ≡ Some value))
@@ -39,16 +43,24 @@ raise_images at value cell old new body is above fits way all images c since =
     let f = images (λ d image. spare_known cell.spare_sealed cell.value (slot_at d cell.spare) (all d image).spare) c since in
     let h = all f.from f.image in
     let as_was : (s : Bool) → IsSpare s cell.value (slot_at c cell.spare) → (cell_at c at ≡ Some cell.value) =
-    λ s spare. stands_for at (record cell { spare_sealed = s }) c way (record { body = h.body; present = present_same at cell f.from c way f.same ∙ h.present; value = h.value; spare = spare }) in
+    λ s spare. stands_for at (record cell { spare_sealed = s }) c way (record {
+      body = h.body;
+      present =
+          present_same at cell f.from c way f.same ∙ h.present;
+      value = h.value;
+      spare = spare;
+    }) in
     ⊎_elim
     (λ same. inl (as_was cell.spare_sealed (rw same h.spare)))
     (⊎_elim
     (λ none. inl (as_was false none))
-    (λ some. inr (stands_for at (raised_to value cell) c (raised_to_way at value cell way) (stands_raised at value cell f.from c way above fits h f.same (some ∙ ap (λ b. Some b) is)))))
+    (λ some. inr (stands_for at (raised_to value cell) c (raised_to_way at value cell way)
+    (stands_raised at value cell f.from c way above fits h f.same (some ∙ ap (λ b. Some b) is)))))
     f.step
 
 -- once all of it is synced
-pub raise_after : (at value : ℕ) (cell : CellState) (old new : DiskState) (body : List ℕ) → body ≡ body_of value → cell.value < value → value < 2 ^ 64
+pub raise_after : (at value : ℕ) (cell : CellState) (old new : DiskState) (body : List ℕ) → body ≡ body_of value → cell.value < value
+    → value < 2 ^ 64
     → IsCellAt at cell → AllStand cell old → Run (InSlot cell.spare) old new → AllSynced new → slot_at new.contents cell.spare ≡ Some body
     → AllHave at value new × AllStand (raised_to value cell) new
 raise_after at value cell old new body is above fits way all run synced sealed =

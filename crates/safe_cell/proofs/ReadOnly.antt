@@ -6,10 +6,12 @@ use Rattle.sector_disk.proofs.PublicLaws.{no_more_then, run_of_two, run_widen}
 use Rattle.safe_cell.specs.Answered.{OnlyReads}
 
 -- together they touch what either does
-pub run_on : (first last both : ℕ → Type 0) (old mid new : DiskState) → mid.honest ≡ old.honest → ((k : ℕ) → first k → both k) → ((k : ℕ) → last k → both k)
+pub run_on : (first last both : ℕ → Type 0) (old mid new : DiskState) → mid.honest ≡ old.honest → ((k : ℕ) → first k → both k)
+    → ((k : ℕ) → last k → both k)
     → (IsTrue old.honest → Run first old mid) → (IsTrue mid.honest → Run last mid new) → IsTrue old.honest → Run both old new
 run_on first last both old mid new same one other before after honest =
-    run_of_two both old mid new (run_widen first both old mid one (before honest)) (run_widen last both mid new other (after (same ∙ honest)))
+    run_of_two both old mid new (run_widen first both old mid one (before honest))
+    (run_widen last both mid new other (after (same ∙ honest)))
 
 -- the last call's failure is that of both
 pub reads_on : (old mid new : DiskState) (first last failed : Type 0) → (first → ⊥) → (last → failed) → (failed → last)

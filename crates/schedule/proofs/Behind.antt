@@ -1,5 +1,6 @@
 -- The acts of lines, put behind those that came before.
-use Rattle.std.proofs.Common.{◌≡◌, ℕ, ◌+◌, ◌<◌, List, [], ◌∷◌, ◌++◌, length, Option, Some, None, Result, Ok, Err, option_map, refl, sym, ap, ◌∙◌, append_assoc, append-nil, arith}
+use Rattle.std.proofs.Common.{◌≡◌, ℕ, ◌+◌, ◌<◌, List, [], ◌∷◌, ◌++◌, length, Option, Some, None, Result, Ok, Err, option_map, refl, sym, ap}
+use Rattle.std.proofs.Common.{◌∙◌, append_assoc, append-nil, arith}
 use Rattle.std.proofs.lemmas.List.{length-append}
 use Rattle.std.proofs.lemmas.Bool.Decides.{nat_tests}
 use Rattle.line_words.specs.Words.{words_of}
@@ -8,7 +9,8 @@ use Rattle.schedule.specs.declared.size.TheConstants.{MOST_ACTS}
 use Rattle.schedule.specs.Acts.{act_of}
 use Rattle.schedule.specs.Text.{acts_from, behind, in_front, next_act, onto}
 
-behind_act : (n : ℕ) (acts after : List Act) (act : Option Act) (later : ℕ → Result (List Act) ℕ) → Some after ≡ option_map (λ a. acts ++ a ∷ []) act
+behind_act : (n : ℕ) (acts after : List Act) (act : Option Act) (later : ℕ → Result (List Act) ℕ)
+    → Some after ≡ option_map (λ a. acts ++ a ∷ []) act
     → behind acts (in_front n act (later (length acts + 1))) ≡ behind after (later (length after))
 behind_act n acts after None later read = absurd cc
 behind_act n acts after (Some a) later read =
@@ -50,6 +52,7 @@ behind_nothing (Ok more) = refl
 behind_nothing (Err m) = refl
 
 -- a line's act where there is room for it
-pub onto_act : (acts : List Act) (line : List ℕ) (a : Act) → length acts < MOST_ACTS → act_of (words_of line) ≡ Some a → Some (acts ++ a ∷ []) ≡ onto acts line
+pub onto_act : (acts : List Act) (line : List ℕ) (a : Act) → length acts < MOST_ACTS → act_of (words_of line) ≡ Some a
+    → Some (acts ++ a ∷ []) ≡ onto acts line
 onto_act acts [] a room read = absurd cc
 onto_act acts (c ∷ line) a room read = grind (arith, nat_tests, room, read)

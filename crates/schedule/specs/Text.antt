@@ -1,5 +1,6 @@
 -- A schedule as text.
-use Rattle.std.specs.Prelude.{ℕ, ◌+◌, nat_lt, List, [], ◌∷◌, ◌++◌, length, option_map, bytes_eq, codes, if◌then◌else◌, Option, Some, None, Result, Ok, Err}
+use Rattle.std.specs.Prelude.{ℕ, ◌+◌, nat_lt, List, [], ◌∷◌, ◌++◌, length, option_map, bytes_eq, codes, if◌then◌else◌, Option, Some, None}
+use Rattle.std.specs.Prelude.{Result, Ok, Err}
 use Rattle.line_words.specs.Words.{words_of}
 use Rattle.line_words.specs.Lines.{lines_of}
 use Rattle.schedule.specs.declared.act.Act.{Act}
@@ -22,7 +23,8 @@ size nodes slots = record { nodes = nodes; slots = slots }
 
 abbrev pub named_size : List ℕ → List ℕ → List ℕ → Option Size
 named_size name nodes slots =
-    if bytes_eq name (codes "cluster") then of_two size (number_between 1 NODES nodes) (number_between LEAST_SLOTS MOST_SLOTS slots) else None
+    if bytes_eq name (codes "cluster") then of_two size (number_between 1 NODES nodes) (number_between LEAST_SLOTS MOST_SLOTS slots)
+    else None
 
 -- the cluster of these words
 abbrev pub size_of : List (List ℕ) → Option Size

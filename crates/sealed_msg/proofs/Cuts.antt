@@ -1,5 +1,6 @@
 -- Where lists of bytes are cut, and lists whose elements were changed one after the other.
-use Rattle.std.proofs.Common.{◌≡◌, ◌++◌, ◌-◌, ◌<◌, ◌∙◌, List, ℕ, map, take, drop, length, get_or, replicate, ap, append-nil, arith, inl, inr}
+use Rattle.std.proofs.Common.{◌≡◌, ◌++◌, ◌-◌, ◌<◌, ◌∙◌, List, ℕ, map, take, drop, length, get_or, replicate, ap, append-nil, arith, inl}
+use Rattle.std.proofs.Common.{inr}
 use Rattle.std.specs.Prelude.{All, nat_lt, if◌then◌else◌}
 use Rattle.std.proofs.lemmas.Bool.{cases_lt}
 use Rattle.std.proofs.lemmas.List.Elements.{All-get_or}
@@ -42,4 +43,5 @@ zeros_left n = drop-replicate n 64 0
 -- a block is the block of itself
 pub block_again : (block : List ℕ) → length block ≡ 64 → block_of block ≡ block
 block_again block long =
-    ap (λ (n : ℕ). filled (if nat_lt 64 n then sha256 block else block)) long ∙ (ap (λ (n : ℕ). block ++ replicate (64 - n) 0) long ∙ append-nil block)
+    ap (λ (n : ℕ). filled (if nat_lt 64 n then sha256 block else block)) long
+    ∙ (ap (λ (n : ℕ). block ++ replicate (64 - n) 0) long ∙ append-nil block)

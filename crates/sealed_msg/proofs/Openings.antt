@@ -1,5 +1,6 @@
 -- Both ways between what a message is sealed to and what that is opened to.
-use Rattle.std.proofs.Common.{◌≡◌, ◌++◌, ◌-◌, ◌<◌, ◌≤◌, ◌^◌, ◌∙◌, List, ℕ, Bool, true, false, cond, length, take, drop, refl, sym, ap, arith}
+use Rattle.std.proofs.Common.{◌≡◌, ◌++◌, ◌-◌, ◌<◌, ◌≤◌, ◌^◌, ◌∙◌, List, ℕ, Bool, true, false, cond, length, take, drop, refl, sym, ap}
+use Rattle.std.proofs.Common.{arith}
 use Rattle.std.specs.Prelude.{bytes_eq, Option, Some, None}
 use Rattle.std.specs.Int.{w64, from_be_bytes, to_be_bytes}
 use Rattle.std.proofs.lemmas.Bool.{ltb-false, le-ltb}
@@ -22,7 +23,8 @@ Answer = Option (List ℕ × Stamp)
 passed : (short same : Bool) (x : List ℕ × Stamp) → short ≡ false → same ≡ true → cond short None (cond same (Some x) None) ≡ Some x
 passed short same x e f = rw (e, f) refl
 
-has_passed : (short same : Bool) (x y : List ℕ × Stamp) → cond short None (cond same (Some x) None) ≡ Some y → (short ≡ false) × (same ≡ true) × (x ≡ y)
+has_passed : (short same : Bool) (x y : List ℕ × Stamp) → cond short None (cond same (Some x) None) ≡ Some y
+    → (short ≡ false) × (same ≡ true) × (x ≡ y)
 has_passed true same x y e = absurd cc
 has_passed false true x y e = (refl, refl, cc)
 has_passed false false x y e = absurd cc
@@ -36,7 +38,8 @@ stamp_is : (stamp : Stamp) (life number : ℕ) → life ≡ stamp.life → numbe
 stamp_is stamp life number e f = rw (e, f) refl
 
 stamp_read : (stamp : Stamp) → stamp.life < 2 ^ 64 → stamp.number < 2 ^ 64 → stamp_in (stamp_bytes stamp) ≡ stamp
-stamp_read stamp life number = stamp_is stamp _ _ (from_be_bytes-to_be_bytes_8 stamp.life life) (from_be_bytes-to_be_bytes_8 stamp.number number)
+stamp_read stamp life number = stamp_is stamp _ _ (from_be_bytes-to_be_bytes_8 stamp.life life)
+    (from_be_bytes-to_be_bytes_8 stamp.number number)
 
 eight : (bytes : List ℕ) → length bytes ≡ 8 → AreBytes bytes → to_be_bytes w64 (from_be_bytes w64 bytes) ≡ bytes
 eight bytes long fit = be_bytes_8 bytes (from_be_bytes w64 bytes) long (reads_byte bytes fit) refl
@@ -45,11 +48,13 @@ stamp_written : (bytes : List ℕ) → length bytes ≡ 16 → AreBytes bytes �
 stamp_written bytes long fit =
     let life = eight (take 8 bytes) (omega (arith, length-take 8 bytes)) (All-take (λ b. b < 256) 8 bytes fit) in
     let number = eight (drop 8 bytes) (omega (arith, length-drop 8 bytes)) (All-drop (λ b. b < 256) 8 bytes fit) in
-    ap (λ (a : List ℕ). a ++ to_be_bytes w64 (from_be_bytes w64 (drop 8 bytes))) life ∙ ap (λ (b : List ℕ). take 8 bytes ++ b) number ∙ take-append-drop 8 bytes
+    ap (λ (a : List ℕ). a ++ to_be_bytes w64 (from_be_bytes w64 (drop 8 bytes))) life ∙ ap (λ (b : List ℕ). take 8 bytes ++ b) number
+    ∙ take-append-drop 8 bytes
 
 -- ---- what was sealed is opened
 
-pub sealed_opens : (key message : List ℕ) (stamp : Stamp) → stamp.life < 2 ^ 64 → stamp.number < 2 ^ 64 → opened key (sealed key message stamp) ≡ Some (message, stamp)
+pub sealed_opens : (key message : List ℕ) (stamp : Stamp) → stamp.life < 2 ^ 64 → stamp.number < 2 ^ 64
+    → opened key (sealed key message stamp) ≡ Some (message, stamp)
 sealed_opens key message stamp life number =
     let text = stamped message stamp in
     let tag = hmac_by key text in
@@ -60,8 +65,10 @@ sealed_opens key message stamp life number =
     let inner : front 16 (front 32 (sealed key message stamp)) ≡ message =
     ap (front 16) f ∙ front_is message (stamp_bytes stamp) 16 (length-stamp stamp) in
     let outer : stamp_in (back 16 (front 32 (sealed key message stamp))) ≡ stamp =
-    ap (λ (t : List ℕ). stamp_in (back 16 t)) f ∙ ap stamp_in (back_is message (stamp_bytes stamp) 16 (length-stamp stamp)) ∙ stamp_read stamp life number in
-    let both : pair (front 16 (front 32 (sealed key message stamp))) (stamp_in (back 16 (front 32 (sealed key message stamp)))) ≡ pair message stamp = rw (inner, outer) refl in
+    ap (λ (t : List ℕ). stamp_in (back 16 t)) f ∙ ap stamp_in (back_is message (stamp_bytes stamp) 16 (length-stamp stamp))
+    ∙ stamp_read stamp life number in
+    let both : pair (front 16 (front 32 (sealed key message stamp))) (stamp_in (back 16 (front 32 (sealed key message stamp))))
+    ≡ pair message stamp = rw (inner, outer) refl in
     passed _ _ _ (le-ltb _ 48 (omega (arith, length-sealed key message stamp))) same ∙ ap some both
   where
     pair : List ℕ → Stamp → List ℕ × Stamp
@@ -72,14 +79,17 @@ sealed_opens key message stamp life number =
 
 -- ---- what is opened was sealed
 
-pub opened_sealed : (key bytes message : List ℕ) (stamp : Stamp) → AreBytes bytes → opened key bytes ≡ Some (message, stamp) → bytes ≡ sealed key message stamp
+pub opened_sealed : (key bytes message : List ℕ) (stamp : Stamp) → AreBytes bytes → opened key bytes ≡ Some (message, stamp)
+    → bytes ≡ sealed key message stamp
 opened_sealed key bytes message stamp fit e =
     let p = has_passed _ _ _ _ e in
     let long : 48 ≤ length bytes = ltb-false (length bytes) 48 p.0 in
     let text = front 32 bytes in
     let tag = (bytes_eq-Decides _ _).0 p.1 in
     let size : length text ≡ length bytes - 32 = omega (arith, length-take (length bytes - 32) bytes) in
-    let written = stamp_written (back 16 text) (omega (arith, length-drop (length text - 16) text)) (All-drop (λ b. b < 256) (length text - 16) text (All-take (λ b. b < 256) (length bytes - 32) bytes fit)) in
-    let whole : stamped (front 16 text) (stamp_in (back 16 text)) ≡ text = ap (λ (s : List ℕ). front 16 text ++ s) written ∙ take-append-drop (length text - 16) text in
+    let written = stamp_written (back 16 text) (omega (arith, length-drop (length text - 16) text))
+    (All-drop (λ b. b < 256) (length text - 16) text (All-take (λ b. b < 256) (length bytes - 32) bytes fit)) in
+    let whole : stamped (front 16 text) (stamp_in (back 16 text)) ≡ text = ap (λ (s : List ℕ). front 16 text ++ s) written
+    ∙ take-append-drop (length text - 16) text in
     let it : stamped message stamp ≡ text = ap (λ (x : List ℕ × Stamp). stamped x.0 x.1) (sym p.2) ∙ whole in
     sym (ap (λ (t : List ℕ). t ++ hmac_by key t) it ∙ ap (λ (t : List ℕ). text ++ t) (sym tag) ∙ take-append-drop (length bytes - 32) bytes)

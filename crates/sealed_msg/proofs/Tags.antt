@@ -16,4 +16,10 @@ length-stamp stamp = refl
 
 pub length-sealed : (key message : List ℕ) (stamp : Stamp) → length (sealed key message stamp) ≡ length message + 48
 length-sealed key message stamp =
-    omega (arith, length-append message (stamp_bytes stamp), length-append (stamped message stamp) (hmac_by key (stamped message stamp)), length-tag key (stamped message stamp), length-stamp stamp)
+    omega (
+      arith,
+      length-append message (stamp_bytes stamp),
+      length-append (stamped message stamp) (hmac_by key (stamped message stamp)),
+      length-tag key (stamped message stamp),
+      length-stamp stamp,
+    )

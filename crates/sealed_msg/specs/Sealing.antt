@@ -30,7 +30,8 @@ back n bytes = drop (length bytes - n) bytes
 abbrev pub opened : List ℕ → List ℕ → Option (List ℕ × Stamp)
 opened key bytes =
     if nat_lt (length bytes) 48 then None else
-    if bytes_eq (back 32 bytes) (hmac_by key (front 32 bytes)) then Some (front 16 (front 32 bytes), stamp_in (back 16 (front 32 bytes))) else None
+    if bytes_eq (back 32 bytes) (hmac_by key (front 32 bytes)) then Some (front 16 (front 32 bytes), stamp_in (back 16 (front 32 bytes)))
+    else None
 
 -- each is a byte
 abbrev pub AreBytes : List ℕ → Type 0

@@ -1,15 +1,18 @@
 -- A sector without its last zeros, and back.
-use Rattle.std.proofs.Common.{◌≡◌, ◌+◌, ◌-◌, ◌≤◌, ⊎_elim, ℕ, List, [], ◌∷◌, ◌++◌, length, take, drop, replicate, min, refl, sym, ◌∙◌, ap, arith, take-append-drop}
+use Rattle.std.proofs.Common.{◌≡◌, ◌+◌, ◌-◌, ◌≤◌, ⊎_elim, ℕ, List, [], ◌∷◌, ◌++◌, length, take, drop, replicate, min, refl, sym, ◌∙◌, ap}
+use Rattle.std.proofs.Common.{arith, take-append-drop}
 use Rattle.std.proofs.lemmas.List.{take_all, drop_all, drop-replicate, length-take, length-drop, replicate-append-replicate, drop-drop}
 use Rattle.std.proofs.lemmas.Bool.{cases_lt}
 use Rattle.sector_disk.specs.Undo.{last_of, whole}
 use Rattle.sector_disk.specs.Crash.{filled}
 
-pub trim_step : (s : List ℕ) (n b : ℕ) → length s ≡ 512 → b ≤ n → n ≤ 512 → take (n - (n - b)) (drop (n - b) s) ≡ replicate (length (take (n - (n - b)) (drop (n - b) s))) 0 → drop n s ≡ replicate (512 - n) 0
+pub trim_step : (s : List ℕ) (n b : ℕ) → length s ≡ 512 → b ≤ n → n ≤ 512
+    → take (n - (n - b)) (drop (n - b) s) ≡ replicate (length (take (n - (n - b)) (drop (n - b) s))) 0 → drop n s ≡ replicate (512 - n) 0
     → drop (n - b) s ≡ replicate (512 - (n - b)) 0
 trim_step s n b long some most block rest =
     let back = length-drop (n - b) s in
-    let size : length (take (n - (n - b)) (drop (n - b) s)) ≡ b = length-take (n - (n - b)) (drop (n - b) s) ∙ omega (arith, some, most, long, back) in
+    let size : length (take (n - (n - b)) (drop (n - b) s)) ≡ b = length-take (n - (n - b)) (drop (n - b) s)
+    ∙ omega (arith, some, most, long, back) in
     let next : n - b + (n - (n - b)) ≡ n = omega (arith, some) in
     let count : b + (512 - n) ≡ 512 - (n - b) = omega (arith, some, most) in
     sym (take-append-drop (n - (n - b)) (drop (n - b) s))

@@ -1,5 +1,6 @@
 -- One list of notes, cut where times ended.
-use Rattle.std.proofs.Common.{refl, ◌≡◌, ◌≤◌, ℕ, ◌+◌, ◌-◌, List, [], ◌∷◌, ◌++◌, length, take, drop, ap, ◌∙◌, sym, arith, length-append, length-drop, Option, Some, None, IfSome}
+use Rattle.std.proofs.Common.{refl, ◌≡◌, ◌≤◌, ℕ, ◌+◌, ◌-◌, List, [], ◌∷◌, ◌++◌, length, take, drop, ap, ◌∙◌, sym, arith, length-append}
+use Rattle.std.proofs.Common.{length-drop, Option, Some, None, IfSome}
 use Rattle.std.specs.Option.{option_to_list}
 use Rattle.std.proofs.lemmas.List.{drop-append-le, take-append-le, take_all, drop_all}
 use Rattle.sector_disk.specs.Noted.{Noted}
@@ -15,12 +16,14 @@ first_below start [] count follow = follow
 first_below start (end ∷ ends) count follow = omega (arith, follow.0, first_below end ends count follow.1)
 
 -- they end within any number of notes that the last of them ends within
-pub follow_within : (start : ℕ) (ends : List ℕ) (count other : ℕ) → FollowFrom start ends count → last_from start ends ≤ other → FollowFrom start ends other
+pub follow_within : (start : ℕ) (ends : List ℕ) (count other : ℕ) → FollowFrom start ends count → last_from start ends ≤ other
+    → FollowFrom start ends other
 follow_within start [] count other follow last = last
 follow_within start (end ∷ ends) count other follow last = (follow.0, follow_within end ends count other follow.1 last)
 
 -- notes behind them change no time that is over
-pub times_before_more : (start : ℕ) (ends : List ℕ) (notes more : List Overwritten) → FollowFrom start ends (length notes) → times_from start ends (notes ++ more) ≡ times_from start ends notes
+pub times_before_more : (start : ℕ) (ends : List ℕ) (notes more : List Overwritten) → FollowFrom start ends (length notes)
+    → times_from start ends (notes ++ more) ≡ times_from start ends notes
 times_before_more start [] notes more follow = refl
 times_before_more start (end ∷ ends) notes more follow =
     let within : end ≤ length notes = first_below end ends (length notes) follow.1 in
@@ -31,9 +34,11 @@ times_before_more start (end ∷ ends) notes more follow =
 
 -- one more time is over
 pub times-end : (start : ℕ) (ends : List ℕ) (end : ℕ) (notes : List Overwritten)
-    → times_from start (ends ++ end ∷ []) notes ≡ times_from start ends notes ++ take (end - last_from start ends) (drop (last_from start ends) notes) ∷ []
+    → times_from start (ends ++ end ∷ []) notes ≡ times_from start ends notes ++ take (end - last_from start ends)
+    (drop (last_from start ends) notes) ∷ []
 times-end start [] end notes = refl
-times-end start (first ∷ ends) end notes = ap (λ (rest : List (List Overwritten)). take (first - start) (drop start notes) ∷ rest) (times-end first ends end notes)
+times-end start (first ∷ ends) end notes = ap (λ (rest : List (List Overwritten)). take (first - start) (drop start notes) ∷ rest)
+    (times-end first ends end notes)
 
 pub last-end : (start : ℕ) (ends : List ℕ) (end : ℕ) → last_from start (ends ++ end ∷ []) ≡ end
 last-end start [] end = refl
@@ -53,7 +58,8 @@ same_noted old new times since =
     ∙ ap (λ (s : List Overwritten). record { times = old.times; since = s }) since
 
 -- one note more
-pub noted-note : (ends : List ℕ) (closed : ℕ) (notes now : List Overwritten) (note : Overwritten) → FollowFrom 0 ends (length notes) → closed ≤ length notes → now ≡ notes ++ note ∷ []
+pub noted-note : (ends : List ℕ) (closed : ℕ) (notes now : List Overwritten) (note : Overwritten) → FollowFrom 0 ends (length notes)
+    → closed ≤ length notes → now ≡ notes ++ note ∷ []
     → noted ends closed now ≡ record (noted ends closed notes) { since = drop closed notes ++ note ∷ [] }
 noted-note ends closed notes now note follow within is =
     ap (noted ends closed) is
@@ -69,7 +75,8 @@ noted-end ends now closed notes is_last is =
     (ap (λ l. times_from 0 l notes) is
     ∙ times-end 0 ends (length notes) notes
     ∙ ap (λ (k : ℕ). times_from 0 ends notes ++ take (length notes - k) (drop k notes) ∷ []) (sym is_last)
-    ∙ ap (λ (part : List Overwritten). times_from 0 ends notes ++ part ∷ []) (take_all (length notes - closed) (drop closed notes) (simp length-drop (omega arith))))
+    ∙ ap (λ (part : List Overwritten). times_from 0 ends notes ++ part ∷ [])
+    (take_all (length notes - closed) (drop closed notes) (simp length-drop (omega arith))))
     (drop_all (length notes) notes (omega arith))
 
 -- the last note is taken back
@@ -87,7 +94,8 @@ one_at_most None = omega arith
 one_at_most (Some note) = omega arith
 
 -- at most one is
-pub length-pop : (notes rest : List Overwritten) (last : Option Overwritten) → notes ≡ rest ++ option_to_list last → length notes ≤ length rest + 1
+pub length-pop : (notes rest : List Overwritten) (last : Option Overwritten) → notes ≡ rest ++ option_to_list last
+    → length notes ≤ length rest + 1
 length-pop notes rest last is =
     let long : length notes ≡ length rest + length (option_to_list last) = ap length is ∙ length-append rest (option_to_list last) in
     omega (arith, long, one_at_most last)

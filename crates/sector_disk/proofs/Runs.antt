@@ -26,7 +26,8 @@ run_widen some more old new into run = record {
 }
 
 -- what holds of each image of both parts holds of each image of the whole
-pub each_of_two : (touched : ℕ → Type 0) (old mid new : DiskState) (P : Image → Type 0) → old.moment ≤ mid.moment → Run touched mid new → Each old mid P → Each mid new P → Each old new P
+pub each_of_two : (touched : ℕ → Type 0) (old mid new : DiskState) (P : Image → Type 0) → old.moment ≤ mid.moment → Run touched mid new
+    → Each old mid P → Each mid new P → Each old new P
 each_of_two touched old mid new P le second first then c since =
     ⊎_elim (first c) (then c) (second.splits old.moment c le since)
 
@@ -53,7 +54,8 @@ run_of_call : (touched : ℕ → Type 0) (old new : DiskState) → Laws old → 
     → ((c : Image) → IsImage new c → (d : Image) × IsImage old d × SameBut touched d c) → Run touched old new
 run_of_call touched old new before after call back = record {
   later = call.time.later;
-  splits = λ t c le since. ⊎_elim (λ was. inl was) (λ now. inr (after.counts_now old.moment c call.time.later now)) (call.time.nothing_else t c le since);
+  splits = λ t c le since. ⊎_elim (λ was. inl was) (λ now. inr (after.counts_now old.moment c call.time.later now))
+      (call.time.nothing_else t c le since);
   keeps = call.time.keeps;
   earlier = after.earlier;
   ends = λ c now. after.counts_now old.moment c call.time.later now;
@@ -67,13 +69,22 @@ run_of_call touched old new before after call back = record {
 -- a call that writes nothing
 pub quiet_run : (old new : DiskState) → Laws old → Laws new → Touches nothing old new → Run nothing old new
 quiet_run old new before after call = run_of_call nothing old new before after call
-    (λ c now. (c, record { size = now.size ∙ call.contents.size; same = λ at still. now.same at (call.synced at (λ no. no) still) ∙ call.contents.same at (λ no. no) }, same_image nothing c))
+    (λ c now. (
+      c,
+      record {
+        size = now.size ∙ call.contents.size;
+        same = λ at still. now.same at (call.synced at (λ no. no) still)
+            ∙ call.contents.same at (λ no. no);
+      },
+      same_image nothing c,
+    ))
 
 same_or_not : (m n : ℕ) → (m ≡ n) ⊎ (m ≢ n)
 same_or_not m n = ⊎_elim (λ h. inl h.1) (λ h. inr h.1) (eqb_tells m n)
 
 -- a call that writes one sector
-pub write_run : (at : ℕ) (old new : DiskState) → Laws old → Laws new → at < old.sectors → Touches (λ k. k ≡ at) old new → Run (λ k. k ≡ at) old new
+pub write_run : (at : ℕ) (old new : DiskState) → Laws old → Laws new → at < old.sectors → Touches (λ k. k ≡ at) old new
+    → Run (λ k. k ≡ at) old new
 write_run at old new before after on call = run_of_call (λ k. k ≡ at) old new before after call
     (λ c now.
     let was = sector_at old.contents at in

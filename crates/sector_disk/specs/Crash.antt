@@ -1,5 +1,6 @@
 -- What a crash with a given fill leaves.
-use Rattle.std.specs.Prelude.{◌≡◌, ℕ, ◌*◌, ◌<◌, List, ◌++◌, length, get_or, take, drop, count_by, Bool, false, if◌then◌else◌, IsTrue, IsFalse}
+use Rattle.std.specs.Prelude.{◌≡◌, ℕ, ◌*◌, ◌<◌, List, ◌++◌, length, get_or, take, drop, count_by, Bool, false, if◌then◌else◌, IsTrue}
+use Rattle.std.specs.Prelude.{IsFalse}
 use Rattle.sector_disk.specs.Disk.{Image, sector_at}
 use Rattle.sector_disk.specs.Memory.{Memory, is_unsynced}
 

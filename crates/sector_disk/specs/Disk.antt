@@ -60,7 +60,8 @@ NoMorePass None now = now ≡ None
 NoMorePass (Some was) None = ⊥
 NoMorePass (Some was) (Some now) = now ≤ was
 
--- A call that answers Ok leaves the count of failures as it is, and answers `Device` only where it rose, or stands at its greatest value. None arms the disk.
+-- A call that answers Ok leaves the count of failures as it is, and answers `Device` only where it rose, or stands at its greatest value.
+-- None arms the disk.
 pub record Counts (old new : DiskState) (failed done : Type 0) : Type 0 where
   pub sectors : new.sectors ≡ old.sectors
   pub honest : new.honest ≡ old.honest

@@ -10,4 +10,5 @@ front_of sectors = sectors.kept.items ++ replicate (sectors.count - length secto
 
 -- no more are kept than there are, all of them find room without new memory, and those that are said to be short are
 abbrev pub HasRoom : Inside → Type 0
-HasRoom sectors = (length sectors.kept.items ≤ sectors.count) × (sectors.count ≤ vec_capacity sectors.kept) × (length sectors.short.items ≡ sectors.count) × AreShort sectors.kept.items sectors.short.items
+HasRoom sectors = (length sectors.kept.items ≤ sectors.count) × (sectors.count ≤ vec_capacity sectors.kept)
+    × (length sectors.short.items ≡ sectors.count) × AreShort sectors.kept.items sectors.short.items

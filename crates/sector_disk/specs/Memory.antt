@@ -1,5 +1,6 @@
 -- A disk in memory as its contracts see it, and what it says of each moment.
-use Rattle.std.specs.Prelude.{◌⊎◌, ℕ, ◌+◌, ◌-◌, ◌^◌, ◌≤◌, List, [], ◌∷◌, length, get_or, drop, replicate, min, Bool, true, false, not, ◌==◌, ◌||◌, IsFalse, Option, Some, None}
+use Rattle.std.specs.Prelude.{◌⊎◌, ℕ, ◌+◌, ◌-◌, ◌^◌, ◌≤◌, List, [], ◌∷◌, length, get_or, drop, replicate, min, Bool, true, false, not, ◌==◌}
+use Rattle.std.specs.Prelude.{◌||◌, IsFalse, Option, Some, None}
 use Rattle.sector_disk.specs.Disk.{Image, DiskState, IsImageOf}
 
 -- A time from one sync to the next: what reads gave at its end, and the sectors that writes took, done or failed.

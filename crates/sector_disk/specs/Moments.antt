@@ -1,5 +1,6 @@
 -- What each call of a disk in memory does to the images that a crash may leave.
-use Rattle.std.specs.Prelude.{◌<◌, ◌≡◌, ◌≢◌, ◌⊎◌, ℕ, ◌+◌, ◌≤◌, List, [], ◌∷◌, ◌++◌, length, get_or, set, drop, Bool, true, false, IsFalse, refl}
+use Rattle.std.specs.Prelude.{◌<◌, ◌≡◌, ◌≢◌, ◌⊎◌, ℕ, ◌+◌, ◌≤◌, List, [], ◌∷◌, ◌++◌, length, get_or, set, drop, Bool, true, false, IsFalse}
+use Rattle.std.specs.Prelude.{refl}
 use Rattle.std.proofs.Common.{zero, suc, inl, inr, ⊎_elim, sym, ◌∙◌, ap, subst, arith, length-append}
 use Rattle.std.proofs.lemmas.List.{drop_all, drop-append-le, get_or-set_same, get_or-set_other}
 use Rattle.std.proofs.lemmas.Bool.{false≢true}
@@ -39,13 +40,15 @@ laws m = record {
       (λ now. inr (omega (arith, le, now.0), now.1))
       since;
   only_now = λ c since. ⊎_elim
-      (λ past. absurd (let none : drop (length m.spans) m.spans ≡ [] = drop_all (length m.spans) m.spans (omega arith) in subst (λ l. LeftBySome l c) none past))
+      (λ past. absurd (let none : drop (length m.spans) m.spans ≡ [] = drop_all (length m.spans) m.spans (omega arith) in
+      subst (λ l. LeftBySome l c) none past))
       (λ now. now.1)
       since;
 }
 
 -- Within a time from one sync to the next a crash may leave more and more.
-goes_on : (old new : Memory) → new.spans ≡ old.spans → ((c : Image) → IsImage (state_of old) c → IsImage (state_of new) c) → Elapses (state_of old) (state_of new)
+goes_on : (old new : Memory) → new.spans ≡ old.spans → ((c : Image) → IsImage (state_of old) c → IsImage (state_of new) c)
+    → Elapses (state_of old) (state_of new)
 goes_on old new spans more = record {
   later = omega (arith, ap length spans);
   nothing_else = λ t c le since. ⊎_elim
@@ -59,7 +62,8 @@ goes_on old new spans more = record {
 }
 
 -- a call that changes nothing but what is counted
-pub stays : (touched : ℕ → Type 0) (old new : Memory) → new.contents ≡ old.contents → new.unsynced ≡ old.unsynced → new.spans ≡ old.spans → Touches touched (state_of old) (state_of new)
+pub stays : (touched : ℕ → Type 0) (old new : Memory) → new.contents ≡ old.contents → new.unsynced ≡ old.unsynced → new.spans ≡ old.spans
+    → Touches touched (state_of old) (state_of new)
 stays touched old new contents unsynced spans = record {
   contents = record { size = ap length contents; same = λ at _. ap (λ s. sector_at s at) contents };
   synced = λ at _ still. ap (λ l. get_or l at false) unsynced ∙ still;
@@ -74,7 +78,8 @@ other_synced unsynced at k still on here =
     false≢true (sym still ∙ ap (λ j. get_or (set unsynced at true) j false) here ∙ get_or-set_same unsynced at true false on)
 
 -- a write: what reads give of other sectors stays, and so does which of them are unsynced
-pub writes : (old new : Memory) (at : ℕ) → at < length old.unsynced → SameBut (λ k. k ≡ at) old.contents new.contents → new.unsynced ≡ set old.unsynced at true → new.spans ≡ old.spans
+pub writes : (old new : Memory) (at : ℕ) → at < length old.unsynced → SameBut (λ k. k ≡ at) old.contents new.contents
+    → new.unsynced ≡ set old.unsynced at true → new.spans ≡ old.spans
     → Touches (λ k. k ≡ at) (state_of old) (state_of new)
 writes old new at on contents unsynced spans = record {
   contents = contents;
@@ -89,8 +94,10 @@ writes old new at on contents unsynced spans = record {
 }
 
 -- a sync: a time ends
-pub syncs : (old new : Memory) (span : Span) → new.contents ≡ old.contents → ((at : ℕ) → IsFalse (is_unsynced new at)) → new.spans ≡ old.spans ++ span ∷ []
-    → span.contents ≡ old.contents → ((at : ℕ) → was_written span.written at ≡ is_unsynced old at) → Touches nothing (state_of old) (state_of new)
+pub syncs : (old new : Memory) (span : Span) → new.contents ≡ old.contents → ((at : ℕ) → IsFalse (is_unsynced new at))
+    → new.spans ≡ old.spans ++ span ∷ []
+    → span.contents ≡ old.contents → ((at : ℕ) → was_written span.written at ≡ is_unsynced old at)
+    → Touches nothing (state_of old) (state_of new)
 syncs old new span contents synced spans ends took = record {
   contents = record { size = ap length contents; same = λ at _. ap (λ s. sector_at s at) contents };
   synced = λ at _ _. synced at;

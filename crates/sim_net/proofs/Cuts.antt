@@ -1,5 +1,6 @@
 -- What is cut and what is lost, after one change.
-use Rattle.std.proofs.Common.{◌≡◌, ◌≢◌, ℕ, zero, suc, ◌<◌, Bool, true, false, List, [], ◌∷◌, ◌++◌, length, refl, sym, ◌∙◌, ap, subst, arith, slice_index_or}
+use Rattle.std.proofs.Common.{◌≡◌, ◌≢◌, ℕ, zero, suc, ◌<◌, Bool, true, false, List, [], ◌∷◌, ◌++◌, length, refl, sym, ◌∙◌, ap, subst, arith}
+use Rattle.std.proofs.Common.{slice_index_or}
 use Rattle.std.specs.Prelude.{◌==◌, ◌&&◌, ◌||◌, not, nat_lt, if◌then◌else◌, slice_set, min, max}
 use Rattle.std.proofs.lemmas.Bool.Decides.{nat_tests}
 use Rattle.std.proofs.lemmas.List.{get_or-set_other}
@@ -42,7 +43,8 @@ without_parts true x y id ys less is rest = let e : y ≡ x = equal y x is in rw
 without_parts false x y id ys less is rest = by_id (id == y) (id == x) refl refl
   where
     by_id : (a b : Bool) → (id == y) ≡ a → (id == x) ≡ b → (id == y) || has less id ≡ not (id == x) && ((id == y) || has ys id)
-    by_id true true at also = let both : id ≡ y = equal id y at in let other : id ≡ x = equal id x also in absurd (let ne : y ≢ x = grind (arith, nat_tests) in ne (sym both ∙ other))
+    by_id true true at also = let both : id ≡ y = equal id y at in let other : id ≡ x = equal id x also in
+        absurd (let ne : y ≢ x = grind (arith, nat_tests) in ne (sym both ∙ other))
     by_id true false at also = rw (at, also) refl
     by_id false b at also = rw at rest
 
@@ -56,7 +58,8 @@ without_has_all (y ∷ ys) x id = without_parts (y == x) x y id ys (without_id y
 
 -- ---- pairs
 
-pub cut_now : (cuts : List (List ℕ)) (a b c d : ℕ) → c < length cuts → d < length cuts → is_cut (with_pair with_id cuts c d) a b ≡ same_pair a b c d || is_cut cuts a b
+pub cut_now : (cuts : List (List ℕ)) (a b c d : ℕ) → c < length cuts → d < length cuts
+    → is_cut (with_pair with_id cuts c d) a b ≡ same_pair a b c d || is_cut cuts a b
 cut_now cuts a b c d in_c in_d = by_row (min a b == min c d) refl
   where
     by_row : (t : Bool) → (min a b == min c d) ≡ t
@@ -64,14 +67,17 @@ cut_now cuts a b c d in_c in_d = by_row (min a b == min c d) refl
         ≡ (t && max a b == max c d) || is_cut cuts a b
     by_row true is =
         let same : min a b ≡ min c d = equal (min a b) (min c d) is in
-        ap (λ (ids : List ℕ). has ids (max a b)) (get_or-set_at cuts (min c d) (min a b) (with_id (slice_index_or cuts (min c d) []) (max c d)) [] same (omega (arith, in_c, in_d)))
+        ap (λ (ids : List ℕ). has ids (max a b)) (get_or-set_at cuts (min c d) (min a b)
+        (with_id (slice_index_or cuts (min c d) []) (max c d)) [] same (omega (arith, in_c, in_d)))
         ∙ with_has (slice_index_or cuts (min c d) []) (max c d) (max a b)
         ∙ ap (λ (j : ℕ). (max a b == max c d) || has (slice_index_or cuts j []) (max a b)) (sym same)
     by_row false is =
         let ne : min a b ≢ min c d = grind (arith, nat_tests) in
-        ap (λ (ids : List ℕ). has ids (max a b)) (get_or-set_other cuts (min c d) (min a b) (with_id (slice_index_or cuts (min c d) []) (max c d)) [] ne)
+        ap (λ (ids : List ℕ). has ids (max a b)) (get_or-set_other cuts (min c d) (min a b)
+        (with_id (slice_index_or cuts (min c d) []) (max c d)) [] ne)
 
-pub mended_now : (cuts : List (List ℕ)) (a b c d : ℕ) → c < length cuts → d < length cuts → is_cut (with_pair without_id cuts c d) a b ≡ not (same_pair a b c d) && is_cut cuts a b
+pub mended_now : (cuts : List (List ℕ)) (a b c d : ℕ) → c < length cuts → d < length cuts
+    → is_cut (with_pair without_id cuts c d) a b ≡ not (same_pair a b c d) && is_cut cuts a b
 mended_now cuts a b c d in_c in_d = by_row (min a b == min c d) refl
   where
     by_row : (t : Bool) → (min a b == min c d) ≡ t
@@ -79,12 +85,14 @@ mended_now cuts a b c d in_c in_d = by_row (min a b == min c d) refl
         ≡ not (t && max a b == max c d) && is_cut cuts a b
     by_row true is =
         let same : min a b ≡ min c d = equal (min a b) (min c d) is in
-        ap (λ (ids : List ℕ). has ids (max a b)) (get_or-set_at cuts (min c d) (min a b) (without_id (slice_index_or cuts (min c d) []) (max c d)) [] same (omega (arith, in_c, in_d)))
+        ap (λ (ids : List ℕ). has ids (max a b)) (get_or-set_at cuts (min c d) (min a b)
+        (without_id (slice_index_or cuts (min c d) []) (max c d)) [] same (omega (arith, in_c, in_d)))
         ∙ without_has_all (slice_index_or cuts (min c d) []) (max c d) (max a b)
         ∙ ap (λ (j : ℕ). not (max a b == max c d) && has (slice_index_or cuts j []) (max a b)) (sym same)
     by_row false is =
         let ne : min a b ≢ min c d = grind (arith, nat_tests) in
-        ap (λ (ids : List ℕ). has ids (max a b)) (get_or-set_other cuts (min c d) (min a b) (without_id (slice_index_or cuts (min c d) []) (max c d)) [] ne)
+        ap (λ (ids : List ℕ). has ids (max a b)) (get_or-set_other cuts (min c d) (min a b)
+        (without_id (slice_index_or cuts (min c d) []) (max c d)) [] ne)
 
 -- ---- losses
 
@@ -94,7 +102,8 @@ not_lost_yet [] (suc k) = refl
 not_lost_yet (x ∷ lost) zero = refl
 not_lost_yet (x ∷ lost) (suc k) = not_lost_yet lost k
 
-pub lost_now : (lost : List Bool) (j k : ℕ) → slice_index_or (slice_set lost j true) k false ≡ (k == j && nat_lt k (length lost)) || slice_index_or lost k false
+pub lost_now : (lost : List Bool) (j k : ℕ) → slice_index_or (slice_set lost j true) k false
+    ≡ (k == j && nat_lt k (length lost)) || slice_index_or lost k false
 lost_now lost j k = by_number (k == j) (nat_lt k (length lost)) refl refl
   where
     past : (xs : List Bool) (i n : ℕ) → (n < length xs → ⊥) → slice_index_or (slice_set xs i true) n false ≡ slice_index_or xs n false
@@ -104,7 +113,10 @@ lost_now lost j k = by_number (k == j) (nat_lt k (length lost)) refl refl
     past (x ∷ xs) (suc i) zero beyond = refl
     past (x ∷ xs) (suc i) (suc n) beyond = past xs i n (λ lt. beyond (omega (arith, lt)))
 
-    by_number : (t u : Bool) → (k == j) ≡ t → nat_lt k (length lost) ≡ u → slice_index_or (slice_set lost j true) k false ≡ (t && u) || slice_index_or lost k false
-    by_number true true is there = let same : k ≡ j = equal k j is in let lt : k < length lost = grind (arith, nat_tests) in get_or-set_at lost j k true false same (subst (λ (n : ℕ). n < length lost) same lt)
-    by_number true false is there = past lost j k (λ lt. (let yes_it : nat_lt k (length lost) ≡ true = grind (arith, nat_tests) in absurd cc (there, yes_it)))
+    by_number : (t u : Bool) → (k == j) ≡ t → nat_lt k (length lost) ≡ u
+        → slice_index_or (slice_set lost j true) k false ≡ (t && u) || slice_index_or lost k false
+    by_number true true is there = let same : k ≡ j = equal k j is in let lt : k < length lost = grind (arith, nat_tests) in
+        get_or-set_at lost j k true false same (subst (λ (n : ℕ). n < length lost) same lt)
+    by_number true false is there = past lost j k (λ lt. (let yes_it : nat_lt k (length lost) ≡ true = grind (arith, nat_tests) in
+        absurd cc (there, yes_it)))
     by_number false u is there = let ne : k ≢ j = grind (arith, nat_tests) in get_or-set_other lost j k true false ne

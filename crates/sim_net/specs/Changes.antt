@@ -1,6 +1,7 @@
 -- All that was done with a network, and what it says of each number: delivery as a function of what was done, not of what
 -- is kept.
-use Rattle.std.specs.Prelude.{ℕ, suc, min, max, ◌≡◌, ◌<◌, Bool, false, not, ◌&&◌, ◌||◌, ◌==◌, nat_lt, List, [], ◌∷◌, if◌then◌else◌, slice_get, Option, Some, None, Result, Ok, Err}
+use Rattle.std.specs.Prelude.{ℕ, suc, min, max, ◌≡◌, ◌<◌, Bool, false, not, ◌&&◌, ◌||◌, ◌==◌, nat_lt, List, [], ◌∷◌, if◌then◌else◌}
+use Rattle.std.specs.Prelude.{slice_get, Option, Some, None, Result, Ok, Err}
 use Rattle.group_task.specs.declared.node.TheConstants.{NODES}
 use Rattle.wire_msg.specs.Envelope.{Envelope}
 use Rattle.sim_net.specs.declared.fault.NetFault.{NetFault}
@@ -74,4 +75,5 @@ AreOfNodes (Mends a b ∷ cs) = (a < NODES) × (b < NODES) × AreOfNodes cs
 -- NoSuch exactly where no message has the number; else Lost exactly where it was lost before; else Cut exactly where the
 -- last cut or mend of its two nodes is a cut; else the message comes
 abbrev pub DeliveredByChanges : Type 0
-DeliveredByChanges = (changes : List Change) → AreOfNodes changes → (k : ℕ) → delivery (after_changes silent changes) k ≡ delivered changes k
+DeliveredByChanges = (changes : List Change) → AreOfNodes changes → (k : ℕ)
+    → delivery (after_changes silent changes) k ≡ delivered changes k

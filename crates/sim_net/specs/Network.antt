@@ -1,5 +1,6 @@
 -- What the network keeps, and what comes of asking it for a message.
-use Rattle.std.specs.Prelude.{ℕ, Bool, true, false, min, max, List, [], ◌∷◌, ◌++◌, map, replicate, if◌then◌else◌, slice_get, slice_set, slice_index_or, Some, None, Result, Ok, Err}
+use Rattle.std.specs.Prelude.{ℕ, Bool, true, false, min, max, List, [], ◌∷◌, ◌++◌, map, replicate, if◌then◌else◌, slice_get, slice_set}
+use Rattle.std.specs.Prelude.{slice_index_or, Some, None, Result, Ok, Err}
 use Rattle.group_task.specs.Ids.{has, with_id, without_id}
 use Rattle.group_task.specs.declared.node.TheConstants.{NODES}
 use Rattle.wire_msg.specs.Envelope.{Envelope}

@@ -40,12 +40,16 @@ pub erased_run : (first slots erased : ℕ) (old mid new : DiskState) → erased
 erased_run first slots erased old mid new less so_far run =
     run_on (InSlots first slots) (λ k is. (omega (arith, is), omega (arith, is, less))) so_far.honest so_far.run run
 
-others_kept : (first erased k : ℕ) (mid new : DiskState) → k < erased → Run (λ j. j ≡ first + 2 * erased + 1) mid new → slot_at new.contents (first + 2 * k) ≡ slot_at mid.contents (first + 2 * k)
+others_kept : (first erased k : ℕ) (mid new : DiskState) → k < erased → Run (λ j. j ≡ first + 2 * erased + 1) mid new
+    → slot_at new.contents (first + 2 * k) ≡ slot_at mid.contents (first + 2 * k)
 others_kept first erased k mid new less run =
-    slot_same new.contents mid.contents (first + 2 * k) (run.contents.same (first + 2 * k + 1) (λ is. omega (arith, is, less))) (run.contents.same (first + 2 * k) (λ is. omega (arith, is, less)))
+    slot_same new.contents mid.contents (first + 2 * k) (run.contents.same (first + 2 * k + 1) (λ is. omega (arith, is, less)))
+    (run.contents.same (first + 2 * k) (λ is. omega (arith, is, less)))
 
-pub erased_more : (first slots erased : ℕ) (old mid new : DiskState) (failed done : Type 0) → done → erased < slots → Erased first slots old mid erased → Counts mid new failed done
-    → (IsTrue mid.honest → Run (λ k. k ≡ first + 2 * erased + 1) mid new) → (IsTrue mid.honest → slot_at new.contents (first + 2 * erased) ≡ None) → Erased first slots old new (erased + 1)
+pub erased_more : (first slots erased : ℕ) (old mid new : DiskState) (failed done : Type 0) → done → erased < slots
+    → Erased first slots old mid erased → Counts mid new failed done
+    → (IsTrue mid.honest → Run (λ k. k ≡ first + 2 * erased + 1) mid new)
+    → (IsTrue mid.honest → slot_at new.contents (first + 2 * erased) ≡ None) → Erased first slots old new (erased + 1)
 erased_more first slots erased old mid new failed done ok less so_far counts run none = record {
   sectors = counts.sectors ∙ so_far.sectors;
   honest = counts.honest ∙ so_far.honest;
@@ -53,5 +57,6 @@ erased_more first slots erased old mid new failed done ok less so_far counts run
   failures = counts.unchanged ok ∙ so_far.failures;
   run = erased_run first slots erased old mid new less so_far run;
   unsealed = λ honest. (let still = subst (λ b. IsTrue b) (sym so_far.honest) honest in
-      below_more (λ k. slot_at new.contents (first + 2 * k) ≡ None) erased (λ k before. others_kept first erased k mid new before (run still) ∙ so_far.unsealed honest k before) (none still));
+      below_more (λ k. slot_at new.contents (first + 2 * k) ≡ None) erased (λ k before.
+      others_kept first erased k mid new before (run still) ∙ so_far.unsealed honest k before) (none still));
 }

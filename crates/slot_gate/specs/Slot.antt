@@ -1,5 +1,6 @@
 -- A slot is a body sector and the gate sector behind it. The first byte of the gate says whether it is sealed.
-use Rattle.std.specs.Prelude.{◌≡◌, ◌⊎◌, ℕ, ◌+◌, ◌*◌, ◌<◌, ◌≤◌, ◌^◌, List, ◌∷◌, get_or, replicate, Bool, ◌==◌, Option, Some, None, if◌then◌else◌}
+use Rattle.std.specs.Prelude.{◌≡◌, ◌⊎◌, ℕ, ◌+◌, ◌*◌, ◌<◌, ◌≤◌, ◌^◌, List, ◌∷◌, get_or, replicate, Bool, ◌==◌, Option, Some, None}
+use Rattle.std.specs.Prelude.{if◌then◌else◌}
 use Rattle.sector_disk.specs.Disk.{Image, DiskState, sector_at}
 
 -- the gate's first byte is 0xA5; its other bytes aren't looked at

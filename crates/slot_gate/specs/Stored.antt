@@ -23,7 +23,8 @@ IsStored body was now = (now ≡ was) ⊎ (now ≡ None) ⊎ (now ≡ Some body)
 
 -- An image follows from one of the old disk: it differs from that one in these sectors at most, and this step
 -- leads from what that one has in the slot to what it has there itself.
-pub record Follows (touched : ℕ → Type 0) (old : DiskState) (slot : ℕ) (Step : Option (List ℕ) → Option (List ℕ) → Type 0) (c : Image) : Type 0 where
+pub record Follows (touched : ℕ → Type 0) (old : DiskState) (slot : ℕ) (Step : Option (List ℕ) → Option (List ℕ) → Type 0) (c : Image) :
+    Type 0 where
   pub from : Image
   pub image : IsImage old from
   pub same : SameBut touched from c

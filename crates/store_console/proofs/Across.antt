@@ -14,11 +14,14 @@ use Rattle.store_console.specs.Held.{journal_of, jobs_or_damage}
 same_slots : (at n : ℕ) (d c : Image) → ((k : ℕ) → at ≤ k → sector_at c k ≡ sector_at d k) → slots_from c at n ≡ slots_from d at n
 same_slots at zero d c same = refl
 same_slots at (suc n) d c same = λ i.
-    slot_same c d at (same (at + 1) (omega arith)) (same at (omega arith)) i ∷ same_slots (at + 2) n d c (λ k low. same k (omega (arith, low))) i
+    slot_same c d at (same (at + 1) (omega arith)) (same at (omega arith)) i ∷ same_slots (at + 2) n d c (λ k low.
+    same k (omega (arith, low))) i
 
-same_replay : (slots first : ℕ) (d c : Image) → 8 ≤ first → ((k : ℕ) → 8 ≤ k → sector_at c k ≡ sector_at d k) → replay_from slots c first ≡ replay_from slots d first
+same_replay : (slots first : ℕ) (d c : Image) → 8 ≤ first → ((k : ℕ) → 8 ≤ k → sector_at c k ≡ sector_at d k)
+    → replay_from slots c first ≡ replay_from slots d first
 same_replay slots first d c behind same =
-    ap (λ ys. replayed slots first (Reads fresh) (sealed_prefix ys)) (same_slots first slots d c (λ k low. same k (omega (arith, low, behind))))
+    ap (λ ys. replayed slots first (Reads fresh) (sealed_prefix ys))
+    (same_slots first slots d c (λ k low. same k (omega (arith, low, behind))))
 
 area_by : (slots value : ℕ) (b : Bool) → value ≡ (if b then 2 else 1) → area_of slots (Some value) ≡ Some (if b then 8 + 2 * slots else 8)
 area_by slots value true is = ap (λ v. area_of slots (Some v)) is
@@ -36,4 +39,5 @@ other_read slots first old new but has =
     let area = ap (area_of slots) value ∙ area_by slots (value_across first) (first == 8) refl in
     let whole = whole_slots 4 (value_across first) (slot_at c 4) (slot_at c 6) value in
     let same : (k : ℕ) → 8 ≤ k → sector_at c k ≡ sector_at old.contents k = λ k low. but.same k (λ within. grind (arith, within, low)) in
-    (λ i. jobs_or_damage (replay_by slots c (whole i) (area i))) ∙ ap jobs_or_damage (same_replay slots (across slots first) old.contents c (behind_cells slots (first == 8)) same)
+    (λ i. jobs_or_damage (replay_by slots c (whole i) (area i)))
+    ∙ ap jobs_or_damage (same_replay slots (across slots first) old.contents c (behind_cells slots (first == 8)) same)

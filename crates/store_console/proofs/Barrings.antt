@@ -1,5 +1,6 @@
 -- What is answered where a file isn't had, or no store is mounted of it.
-use Rattle.std.proofs.Common.{◌≡◌, ◌<◌, ◌↔◌, ℕ, List, Option, Some, None, Result, Ok, Err, IfOk, IfErr, IsFalse, arith, refl, sym, subst, ◌∙◌, ap, inl, inr}
+use Rattle.std.proofs.Common.{◌≡◌, ◌<◌, ◌↔◌, ℕ, List, Option, Some, None, Result, Ok, Err, IfOk, IfErr, IsFalse, arith, refl, sym, subst}
+use Rattle.std.proofs.Common.{◌∙◌, ap, inl, inr}
 use Rattle.std.specs.declared.io.Error.{Error}
 use Rattle.sector_disk.specs.Disk.{Counts}
 use Rattle.file_disk.specs.File.{FileState, state_of, unfailed}
@@ -111,11 +112,14 @@ store_of disk store whole counts small = record {
   slots = whole.1;
 }
 
-pub settles_labelled : (disk : FileState) (label : Result (Option (List ℕ)) Error) (mounting : Result (StoreState FileState) (MountFault FileState))
+pub settles_labelled : (disk : FileState) (label : Result (Option (List ℕ)) Error)
+    (mounting : Result (StoreState FileState) (MountFault FileState))
     (settled : Result (StoreState FileState) Reply)
-    → IsBarBy label None → Settles mounting settled → IfOk mounting (λ store. IsFalse store.broken × (store.journal.slots ≡ slots_for disk.sectors))
+    → IsBarBy label None → Settles mounting settled → IfOk mounting (λ store. IsFalse store.broken
+    × (store.journal.slots ≡ slots_for disk.sectors))
     → IfErr mounting (λ refused. IsMountFault refused.fault)
-    → Counts (state_of disk) (state_of (disk_of mounting)) (IsRefusedWith StoreFault.Device mounting) (IsRefusedWith StoreFault.Device mounting → ⊥)
+    → Counts (state_of disk) (state_of (disk_of mounting)) (IsRefusedWith StoreFault.Device mounting)
+    (IsRefusedWith StoreFault.Device mounting → ⊥)
     → (IsRefusedWith StoreFault.TooSmall mounting ↔ (disk.sectors < 24))
     → MountsLabelled disk label settled
 settles_labelled disk label (Ok store) (Ok same) none is whole may counts small =
@@ -125,28 +129,36 @@ settles_labelled disk label (Err refused) (Ok store) none is whole may counts sm
 settles_labelled disk label (Err refused) (Err answered) none is whole may counts small =
     inr (none, record { fault = refused.fault; may = may; small = small; answers = is })
 
-fresh_labelled : (disk : FileState) (label : Result (Option (List ℕ)) Error) (store : StoreState FileState) → disk ≡ unfailed disk.sectors Packed
+fresh_labelled : (disk : FileState) (label : Result (Option (List ℕ)) Error) (store : StoreState FileState)
+    → disk ≡ unfailed disk.sectors Packed
     → MountsLabelled disk label (Ok store) → IsFresh store
-fresh_labelled disk label store fresh is = record { whole = is.1.whole; unfailed = is.1.unfailed ∙ ap (λ (d : FileState). d.failures) fresh }
+fresh_labelled disk label store fresh is = record {
+  whole = is.1.whole;
+  unfailed = is.1.unfailed
+      ∙ ap (λ (d : FileState). d.failures) fresh;
+}
 
 refused_labelled : (disk : FileState) (label : Result (Option (List ℕ)) Error) (answered : Reply)
     → MountsLabelled disk label (Err answered) → IsUnmounted answered
 refused_labelled disk label answered (inl is) = bar_unmounted label answered is
 refused_labelled disk label answered (inr is) = answer_unmounted is.1.fault answered is.1.answers is.1.may
 
-mounts_at : (opened : Result FileState OpenFault) (mounting : Result (StoreState FileState) Reply) → IfOk opened (λ disk. disk ≡ unfailed disk.sectors Packed)
+mounts_at : (opened : Result FileState OpenFault) (mounting : Result (StoreState FileState) Reply)
+    → IfOk opened (λ disk. disk ≡ unfailed disk.sectors Packed)
     → MountsOpened opened mounting → IfOk mounting IsFresh × IfErr mounting IsUnmounted
 mounts_at (Err f) (Ok store) fresh is = absurd is
 mounts_at (Err f) (Err answered) fresh is = (tt, barred_unmounted f answered is)
 mounts_at (Ok disk) (Ok store) fresh is = (fresh_labelled disk is.0 store fresh is.1, tt)
 mounts_at (Ok disk) (Err answered) fresh is = (tt, refused_labelled disk is.0 answered is.1)
 
-taken_at : (mounting : Result (StoreState FileState) Reply) (answered : Reply) (new : Mounted) → IfOk mounting IsFresh × IfErr mounting IsUnmounted
+taken_at : (mounting : Result (StoreState FileState) Reply) (answered : Reply) (new : Mounted)
+    → IfOk mounting IsFresh × IfErr mounting IsUnmounted
     → Takes mounting answered new → IsMounted answered new
 taken_at (Ok store) answered new is takes = subst (λ (m : Mounted). IsMounted answered m) (sym takes.1) (takes.0, is.0)
 taken_at (Err why) answered new is takes =
     subst (λ (m : Mounted). IsMounted answered m) (sym takes.1) (subst (λ (r : Reply). IsUnmounted r) (sym takes.0) is.1)
 
 pub mounts_taken : (opened : Result FileState OpenFault) (mounting : Result (StoreState FileState) Reply) (answered : Reply) (new : Mounted)
-    → IfOk opened (λ disk. disk ≡ unfailed disk.sectors Packed) → MountsOpened opened mounting → Takes mounting answered new → IsMounted answered new
+    → IfOk opened (λ disk. disk ≡ unfailed disk.sectors Packed) → MountsOpened opened mounting → Takes mounting answered new
+    → IsMounted answered new
 mounts_taken opened mounting answered new fresh is takes = taken_at mounting answered new (mounts_at opened mounting fresh is) takes

@@ -1,5 +1,6 @@
 -- What a mounting answers of the parts of a store, as what is found there.
-use Rattle.std.proofs.Common.{◌≡◌, ◌+◌, ◌<◌, ◌≤◌, ◌⊎◌, ⊎_elim, ℕ, zero, suc, length, List, ◌∷◌, Option, Some, None, Result, Ok, Err, IfOk, IsErrOf, is_none, nat_lt, true, false, if◌then◌else◌}
+use Rattle.std.proofs.Common.{◌≡◌, ◌+◌, ◌<◌, ◌≤◌, ◌⊎◌, ⊎_elim, ℕ, zero, suc, length, List, ◌∷◌, Option, Some, None, Result, Ok, Err, IfOk}
+use Rattle.std.proofs.Common.{IsErrOf, is_none, nat_lt, true, false, if◌then◌else◌}
 use Rattle.std.proofs.Common.{sym, ◌∙◌, ap, refl, arith}
 use Rattle.std.proofs.lemmas.Bool.Decides.{nat_tests}
 use Rattle.std.specs.declared.alloc.AllocError.{AllocError}
@@ -51,10 +52,12 @@ unmarked (Some body) whole = unmarked_by body (body_value body) refl whole
 damage_first : (a b : Option (List ℕ)) (value : Option ℕ) → is_damaged a ≡ true → counter_by (damage_of 0 a b) value ≡ Damaged 0
 damage_first a b value is = ap (λ t. counter_by (if t then Some 0 else (if is_damaged b then Some 2 else None)) value) is
 
-damage_second : (a b : Option (List ℕ)) (value : Option ℕ) → is_damaged a ≡ false → is_damaged b ≡ true → counter_by (damage_of 0 a b) value ≡ Damaged 2
+damage_second : (a b : Option (List ℕ)) (value : Option ℕ) → is_damaged a ≡ false → is_damaged b ≡ true
+    → counter_by (damage_of 0 a b) value ≡ Damaged 2
 damage_second a b value whole is = λ i. counter_by (if whole i then Some 0 else (if is i then Some 2 else None)) value
 
-pub damage_found : (image : Image) (k : ℕ) → (k ≡ 0) ⊎ (k ≡ 2) → (k ≡ 0 → IsDamaged (slot_at image 0)) → (k ≡ 2 → (IsDamaged (slot_at image 0) → ⊥) × IsDamaged (slot_at image 2))
+pub damage_found : (image : Image) (k : ℕ) → (k ≡ 0) ⊎ (k ≡ 2) → (k ≡ 0 → IsDamaged (slot_at image 0))
+    → (k ≡ 2 → (IsDamaged (slot_at image 0) → ⊥) × IsDamaged (slot_at image 2))
     → counter_of image ≡ Damaged k
 damage_found image k which first second =
     let a = slot_at image 0 in
@@ -69,9 +72,11 @@ no_value (Some v) none = absurd (none v refl)
 
 -- a cell that isn't mounted has no value
 pub no_cell : (image : Image) (at : ℕ) (fault other : CellFault) → fault ≡ other → (other ≡ CellFault.Device → ⊥)
-    → ((IsErrOf {T = CellState} {E = CellFault} (Err fault) CellFault.Device → ⊥) → Cells.AnswersFor at image (Err fault)) → None ≡ cell_at image at
+    → ((IsErrOf {T = CellState} {E = CellFault} (Err fault) CellFault.Device → ⊥) → Cells.AnswersFor at image (Err fault))
+    → None ≡ cell_at image at
 no_cell image at fault other is else_where answered =
-    sym (no_value (cell_at image at) (λ v has. ((answered (λ same. let device : other ≡ CellFault.Device = cc (same, is) in else_where device)).value v).1 has))
+    sym (no_value (cell_at image at) (λ v has. ((answered (λ same. let device : other ≡ CellFault.Device = cc (same, is) in
+    else_where device)).value v).1 has))
 
 -- ---- the journal
 
@@ -79,11 +84,14 @@ jobs_or : (replay : Replay) (jobs : Jobs) → jobs_by replay ≡ Some jobs → j
 jobs_or (Reads reading) jobs is = cc
 jobs_or (Damage sector) jobs is = absurd cc
 
-pub jobs_found : (slots : ℕ) (image : Image) (journal : JournalState) → AnswersFor slots image (Ok journal) → Ok (jobs_of journal.table) ≡ journal_of slots image
-jobs_found slots image journal answered = sym (jobs_or (replay_in slots image) (jobs_of journal.table) ((answered.jobs (jobs_of journal.table)).0 refl))
+pub jobs_found : (slots : ℕ) (image : Image) (journal : JournalState) → AnswersFor slots image (Ok journal)
+    → Ok (jobs_of journal.table) ≡ journal_of slots image
+jobs_found slots image journal answered = sym (jobs_or (replay_in slots image) (jobs_of journal.table)
+    ((answered.jobs (jobs_of journal.table)).0 refl))
 
 pub journal_damage : (slots : ℕ) (image : Image) (fault : JournalFault) (sector : ℕ) → fault ≡ JournalFault.Damaged sector
-    → ((IsErrOf {T = JournalState} {E = JournalFault} (Err fault) JournalFault.Device → ⊥) → (IsErrOf {T = JournalState} {E = JournalFault} (Err fault) JournalFault.NoMemory → ⊥)
+    → ((IsErrOf {T = JournalState} {E = JournalFault} (Err fault) JournalFault.Device → ⊥)
+    → (IsErrOf {T = JournalState} {E = JournalFault} (Err fault) JournalFault.NoMemory → ⊥)
     → AnswersFor slots image (Err fault))
     → Err sector ≡ journal_of slots image
 journal_damage slots image fault sector is answered =
@@ -108,23 +116,37 @@ none_sealed image at (suc n) is = ap (λ s. length (sealed_prefix (s ∷ slots_f
 
 -- ---- all of it
 
-pub found_is : (owner : Owner) (image : Image) (slots used : ℕ) (counter : Counter) (journal : Result Jobs ℕ) → slots ≡ slots_for (length image)
-    → used ≡ used_in slots image → counter ≡ counter_of image → journal ≡ journal_of slots image → found_text owner slots used counter journal ≡ held_text All owner image
+pub found_is : (owner : Owner) (image : Image) (slots used : ℕ) (counter : Counter) (journal : Result Jobs ℕ)
+    → slots ≡ slots_for (length image)
+    → used ≡ used_in slots image → counter ≡ counter_of image → journal ≡ journal_of slots image
+    → found_text owner slots used counter journal ≡ held_text All owner image
 found_is owner image slots used counter journal s u k j =
     λ i. found_text owner (s i) ((u ∙ ap (λ n. used_in n image) s) i) (k i) ((j ∙ ap (λ n. journal_of n image) s) i)
 
 -- of a disk that is large enough
-pub shown_held : (shown : Shown) (bytes : List ℕ) (image : Image) (result : Result Output AllocError) → IsHeldBy bytes image → 24 ≤ length image
+pub shown_held : (shown : Shown) (bytes : List ℕ) (image : Image) (result : Result Output AllocError) → IsHeldBy bytes image
+    → 24 ≤ length image
     → IfOk result (λ p. printout_of p ≡ held_text shown (owner_of bytes) image) → IfOk result (λ p. IsShown shown bytes (printout_of p))
 shown_held shown bytes image (Err e) held large is = tt
 shown_held shown bytes image (Ok p) held large is =
     let enough : nat_lt (length image) 24 ≡ false = grind (arith, nat_tests, large) in
-    record { image = image; held = held; printed = is ∙ sym (ap (λ b. if b then too_small (length image) else held_text shown (owner_of bytes) image) enough) }
+    record {
+      image = image;
+      held = held;
+      printed = is ∙ sym (ap (λ b. if b then too_small (length image)
+          else held_text shown (owner_of bytes) image) enough);
+    }
 
 -- of one that isn't
-pub shown_small : (shown : Shown) (bytes : List ℕ) (image : Image) (result : Result Output AllocError) → IsHeldBy bytes image → length image < 24
+pub shown_small : (shown : Shown) (bytes : List ℕ) (image : Image) (result : Result Output AllocError) → IsHeldBy bytes image
+    → length image < 24
     → IfOk result (λ p. printout_of p ≡ too_small (length image)) → IfOk result (λ p. IsShown shown bytes (printout_of p))
 shown_small shown bytes image (Err e) held few is = tt
 shown_small shown bytes image (Ok p) held few is =
     let small : nat_lt (length image) 24 ≡ true = grind (arith, nat_tests, few) in
-    record { image = image; held = held; printed = is ∙ sym (ap (λ b. if b then too_small (length image) else held_text shown (owner_of bytes) image) small) }
+    record {
+      image = image;
+      held = held;
+      printed = is ∙ sym (ap (λ b. if b then too_small (length image)
+          else held_text shown (owner_of bytes) image) small);
+    }

@@ -22,4 +22,9 @@ pub salvage_held : (bytes : List ℕ) (image : Image) (result : Result CommandEr
 salvage_held bytes image (Err e) held large is = tt
 salvage_held bytes image (Ok explained) held large is =
     let enough : nat_lt (length image) 24 ≡ false = grind (arith, nat_tests, large) in
-    record { image = image; held = held; salvaged = subst (λ b. IsSalvagedOr b image (printout_of explained.printout) explained.why.items) (sym enough) is }
+    record {
+      image = image;
+      held = held;
+      salvaged = subst (λ b. IsSalvagedOr b image (printout_of explained.printout) explained.why.items)
+          (sym enough) is;
+    }

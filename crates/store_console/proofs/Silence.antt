@@ -14,7 +14,8 @@ none_first sector (Some body ∷ slots) = (λ none. absurd cc, λ no. absurd no)
 -- by the first slot
 by_slot : (n : ℕ) (image : Image) (at : ℕ) (slot : Option (List ℕ)) → slot_at image at ≡ slot
     → ((sealed_behind n image (at + 2) ≡ None) ↔ IsPrefix (slots_from image (at + 2) n))
-    → (sealed_past (suc n) image at (length (sealed_prefix (slot ∷ slots_from image (at + 2) n))) ≡ None) ↔ IsPrefix (slot ∷ slots_from image (at + 2) n)
+    → (sealed_past (suc n) image at (length (sealed_prefix (slot ∷ slots_from image (at + 2) n)))
+    ≡ None) ↔ IsPrefix (slot ∷ slots_from image (at + 2) n)
 by_slot n image at None is later =
     let rest = slots_from image (at + 2) n in
     let here : (first_sealed at (slots_from image at (suc n)) ≡ None) ↔ AllUnsealed rest =

@@ -15,7 +15,8 @@ passed_over image at next left fewer is count here =
     ∙ ap (λ a. first_sealed a (slots_from image a fewer)) (sym is)
 
 -- one that is
-pub found_here : (image : Image) (at left fewer : ℕ) (body : List ℕ) → left ≡ suc fewer → slot_at image at ≡ Some body → first_sealed at (slots_from image at left) ≡ Some at
+pub found_here : (image : Image) (at left fewer : ℕ) (body : List ℕ) → left ≡ suc fewer → slot_at image at ≡ Some body
+    → first_sealed at (slots_from image at left) ≡ Some at
 found_here image at left fewer body count here =
     ap (λ n. first_sealed at (slots_from image at n)) count ∙ ap (λ s. first_sealed at (s ∷ slots_from image (at + 2) fewer)) here
 
@@ -24,6 +25,7 @@ pub none_left : (image : Image) (at left : ℕ) → left ≡ 0 → first_sealed 
 none_left image at left none = ap (λ n. first_sealed at (slots_from image at n)) none
 
 -- what one more slot gives
-pub one_content : (image : Image) (at next left fewer : ℕ) → next ≡ at + 2 → left ≡ suc fewer → contents_from image at left ≡ content_at image at ∷ contents_from image next fewer
+pub one_content : (image : Image) (at next left fewer : ℕ) → next ≡ at + 2 → left ≡ suc fewer
+    → contents_from image at left ≡ content_at image at ∷ contents_from image next fewer
 one_content image at next left fewer is count =
     ap (λ n. contents_from image at n) count ∙ ap (λ a. content_at image at ∷ contents_from image a fewer) (sym is)

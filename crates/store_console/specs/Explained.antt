@@ -13,7 +13,8 @@ apart (c ∷ before) = 10 ∷ codes "invite: "
 -- the line's number, the word for why, and words of the system
 abbrev pub IsSaid : List ℕ → ℕ → OpenFault → List ℕ → Type 0
 IsSaid before number fault after =
-    (words : List ℕ) × (after ≡ before ++ (apart before ++ (codes "line " ++ decimal number ++ codes ": " ++ kind_text fault ++ codes ": " ++ words)))
+    (words : List ℕ) × (after ≡ before ++ (apart before ++ (codes "line " ++ decimal number ++ codes ": " ++ kind_text fault ++ codes ": "
+    ++ words)))
 
 -- behind the reasons before it: nothing is said where the file could be had, or where the answer says it all
 abbrev pub Explains : List ℕ → ℕ → Reply → List ℕ → Type 0

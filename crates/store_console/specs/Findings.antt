@@ -1,5 +1,6 @@
 -- What a store's own bytes show of rot: what no crash leaves, and what may tell of an older state.
-use Rattle.std.specs.Prelude.{ℕ, ◌+◌, ◌-◌, ◌*◌, ◌==◌, ◌&&◌, ◌||◌, nat_lt, not, Bool, true, false, List, [], ◌∷◌, ◌++◌, length, flat_map, bytes_eq, if◌then◌else◌, Option, Some, None, Result, Ok, Err}
+use Rattle.std.specs.Prelude.{ℕ, ◌+◌, ◌-◌, ◌*◌, ◌==◌, ◌&&◌, ◌||◌, nat_lt, not, Bool, true, false, List, [], ◌∷◌, ◌++◌, length, flat_map}
+use Rattle.std.specs.Prelude.{bytes_eq, if◌then◌else◌, Option, Some, None, Result, Ok, Err}
 use Rattle.std.specs.List.{list_any}
 use Rattle.job_model.specs.declared.job.Job.{Job}
 use Rattle.job_model.specs.declared.work.Work.{Work}
@@ -14,7 +15,8 @@ use Rattle.store_console.specs.declared.found.Counter.{Counter}
 use Rattle.store_console.specs.declared.found.Counter.TheVariants.{Missing, Value, Damaged}
 use Rattle.store_console.specs.Held.{counter_of, journal_of, jobs_or_damage}
 use Rattle.store_console.specs.declared.findings.Finding.{Finding}
-use Rattle.store_console.specs.declared.findings.Finding.TheVariants.{CounterSlots, AreaSlots, CounterUnsealed, SealedBehind, OtherAreaNextId, JobDiffers}
+use Rattle.store_console.specs.declared.findings.Finding.TheVariants.{CounterSlots, AreaSlots, CounterUnsealed, SealedBehind}
+use Rattle.store_console.specs.declared.findings.Finding.TheVariants.{OtherAreaNextId, JobDiffers}
 
 -- ---- cells
 
@@ -135,7 +137,8 @@ journal_findings (Ok here) (Ok other) = listed (next_finding here.next other.nex
 abbrev pub area_findings : ℕ → Image → Option ℕ → List Finding
 area_findings slots image None = []
 area_findings slots image (Some first) =
-    listed (behind_finding (sealed_behind slots image first)) ++ journal_findings (journal_of slots image) (journal_from slots image (across slots first))
+    listed (behind_finding (sealed_behind slots image first)) ++ journal_findings (journal_of slots image)
+    (journal_from slots image (across slots first))
 
 abbrev pub findings_in : ℕ → Image → List Finding
 findings_in slots image =

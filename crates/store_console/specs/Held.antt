@@ -1,5 +1,6 @@
 -- What the bytes of a file hold.
-use Rattle.std.specs.Prelude.{◌≡◌, ◌↔◌, ◌⊎◌, ◌<◌, ℕ, ◌*◌, ◌/◌, ◌%◌, ◌==◌, ◌||◌, Bool, List, ◌∷◌, ◌++◌, length, take, drop, get_or, replicate, bytes_eq, codes, Option, Some, None, Result, Ok, Err, if◌then◌else◌}
+use Rattle.std.specs.Prelude.{◌≡◌, ◌↔◌, ◌⊎◌, ◌<◌, ℕ, ◌*◌, ◌/◌, ◌%◌, ◌==◌, ◌||◌, Bool, List, ◌∷◌, ◌++◌, length, take, drop, get_or}
+use Rattle.std.specs.Prelude.{replicate, bytes_eq, codes, Option, Some, None, Result, Ok, Err, if◌then◌else◌}
 use Rattle.file_disk.specs.File.{bytes_of}
 use Rattle.file_disk.specs.Label.{IsSpaced, mark_in, marked_label, slots_in}
 use Rattle.file_disk.specs.declared.stride.Stride.{Stride}
@@ -54,7 +55,8 @@ is_marked label id nodes stride = bytes_eq label (marked_label id nodes stride (
 -- it is one of node `id` of so many
 abbrev pub is_label : List ℕ → ℕ → ℕ → Bool
 is_label label id nodes =
-    bytes_eq label (label_for id nodes 0) || bytes_eq label (label_for id nodes 1) || is_marked label id nodes Packed || is_marked label id nodes Spaced
+    bytes_eq label (label_for id nodes 0) || bytes_eq label (label_for id nodes 1) || is_marked label id nodes Packed
+    || is_marked label id nodes Spaced
 
 abbrev pub labelled : List ℕ → Owner
 labelled label = if is_label label (get_or label 9 0) (get_or label 10 0) then Node (get_or label 9 0) (get_or label 10 0) else Unknown

@@ -1,5 +1,6 @@
 -- What is printed of a file.
-use Rattle.std.specs.Prelude.{◌≡◌, ℕ, ◌==◌, ◌&&◌, nat_lt, not, List, [], ◌++◌, length, flat_map, count_by, Bool, true, false, codes, decimal, Result, Ok, Err, if◌then◌else◌}
+use Rattle.std.specs.Prelude.{◌≡◌, ℕ, ◌==◌, ◌&&◌, nat_lt, not, List, [], ◌++◌, length, flat_map, count_by, Bool, true, false, codes}
+use Rattle.std.specs.Prelude.{decimal, Result, Ok, Err, if◌then◌else◌}
 use Rattle.std.specs.List.{list_any, range_with_len}
 use Rattle.job_model.specs.declared.job.Job.{Job}
 use Rattle.job_model.specs.declared.queue.TheConstants.{QUEUES}
@@ -15,7 +16,8 @@ use Rattle.store_console.specs.declared.found.Owner.TheVariants.{Store, Node, Un
 use Rattle.store_console.specs.declared.inspecting.Shown.{Shown}
 use Rattle.store_console.specs.declared.inspecting.Shown.TheVariants.{All, Verified, Jobs as Listed}
 use Rattle.store_console.specs.declared.findings.Finding.{Finding}
-use Rattle.store_console.specs.declared.findings.Finding.TheVariants.{CounterSlots, AreaSlots, CounterUnsealed, SealedBehind, OtherAreaNextId, JobDiffers}
+use Rattle.store_console.specs.declared.findings.Finding.TheVariants.{CounterSlots, AreaSlots, CounterUnsealed, SealedBehind}
+use Rattle.store_console.specs.declared.findings.Finding.TheVariants.{OtherAreaNextId, JobDiffers}
 use Rattle.store_console.specs.Findings.{findings_in, is_broken}
 use Rattle.store_console.specs.Held.{IsHeldBy, owner_of, counter_of, journal_of, used_in}
 
@@ -106,7 +108,8 @@ export_text (Err sector) = refused (codes "damaged_journal " ++ decimal sector)
 
 -- all that a disk holds with as many sectors as a store has
 abbrev pub all_text : Owner → Image → Printout
-all_text owner image = found_text owner (slots_for (length image)) (used_in (slots_for (length image)) image) (counter_of image) (journal_of (slots_for (length image)) image)
+all_text owner image = found_text owner (slots_for (length image)) (used_in (slots_for (length image)) image) (counter_of image)
+    (journal_of (slots_for (length image)) image)
 
 -- what is printed of such a disk
 abbrev pub held_text : Shown → Owner → Image → Printout

@@ -1,5 +1,6 @@
 -- What a request is answered, by what is mounted.
-use Rattle.std.specs.Prelude.{◌≡◌, ◌⊎◌, ◌<◌, ℕ, ◌-◌, ◌^◌, List, [], ◌++◌, flat_map, Bool, true, false, Option, Some, None, IsTrue, IsFalse, Result, Ok, Err, codes, decimal}
+use Rattle.std.specs.Prelude.{◌≡◌, ◌⊎◌, ◌<◌, ℕ, ◌-◌, ◌^◌, List, [], ◌++◌, flat_map, Bool, true, false, Option, Some, None, IsTrue, IsFalse}
+use Rattle.std.specs.Prelude.{Result, Ok, Err, codes, decimal}
 use Rattle.job_model.specs.declared.node_command.NodeCommand.{NodeCommand as Command}
 use Rattle.job_model.specs.declared.node_command.NodeCommand.TheVariants.{Raise, Put, Done}
 use Rattle.job_model.specs.Durable.{Durable}
@@ -190,7 +191,8 @@ job_text job = codes "job " ++ decimal job.id ++ codes " " ++ work_text job.work
 
 -- the counter, the next id, and the jobs in the order of their ids
 abbrev pub list_text : Durable → List ℕ
-list_text state = line (codes "count " ++ decimal state.counter ++ codes " next " ++ decimal state.next) ++ flat_map (λ job. line (job_text job)) state.pending
+list_text state = line (codes "count " ++ decimal state.counter ++ codes " next " ++ decimal state.next)
+    ++ flat_map (λ job. line (job_text job)) state.pending
 
 abbrev pub mounted_text : Mounted → List ℕ
 mounted_text None = []

@@ -1,5 +1,7 @@
 -- The jobs that can still be read of a store whose journal is damaged: in front of the damage and behind it.
-use Rattle.std.specs.Prelude.{◌≡◌, ℕ, ◌+◌, ◌*◌, ◌==◌, ◌||◌, ◌⊎◌, ◌<◌, ◌≤◌, max, nat_lt, not, zero, suc, Bool, true, false, List, [], ◌∷◌, ◌++◌, length, take, drop, replicate, get_or, count_by, flat_map, codes, decimal, if◌then◌else◌, Option, Some, None, is_some, IsSome, IfSome, Result, Ok, Err}
+use Rattle.std.specs.Prelude.{◌≡◌, ℕ, ◌+◌, ◌*◌, ◌==◌, ◌||◌, ◌⊎◌, ◌<◌, ◌≤◌, max, nat_lt, not, zero, suc, Bool, true, false, List, [], ◌∷◌}
+use Rattle.std.specs.Prelude.{◌++◌, length, take, drop, replicate, get_or, count_by, flat_map, codes, decimal, if◌then◌else◌, Option, Some}
+use Rattle.std.specs.Prelude.{None, is_some, IsSome, IfSome, Result, Ok, Err}
 use Rattle.std.specs.List.{list_any}
 use Rattle.std.specs.Int.{from_be_bytes, w64}
 use Rattle.std.specs.Ordering.{nat_cmp}

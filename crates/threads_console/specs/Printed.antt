@@ -78,7 +78,8 @@ PrintsRun kind size plans printout = PrintsWhole kind size plans printout ⊎ Pr
 
 abbrev pub PrintsScript : TraceKind → Result Script ℕ → Printout → Type 0
 PrintsScript kind (Err n) printout = printout ≡ refused (codes "bad line " ++ decimal n)
-PrintsScript kind (Ok input) printout = (plans : List Planned) × ArePlanned input.size.nodes input.turns plans × PrintsRun kind input.size plans printout
+PrintsScript kind (Ok input) printout = (plans : List Planned) × ArePlanned input.size.nodes input.turns plans
+    × PrintsRun kind input.size plans printout
 
 -- what `threads` prints for an input
 abbrev pub IsThreading : TraceKind → List ℕ → Printout → Type 0

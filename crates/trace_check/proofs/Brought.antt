@@ -1,5 +1,6 @@
 -- The message that an entry was brought: where it stands.
-use Rattle.std.proofs.Common.{◌≡◌, ℕ, zero, suc, ◌+◌, ◌-◌, ◌<◌, List, [], ◌∷◌, length, take, drop, slice_get, Option, Some, None, refl, sym, ap, ◌∙◌, subst, arith}
+use Rattle.std.proofs.Common.{◌≡◌, ℕ, zero, suc, ◌+◌, ◌-◌, ◌<◌, List, [], ◌∷◌, length, take, drop, slice_get, Option, Some, None, refl, sym}
+use Rattle.std.proofs.Common.{ap, ◌∙◌, subst, arith}
 use Rattle.std.proofs.lemmas.Option.{same_Some}
 use Rattle.wire_msg.specs.Envelope.{Envelope}
 use Rattle.histories.specs.HistoryEvent.{brought}
@@ -28,14 +29,16 @@ part_one ms i m is = ap (λ (k : ℕ). take k (drop i ms)) (let one : i + 1 - i 
 abbrev pub BroughtAt : List Envelope → ℕ → List Envelope → Type 0
 BroughtAt ms at is = (at < length ms) × (part at (at + 1) ms ≡ is)
 
-event_brought : (ms : List Envelope) (p : List ℕ) (e : PackedEvent) (at : ℕ) → EventStands (length ms) (length p) e → delivered_at e ≡ Some at → BroughtAt ms at (brought (Some (event_said ms p e)))
+event_brought : (ms : List Envelope) (p : List ℕ) (e : PackedEvent) (at : ℕ) → EventStands (length ms) (length p) e
+    → delivered_at e ≡ Some at → BroughtAt ms at (brought (Some (event_said ms p e)))
 event_brought ms p (kept.Deliver place) at h is =
     let at_i = there ms place h in
     subst (λ (k : ℕ). BroughtAt ms k (brought (Some (delivered (slice_get ms place))))) (same_Some place at is)
     (h, part_one ms place at_i.0 at_i.1 ∙ sym (ap (λ (o : Option Envelope). brought (Some (delivered o))) at_i.1))
 event_brought ms p e at h is = absurd cc
 
-pub brought_there : (ms : List Envelope) (p : List ℕ) (d : PackedAction) (at : ℕ) → ActionStands (length ms) (length p) d → brought_at d ≡ Some at → BroughtAt ms at (brought_by (action_said ms p d))
+pub brought_there : (ms : List Envelope) (p : List ℕ) (d : PackedAction) (at : ℕ) → ActionStands (length ms) (length p) d
+    → brought_at d ≡ Some at → BroughtAt ms at (brought_by (action_said ms p d))
 brought_there ms p (done.Done event) at h is = event_brought ms p event at h is
 brought_there ms p (done.Faulted event) at h is = event_brought ms p event at h is
 brought_there ms p d at h is = absurd cc

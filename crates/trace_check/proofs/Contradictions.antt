@@ -1,5 +1,6 @@
 -- Entries of one node that can't be, whatever the other nodes do.
-use Rattle.std.proofs.Common.{◌≡◌, ◌<◌, ◌≤◌, ◌==◌, ◌⊎◌, ℕ, zero, suc, ◌+◌, ◌-◌, Bool, true, false, List, [], ◌∷◌, ◌++◌, length, take, drop, Option, Some, None, slice_get, inl, inr, refl, sym, ap, ◌∙◌, subst, arith, append_assoc}
+use Rattle.std.proofs.Common.{◌≡◌, ◌<◌, ◌≤◌, ◌==◌, ◌⊎◌, ℕ, zero, suc, ◌+◌, ◌-◌, Bool, true, false, List, [], ◌∷◌, ◌++◌, length, take, drop}
+use Rattle.std.proofs.Common.{Option, Some, None, slice_get, inl, inr, refl, sym, ap, ◌∙◌, subst, arith, append_assoc}
 use Rattle.std.proofs.Math.Seq.{take-append_seam, take-nil, take-suc}
 use Rattle.std.proofs.lemmas.Bool.{cases_Bool, cases_lt, eqb-true}
 use Rattle.std.proofs.lemmas.Option.{same_Some, get_or_from_slice_get, slice_get_within}
@@ -10,7 +11,8 @@ use Rattle.trace_check.specs.declared.contradiction.Contradiction.{Contradiction
 use Rattle.trace_check.specs.declared.contradiction.TheConstants.{MOST_ENTRIES}
 use Rattle.trace_check.specs.declared.leftover.Leftover.{Leftover}
 use Rattle.trace_check.specs.Claims.{Claim, MayCome, state_after, after_claim, brought_by}
-use Rattle.trace_check.specs.Contradictions.{CantBe, IsContradiction, IsLastOpening, IsOpenedAt, IsStart, IsStopped, LeftoversStop, lone, opened}
+use Rattle.trace_check.specs.Contradictions.{CantBe, IsContradiction, IsLastOpening, IsOpenedAt, IsStart, IsStopped, LeftoversStop, lone}
+use Rattle.trace_check.specs.Contradictions.{opened}
 use Rattle.trace_check.specs.Kept.{part}
 use Rattle.trace_check.specs.Leftovers.{AddsLeft, AreLeftBelow, HoldsUp}
 use Rattle.trace_check.specs.Orders.{history, claims_of, taken, state_of, MayTake, IsLegal}
@@ -31,29 +33,36 @@ get_drop (suc n) m [] = refl
 get_drop (suc n) m (x ∷ xs) = let e : suc n + m ≡ suc (n + m) = omega arith in rw e (get_drop n m xs)
 
 pub part_whole : {A : Type 0} → (first index : ℕ) (h : List A) → first ≤ index → take index h ≡ take first h ++ part first index h
-part_whole first index h within = let e : index ≡ first + (index - first) = omega (arith, within) in ap (λ (k : ℕ). take k h) e ∙ take_both first (index - first) h
+part_whole first index h within = let e : index ≡ first + (index - first) = omega (arith, within) in
+    ap (λ (k : ℕ). take k h) e ∙ take_both first (index - first) h
 
-pub part_more : {A : Type 0} → (first index : ℕ) (h : List A) (c : A) → first ≤ index → slice_get h index ≡ Some c → part first (index + 1) h ≡ part first index h ++ c ∷ []
+pub part_more : {A : Type 0} → (first index : ℕ) (h : List A) (c : A) → first ≤ index → slice_get h index ≡ Some c
+    → part first (index + 1) h ≡ part first index h ++ c ∷ []
 part_more first index h c within at =
     let rest = drop first h in
     let m = index - first in
     let more : index + 1 - first ≡ suc m = omega (arith, within) in
     let place : first + m ≡ index = omega (arith, within) in
     let there : slice_get rest m ≡ Some c = get_drop first m h ∙ ap (λ (k : ℕ). slice_get h k) place ∙ at in
-    ap (λ (k : ℕ). take k rest) more ∙ take-suc rest m c (slice_get_within rest m c there) ∙ ap (λ (d : _). take m rest ++ d ∷ []) (get_or_from_slice_get rest m c c there)
+    ap (λ (k : ℕ). take k rest) more ∙ take-suc rest m c (slice_get_within rest m c there)
+    ∙ ap (λ (d : _). take m rest ++ d ∷ []) (get_or_from_slice_get rest m c c there)
 
 pub part_none : {A : Type 0} → (first : ℕ) (h : List A) → part first first h ≡ []
 part_none first h = let e : first - first ≡ zero = omega arith in rw e refl
 
 -- one element more was copied
-pub taken_more : {A : Type 0} → (xs old new : List A) (k : ℕ) (x : A) → old ≡ take k xs → slice_get xs k ≡ Some x → new ≡ old ++ x ∷ [] → new ≡ take (k + 1) xs
+pub taken_more : {A : Type 0} → (xs old new : List A) (k : ℕ) (x : A) → old ≡ take k xs → slice_get xs k ≡ Some x → new ≡ old ++ x ∷ []
+    → new ≡ take (k + 1) xs
 taken_more xs old new k x is at added =
     let more : k + 1 ≡ suc k = omega arith in
     added ∙ ap (λ (ys : List _). ys ++ x ∷ []) is
-    ∙ sym (ap (λ (j : ℕ). take j xs) more ∙ take-suc xs k x (slice_get_within xs k x at) ∙ ap (λ (d : _). take k xs ++ d ∷ []) (get_or_from_slice_get xs k x x at))
+    ∙ sym (ap (λ (j : ℕ). take j xs) more ∙ take-suc xs k x (slice_get_within xs k x at)
+    ∙ ap (λ (d : _). take k xs ++ d ∷ []) (get_or_from_slice_get xs k x x at))
 
-pub copied_more : {A : Type 0} → (h old new : List A) (first place : ℕ) (c : A) → first ≤ place → old ≡ part first place h → slice_get h place ≡ Some c → new ≡ old ++ c ∷ [] → new ≡ part first (place + 1) h
-copied_more h old new first place c within is at added = added ∙ ap (λ (xs : List _). xs ++ c ∷ []) is ∙ sym (part_more first place h c within at)
+pub copied_more : {A : Type 0} → (h old new : List A) (first place : ℕ) (c : A) → first ≤ place → old ≡ part first place h
+    → slice_get h place ≡ Some c → new ≡ old ++ c ∷ [] → new ≡ part first (place + 1) h
+copied_more h old new first place c within is at added = added ∙ ap (λ (xs : List _). xs ++ c ∷ []) is
+    ∙ sym (part_more first place h c within at)
 
 get_seam : {A : Type 0} → (xs : List A) (c : A) (ys : List A) → slice_get (xs ++ c ∷ ys) (length xs) ≡ Some c
 get_seam [] c ys = refl
@@ -61,38 +70,44 @@ get_seam (x ∷ xs) c ys = get_seam xs c ys
 
 -- ---- what was taken
 
-addressed_by : (hs : List (List Claim)) (past : List ℕ) (n k : ℕ) (c : Claim) → MayTake hs past n → k ≡ taken n past → slice_get (history hs n) k ≡ Some c → AreAddressed n (brought_by c.action)
+addressed_by : (hs : List (List Claim)) (past : List ℕ) (n k : ℕ) (c : Claim) → MayTake hs past n → k ≡ taken n past
+    → slice_get (history hs n) k ≡ Some c → AreAddressed n (brought_by c.action)
 addressed_by hs past n k c may here at =
     let same : may.claim ≡ c = same_Some _ _ (sym may.next ∙ ap (λ (j : ℕ). slice_get (history hs n) j) (sym here) ∙ at) in
     subst (λ (d : Claim). AreAddressed n (brought_by d.action)) same may.addressed
 
 -- what an entry was brought that an order takes is for its node
-are_addressed : (hs : List (List Claim)) (past : List ℕ) (n k : ℕ) (c : Claim) → IsLegal hs past → k < taken n past → slice_get (history hs n) k ≡ Some c → AreAddressed n (brought_by c.action)
+are_addressed : (hs : List (List Claim)) (past : List ℕ) (n k : ℕ) (c : Claim) → IsLegal hs past → k < taken n past
+    → slice_get (history hs n) k ≡ Some c → AreAddressed n (brought_by c.action)
 are_addressed hs [] n k c legal less at = absurd (omega (arith, less))
 are_addressed hs (m ∷ past) n k c legal less at = elim (cases_Bool (m == n)) [
   | inl same ↦ (
       let within : k < taken n past + 1 = rw same at less in
       elim (cases_lt k (taken n past)) [
         | inl before ↦ are_addressed hs past n k c legal.1 before at
-        | inr now ↦ addressed_by hs past n k c (subst (λ (j : ℕ). MayTake hs past j) (eqb-true m n same) legal.0) (omega (arith, within, now)) at
+        | inr now ↦ addressed_by hs past n k c (subst (λ (j : ℕ). MayTake hs past j) (eqb-true m n same) legal.0)
+            (omega (arith, within, now)) at
       ]
       )
   | inr other ↦ are_addressed hs past n k c legal.1 (rw other at less) at
 ]
 
-state_append : (self nodes : ℕ) (s : NodeState) (xs ys : List Claim) → state_after self nodes s (xs ++ ys) ≡ state_after self nodes (state_after self nodes s xs) ys
+state_append : (self nodes : ℕ) (s : NodeState) (xs ys : List Claim)
+    → state_after self nodes s (xs ++ ys) ≡ state_after self nodes (state_after self nodes s xs) ys
 state_append self nodes s [] ys = refl
 state_append self nodes s (c ∷ xs) ys = state_append self nodes (after_claim self nodes s c) xs ys
 
 -- ---- what can't be
 
 -- entries of which the last can't come behind the others
-cant : (nodes n : ℕ) (s : NodeState) (front : List Claim) (c : Claim) → (MayCome n nodes (state_after n nodes s front) c → AreAddressed n (brought_by c.action) → ⊥) → CantBe nodes n s (front ++ c ∷ [])
+cant : (nodes n : ℕ) (s : NodeState) (front : List Claim) (c : Claim)
+    → (MayCome n nodes (state_after n nodes s front) c → AreAddressed n (brought_by c.action) → ⊥) → CantBe nodes n s (front ++ c ∷ [])
 cant nodes n s front c dead hs before behind count is stands run =
     let h = history hs n in
     let early = before ++ front in
     let k = length early in
-    let whole : h ≡ early ++ (c ∷ behind) = is ∙ ap (λ (xs : List Claim). before ++ xs) (append_assoc front (c ∷ []) behind) ∙ sym (append_assoc before front (c ∷ behind)) in
+    let whole : h ≡ early ++ (c ∷ behind) = is ∙ ap (λ (xs : List Claim). before ++ xs) (append_assoc front (c ∷ []) behind)
+    ∙ sym (append_assoc before front (c ∷ behind)) in
     let at : slice_get h k ≡ Some c = ap (λ (xs : List Claim). slice_get xs k) whole ∙ get_seam early c behind in
     let there : take k h ≡ early = ap (λ (xs : List Claim). take k xs) whole ∙ take-append_seam early (c ∷ behind) in
     let state : state_of hs n k ≡ state_after n nodes s front =
@@ -102,16 +117,19 @@ cant nodes n s front c dead hs before behind count is stands run =
     let some = slice_get_within h k c at in
     let less : k < taken n run.0 = omega (arith, all, some) in
     let may = can_replay hs run.0 n run.1 k c less at in
-    dead (subst (λ (t : NodeState). MayCome n nodes t c) state (subst (λ (m : ℕ). MayCome n m (state_of hs n k) c) count may)) (are_addressed hs run.0 n k c run.1 less at)
+    dead (subst (λ (t : NodeState). MayCome n nodes t c) state (subst (λ (m : ℕ). MayCome n m (state_of hs n k) c) count may))
+    (are_addressed hs run.0 n k c run.1 less at)
 
 -- those of a history from one place up to an entry that can't come
-pub cant_part : (hs : List (List Claim)) (n first index : ℕ) (s : NodeState) → IsStopped hs n index → first ≤ index → s ≡ state_of hs n first → CantBe (length hs) n s (part first (index + 1) (history hs n))
+pub cant_part : (hs : List (List Claim)) (n first index : ℕ) (s : NodeState) → IsStopped hs n index → first ≤ index
+    → s ≡ state_of hs n first → CantBe (length hs) n s (part first (index + 1) (history hs n))
 cant_part hs n first index s stopped within is =
     let h = history hs n in
     let nodes = length hs in
     let front = part first index h in
     let state : state_of hs n index ≡ state_after n nodes s front =
-    ap (λ (xs : List Claim). state_after n nodes (opening n) xs) (part_whole first index h within) ∙ state_append n nodes (opening n) (take first h) front
+    ap (λ (xs : List Claim). state_after n nodes (opening n) xs) (part_whole first index h within)
+    ∙ state_append n nodes (opening n) (take first h) front
     ∙ ap (λ (t : NodeState). state_after n nodes t front) (sym is) in
     subst (λ (xs : List Claim). CantBe nodes n s xs) (sym (part_more first index h stopped.claim within stopped.next))
     (cant nodes n s front stopped.claim (λ may. stopped.dead (subst (λ (t : NodeState). MayCome n nodes t stopped.claim) (sym state) may)))
@@ -124,7 +142,8 @@ in_some (Some h) k c at = (h, refl)
 
 -- a node with an entry is one of the cluster
 pub stopped_within : (hs : List (List Claim)) (n index : ℕ) → IsStopped hs n index → n < length hs
-stopped_within hs n index stopped = let found = in_some (slice_get hs n) index stopped.claim stopped.next in slice_get_within hs n found.0 found.1
+stopped_within hs n index stopped = let found = in_some (slice_get hs n) index stopped.claim stopped.next in
+    slice_get_within hs n found.0 found.1
 
 among_front : {A : Type 0} → (x y : A) (xs : List A) → IsAmong x (xs ++ y ∷ []) → IsAmong x xs ⊎ (x ≡ y)
 among_front x y [] (inl here) = inr here
@@ -139,42 +158,60 @@ record IsNextLeft (hs : List (List Claim)) (past : List ℕ) (l : Leftover) : Ty
   next : slice_get (history hs l.node) (taken l.node past) ≡ Some claim
   holds : HoldsUp l.node (length hs) (state_of hs l.node (taken l.node past)) claim l.holdup
 
-adds_left : (hs : List (List Claim)) (past : List ℕ) (n : ℕ) (o : Option Claim) (front left : List Leftover) (l : Leftover) → slice_get (history hs n) (taken n past) ≡ o → AddsLeft hs past n o front left → IsAmong l left
+adds_left : (hs : List (List Claim)) (past : List ℕ) (n : ℕ) (o : Option Claim) (front left : List Leftover) (l : Leftover)
+    → slice_get (history hs n) (taken n past) ≡ o → AddsLeft hs past n o front left → IsAmong l left
     → IsAmong l front ⊎ IsNextLeft hs past l
 adds_left hs past n None front left l at adds among = inl (subst (λ (ls : List Leftover). IsAmong l ls) adds among)
 adds_left hs past n (Some c) front left l at adds among =
     let r : Leftover = record { node = n; index = taken n past; holdup = adds.0 } in
     elim (among_front l r front (subst (λ (ls : List Leftover). IsAmong l ls) adds.1 among)) [
       | inl before ↦ inl before
-      | inr last ↦ inr (subst (λ (x : Leftover). IsNextLeft hs past x) (sym last) (record { claim = c; index = refl; next = at; holds = adds.2.0 }))
+      | inr last ↦ inr (subst (λ (x : Leftover). IsNextLeft hs past x) (sym last) (record {
+        claim = c;
+        index = refl;
+        next = at;
+        holds =
+            adds.2.0;
+      }))
     ]
 
-left_next : (hs : List (List Claim)) (past : List ℕ) (n : ℕ) (left : List Leftover) (l : Leftover) → AreLeftBelow hs past n left → IsAmong l left → IsNextLeft hs past l
+left_next : (hs : List (List Claim)) (past : List ℕ) (n : ℕ) (left : List Leftover) (l : Leftover) → AreLeftBelow hs past n left
+    → IsAmong l left → IsNextLeft hs past l
 left_next hs past zero left l below among = absurd (subst (λ (ls : List Leftover). IsAmong l ls) below among)
-left_next hs past (suc n) left l below among = elim (adds_left hs past n (slice_get (history hs n) (taken n past)) below.0 left l refl below.2 among) [
-  | inl before ↦ left_next hs past n below.0 l below.1 before
-  | inr next ↦ next
-]
+left_next hs past (suc n) left l below among = elim (adds_left hs past n (slice_get (history hs n) (taken n past)) below.0 left l refl
+    below.2 among) [
+      | inl before ↦ left_next hs past n below.0 l below.1 before
+      | inr next ↦ next
+    ]
 
 pub stop : LeftoversStop
 stop hs left l are among waits =
     let past = are.0 in
     let next = left_next hs past (length hs) left l are.3 among in
     subst (λ (k : ℕ). IsStopped hs l.node k) (sym next.index)
-    (record { claim = next.claim; next = next.next; before = can_replay hs past l.node are.1; dead = hold l.node (length hs) (state_of hs l.node (taken l.node past)) next.claim l.holdup waits next.holds })
+    (record {
+      claim = next.claim;
+      next = next.next;
+      before = can_replay hs past l.node are.1;
+      dead =
+          hold l.node (length hs) (state_of hs l.node (taken l.node past)) next.claim l.holdup waits next.holds;
+    })
 
 -- ---- the last opening
 
-pub opened_at : (hs : List (List Claim)) (n k : ℕ) (t : Twin) → t ≡ twin_after hs n k → t.node ≡ opened t.id t.node.durable → IsOpenedAt hs n k
+pub opened_at : (hs : List (List Claim)) (n k : ℕ) (t : Twin) → t ≡ twin_after hs n k → t.node ≡ opened t.id t.node.durable
+    → IsOpenedAt hs n k
 opened_at hs n k t is stands = subst (λ (u : Twin). u.node ≡ opened u.id u.node.durable) is stands
 
-pub unopened_at : (hs : List (List Claim)) (n k : ℕ) (t : Twin) → t ≡ twin_after hs n k → (t.node ≡ opened t.id t.node.durable → ⊥) → IsOpenedAt hs n k → ⊥
+pub unopened_at : (hs : List (List Claim)) (n k : ℕ) (t : Twin) → t ≡ twin_after hs n k → (t.node ≡ opened t.id t.node.durable → ⊥)
+    → IsOpenedAt hs n k → ⊥
 unopened_at hs n k t is stands = subst (λ (u : Twin). u.node ≡ opened u.id u.node.durable → ⊥) is stands
 
 pub opens_now : (hs : List (List Claim)) (n k : ℕ) → IsOpenedAt hs n k → IsLastOpening hs n k k
 opens_now hs n k stands = record { within = omega arith; stands = stands; last = λ j after up_to. absurd (omega (arith, after, up_to)) }
 
-pub opens_no_more : (hs : List (List Claim)) (n k first : ℕ) → IsLastOpening hs n k first → (IsOpenedAt hs n (k + 1) → ⊥) → IsLastOpening hs n (k + 1) first
+pub opens_no_more : (hs : List (List Claim)) (n k first : ℕ) → IsLastOpening hs n k first → (IsOpenedAt hs n (k + 1) → ⊥)
+    → IsLastOpening hs n (k + 1) first
 opens_no_more hs n k first opening not = record {
   within = let within = opening.within in omega (arith, within);
   stands = opening.stands;
@@ -190,7 +227,8 @@ not_true false low high = absurd cc
 
 -- ---- what is found
 
-pub found : (hs : List (List Claim)) (n index : ℕ) (c : Contradiction) → c.node ≡ n → IsStopped hs n index → IsStart hs n index c.first → c.before ≡ twin_after hs n c.first
+pub found : (hs : List (List Claim)) (n index : ℕ) (c : Contradiction) → c.node ≡ n → IsStopped hs n index → IsStart hs n index c.first
+    → c.before ≡ twin_after hs n c.first
     → c.trace ≡ lone (length hs) n (part c.first (index + 1) (history hs n)) → IsContradiction hs n index c
 found hs n index c node stopped start before entries = record {
   node = node;
@@ -202,9 +240,18 @@ found hs n index c node stopped start before entries = record {
 
 -- ---- where the entries begin
 
-pub starts_there : (hs : List (List Claim)) (n index opening : ℕ) → IsLastOpening hs n index opening → index - opening < MOST_ENTRIES → IsStart hs n index opening
-starts_there hs n index opening last near = let within = last.within in record { opening = opening; last = last; few = (within, omega (arith, within, near)); whole = inl refl }
+pub starts_there : (hs : List (List Claim)) (n index opening : ℕ) → IsLastOpening hs n index opening → index - opening < MOST_ENTRIES
+    → IsStart hs n index opening
+starts_there hs n index opening last near = let within = last.within in
+    record { opening = opening; last = last; few = (within, omega (arith, within, near)); whole = inl refl }
 
-pub starts_later : (hs : List (List Claim)) (n index opening first : ℕ) → IsLastOpening hs n index opening → MOST_ENTRIES ≤ index - opening → first ≡ index - (MOST_ENTRIES - 1) → IsStart hs n index first
+pub starts_later : (hs : List (List Claim)) (n index opening first : ℕ) → IsLastOpening hs n index opening → MOST_ENTRIES ≤ index - opening
+    → first ≡ index - (MOST_ENTRIES - 1) → IsStart hs n index first
 starts_later hs n index opening first last far is =
-    let within = last.within in record { opening = opening; last = last; few = (omega (arith, far, is), omega (arith, far, is)); whole = inr (omega (arith, within, far, is), omega (arith, far, is)) }
+    let within = last.within in record {
+      opening = opening;
+      last = last;
+      few = (omega (arith, far, is), omega (arith, far, is));
+      whole =
+          inr (omega (arith, within, far, is), omega (arith, far, is));
+    }

@@ -1,5 +1,6 @@
 -- The messages that were sent, once one more is put in.
-use Rattle.std.proofs.Common.{◌≡◌, Bool, true, false, not, ◌||◌, ◌⊎◌, List, ◌∷◌, inl, inr, refl, sym, ap, ◌∙◌, subst, MatchBool, Result, Ok, Err}
+use Rattle.std.proofs.Common.{◌≡◌, Bool, true, false, not, ◌||◌, ◌⊎◌, List, ◌∷◌, inl, inr, refl, sym, ap, ◌∙◌, subst, MatchBool, Result, Ok}
+use Rattle.std.proofs.Common.{Err}
 use Rattle.std.specs.Prelude.{OnOk}
 use Rattle.std.specs.List.{list_any}
 use Rattle.std.specs.List.Sorted.{IsPermutation}
@@ -27,12 +28,18 @@ or_left true b h = refl
 or_left false b h = absurd cc
 
 -- the messages that were there, and one that is new or was among them
-pub posts_put : (old new : List Envelope) (m : Envelope) (added : Bool) → MatchBool added (IsPermutation (m ∷ old) new) (new ≡ old) → added ≡ not (list_any (same_message m) old) → Posts old new m
+pub posts_put : (old new : List Envelope) (m : Envelope) (added : Bool) → MatchBool added (IsPermutation (m ∷ old) new) (new ≡ old)
+    → added ≡ not (list_any (same_message m) old) → Posts old new m
 posts_put old new m true put is n =
-    let more : (same_message n m || list_any (same_message n) old) ≡ list_any (same_message n) new = list_any-IsPermutation (same_message n) (m ∷ old) new put in (
-      λ there. elim (either_true (same_message n m) (list_any (same_message n) old) (more ∙ there)) [ inl same ↦ inl (one_message n m same) | inr before ↦ inr before ],
+    let more : (same_message n m || list_any (same_message n) old) ≡ list_any (same_message n) new =
+    list_any-IsPermutation (same_message n) (m ∷ old) new put in (
+      λ there. elim (either_true (same_message n m) (list_any (same_message n) old) (more ∙ there)) [
+        | inl same ↦ inl (one_message n m same)
+        | inr before ↦ inr before
+      ],
       λ either. sym more ∙ elim either [
-        | inl it ↦ or_left (same_message n m) (list_any (same_message n) old) ((bytes_decides (numbers_of n) (numbers_of m)).1 (ap (λ (e : Envelope). numbers_of e) it))
+        | inl it ↦ or_left (same_message n m) (list_any (same_message n) old)
+            ((bytes_decides (numbers_of n) (numbers_of m)).1 (ap (λ (e : Envelope). numbers_of e) it))
         | inr before ↦ or_right (same_message n m) (list_any (same_message n) old) before
       ],
     )

@@ -21,8 +21,11 @@ legal_tail hs (n ∷ later) past legal = legal_tail hs later past legal.1
 pub legal_before : (hs : List (List Claim)) (order : List ℕ) (k : ℕ) → IsLegal hs (reverse order) → IsLegal hs (before order k)
 legal_before hs order k legal =
     legal_tail hs (reverse (drop k order)) (before order k)
-    (subst (λ (past : List ℕ). IsLegal hs past) (ap (λ (xs : List ℕ). reverse xs) (sym (take-append-drop k order)) ∙ reverse-append (take k order) (drop k order)) legal)
+    (subst (λ (past : List ℕ). IsLegal hs past) (ap (λ (xs : List ℕ). reverse xs) (sym (take-append-drop k order))
+    ∙ reverse-append (take k order) (drop k order)) legal)
 
 -- each turn of a legal order can be taken
-pub may_take : (hs : List (List Claim)) (order : List ℕ) (k n : ℕ) → IsLegal hs (reverse order) → slice_get order k ≡ Some n → MayTake hs (before order k) n
-may_take hs order k n legal at = (subst (λ (past : List ℕ). IsLegal hs past) (before_more order k n at) (legal_before hs order (suc k) legal)).0
+pub may_take : (hs : List (List Claim)) (order : List ℕ) (k n : ℕ) → IsLegal hs (reverse order) → slice_get order k ≡ Some n
+    → MayTake hs (before order k) n
+may_take hs order k n legal at = (subst (λ (past : List ℕ). IsLegal hs past) (before_more order k n at)
+    (legal_before hs order (suc k) legal)).0

@@ -1,7 +1,8 @@
 -- What proofs of other crates may cite of this one: its other lemmas are its own.
 
 -- What was kept of an event is that event again, and stays so whatever is kept after it.
-pub use Rattle.trace_check.proofs.KeptEntries.{get_same, get_again, part_same, part_again, part_length, event_same, event_again, event_stands, event_longer}
+pub use Rattle.trace_check.proofs.KeptEntries.{get_same, get_again, part_same, part_again, part_length, event_same, event_again}
+pub use Rattle.trace_check.proofs.KeptEntries.{event_stands, event_longer}
 -- A check goes on: a node is stopped, waits, or takes its next entry.
 pub use Rattle.trace_check.proofs.Searches.{twin_in}
 -- The messages that were sent, once one more is put in.

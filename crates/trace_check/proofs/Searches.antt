@@ -1,5 +1,6 @@
 -- A check goes on: a node is stopped, waits, or takes its next entry.
-use Rattle.std.proofs.Common.{◌≡◌, ◌≢◌, ◌<◌, ◌==◌, ◌⊎◌, ◌||◌, ℕ, ◌+◌, Bool, true, false, cond, eqb, List, [], ◌∷◌, ◌++◌, length, slice_get, Some, inl, inr, refl, sym, ap, ◌∙◌, subst, arith}
+use Rattle.std.proofs.Common.{◌≡◌, ◌≢◌, ◌<◌, ◌==◌, ◌⊎◌, ◌||◌, ℕ, ◌+◌, Bool, true, false, cond, eqb, List, [], ◌∷◌, ◌++◌, length, slice_get}
+use Rattle.std.proofs.Common.{Some, inl, inr, refl, sym, ap, ◌∙◌, subst, arith}
 use Rattle.std.proofs.lemmas.Bool.{cases_Bool, eqb-true, eq-eqb}
 use Rattle.std.proofs.lemmas.Bool.Decides.{nat_tests}
 use Rattle.group_task.specs.Ids.{has, with_id, without_id}
@@ -44,7 +45,10 @@ with_other : (ids : List ℕ) (n k : ℕ) → k ≢ n → has (with_id ids n) k 
 with_other ids n k other = has-with_id n k ids ∙ ap (λ (b : Bool). b || has ids k) (test_other k n other)
 
 pub same_or_other : (k n : ℕ) → (k ≡ n) ⊎ (k ≢ n)
-same_or_other k n = elim (cases_Bool (eqb k n)) [ inl same ↦ inl (eqb-true k n same) | inr not_same ↦ inr (λ same. clash (eqb k n) (eq-eqb k n same) not_same) ]
+same_or_other k n = elim (cases_Bool (eqb k n)) [
+  | inl same ↦ inl (eqb-true k n same)
+  | inr not_same ↦ inr (λ same. clash (eqb k n) (eq-eqb k n same) not_same)
+]
 
 -- ---- nodes
 
@@ -65,7 +69,9 @@ taken_same n past = let same : (n == n) ≡ true = grind (arith, nat_tests) in r
 pub taken_other : (k n : ℕ) (past : List ℕ) → k ≢ n → taken k (n ∷ past) ≡ taken k past
 taken_other k n past other = let apart : (n == k) ≡ false = test_other n k (λ same. other (sym same)) in rw apart refl
 
-module _ (hs : List (List Claim)) (seats seats' : List NodeCursor) (ready stopped : List ℕ) (posted : List Envelope) (past : List ℕ) (n : ℕ) (old new : NodeCursor) (search : IsDesk hs seats ready stopped posted past) (reseats : Reseats seats seats' n new) (at : slice_get seats n ≡ Some old) where
+module _ (hs : List (List Claim)) (seats seats' : List NodeCursor) (ready stopped : List ℕ) (posted : List Envelope) (past : List ℕ) (n : ℕ)
+    (old new : NodeCursor) (search : IsDesk hs seats ready stopped posted past) (reseats : Reseats seats seats' n new)
+    (at : slice_get seats n ≡ Some old) where
   -- the node is stopped
   pub stop_desk : new.place ≡ old.place → IsDead hs past n → IsDesk hs seats' (without_id ready n) (with_id stopped n) posted past
   stop_desk same is_dead = record {
@@ -75,7 +81,8 @@ module _ (hs : List (List Claim)) (seats seats' : List NodeCursor) (ready stoppe
         place =
             let s_is : s ≡ new = reseats.here s (subst (λ (j : ℕ). slice_get seats' j ≡ Some s) is here) in
             ap (λ (t : NodeCursor). t.place) s_is ∙ same ∙ (search.fits n old at).place ∙ ap (λ (j : ℕ). taken j past) (sym is);
-        node_model = λ going. absurd (clash (has (with_id stopped n) k) (ap (λ (j : ℕ). has (with_id stopped n) j) is ∙ with_same stopped n) going);
+        node_model = λ going. absurd (clash (has (with_id stopped n) k) (ap (λ (j : ℕ). has (with_id stopped n) j) is
+            ∙ with_same stopped n) going);
       }
       | inr other ↦ (
           let fits = search.fits k s (sym (reseats.others k other) ∙ here) in
@@ -90,7 +97,8 @@ module _ (hs : List (List Claim)) (seats seats' : List NodeCursor) (ready stoppe
       | inr other ↦ with_other stopped n k other ∙ search.live k (sym (without_other ready n k other) ∙ is_ready)
     ];
     waits = λ k not_ready may. elim (same_or_other k n) [
-      | inl is ↦ (let may_n : MayTake hs past n = subst (λ (j : ℕ). MayTake hs past j) is may in is_dead may_n.claim may_n.next may_n.possible may_n.addressed)
+      | inl is ↦ (let may_n : MayTake hs past n = subst (λ (j : ℕ). MayTake hs past j) is may in
+          is_dead may_n.claim may_n.next may_n.possible may_n.addressed)
       | inr other ↦ search.waits k (sym (without_other ready n k other) ∙ not_ready) may
     ];
     dead = λ k gone. elim (same_or_other k n) [
@@ -100,7 +108,8 @@ module _ (hs : List (List Claim)) (seats seats' : List NodeCursor) (ready stoppe
   }
 
 -- the node waits
-pub wait_desk : (hs : List (List Claim)) (seats : List NodeCursor) (ready stopped : List ℕ) (posted : List Envelope) (past : List ℕ) (n : ℕ) → IsDesk hs seats ready stopped posted past
+pub wait_desk : (hs : List (List Claim)) (seats : List NodeCursor) (ready stopped : List ℕ) (posted : List Envelope) (past : List ℕ) (n : ℕ)
+    → IsDesk hs seats ready stopped posted past
     → (MayTake hs past n → ⊥) → IsDesk hs seats (without_id ready n) stopped posted past
 wait_desk hs seats ready stopped posted past n search cant = record {
   count = search.count;
@@ -122,7 +131,8 @@ wait_desk hs seats ready stopped posted past n search cant = record {
 -- ---- a node takes its next entry
 
 -- what was brought was sent before, where none of it is sent now
-sent_before : (hs : List (List Claim)) (past : List ℕ) (n : ℕ) (c : Claim) (ms : List Envelope) (k : ℕ) → Turned hs past n c → ((m : Envelope) → IsAmong m c.sent → m.receiver ≡ k → ⊥)
+sent_before : (hs : List (List Claim)) (past : List ℕ) (n : ℕ) (c : Claim) (ms : List Envelope) (k : ℕ) → Turned hs past n c
+    → ((m : Envelope) → IsAmong m c.sent → m.receiver ≡ k → ⊥)
     → Each (λ (m : Envelope). IsSent hs (n ∷ past) m) ms → AreAddressed k ms → Each (λ (m : Envelope). IsSent hs past m) ms
 sent_before hs past n c [] k turned none sent addressed = tt
 sent_before hs past n c (m ∷ ms) k turned none sent addressed = (
@@ -130,8 +140,10 @@ sent_before hs past n c (m ∷ ms) k turned none sent addressed = (
   sent_before hs past n c ms k turned none sent.1 addressed.1,
 )
 
-module _ (hs : List (List Claim)) (seats seats' : List NodeCursor) (ready ready' stopped : List ℕ) (posted posted' : List Envelope) (past : List ℕ) (n : ℕ) (old new : NodeCursor) where
-  pub may_take : IsDesk hs seats ready stopped posted past → slice_get seats n ≡ Some old → has ready n ≡ true → (t : IsTaken hs posted n old new) → MayTake hs past n
+module _ (hs : List (List Claim)) (seats seats' : List NodeCursor) (ready ready' stopped : List ℕ) (posted posted' : List Envelope)
+    (past : List ℕ) (n : ℕ) (old new : NodeCursor) where
+  pub may_take : IsDesk hs seats ready stopped posted past → slice_get seats n ≡ Some old → has ready n ≡ true
+      → (t : IsTaken hs posted n old new) → MayTake hs past n
   may_take search at is_ready t =
       let fits = search.fits n old at in
       let twin : old.node_model ≡ twin_at hs past n = fits.node_model (search.live n is_ready) in
@@ -139,21 +151,26 @@ module _ (hs : List (List Claim)) (seats seats' : List NodeCursor) (ready ready'
         claim = t.claim;
         next = subst (λ (k : ℕ). slice_get (history hs n) k ≡ Some t.claim) fits.place t.next;
         possible = subst (λ (w : Twin). MayCome w.id w.nodes w.node t.claim) twin t.possible;
-        sent = each_more (λ (m : Envelope). IsPosted posted m) (λ (m : Envelope). IsSent hs past m) (brought_by t.claim.action) (λ m is. (search.posts m).0 is) t.sent;
+        sent = each_more (λ (m : Envelope). IsPosted posted m) (λ (m : Envelope). IsSent hs past m) (brought_by t.claim.action)
+            (λ m is. (search.posts m).0 is) t.sent;
         addressed = t.addressed;
       }
 
-  pub take_desk : IsDesk hs seats ready stopped posted past → Reseats seats seats' n new → slice_get seats n ≡ Some old → has ready n ≡ true → ((m : ℕ) → m < n → has ready m ≡ false)
-      → (t : IsTaken hs posted n old new) → PostsAll stopped posted posted' ready ready' t.claim.sent → IsDesk hs seats' ready' stopped posted' (n ∷ past)
+  pub take_desk : IsDesk hs seats ready stopped posted past → Reseats seats seats' n new → slice_get seats n ≡ Some old → has ready n ≡ true
+      → ((m : ℕ) → m < n → has ready m ≡ false)
+      → (t : IsTaken hs posted n old new) → PostsAll stopped posted posted' ready ready' t.claim.sent
+      → IsDesk hs seats' ready' stopped posted' (n ∷ past)
   take_desk search reseats at is_ready first t all =
       let fits = search.fits n old at in
       let going : has stopped n ≡ false = search.live n is_ready in
       let twin : old.node_model ≡ twin_at hs past n = fits.node_model going in
       let may = may_take search at is_ready t in
-      let next : slice_get (history hs n) (taken n past) ≡ Some t.claim = subst (λ (k : ℕ). slice_get (history hs n) k ≡ Some t.claim) fits.place t.next in
+      let next : slice_get (history hs n) (taken n past) ≡ Some t.claim =
+      subst (λ (k : ℕ). slice_get (history hs n) k ≡ Some t.claim) fits.place t.next in
       let turned : Turned hs past n t.claim = turns hs past n t.claim next in
       let c = t.claim in
-      let not_this : (k : ℕ) → has ready' k ≡ false → k ≢ n = λ k not_ready is. clash (has ready' n) (all.grows n is_ready) (ap (λ (j : ℕ). has ready' j) (sym is) ∙ not_ready) in
+      let not_this : (k : ℕ) → has ready' k ≡ false → k ≢ n = λ k not_ready is. clash (has ready' n) (all.grows n is_ready)
+      (ap (λ (j : ℕ). has ready' j) (sym is) ∙ not_ready) in
       record {
         count = reseats.count ∙ search.count;
         fits = λ k s here. elim (same_or_other k n) [
@@ -187,9 +204,15 @@ module _ (hs : List (List Claim)) (seats seats' : List NodeCursor) (ready ready'
         live = λ k is. elim (all.only k is) [ inl before ↦ search.live k before | inr live ↦ live ];
         waits = λ k not_ready later.
             let same : taken k (n ∷ past) ≡ taken k past = taken_other k n past (not_this k not_ready) in
-            let was_not : has ready k ≡ false = elim (cases_Bool (has ready k)) [ inl was ↦ absurd (clash (has ready' k) (all.grows k was) not_ready) | inr was ↦ was ] in
-            let its_next : slice_get (history hs k) (taken k past) ≡ Some later.claim = subst (λ (p : ℕ). slice_get (history hs k) p ≡ Some later.claim) same later.next in
-            let its_possible : MayCome k (length hs) (state_of hs k (taken k past)) later.claim = subst (λ (p : ℕ). MayCome k (length hs) (state_of hs k p) later.claim) same later.possible in
+            let was_not : has ready k ≡ false = elim (cases_Bool (has ready k)) [
+              | inl was ↦
+                  absurd (clash (has ready' k) (all.grows k was) not_ready)
+              | inr was ↦ was
+            ] in
+            let its_next : slice_get (history hs k) (taken k past) ≡ Some later.claim =
+            subst (λ (p : ℕ). slice_get (history hs k) p ≡ Some later.claim) same later.next in
+            let its_possible : MayCome k (length hs) (state_of hs k (taken k past)) later.claim =
+            subst (λ (p : ℕ). MayCome k (length hs) (state_of hs k p) later.claim) same later.possible in
             elim (cases_Bool (has stopped k)) [
               | inl gone ↦ search.dead k gone later.claim its_next its_possible later.addressed
               | inr live ↦ search.waits k was_not (record {
@@ -197,13 +220,15 @@ module _ (hs : List (List Claim)) (seats seats' : List NodeCursor) (ready ready'
                 next = its_next;
                 possible = its_possible;
                 sent = sent_before hs past n c (brought_by later.claim.action) k turned
-                    (λ m now to. clash (has ready' k) (ap (λ (j : ℕ). has ready' j) (sym to) ∙ all.wakes m now (ap (λ (j : ℕ). has stopped j) to ∙ live)) not_ready) later.sent later.addressed;
+                    (λ m now to. clash (has ready' k) (ap (λ (j : ℕ). has ready' j) (sym to)
+                    ∙ all.wakes m now (ap (λ (j : ℕ). has stopped j) to ∙ live)) not_ready) later.sent later.addressed;
                 addressed = later.addressed;
               })
             ];
         dead = λ k gone.
             let other : k ≢ n = λ is. clash (has stopped n) (ap (λ (j : ℕ). has stopped j) (sym is) ∙ gone) going in
-            subst (λ (p : ℕ). (d : Claim) → slice_get (history hs k) p ≡ Some d → MayCome k (length hs) (state_of hs k p) d → AreAddressed k (brought_by d.action) → ⊥) (sym (taken_other k n past other)) (search.dead k gone);
+            subst (λ (p : ℕ). (d : Claim) → slice_get (history hs k) p ≡ Some d → MayCome k (length hs) (state_of hs k p) d
+            → AreAddressed k (brought_by d.action) → ⊥) (sym (taken_other k n past other)) (search.dead k gone);
       }
 
 -- ---- messages that are sent
@@ -226,7 +251,10 @@ posts_one stopped posted posted' ready ready' m posts is =
           record {
             posts = λ n. (
               λ there. elim ((posts n).0 there) [ inl now ↦ inl (inl now) | inr before ↦ inr before ],
-              λ either. (posts n).1 (elim either [ inl now ↦ elim now [ inl it ↦ inl it | inr none ↦ absurd none ] | inr before ↦ inr before ]),
+              λ either. (posts n).1 (elim either [
+                | inl now ↦ elim now [ inl it ↦ inl it | inr none ↦ absurd none ]
+                | inr before ↦ inr before
+              ]),
             );
             grows = λ k was. ap (λ (r : List ℕ). has r k) same ∙ was;
             wakes = λ n among live. elim among [
@@ -238,15 +266,20 @@ posts_one stopped posted posted' ready ready' m posts is =
           )
       | inr live ↦ (
           let more : ready' ≡ with_id ready m.receiver = is ∙ ap (λ (b : Bool). cond b ready (with_id ready m.receiver)) live in
-          let grown : (k : ℕ) → has ready' k ≡ (eqb k m.receiver || has ready k) = λ k. ap (λ (r : List ℕ). has r k) more ∙ has-with_id m.receiver k ready in
+          let grown : (k : ℕ) → has ready' k ≡ (eqb k m.receiver || has ready k) = λ k. ap (λ (r : List ℕ). has r k) more
+          ∙ has-with_id m.receiver k ready in
           record {
             posts = λ n. (
               λ there. elim ((posts n).0 there) [ inl now ↦ inl (inl now) | inr before ↦ inr before ],
-              λ either. (posts n).1 (elim either [ inl now ↦ elim now [ inl it ↦ inl it | inr none ↦ absurd none ] | inr before ↦ inr before ]),
+              λ either. (posts n).1 (elim either [
+                | inl now ↦ elim now [ inl it ↦ inl it | inr none ↦ absurd none ]
+                | inr before ↦ inr before
+              ]),
             );
             grows = λ k was. grown k ∙ or_right (eqb k m.receiver) (has ready k) was;
             wakes = λ n among _. elim among [
-              | inl it ↦ ap (λ (e : Envelope). has ready' e.receiver) it ∙ ap (λ (r : List ℕ). has r m.receiver) more ∙ with_same ready m.receiver
+              | inl it ↦ ap (λ (e : Envelope). has ready' e.receiver) it ∙ ap (λ (r : List ℕ). has r m.receiver) more
+                  ∙ with_same ready m.receiver
               | inr none ↦ absurd none
             ];
             only = λ k now. elim (same_or_other k m.receiver) [
@@ -258,7 +291,8 @@ posts_one stopped posted posted' ready ready' m posts is =
     ]
 
 -- and some more
-pub posts_more : (stopped : List ℕ) (p0 p1 p2 : List Envelope) (r0 r1 r2 : List ℕ) (xs ys : List Envelope) → PostsAll stopped p0 p1 r0 r1 xs → PostsAll stopped p1 p2 r1 r2 ys
+pub posts_more : (stopped : List ℕ) (p0 p1 p2 : List Envelope) (r0 r1 r2 : List ℕ) (xs ys : List Envelope) → PostsAll stopped p0 p1 r0 r1 xs
+    → PostsAll stopped p1 p2 r1 r2 ys
     → PostsAll stopped p0 p2 r0 r2 (xs ++ ys)
 posts_more stopped p0 p1 p2 r0 r1 r2 xs ys a b = record {
   posts = λ m. (
@@ -272,6 +306,9 @@ posts_more stopped p0 p1 p2 r0 r1 r2 xs ys a b = record {
     ]),
   );
   grows = λ k was. b.grows k (a.grows k was);
-  wakes = λ m among live. elim (among_either m xs ys among) [ inl early ↦ b.grows m.receiver (a.wakes m early live) | inr later ↦ b.wakes m later live ];
+  wakes = λ m among live. elim (among_either m xs ys among) [
+    | inl early ↦ b.grows m.receiver (a.wakes m early live)
+    | inr later ↦ b.wakes m later live
+  ];
   only = λ k now. elim (b.only k now) [ inl before ↦ a.only k before | inr live ↦ inr live ];
 }

@@ -5,7 +5,8 @@ use Rattle.node_core.specs.declared.event.Event.TheVariants as on
 use Rattle.node_core.specs.State.{is_down}
 use Rattle.histories.specs.NodeState.{NodeState}
 use Rattle.histories.specs.declared.history_event.HistoryEvent.{HistoryEvent}
-use Rattle.histories.specs.declared.history_event.HistoryEvent.TheVariants.{Did, Faulted, NoOp, Crashed, Recovered, MountFailed, RaiseFailed}
+use Rattle.histories.specs.declared.history_event.HistoryEvent.TheVariants.{Did, Faulted, NoOp, Crashed, Recovered, MountFailed}
+use Rattle.histories.specs.declared.history_event.HistoryEvent.TheVariants.{RaiseFailed}
 use Rattle.histories.specs.declared.history_event.NoOpKind.TheVariants.{Nothing}
 use Rattle.histories.specs.HistoryEvent.{brought}
 use Rattle.histories.specs.After.{after, sent_at}
@@ -41,7 +42,8 @@ what_at s c = what_of (is_down s.state.phase) c.action
 
 -- the entry is possible at a node in this state: what it says may come there, and it sends what is sent then
 abbrev pub MayCome : ℕ → ℕ → NodeState → Claim → Type 0
-MayCome self nodes s c = IsSomeAnd (what_at s c) (λ (what : HistoryEvent). IsPossible self nodes s what × (c.sent ≡ sent_at self nodes s what))
+MayCome self nodes s c = IsSomeAnd (what_at s c) (λ (what : HistoryEvent). IsPossible self nodes s what
+    × (c.sent ≡ sent_at self nodes s what))
 
 abbrev pub after_what : ℕ → ℕ → NodeState → Option HistoryEvent → NodeState
 after_what self nodes s None = s

@@ -25,7 +25,8 @@ pub record IsStopped (hs : List (List Claim)) (n index : ℕ) : Type 0 where
 
 -- what is left and doesn't wait is stopped
 abbrev pub LeftoversStop : Type 0
-LeftoversStop = (hs : List (List Claim)) (left : List Leftover) (l : Leftover) → AreLeftovers hs left → IsAmong l left → (l.holdup ≡ Waits → ⊥) → IsStopped hs l.node l.index
+LeftoversStop = (hs : List (List Claim)) (left : List Leftover) (l : Leftover) → AreLeftovers hs left → IsAmong l left
+    → (l.holdup ≡ Waits → ⊥) → IsStopped hs l.node l.index
 
 -- ---- where a node opens
 
@@ -56,7 +57,8 @@ pub record IsStart (hs : List (List Claim)) (n index first : ℕ) : Type 0 where
 -- did before that and does behind them, and whatever the others do.
 abbrev pub CantBe : ℕ → ℕ → NodeState → List Claim → Type 0
 CantBe nodes n s entries =
-    (hs : List (List Claim)) (before behind : List Claim) → length hs ≡ nodes → history hs n ≡ before ++ (entries ++ behind) → state_after n nodes (opening n) before ≡ s → IsRun hs → ⊥
+    (hs : List (List Claim)) (before behind : List Claim) → length hs ≡ nodes → history hs n ≡ before ++ (entries ++ behind)
+    → state_after n nodes (opening n) before ≡ s → IsRun hs → ⊥
 
 -- of so many nodes this one has these entries, and the others have none
 abbrev pub lone : ℕ → ℕ → List Claim → List (List Claim)

@@ -52,7 +52,8 @@ delivered (Some m) = on.Deliver m
 abbrev pub event_said : List Envelope → List ℕ → PackedEvent → Event
 event_said messages payloads (kept.Timer timer) = on.Timer timer
 event_said messages payloads (kept.Deliver place) = delivered (slice_get messages place)
-event_said messages payloads (kept.Submit queue priority len start) = on.Submit (record { queue = queue; priority = priority; payload = take len (drop start payloads) })
+event_said messages payloads (kept.Submit queue priority len start) =
+    on.Submit (record { queue = queue; priority = priority; payload = take len (drop start payloads) })
 event_said messages payloads (kept.Finish origin id) = on.Finish origin id
 event_said messages payloads kept.Recover = on.Recover
 

@@ -22,7 +22,8 @@ IsSilent self nodes s c = IfSome (what_at s c) (λ (what : HistoryEvent). sent_a
 
 -- it can, and sends these messages
 abbrev pub WouldSend : ℕ → ℕ → NodeState → Claim → List Envelope → Type 0
-WouldSend self nodes s c ms = IsSomeAnd (what_at s c) (λ (what : HistoryEvent). IsPossible self nodes s what × (ms ≡ sent_at self nodes s what))
+WouldSend self nodes s c ms = IsSomeAnd (what_at s c) (λ (what : HistoryEvent). IsPossible self nodes s what
+    × (ms ≡ sent_at self nodes s what))
 
 -- why an entry isn't taken at a node in this state: all but its message is there, or it can't be there, whatever is sent
 abbrev pub HoldsUp : ℕ → ℕ → NodeState → Claim → Holdup → Type 0
@@ -49,12 +50,14 @@ IsHeldUp hs past n c holdup = HoldsUp n (length hs) (state_of hs n (taken n past
 -- the next entry of this node comes behind these, if it has one
 abbrev pub AddsLeft : List (List Claim) → List ℕ → ℕ → Option Claim → List Leftover → List Leftover → Type 0
 AddsLeft hs past n None front left = left ≡ front
-AddsLeft hs past n (Some c) front left = (holdup : Holdup) × (left ≡ front ++ record { node = n; index = taken n past; holdup = holdup } ∷ []) × IsHeldUp hs past n c holdup
+AddsLeft hs past n (Some c) front left = (holdup : Holdup)
+    × (left ≡ front ++ record { node = n; index = taken n past; holdup = holdup } ∷ []) × IsHeldUp hs past n c holdup
 
 -- the next entry of each node below this number that has entries left, in the order of the nodes
 abbrev pub AreLeftBelow : List (List Claim) → List ℕ → ℕ → List Leftover → Type 0
 AreLeftBelow hs past zero left = left ≡ []
-AreLeftBelow hs past (suc n) left = (front : List Leftover) × AreLeftBelow hs past n front × AddsLeft hs past n (slice_get (history hs n) (taken n past)) front left
+AreLeftBelow hs past (suc n) left = (front : List Leftover) × AreLeftBelow hs past n front
+    × AddsLeft hs past n (slice_get (history hs n) (taken n past)) front left
 
 -- the next entry of each node that has entries left, once none more can be taken
 abbrev pub AreLeftovers : List (List Claim) → List Leftover → Type 0
@@ -62,7 +65,8 @@ AreLeftovers hs left = (past : List ℕ) × IsLegal hs past × IsStuck hs past �
 
 -- what holds an entry up, but for a wait, holds it up whatever is sent
 abbrev pub HoldupsHold : Type 0
-HoldupsHold = (self nodes : ℕ) (s : NodeState) (c : Claim) (holdup : Holdup) → (holdup ≡ Waits → ⊥) → HoldsUp self nodes s c holdup → MayCome self nodes s c → AreAddressed self (brought_by c.action) → ⊥
+HoldupsHold = (self nodes : ℕ) (s : NodeState) (c : Claim) (holdup : Holdup) → (holdup ≡ Waits → ⊥) → HoldsUp self nodes s c holdup
+    → MayCome self nodes s c → AreAddressed self (brought_by c.action) → ⊥
 
 -- ---- a node that is brought through its history again
 

@@ -61,8 +61,10 @@ IsLeast hs (n ∷ order) = ((m : ℕ) → m < n → MayTake hs order m → ⊥) 
 
 -- where nothing more can be taken, no order takes more of any history
 abbrev pub NoneGoesFurther : Type 0
-NoneGoesFurther = (hs : List (List Claim)) (order other : List ℕ) → IsStuck hs order → IsLegal hs other → (n : ℕ) → taken n other ≤ taken n order
+NoneGoesFurther = (hs : List (List Claim)) (order other : List ℕ) → IsStuck hs order → IsLegal hs other → (n : ℕ)
+    → taken n other ≤ taken n order
 
 -- where nothing more can be taken and an entry is left, no order takes all
 abbrev pub NoneComplete : Type 0
-NoneComplete = (hs : List (List Claim)) (order other : List ℕ) (n : ℕ) → IsStuck hs order → taken n order < length (history hs n) → IsLegal hs other → IsComplete hs other → ⊥
+NoneComplete = (hs : List (List Claim)) (order other : List ℕ) (n : ℕ) → IsStuck hs order → taken n order < length (history hs n)
+    → IsLegal hs other → IsComplete hs other → ⊥

@@ -23,4 +23,5 @@ entries_from n nodes (h ∷ hs) = entries_of n nodes (opening n) h ∷ entries_f
 
 -- histories of which all entries can be taken in some order are a bundle
 abbrev pub OrdersAreBundles : Type 0
-OrdersAreBundles = (hs : List (List Claim)) (order : List ℕ) → IsLegal hs order → IsComplete hs order → Bundle (entries_from 0 (length hs) hs)
+OrdersAreBundles = (hs : List (List Claim)) (order : List ℕ) → IsLegal hs order → IsComplete hs order
+    → Bundle (entries_from 0 (length hs) hs)

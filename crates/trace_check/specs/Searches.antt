@@ -23,7 +23,8 @@ twin_at hs past n = twin_after hs n (taken n past)
 
 -- the next entry of the node can't come, whatever is sent
 abbrev pub IsDead : List (List Claim) → List ℕ → ℕ → Type 0
-IsDead hs past n = (c : Claim) → slice_get (history hs n) (taken n past) ≡ Some c → MayCome n (length hs) (state_of hs n (taken n past)) c → AreAddressed n (brought_by c.action) → ⊥
+IsDead hs past n = (c : Claim) → slice_get (history hs n) (taken n past) ≡ Some c → MayCome n (length hs) (state_of hs n (taken n past)) c
+    → AreAddressed n (brought_by c.action) → ⊥
 
 -- a node represents its node: one that is stopped keeps its place alone
 pub record SeatFits (hs : List (List Claim)) (past : List ℕ) (n : ℕ) (stopped : Bool) (s : NodeCursor) : Type 0 where
@@ -31,7 +32,8 @@ pub record SeatFits (hs : List (List Claim)) (past : List ℕ) (n : ℕ) (stoppe
   pub node_model : stopped ≡ false → s.node_model ≡ twin_at hs past n
 
 -- after the turns of the past, newest first
-pub record IsDesk (hs : List (List Claim)) (seats : List NodeCursor) (ready stopped : List ℕ) (posted : List Envelope) (past : List ℕ) : Type 0 where
+pub record IsDesk (hs : List (List Claim)) (seats : List NodeCursor) (ready stopped : List ℕ) (posted : List Envelope) (past : List ℕ) :
+    Type 0 where
   pub count : length seats ≡ length hs
   pub fits : (n : ℕ) (s : NodeCursor) → slice_get seats n ≡ Some s → SeatFits hs past n (has stopped n) s
   pub legal : IsLegal hs past
@@ -71,11 +73,17 @@ pub record IsTaken (hs : List (List Claim)) (posted : List Envelope) (n : ℕ) (
   pub sent : Each (IsPosted posted) (brought_by claim.action)
   pub addressed : AreAddressed n (brought_by claim.action)
   pub place : new.place ≡ old.place + 1
-  pub node_model : new.node_model ≡ record { id = old.node_model.id; nodes = old.node_model.nodes; node = after_claim old.node_model.id old.node_model.nodes old.node_model.node claim }
+  pub node_model : new.node_model ≡ record {
+    id = old.node_model.id;
+    nodes = old.node_model.nodes;
+    node =
+        after_claim old.node_model.id old.node_model.nodes old.node_model.node claim;
+  }
 
 abbrev pub Judges : List (List Claim) → List Envelope → ℕ → NodeCursor → NodeCursor → Judgement → Type 0
 Judges hs posted n old new Stops =
-    (new.place ≡ old.place) × ((c : Claim) → slice_get (history hs n) old.place ≡ Some c → MayCome old.node_model.id old.node_model.nodes old.node_model.node c → AreAddressed n (brought_by c.action) → ⊥)
+    (new.place ≡ old.place) × ((c : Claim) → slice_get (history hs n) old.place ≡ Some c
+    → MayCome old.node_model.id old.node_model.nodes old.node_model.node c → AreAddressed n (brought_by c.action) → ⊥)
 Judges hs posted n old new Waits = (new ≡ old) × IsUnsent hs posted n old.place
 Judges hs posted n old new Takes = IsTaken hs posted n old new
 
@@ -95,7 +103,8 @@ pub record PostsAll (stopped : List ℕ) (posted posted' : List Envelope) (ready
 
 -- what its next entry sent is sent if it is taken, and else all is as it was
 abbrev pub SendsIts : List (List Claim) → Search → Search → ℕ → ℕ → Judgement → Type 0
-SendsIts hs old new n place Takes = (c : Claim) → slice_get (history hs n) place ≡ Some c → PostsAll old.stopped old.posted new.posted old.ready new.ready c.sent
+SendsIts hs old new n place Takes = (c : Claim) → slice_get (history hs n) place ≡ Some c
+    → PostsAll old.stopped old.posted new.posted old.ready new.ready c.sent
 SendsIts hs old new n place answer = (new.posted ≡ old.posted) × (new.ready ≡ old.ready)
 
 -- its next entry is judged, and the other nodes stay where they are

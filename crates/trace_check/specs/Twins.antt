@@ -27,7 +27,12 @@ pub record Twin : Type 0 where
   pub node : NodeState
 
 abbrev pub twin : Core → Durable → Option Command → Twin
-twin core durable doubt = record { id = core.id; nodes = core.nodes; node = record { state = core.state; durable = durable; doubt = doubt } }
+twin core durable doubt = record {
+  id = core.id;
+  nodes = core.nodes;
+  node =
+      record { state = core.state; durable = durable; doubt = doubt };
+}
 
 -- a node that is down has the one state of such nodes; nothing is in doubt at a node that is up, and what is in doubt can be taken
 pub record IsTwin (t : Twin) : Type 0 where
@@ -68,7 +73,8 @@ Taken old new c false = MayCome old.id old.nodes old.node c → ⊥
 
 -- whether the command in doubt is on the disk is settled, and nothing is in doubt. Or it can't be
 abbrev pub Settled : Twin → Twin → Bool → Bool → Type 0
-Settled old new kept true = IsSettling kept old.node.doubt × (new.node ≡ record { state = old.node.state; durable = settled kept old.node; doubt = None })
+Settled old new kept true = IsSettling kept old.node.doubt
+    × (new.node ≡ record { state = old.node.state; durable = settled kept old.node; doubt = None })
 Settled old new kept false = IsSettling kept old.node.doubt → ⊥
 
 -- the event is taken, and wants this; or it isn't taken

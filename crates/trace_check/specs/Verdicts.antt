@@ -9,7 +9,8 @@ use Rattle.trace_check.specs.Orders.{history, taken, state_of, IsSent, IsLegal, 
 
 -- this is the least node with entries left after these, and the index of its next
 abbrev pub IsFirstLeft : List (List Claim) → List ℕ → ℕ → ℕ → Type 0
-IsFirstLeft hs past node index = (index ≡ taken node past) × (index < length (history hs node)) × ((m : ℕ) → m < node → taken m past ≡ length (history hs m))
+IsFirstLeft hs past node index = (index ≡ taken node past) × (index < length (history hs node))
+    × ((m : ℕ) → m < node → taken m past ≡ length (history hs m))
 
 -- all entries are taken in this order; or none more can be after some others, and then the least node with entries left is
 -- named. At each turn the least node that could took its entry
@@ -50,4 +51,5 @@ pub record Turned (hs : List (List Claim)) (past : List ℕ) (n : ℕ) (c : Clai
   pub adds : (m : Envelope) → IsAmong m c.sent → IsSent hs (n ∷ past) m
 
 abbrev pub TurnsGoOn : Type 0
-TurnsGoOn = (hs : List (List Claim)) (past : List ℕ) (n : ℕ) (c : Claim) → slice_get (history hs n) (taken n past) ≡ Some c → Turned hs past n c
+TurnsGoOn = (hs : List (List Claim)) (past : List ℕ) (n : ℕ) (c : Claim) → slice_get (history hs n) (taken n past) ≡ Some c
+    → Turned hs past n c

@@ -9,7 +9,9 @@ ghost use Rattle.trace_check.specs.Given.{FitsGiven, action_given, sent_given};
 ghost use Rattle.trace_check.specs.Traces.{claim, claim_seen};
 ghost use Rattle.trace_check.specs.Views.{Stands, claim_kept};
 
-use crate::kept::{PackedAction, PackedEntry, brought_at, action_said, keep_event, keep_lent_event};
+use crate::kept::{
+    PackedAction, PackedEntry, action_said, brought_at, keep_event, keep_lent_event,
+};
 use crate::lent_action::ActionRef;
 use crate::stored::{StoredEntry, stored_action};
 use crate::trace::TraceAction;

@@ -9,7 +9,18 @@ use Rattle.trace_console.specs.declared.judging.Stage.{Stage}
 use Rattle.trace_console.specs.declared.judging.Stage.TheVariants.{Over, Ongoing}
 use Rattle.trace_console.specs.Ongoing.{IsJudgementAt, printed_at}
 
-module _ (hs : List (List Claim)) (e : Examined) (o : Printout) (verdict : IsVerdict hs e.verdict) (decides : DecidesRun hs e.verdict) (taken : AreTaken hs e.verdict e.taken.items) (left : AreLeftovers hs e.left.items) where
+module _ (hs : List (List Claim)) (e : Examined) (o : Printout) (verdict : IsVerdict hs e.verdict) (decides : DecidesRun hs e.verdict)
+    (taken : AreTaken hs e.verdict e.taken.items) (left : AreLeftovers hs e.left.items) where
   pub judged_at : (stage : Stage) → o ≡ printed_at stage e → IsJudgementAt stage hs o
   judged_at Over is = record { verdict = e.verdict; is_verdict = verdict; decides = decides; printed = is }
-  judged_at Ongoing is = record { verdict = e.verdict; is_verdict = verdict; decides = decides; taken = e.taken.items; are_taken = taken; left = e.left.items; are_left = left; printed = is }
+  judged_at Ongoing is = record {
+    verdict = e.verdict;
+    is_verdict = verdict;
+    decides = decides;
+    taken = e.taken.items;
+    are_taken =
+        taken;
+    left = e.left.items;
+    are_left = left;
+    printed = is;
+  }

@@ -27,14 +27,24 @@ pub stopped_among : (ls : List Leftover) (l : Leftover) → first_stopped ls ≡
 stopped_among [] l is = absurd cc
 stopped_among (x ∷ ls) l is = elim (cases_Bool (waits x.holdup)) [
   | inl high ↦ (let later = stopped_among ls l (rw high at is) in (inr later.0, later.1))
-  | inr low ↦ (let here : x ≡ l = same_Some x l (rw low at is) in (inl (sym here), subst (λ (y : Leftover). y.holdup ≡ Waits → ⊥) here (goes_on x.holdup low)))
+  | inr low ↦ (let here : x ≡ l = same_Some x l (rw low at is) in
+      (inl (sym here), subst (λ (y : Leftover). y.holdup ≡ Waits → ⊥) here (goes_on x.holdup low)))
 ]
 
 -- what is printed up to it: how its node stands, and the text of its entries
-pub shown : (hs : List (List Claim)) (left : Leftover) (c : Contradiction) (none before both all written : List ℕ) → IsContradiction hs left.node left.index c → written ≡ text_of_trace c.trace
-    → (IsWritable c.trace → trace_of written ≡ Ok c.trace) → none ≡ [] → before ≡ none ++ before_text c → both ≡ before ++ written → all ≡ both ++ codes "\n" → IsShownUpTo hs left (record { text = all; good = false })
+pub shown : (hs : List (List Claim)) (left : Leftover) (c : Contradiction) (none before both all written : List ℕ)
+    → IsContradiction hs left.node left.index c → written ≡ text_of_trace c.trace
+    → (IsWritable c.trace → trace_of written ≡ Ok c.trace) → none ≡ [] → before ≡ none ++ before_text c → both ≡ before ++ written
+    → all ≡ both ++ codes "\n" → IsShownUpTo hs left (record { text = all; good = false })
 shown hs left c none before both all written is same back empty one two three =
     let front : before ≡ before_text c = one ∙ ap (λ (xs : List ℕ). xs ++ before_text c) empty in
     let text : all ≡ (before_text c ++ text_of_trace c.trace) ++ codes "\n" =
-    three ∙ ap (λ (xs : List ℕ). xs ++ codes "\n") (two ∙ ap (λ (xs : List ℕ). xs ++ written) front ∙ ap (λ (xs : List ℕ). before_text c ++ xs) same) in
-    record { contradiction = c; is = is; printed = λ i. record { text = text i; good = false }; reads = λ writable. ap trace_of (sym same) ∙ back writable }
+    three ∙ ap (λ (xs : List ℕ). xs ++ codes "\n") (two ∙ ap (λ (xs : List ℕ). xs ++ written) front
+    ∙ ap (λ (xs : List ℕ). before_text c ++ xs) same) in
+    record {
+      contradiction = c;
+      is = is;
+      printed = λ i. record { text = text i; good = false };
+      reads = λ writable. ap trace_of (sym same)
+          ∙ back writable;
+    }

@@ -11,7 +11,17 @@ none_next hs past n all = slice_get_past (history hs n) (taken n past) (let here
 
 none_below : (hs : List (List Claim)) (past : List ℕ) (n : ℕ) → IsComplete hs past → AreLeftBelow hs past n []
 none_below hs past zero all = refl
-none_below hs past (suc n) all = ([], none_below hs past n all, subst (λ (o : Option Claim). AddsLeft hs past n o [] []) (sym (none_next hs past n all)) refl)
+none_below hs past (suc n) all = (
+  [],
+  none_below hs past n all,
+  subst (λ (o : Option Claim). AddsLeft hs past n o [] []) (sym (none_next hs past n all)) refl,
+)
 
 pub nothing_left : (hs : List (List Claim)) (past : List ℕ) → IsLegal hs past → IsComplete hs past → AreLeftovers hs []
-nothing_left hs past legal all = (past, legal, λ n may. (let clash : None ≡ Some may.claim = sym (none_next hs past n all) ∙ may.next in absurd cc), none_below hs past (length hs) all)
+nothing_left hs past legal all = (
+  past,
+  legal,
+  λ n may. (let clash : None ≡ Some may.claim = sym (none_next hs past n all) ∙ may.next in
+      absurd cc),
+  none_below hs past (length hs) all,
+)

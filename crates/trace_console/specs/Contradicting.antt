@@ -19,7 +19,8 @@ use Rattle.trace_console.specs.Ongoing.{first_stopped}
 
 -- how the node stands before the first of the entries, up to the end of the last line of that
 unfoldable pub before_text : Contradiction → List ℕ
-before_text c = codes "node " ++ decimal c.node ++ codes " entry " ++ decimal c.first ++ codes " " ++ node_state_text c.before.node ++ codes "\n"
+before_text c = codes "node " ++ decimal c.node ++ codes " entry " ++ decimal c.first ++ codes " " ++ node_state_text c.before.node
+    ++ codes "\n"
 
 -- the entries up to the one that is left and can't come, as a trace, and how their node stands before them
 pub record IsShownUpTo (hs : List (List Claim)) (left : Leftover) (printout : Printout) : Type 0 where

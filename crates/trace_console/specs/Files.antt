@@ -1,5 +1,7 @@
--- A run whose records stand in several files: each is a trace, of one node or of more, and its nodes come behind those of the files before it.
-use Rattle.std.specs.Prelude.{ℕ, ◌+◌, ◌≡◌, Bool, true, false, List, [], ◌∷◌, ◌++◌, length, if◌then◌else◌, nat_le, codes, decimal, option_map, Option, Some, None, Result, Ok, Err}
+-- A run whose records stand in several files: each is a trace, of one node or of more, and its nodes come behind those of the files before
+-- it.
+use Rattle.std.specs.Prelude.{ℕ, ◌+◌, ◌≡◌, Bool, true, false, List, [], ◌∷◌, ◌++◌, length, if◌then◌else◌, nat_le, codes, decimal}
+use Rattle.std.specs.Prelude.{option_map, Option, Some, None, Result, Ok, Err}
 use Rattle.console_text.specs.Ends.{Printout, Prints}
 use Rattle.console_text.specs.declared.ends.ExitKind.{ExitKind}
 use Rattle.console_text.specs.declared.ends.ExitKind.TheVariants.{Done, Refused, NoMemory, Unread, Unwritten}
@@ -23,7 +25,8 @@ abbrev pub behind : List (List Claim) → Result (List (List Claim)) BadFile →
 behind hs (Ok more) = Ok (hs ++ more)
 behind hs (Err bad) = Err (record { name = bad.name; location = bad.location; before = length hs + bad.before })
 
-abbrev pub first_file : List ℕ → Result (List (List Claim)) (Option Location) → Result (List (List Claim)) BadFile → Result (List (List Claim)) BadFile
+abbrev pub first_file : List ℕ → Result (List (List Claim)) (Option Location) → Result (List (List Claim)) BadFile
+    → Result (List (List Claim)) BadFile
 first_file name (Ok hs) later = behind hs later
 first_file name (Err location) later = Err (record { name = name; location = location; before = 0 })
 
@@ -54,7 +57,8 @@ PrintsFiles stage files = Prints (λ input printout. IsFilesPrintout stage files
 -- which entry of a file is bad
 abbrev pub spot_text : Option Location → List ℕ
 spot_text None = codes "this is no trace"
-spot_text (Some location) = codes "history " ++ decimal location.node ++ codes ": entry " ++ decimal location.index ++ codes " can't be read"
+spot_text (Some location) = codes "history " ++ decimal location.node ++ codes ": entry " ++ decimal location.index
+    ++ codes " can't be read"
 
 abbrev pub bad_text : List ℕ → Option Location → List ℕ
 bad_text name location = name ++ codes ": " ++ spot_text location

@@ -19,7 +19,8 @@ task_text (Some task) = codes " task " ++ group_text task.group ++ codes " membe
 
 -- what it asked, and whom it waits for
 unfoldable pub asking_text : State → List ℕ
-asking_text s = codes " found " ++ ids_text s.found ++ codes " unready " ++ ids_text s.unready ++ codes " checking " ++ truth_text s.checking ++ codes " probing " ++ truth_text s.probing
+asking_text s = codes " found " ++ ids_text s.found ++ codes " unready " ++ ids_text s.unready ++ codes " checking "
+    ++ truth_text s.checking ++ codes " probing " ++ truth_text s.probing
 
 unfoldable pub state_text : State → List ℕ
 state_text s = phase_text s.phase ++ group_part s ++ codes " up " ++ ids_text s.up ++ task_text s.task ++ asking_text s
@@ -33,7 +34,8 @@ unfoldable pub pending_text : Job → List ℕ
 pending_text job = codes "\npending " ++ decimal job.id ++ codes " " ++ work_text job.work.queue job.work.payload job.work.priority
 
 unfoldable pub held_text : InHand → List ℕ
-held_text job = codes "\nhand " ++ decimal job.origin ++ codes " " ++ decimal job.id ++ codes " " ++ work_text job.work.queue job.work.payload job.work.priority
+held_text job = codes "\nhand " ++ decimal job.origin ++ codes " " ++ decimal job.id ++ codes " "
+    ++ work_text job.work.queue job.work.payload job.work.priority
 
 -- and for a command in doubt
 abbrev pub doubt_text : Option Command → List ℕ

@@ -1,5 +1,6 @@
 -- What the command `trace` says on standard error of entries that are no run.
-use Rattle.std.specs.Prelude.{ℕ, Bool, true, false, if◌then◌else◌, ◌≡◌, List, [], ◌∷◌, ◌++◌, map, codes, decimal, Option, Some, None, IfSome, Result, Ok, Err, slice_get}
+use Rattle.std.specs.Prelude.{ℕ, Bool, true, false, if◌then◌else◌, ◌≡◌, List, [], ◌∷◌, ◌++◌, map, codes, decimal, Option, Some, None}
+use Rattle.std.specs.Prelude.{IfSome, Result, Ok, Err, slice_get}
 use Rattle.std.specs.List.{flat_map}
 use Rattle.hex.specs.Hex.{encode_lower}
 use Rattle.console_text.specs.declared.ends.ExitKind.{ExitKind}
@@ -37,7 +38,8 @@ cannot_text action = codes " (" ++ action_name action ++ codes ") can't be: "
 -- what holds an entry up
 abbrev pub holdup_text : Claim → Holdup → List ℕ
 holdup_text c holdup.Waits = codes " waits for" ++ messages_text (brought_by c.action)
-holdup_text c holdup.Misaddressed = cannot_text c.action ++ codes "it is for node" ++ words (map (λ (m : Envelope). m.receiver) (brought_by c.action))
+holdup_text c holdup.Misaddressed = cannot_text c.action ++ codes "it is for node"
+    ++ words (map (λ (m : Envelope). m.receiver) (brought_by c.action))
 holdup_text c (holdup.Refused phase) = cannot_text c.action ++ codes "its node refuses it, being " ++ phase_text phase
 holdup_text c (holdup.Sends ms) = cannot_text c.action ++ codes "it would send" ++ sent_text ms.items
 

@@ -16,9 +16,30 @@ members_of (Some task) = task.members
 
 abbrev pub stand_by : Phase → State → Option Stand
 stand_by Down s = None
-stand_by Election s = Some (record { phase = Election; group = s.group; coordinator = s.coordinator; members = members_of s.task; in_hand = length s.hand })
-stand_by Reorganization s = Some (record { phase = Reorganization; group = s.group; coordinator = s.coordinator; members = members_of s.task; in_hand = length s.hand })
-stand_by Normal s = Some (record { phase = Normal; group = s.group; coordinator = s.coordinator; members = members_of s.task; in_hand = length s.hand })
+stand_by Election s = Some (record {
+  phase = Election;
+  group = s.group;
+  coordinator = s.coordinator;
+  members = members_of s.task;
+  in_hand =
+      length s.hand;
+})
+stand_by Reorganization s = Some (record {
+  phase = Reorganization;
+  group = s.group;
+  coordinator = s.coordinator;
+  members =
+      members_of s.task;
+  in_hand = length s.hand;
+})
+stand_by Normal s = Some (record {
+  phase = Normal;
+  group = s.group;
+  coordinator = s.coordinator;
+  members = members_of s.task;
+  in_hand =
+      length s.hand;
+})
 
 -- how a node in this state stands; None where it is down
 abbrev pub stand_of : State → Option Stand

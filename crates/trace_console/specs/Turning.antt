@@ -1,5 +1,6 @@
 -- What the command `turns` prints.
-use Rattle.std.specs.Prelude.{ℕ, ◌≡◌, ◌⊎◌, List, [], ◌∷◌, ◌++◌, reverse, codes, decimal, Bool, true, false, Option, Some, None, Result, Ok, Err}
+use Rattle.std.specs.Prelude.{ℕ, ◌≡◌, ◌⊎◌, List, [], ◌∷◌, ◌++◌, reverse, codes, decimal, Bool, true, false, Option, Some, None, Result, Ok}
+use Rattle.std.specs.Prelude.{Err}
 use Rattle.std.specs.List.{flat_map}
 use Rattle.console_text.specs.Ends.{Printout, refused}
 use Rattle.node_words.specs.Words.{group_text, ids_text, phase_text}
@@ -81,7 +82,8 @@ pub record TellsTaken (hs : List (List Claim)) (printout : Printout) : Type 0 wh
 -- the order that the text gives is taken where all entries can be taken in it, and only there
 abbrev pub IsTelling : List (List Claim) → Option Ordered → Printout → Type 0
 IsTelling hs None printout = TellsTaken hs printout
-IsTelling hs (Some given) printout = (IsRunIn hs given.0 × TellsRecorded hs given.0 printout) ⊎ ((IsRunIn hs given.0 → ⊥) × TellsTaken hs printout)
+IsTelling hs (Some given) printout = (IsRunIn hs given.0 × TellsRecorded hs given.0 printout)
+    ⊎ ((IsRunIn hs given.0 → ⊥) × TellsTaken hs printout)
 
 abbrev pub IsToldBy : Option Ordered → Result (List (List Claim)) (Option Location) → Printout → Type 0
 IsToldBy given (Ok hs) printout = IsTelling hs given printout

@@ -1,5 +1,7 @@
 -- Where a text is cut.
-use Rattle.std.proofs.Common.{◌≡◌, ℕ, suc, ◌+◌, ◌-◌, ◌<◌, ◌≤◌, Bool, true, false, ◌==◌, List, [], ◌∷◌, ◌++◌, length, take, drop, get_or, Option, Some, None, is_some, refl, sym, ap, ◌∙◌, subst, arith, length-drop, take-add, take-append-drop, take_all}
+use Rattle.std.proofs.Common.{◌≡◌, ℕ, suc, ◌+◌, ◌-◌, ◌<◌, ◌≤◌, Bool, true, false, ◌==◌, List, [], ◌∷◌, ◌++◌, length, take, drop, get_or}
+use Rattle.std.proofs.Common.{Option, Some, None, is_some, refl, sym, ap, ◌∙◌, subst, arith, length-drop, take-add, take-append-drop}
+use Rattle.std.proofs.Common.{take_all}
 use Rattle.std.proofs.lemmas.Bool.{true≢false}
 use Rattle.std.proofs.lemmas.List.{drop-drop, drop_more, get_or-drop}
 use Rattle.memchr.specs.Find.{IsFirstByte, OccursAt, is_byte}
@@ -20,7 +22,8 @@ front_plain (x ∷ xs) ys h = (h.0, front_plain xs ys h.1)
 at_place : (text : List ℕ) (i x : ℕ) → i < length text → get_or text i 0 ≡ x → drop i text ≡ x ∷ drop (i + 1) text
 at_place text i x few is = drop_more text i 0 few ∙ ap (λ (y : ℕ). y ∷ drop (i + 1) text) is
 
-pub cut_found : (text piece behind : List ℕ) (end : ℕ) → end + 3 ≤ length text → get_or text end 0 ≡ 125 → get_or text (end + 1) 0 ≡ 44 → get_or text (end + 2) 0 ≡ 123
+pub cut_found : (text piece behind : List ℕ) (end : ℕ) → end + 3 ≤ length text → get_or text end 0 ≡ 125 → get_or text (end + 1) 0 ≡ 44
+    → get_or text (end + 2) 0 ≡ 123
     → piece ≡ take (end + 1) text → behind ≡ drop (end + 2) text → NoBackslash piece → IsCut text piece behind
 cut_found text piece behind end fits brace comma next first later plain =
     let one = at_place text end 125 (omega (arith, fits)) brace in
@@ -32,7 +35,8 @@ cut_found text piece behind end fits brace comma next first later plain =
     record {
       front = front;
       back = drop (end + 2 + 1) text;
-      whole = sym (take-append-drop end text) ∙ ap (λ (r : List ℕ). front ++ r) (one ∙ ap (λ (r : List ℕ). 125 ∷ r) (two ∙ ap (λ (i : ℕ). 44 ∷ drop i text) same ∙ ap (λ (r : List ℕ). 44 ∷ r) three));
+      whole = sym (take-append-drop end text) ∙ ap (λ (r : List ℕ). front ++ r)
+          (one ∙ ap (λ (r : List ℕ). 125 ∷ r) (two ∙ ap (λ (i : ℕ). 44 ∷ drop i text) same ∙ ap (λ (r : List ℕ). 44 ∷ r) three));
       first = is;
       later = later ∙ three;
       plain = front_plain front (125 ∷ []) (subst NoBackslash is plain);
@@ -45,7 +49,8 @@ none_found xs (Some i) first none = absurd (true≢false none)
 tail_is : (n : ℕ) (xs : List ℕ) → take (length xs - n) (drop n xs) ≡ drop n xs
 tail_is n xs = let long = length-drop n xs in take_all (length xs - n) (drop n xs) (omega (arith, long))
 
-pub found_cut : (text piece rest behind : List ℕ) (from i : ℕ) → OccursAt (take (length text - from) (drop from text)) (125 ∷ 44 ∷ 123 ∷ []) i → piece ≡ take (from + i + 1) text → NoBackslash piece
+pub found_cut : (text piece rest behind : List ℕ) (from i : ℕ)
+    → OccursAt (take (length text - from) (drop from text)) (125 ∷ 44 ∷ 123 ∷ []) i → piece ≡ take (from + i + 1) text → NoBackslash piece
     → rest ≡ drop (from + i + 1) text → behind ≡ drop 1 rest → IsCut text piece behind
 found_cut text piece rest behind from i occurs front plain back next =
     let at = subst (λ (hay : List ℕ). OccursAt hay (125 ∷ 44 ∷ 123 ∷ []) i) (tail_is from text) occurs in

@@ -1,5 +1,6 @@
 -- The value that begins with a token.
-use Rattle.std.proofs.Common.{◌≡◌, ℕ, zero, suc, ◌-◌, ◌<◌, Bool, List, [], ◌∷◌, length, Option, Some, None, option_map, MatchResult, refl, sym, ap, ap₂, ◌∙◌}
+use Rattle.std.proofs.Common.{◌≡◌, ℕ, zero, suc, ◌-◌, ◌<◌, Bool, List, [], ◌∷◌, length, Option, Some, None, option_map, MatchResult, refl}
+use Rattle.std.proofs.Common.{sym, ap, ap₂, ◌∙◌}
 use Rattle.std.specs.Option.{ok_or}
 use Rattle.json.specs.Token.{Token}
 use Rattle.json.specs.Json as json
@@ -20,7 +21,8 @@ use Rattle.trace_text.proofs.Walks.{behind_some, in_list, in_object}
 
 module _ (depth : ℕ) (ts : List Token) where
   pub text_there : (text : List ℕ) → parse_map plain (data_at depth (Token.string text ∷ ts)) ≡ Some (string text, ts)
-  text_there text = ap (λ (o : Option (json.Json × List Token)). parse_map plain (converted of_json o)) (value_is depth (Token.string text ∷ ts))
+  text_there text = ap (λ (o : Option (json.Json × List Token)). parse_map plain (converted of_json o))
+      (value_is depth (Token.string text ∷ ts))
 
   pub flag_there : (b : Bool) → parse_map plain (data_at depth (Token.boolean b ∷ ts)) ≡ Some (boolean b, ts)
   flag_there b = ap (λ (o : Option (json.Json × List Token)). parse_map plain (converted of_json o)) (value_is depth (Token.boolean b ∷ ts))
@@ -28,37 +30,50 @@ module _ (depth : ℕ) (ts : List Token) where
   pub null_there : parse_map plain (data_at depth (Token.null ∷ ts)) ≡ Some (null, ts)
   null_there = ap (λ (o : Option (json.Json × List Token)). parse_map plain (converted of_json o)) (value_is depth (Token.null ∷ ts))
 
-  number_is : (text : List ℕ) (o : Option Num) → number_of text ≡ o → data_at depth (Token.number text ∷ ts) ≡ option_map (λ (d : Data). (d, ts)) (option_map number o)
-  number_is text o is = ap (converted of_json) (value_is depth (Token.number text ∷ ts)) ∙ ap (λ (x : Option Num). option_map (λ (d : Data). (d, ts)) (option_map number x)) is
+  number_is : (text : List ℕ) (o : Option Num) → number_of text ≡ o
+      → data_at depth (Token.number text ∷ ts) ≡ option_map (λ (d : Data). (d, ts)) (option_map number o)
+  number_is text o is = ap (converted of_json) (value_is depth (Token.number text ∷ ts))
+      ∙ ap (λ (x : Option Num). option_map (λ (d : Data). (d, ts)) (option_map number x)) is
 
-  number_by : (text : List ℕ) (o : Option Num) (d : Data) → number_of text ≡ o → Some d ≡ option_map (λ (n : Num). plain (number n)) o → parse_map plain (data_at depth (Token.number text ∷ ts)) ≡ Some (d, ts)
+  number_by : (text : List ℕ) (o : Option Num) (d : Data) → number_of text ≡ o → Some d ≡ option_map (λ (n : Num). plain (number n)) o
+      → parse_map plain (data_at depth (Token.number text ∷ ts)) ≡ Some (d, ts)
   number_by text None d is said = absurd (cc)
   number_by text (Some n) d is said = ap (parse_map plain) (number_is text (Some n) is) ∙ ap (option_map (λ (x : Data). (x, ts))) (sym said)
 
-  number_there : (text : List ℕ) (d : Data) → Some d ≡ option_map (λ (n : Num). plain (number n)) (number_of text) → parse_map plain (data_at depth (Token.number text ∷ ts)) ≡ Some (d, ts)
+  number_there : (text : List ℕ) (d : Data) → Some d ≡ option_map (λ (n : Num). plain (number n)) (number_of text)
+      → parse_map plain (data_at depth (Token.number text ∷ ts)) ≡ Some (d, ts)
   number_there text d said = number_by text (number_of text) d refl said
 
-  no_number_by : (text : List ℕ) (o : Option Num) → number_of text ≡ o → None ≡ option_map (λ (n : Num). plain (number n)) o → data_at depth (Token.number text ∷ ts) ≡ None
+  no_number_by : (text : List ℕ) (o : Option Num) → number_of text ≡ o → None ≡ option_map (λ (n : Num). plain (number n)) o
+      → data_at depth (Token.number text ∷ ts) ≡ None
   no_number_by text None is said = number_is text None is
   no_number_by text (Some n) is said = absurd (cc)
 
-  no_number : (text : List ℕ) → None ≡ option_map (λ (n : Num). plain (number n)) (number_of text) → data_at depth (Token.number text ∷ ts) ≡ None
+  no_number : (text : List ℕ) → None ≡ option_map (λ (n : Num). plain (number n)) (number_of text)
+      → data_at depth (Token.number text ∷ ts) ≡ None
   no_number text said = no_number_by text (number_of text) refl said
 
-  pub list_there : (r : List Token) → 0 < depth → behind (items_at (depth - 1) ts) ≡ Some r → parse_map plain (data_at depth (Token.begin_array ∷ ts)) ≡ Some (null, r)
+  pub list_there : (r : List Token) → 0 < depth → behind (items_at (depth - 1) ts) ≡ Some r
+      → parse_map plain (data_at depth (Token.begin_array ∷ ts)) ≡ Some (null, r)
   list_there r some passed =
       let ds = behind_some (items_at (depth - 1) ts) r passed in
-      in_list depth some {ts = Token.begin_array ∷ ts} {r = ts} refl plain (λ (x : Items). null) (λ x. refl) ∙ ap (parse_map (λ (x : Items). null)) ds.1
+      in_list depth some {ts = Token.begin_array ∷ ts} {r = ts} refl plain (λ (x : Items). null) (λ x. refl)
+      ∙ ap (parse_map (λ (x : Items). null)) ds.1
 
-  pub object_there : (r : List Token) → 0 < depth → behind (members_at (depth - 1) ts) ≡ Some r → parse_map plain (data_at depth (Token.begin_object ∷ ts)) ≡ Some (null, r)
+  pub object_there : (r : List Token) → 0 < depth → behind (members_at (depth - 1) ts) ≡ Some r
+      → parse_map plain (data_at depth (Token.begin_object ∷ ts)) ≡ Some (null, r)
   object_there r some passed =
       let ms = behind_some (members_at (depth - 1) ts) r passed in
-      in_object depth some {ts = Token.begin_object ∷ ts} {r = ts} refl plain (λ (x : Members). null) (λ x. refl) ∙ ap (parse_map (λ (x : Members). null)) ms.1
+      in_object depth some {ts = Token.begin_object ∷ ts} {r = ts} refl plain (λ (x : Members). null) (λ x. refl)
+      ∙ ap (parse_map (λ (x : Members). null)) ms.1
 
-  pub number_first : (t : Token) (text : List ℕ) (o : Option Field) → t ≡ Token.number text → option_map data_of o ≡ option_map (λ (n : Num). plain (number n)) (number_of text)
-      → MatchResult (ok_or o (record {})) (λ (field : Field). parse_map plain (data_at depth (t ∷ ts)) ≡ Some (data_of field, ts)) (λ (e : Invalid). data_at depth (t ∷ ts) ≡ None)
+  pub number_first : (t : Token) (text : List ℕ) (o : Option Field) → t ≡ Token.number text
+      → option_map data_of o ≡ option_map (λ (n : Num). plain (number n)) (number_of text)
+      → MatchResult (ok_or o (record {})) (λ (field : Field). parse_map plain (data_at depth (t ∷ ts)) ≡ Some (data_of field, ts))
+      (λ (e : Invalid). data_at depth (t ∷ ts) ≡ None)
   number_first t text None is said = ap (λ (f : Token). data_at depth (f ∷ ts)) is ∙ no_number text said
-  number_first t text (Some field) is said = ap (λ (f : Token). parse_map plain (data_at depth (f ∷ ts))) is ∙ number_there text (data_of field) said
+  number_first t text (Some field) is said = ap (λ (f : Token). parse_map plain (data_at depth (f ∷ ts))) is
+      ∙ number_there text (data_of field) said
 
 pub nothing_there : (depth : ℕ) (ts : List Token) → ts ≡ [] → data_at depth ts ≡ None
 nothing_there depth ts empty = ap (data_at depth) empty ∙ ap (converted of_json) (value_is depth [])
@@ -80,15 +95,18 @@ Front = Option (Data × List Token)
 abbrev none_of : {A : Type 0} → Data → Option A
 none_of d = None
 
-scalar : {A : Type 0} (f : Data → Option A) (depth : ℕ) (ts : List Token) (o : Front) → data_at depth ts ≡ o → parse_map f o ≡ parse_map none_of o → parse_map f (data_at depth ts) ≡ parse_map none_of (data_at depth ts)
+scalar : {A : Type 0} (f : Data → Option A) (depth : ℕ) (ts : List Token) (o : Front) → data_at depth ts ≡ o
+    → parse_map f o ≡ parse_map none_of o → parse_map f (data_at depth ts) ≡ parse_map none_of (data_at depth ts)
 scalar f depth ts o is same = ap (parse_map f) is ∙ same ∙ ap (parse_map none_of) (sym is)
 
 numbers : {A : Type 0} (f : Data → Option A) (ts : List Token) (o : Option Num) → ((n : Num) → f (number n) ≡ None)
-    → parse_map f (option_map (λ (d : Data). (d, ts)) (option_map number o)) ≡ parse_map none_of (option_map (λ (d : Data). (d, ts)) (option_map number o))
+    → parse_map f (option_map (λ (d : Data). (d, ts)) (option_map number o))
+    ≡ parse_map none_of (option_map (λ (d : Data). (d, ts)) (option_map number o))
 numbers f ts None law = refl
 numbers f ts (Some n) law = ap (λ a. Some (a, ts)) (law n)
 
-under : {A B : Type 0} (f : Data → Option A) (g : B → Data) (o : Option (B × List Token)) → ((b : B) → f (g b) ≡ None) → parse_map f (parse_map g o) ≡ parse_map none_of (parse_map g o)
+under : {A B : Type 0} (f : Data → Option A) (g : B → Data) (o : Option (B × List Token)) → ((b : B) → f (g b) ≡ None)
+    → parse_map f (parse_map g o) ≡ parse_map none_of (parse_map g o)
 under f g None law = refl
 under f g (Some p) law = ap (λ a. Some (a, p.1)) (law p.0)
 
@@ -111,37 +129,52 @@ module _ (depth : ℕ) (ts : List Token) where
   list_is = ap (converted of_json) (value_is depth (Token.begin_array ∷ ts)) ∙ converted_array (inner_items depth ts)
 
   -- a reading that finds nothing in a scalar finds nothing in a value that begins with another token than its own
-  module _ {A : Type 0} (f : Data → Option A) (of_null : f null ≡ None) (of_boolean : (b : Bool) → f (boolean b) ≡ None) (of_number : (n : Num) → f (number n) ≡ None) (of_string : (s : List ℕ) → f (string s) ≡ None) where
+  module _ {A : Type 0} (f : Data → Option A) (of_null : f null ≡ None) (of_boolean : (b : Bool) → f (boolean b) ≡ None)
+      (of_number : (n : Num) → f (number n) ≡ None) (of_string : (s : List ℕ) → f (string s) ≡ None) where
     abbrev FindsNone : Read → Type 0
     FindsNone t = parse_map f (data_at depth (token_of t ∷ ts)) ≡ parse_map none_of (data_at depth (token_of t ∷ ts))
 
-    other_than : (t : Read) → (t ≡ front.BeginArray → FindsNone front.BeginArray) → (t ≡ front.BeginObject → FindsNone front.BeginObject) → FindsNone t
+    other_than : (t : Read) → (t ≡ front.BeginArray → FindsNone front.BeginArray) → (t ≡ front.BeginObject → FindsNone front.BeginObject)
+        → FindsNone t
     other_than front.BeginObject at_list at_object = at_object refl
-    other_than front.EndObject at_list at_object = scalar f depth (Token.end_object ∷ ts) _ (ap (converted of_json) (value_is depth (Token.end_object ∷ ts))) refl
+    other_than front.EndObject at_list at_object = scalar f depth (Token.end_object ∷ ts) _
+        (ap (converted of_json) (value_is depth (Token.end_object ∷ ts))) refl
     other_than front.BeginArray at_list at_object = at_list refl
-    other_than front.EndArray at_list at_object = scalar f depth (Token.end_array ∷ ts) _ (ap (converted of_json) (value_is depth (Token.end_array ∷ ts))) refl
-    other_than (front.Key s) at_list at_object = scalar f depth (Token.key s.now ∷ ts) _ (ap (converted of_json) (value_is depth (Token.key s.now ∷ ts))) refl
-    other_than (front.String s) at_list at_object = scalar f depth (Token.string s.now ∷ ts) _ (ap (converted of_json) (value_is depth (Token.string s.now ∷ ts))) (ap (λ (a : Option A). Some (a, ts)) (of_string s.now))
-    other_than (front.Number s) at_list at_object = scalar f depth (Token.number s.now ∷ ts) _ (ap (converted of_json) (value_is depth (Token.number s.now ∷ ts))) (numbers f ts (number_of s.now) of_number)
-    other_than (front.Bool b) at_list at_object = scalar f depth (Token.boolean b ∷ ts) _ (ap (converted of_json) (value_is depth (Token.boolean b ∷ ts))) (ap (λ (a : Option A). Some (a, ts)) (of_boolean b))
-    other_than front.Null at_list at_object = scalar f depth (Token.null ∷ ts) _ (ap (converted of_json) (value_is depth (Token.null ∷ ts))) (ap (λ (a : Option A). Some (a, ts)) of_null)
-    other_than front.Bad at_list at_object = scalar f depth (Token.bad ∷ ts) _ (ap (converted of_json) (value_is depth (Token.bad ∷ ts))) refl
+    other_than front.EndArray at_list at_object = scalar f depth (Token.end_array ∷ ts) _
+        (ap (converted of_json) (value_is depth (Token.end_array ∷ ts))) refl
+    other_than (front.Key s) at_list at_object = scalar f depth (Token.key s.now ∷ ts) _
+        (ap (converted of_json) (value_is depth (Token.key s.now ∷ ts))) refl
+    other_than (front.String s) at_list at_object = scalar f depth (Token.string s.now ∷ ts) _
+        (ap (converted of_json) (value_is depth (Token.string s.now ∷ ts))) (ap (λ (a : Option A). Some (a, ts)) (of_string s.now))
+    other_than (front.Number s) at_list at_object = scalar f depth (Token.number s.now ∷ ts) _
+        (ap (converted of_json) (value_is depth (Token.number s.now ∷ ts))) (numbers f ts (number_of s.now) of_number)
+    other_than (front.Bool b) at_list at_object = scalar f depth (Token.boolean b ∷ ts) _
+        (ap (converted of_json) (value_is depth (Token.boolean b ∷ ts))) (ap (λ (a : Option A). Some (a, ts)) (of_boolean b))
+    other_than front.Null at_list at_object = scalar f depth (Token.null ∷ ts) _ (ap (converted of_json) (value_is depth (Token.null ∷ ts)))
+        (ap (λ (a : Option A). Some (a, ts)) of_null)
+    other_than front.Bad at_list at_object = scalar f depth (Token.bad ∷ ts) _ (ap (converted of_json) (value_is depth (Token.bad ∷ ts)))
+        refl
 
-  passed : {A B : Type 0} (f : Data → Option A) (g : Data → B) (b : B) (r : List Token) (o : Front) → parse_map f o ≡ parse_map none_of o → parse_map g o ≡ Some (b, r) → parse_map f o ≡ Some (None, r)
+  passed : {A B : Type 0} (f : Data → Option A) (g : Data → B) (b : B) (r : List Token) (o : Front) → parse_map f o ≡ parse_map none_of o
+      → parse_map g o ≡ Some (b, r) → parse_map f o ≡ Some (None, r)
   passed f g b r None same there = absurd (cc)
   passed f g b r (Some p) same there = same ∙ ap (λ o. option_map (λ q. (None, q)) (behind o)) there
 
-  module _ (t : Read) (all : List Token) (d : Data) (r : List Token) (is : all ≡ token_of t ∷ ts) (there : parse_map plain (data_at depth (token_of t ∷ ts)) ≡ Some (d, r)) where
+  module _ (t : Read) (all : List Token) (d : Data) (r : List Token) (is : all ≡ token_of t ∷ ts)
+      (there : parse_map plain (data_at depth (token_of t ∷ ts)) ≡ Some (d, r)) where
     pub no_list : (t ≡ front.BeginArray → ⊥) → parse_map as_array (data_at depth all) ≡ Some (None, r)
     no_list other =
         ap (λ xs. parse_map as_array (data_at depth xs)) is
         ∙ passed as_array plain d r (data_at depth (token_of t ∷ ts))
         (other_than as_array refl (λ b. refl) (λ n. refl) (λ s. refl) t (λ same. absurd (other same))
-        (λ same. scalar as_array depth (Token.begin_object ∷ ts) _ object_is (under as_array object (of_object (inner_members depth ts)) (λ ms. refl)))) there
+        (λ same. scalar as_array depth (Token.begin_object ∷ ts) _ object_is
+        (under as_array object (of_object (inner_members depth ts)) (λ ms. refl)))) there
 
     pub no_object : (t ≡ front.BeginObject → ⊥) → parse_map as_object (data_at depth all) ≡ Some (None, r)
     no_object other =
         ap (λ xs. parse_map as_object (data_at depth xs)) is
         ∙ passed as_object plain d r (data_at depth (token_of t ∷ ts))
-        (other_than as_object refl (λ b. refl) (λ n. refl) (λ s. refl) t (λ same. scalar as_object depth (Token.begin_array ∷ ts) _ list_is (under as_object array (converted of_items (inner_items depth ts)) (λ ds. refl)))
+        (other_than as_object refl (λ b. refl) (λ n. refl) (λ s. refl) t (λ same.
+        scalar as_object depth (Token.begin_array ∷ ts) _ list_is
+        (under as_object array (converted of_items (inner_items depth ts)) (λ ds. refl)))
         (λ same. absurd (other same))) there

@@ -1,5 +1,6 @@
 -- What is read of the members of an object, one after another.
-use Rattle.std.proofs.Common.{◌≡◌, ℕ, Bool, true, false, true≢false, List, Option, Some, option_map, option_and_then, codes, bytes_eq, refl, sym, ap, ap₂, ◌∙◌}
+use Rattle.std.proofs.Common.{◌≡◌, ℕ, Bool, true, false, true≢false, List, Option, Some, option_map, option_and_then, codes, bytes_eq, refl}
+use Rattle.std.proofs.Common.{sym, ap, ap₂, ◌∙◌}
 use Rattle.std.specs.Prelude.{if◌then◌else◌}
 use Rattle.std.proofs.lemmas.Slice.Eq.{bytes_eq-Decides}
 use Rattle.serde_json.specs.Data.{Data, Members, put, object}
@@ -11,23 +12,27 @@ use Rattle.trace_text.specs.Streams.{Drafted, drafted_in, drafted_put, sent_in, 
 
 -- ---- one more member
 
-get_by : (q k : List ℕ) (d : Data) (ms : Members) (b : Bool) → bytes_eq k q ≡ b → get_member q (put k d ms) ≡ (if b then Some d else get_member q ms)
+get_by : (q k : List ℕ) (d : Data) (ms : Members) (b : Bool) → bytes_eq k q ≡ b
+    → get_member q (put k d ms) ≡ (if b then Some d else get_member q ms)
 get_by q k d ms true e = ap (λ (x : List ℕ). get_member x (put k d ms)) (sym ((bytes_eq-Decides k q).0 e)) ∙ get_member-put k d ms
 get_by q k d ms false e = get_member-put_other q k d ms (λ same. absurd (true≢false (sym ((bytes_eq-Decides k q).1 (sym same)) ∙ e)))
 
-plain_by : (q k : List ℕ) (d : Data) (ms : Members) (b : Bool) → bytes_eq k q ≡ b → option_map plain (get_member q (put k d ms)) ≡ (if b then Some (plain d) else option_map plain (get_member q ms))
+plain_by : (q k : List ℕ) (d : Data) (ms : Members) (b : Bool) → bytes_eq k q ≡ b
+    → option_map plain (get_member q (put k d ms)) ≡ (if b then Some (plain d) else option_map plain (get_member q ms))
 plain_by q k d ms true e = ap (option_map plain) (get_by q k d ms true e)
 plain_by q k d ms false e = ap (option_map plain) (get_by q k d ms false e)
 
 get_put : (q k : List ℕ) (d : Data) (ms : Members) → get_member q (put k d ms) ≡ (if bytes_eq k q then Some d else get_member q ms)
 get_put q k d ms = get_by q k d ms (bytes_eq k q) refl
 
-by_key : {X : Type 0} (key name : List ℕ) (f : List ℕ → X) (a rest : X) (b : Bool) → bytes_eq key name ≡ b → f name ≡ a → (bytes_eq key name ≡ false → f key ≡ rest) → f key ≡ (if b then a else rest)
+by_key : {X : Type 0} (key name : List ℕ) (f : List ℕ → X) (a rest : X) (b : Bool) → bytes_eq key name ≡ b → f name ≡ a
+    → (bytes_eq key name ≡ false → f key ≡ rest) → f key ≡ (if b then a else rest)
 by_key key name f a rest true e is other = ap f ((bytes_eq-Decides key name).0 e) ∙ is
 by_key key name f a rest false e is other = other e
 
 -- the key is this one, or another
-either : {X : Type 0} (key name : List ℕ) (f : List ℕ → X) (a rest : X) → f name ≡ a → (bytes_eq key name ≡ false → f key ≡ rest) → f key ≡ (if bytes_eq key name then a else rest)
+either : {X : Type 0} (key name : List ℕ) (f : List ℕ → X) (a rest : X) → f name ≡ a → (bytes_eq key name ≡ false → f key ≡ rest)
+    → f key ≡ (if bytes_eq key name then a else rest)
 either key name f a rest is other = by_key key name f a rest (bytes_eq key name) refl is other
 
 -- ---- the fields of an entry
@@ -47,7 +52,17 @@ seen g = record {
 
 same_seen : (g h : List ℕ → Option Data) → ((q : List ℕ) → g q ≡ h q) → seen g ≡ seen h
 same_seen g h e =
-    rw (e (codes "do"), e (codes "msg"), e (codes "fault"), e (codes "kept"), e (codes "queue"), e (codes "priority"), e (codes "payload"), e (codes "origin"), e (codes "id")) refl
+    rw (
+      e (codes "do"),
+      e (codes "msg"),
+      e (codes "fault"),
+      e (codes "kept"),
+      e (codes "queue"),
+      e (codes "priority"),
+      e (codes "payload"),
+      e (codes "origin"),
+      e (codes "id"),
+    ) refl
 
 abbrev seen_put : Data → Members → List ℕ → FieldData
 seen_put d ms key = seen (λ (q : List ℕ). if bytes_eq key q then Some (plain d) else option_map plain (get_member q ms))
@@ -68,7 +83,8 @@ module _ (key : List ℕ) (d : Data) (ms : Members) where
 
   fields_law : plain_fields (fields_in (object (put key d ms))) ≡ fields_put (plain_fields (fields_in (object ms))) key (plain d)
   fields_law =
-      same_seen (λ (q : List ℕ). option_map plain (get_member q (put key d ms))) (λ (q : List ℕ). if bytes_eq key q then Some (plain d) else option_map plain (get_member q ms))
+      same_seen (λ (q : List ℕ). option_map plain (get_member q (put key d ms)))
+      (λ (q : List ℕ). if bytes_eq key q then Some (plain d) else option_map plain (get_member q ms))
       (λ q. plain_by q key d ms (bytes_eq key q) refl)
       ∙ seen_is
 

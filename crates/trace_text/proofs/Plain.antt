@@ -8,10 +8,12 @@ use Rattle.node_core.specs.declared.event.Event.{Event}
 use Rattle.trace_check.specs.declared.trace.TraceAction.{TraceAction}
 use Rattle.trace_check.specs.declared.trace.TraceAction.TheVariants as action
 use Rattle.trace_text.specs.Fields.{FieldData, plain, plain_fields}
-use Rattle.trace_text.specs.Entries.{message_in, spelled_in, number_in, priority_in, submit_in, finish_in, deliver_in, event_in, device_in, done_in, recovered_in, recover_in, action_named, action_in}
+use Rattle.trace_text.specs.Entries.{message_in, spelled_in, number_in, priority_in, submit_in, finish_in, deliver_in, event_in, device_in}
+use Rattle.trace_text.specs.Entries.{done_in, recovered_in, recover_in, action_named, action_in}
 
 -- a reading that finds the same in all that isn't looked at finds in a value what is looked at of it
-looked : {A : Type 0} (f : Data → A) → ((z : ℤ) → f null ≡ f (number (negative z))) → ((x : Float) → f null ≡ f (number (float x))) → ((ds : Items) → f null ≡ f (array ds)) → ((ms : Members) → f null ≡ f (object ms))
+looked : {A : Type 0} (f : Data → A) → ((z : ℤ) → f null ≡ f (number (negative z))) → ((x : Float) → f null ≡ f (number (float x)))
+    → ((ds : Items) → f null ≡ f (array ds)) → ((ms : Members) → f null ≡ f (object ms))
     → (d : Data) → f (plain d) ≡ f d
 looked f signs floats lists objects null = refl
 looked f signs floats lists objects (boolean b) = refl
@@ -55,11 +57,15 @@ recovered_same kept None = refl
 recovered_same kept (Some d) = rw (plain_text d) refl
 
 module _ (f : FieldData) where
-  kept_same : (o : Option Data) → option_and_then (λ (kept : Bool). recovered_in kept (option_map plain f.fault)) (option_and_then as_bool (option_map plain o)) ≡ option_and_then (λ (kept : Bool). recovered_in kept f.fault) (option_and_then as_bool o)
+  kept_same : (o : Option Data) → option_and_then (λ (kept : Bool). recovered_in kept (option_map plain f.fault))
+      (option_and_then as_bool (option_map plain o)) ≡ option_and_then (λ (kept : Bool). recovered_in kept f.fault)
+      (option_and_then as_bool o)
   kept_same None = refl
-  kept_same (Some d) = ap (option_and_then (λ (kept : Bool). recovered_in kept (option_map plain f.fault))) (plain_flag d) ∙ each (as_bool d)
+  kept_same (Some d) = ap (option_and_then (λ (kept : Bool). recovered_in kept (option_map plain f.fault))) (plain_flag d)
+      ∙ each (as_bool d)
     where
-      each : (b : Option Bool) → option_and_then (λ (kept : Bool). recovered_in kept (option_map plain f.fault)) b ≡ option_and_then (λ (kept : Bool). recovered_in kept f.fault) b
+      each : (b : Option Bool) → option_and_then (λ (kept : Bool). recovered_in kept (option_map plain f.fault)) b
+          ≡ option_and_then (λ (kept : Bool). recovered_in kept f.fault) b
       each None = refl
       each (Some kept) = recovered_same kept f.fault
 
@@ -82,12 +88,14 @@ module _ (f : FieldData) where
   named recovery event device name =
       if bytes_eq name (codes "none") then Some action.Nothing else
       if bytes_eq name (codes "crash") then Some action.Crashed else
-      if bytes_eq name (codes "recover") then recovery else option_and_then (λ (e : Event). option_map (λ (failed : Bool). done_in e failed) device) event
+      if bytes_eq name (codes "recover") then recovery else option_and_then (λ (e : Event).
+      option_map (λ (failed : Bool). done_in e failed) device) event
 
   named_same : (name : List ℕ) → action_named (plain_fields f) name ≡ action_named f name
   named_same name =
       ap (λ (o : Option TraceAction). named o (event_in (plain_fields f) name) (device_in (option_map plain f.fault)) name) recover_same
-      ∙ ap (λ (o : Option Event). named (recover_in f) o (device_in (option_map plain f.fault)) name) (event_same name) ∙ ap (λ (o : Option Bool). named (recover_in f) (event_in f name) o name) (device_same f.fault)
+      ∙ ap (λ (o : Option Event). named (recover_in f) o (device_in (option_map plain f.fault)) name) (event_same name)
+      ∙ ap (λ (o : Option Bool). named (recover_in f) (event_in f name) o name) (device_same f.fault)
 
   pub action_same : action_in (plain_fields f) ≡ action_in f
   action_same = ap (option_and_then (action_named (plain_fields f))) (text_same f.name) ∙ each (option_and_then as_str f.name)

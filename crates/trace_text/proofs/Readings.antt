@@ -1,5 +1,6 @@
 -- The text that is written for a trace is read as the JSON value of that trace.
-use Rattle.std.proofs.Common.{◌≡◌, ◌<◌, ◌≤◌, ◌^◌, ℕ, Bool, true, false, List, [], ◌∷◌, ◌++◌, length, map, Option, Some, Ok, codes, refl, sym, ap, ◌∙◌, arith, append-nil}
+use Rattle.std.proofs.Common.{◌≡◌, ◌<◌, ◌≤◌, ◌^◌, ℕ, Bool, true, false, List, [], ◌∷◌, ◌++◌, length, map, Option, Some, Ok, codes, refl}
+use Rattle.std.proofs.Common.{sym, ap, ◌∙◌, arith, append-nil}
 use Rattle.std.specs.Prelude.{if◌then◌else◌, ◌==◌, option_map, option_and_then}
 use Rattle.std.specs.Str.{IsUtf8}
 use Rattle.json.specs.Lex.{tokens}
@@ -39,39 +40,50 @@ sent_read [] = refl
 sent_read (m ∷ ms) = ap (λ (o : Option Items). option_map (item (message_data m)) o) (sent_read ms)
 
 -- a priority takes a byte, a queue one too
-work_read : (failed b : Bool) (w : Work) (ms : List Envelope) → WorkFits w → of_json (outline (object (work_members failed b w ms))) ≡ Some (object (work_members failed b w ms))
-work_read true true w ms fits = let queue : w.queue < 2 ^ 64 = omega (arith, fits.queue) in rw (number_of-decimal w.queue queue, sent_read ms) refl
-work_read false true w ms fits = let queue : w.queue < 2 ^ 64 = omega (arith, fits.queue) in rw (number_of-decimal w.queue queue, sent_read ms) refl
+work_read : (failed b : Bool) (w : Work) (ms : List Envelope) → WorkFits w
+    → of_json (outline (object (work_members failed b w ms))) ≡ Some (object (work_members failed b w ms))
+work_read true true w ms fits = let queue : w.queue < 2 ^ 64 = omega (arith, fits.queue) in
+    rw (number_of-decimal w.queue queue, sent_read ms) refl
+work_read false true w ms fits = let queue : w.queue < 2 ^ 64 = omega (arith, fits.queue) in
+    rw (number_of-decimal w.queue queue, sent_read ms) refl
 work_read _ _ w ms fits =
     let queue : w.queue < 2 ^ 64 = omega (arith, fits.queue) in
     let priority : w.priority < 2 ^ 64 = omega (arith, fits.priority) in
     rw (number_of-decimal w.priority priority, number_of-decimal w.queue queue, sent_read ms) refl
 
-event_read : (failed : Bool) (event : Event) (ms : List Envelope) → EventFits event → of_json (outline (entry_data (claim_with (done_in event failed) ms))) ≡ Some (entry_data (claim_with (done_in event failed) ms))
+event_read : (failed : Bool) (event : Event) (ms : List Envelope) → EventFits event
+    → of_json (outline (entry_data (claim_with (done_in event failed) ms))) ≡ Some (entry_data (claim_with (done_in event failed) ms))
 event_read true (on.Submit w) ms fits = work_read true (w.priority == 0) w ms fits
 event_read false (on.Submit w) ms fits = work_read false (w.priority == 0) w ms fits
-event_read _ (on.Finish origin id) ms fits = let place : origin < 2 ^ 64 = omega (arith, fits.0) in rw (number_of-decimal id fits.1, number_of-decimal origin place, sent_read ms) refl
+event_read _ (on.Finish origin id) ms fits = let place : origin < 2 ^ 64 = omega (arith, fits.0) in
+    rw (number_of-decimal id fits.1, number_of-decimal origin place, sent_read ms) refl
 event_read _ _ ms fits = rw (sent_read ms) refl
 
-entry_read : (d : TraceAction) (ms : List Envelope) → ActionFits d → of_json (outline (entry_data (claim_with d ms))) ≡ Some (entry_data (claim_with d ms))
+entry_read : (d : TraceAction) (ms : List Envelope) → ActionFits d
+    → of_json (outline (entry_data (claim_with d ms))) ≡ Some (entry_data (claim_with d ms))
 entry_read (action.Done event) ms fits = event_read false event ms fits
 entry_read (action.Faulted event) ms fits = event_read true event ms fits
 entry_read _ ms fits = rw (sent_read ms) refl
 
-entries_read : (h : List Claim) → Each ClaimFits h → of_items (items_outline (items_of (map entry_data h))) ≡ Some (items_of (map entry_data h))
+entries_read : (h : List Claim) → Each ClaimFits h → of_items (items_outline (items_of (map entry_data h)))
+    ≡ Some (items_of (map entry_data h))
 entries_read [] fits = refl
 entries_read (c ∷ h) fits =
-    ap (λ (o : Option Data). option_and_then (λ (d : Data). option_map (item d) (of_items (items_outline (items_of (map entry_data h))))) o) (entry_read c.action c.sent fits.0.0)
+    ap (λ (o : Option Data). option_and_then (λ (d : Data). option_map (item d) (of_items (items_outline (items_of (map entry_data h))))) o)
+    (entry_read c.action c.sent fits.0.0)
     ∙ ap (λ (o : Option Items). option_map (item (entry_data c)) o) (entries_read h fits.1)
 
-pub histories_read : (hs : List (List Claim)) → TraceFits hs → of_items (items_outline (items_of (map history_data hs))) ≡ Some (items_of (map history_data hs))
+pub histories_read : (hs : List (List Claim)) → TraceFits hs
+    → of_items (items_outline (items_of (map history_data hs))) ≡ Some (items_of (map history_data hs))
 histories_read [] fits = refl
 histories_read (h ∷ hs) fits =
-    ap (λ (o : Option Items). option_and_then (λ (d : Data). option_map (item d) (of_items (items_outline (items_of (map history_data hs))))) (option_map array o)) (entries_read h fits.0)
+    ap (λ (o : Option Items). option_and_then (λ (d : Data).
+    option_map (item d) (of_items (items_outline (items_of (map history_data hs))))) (option_map array o)) (entries_read h fits.0)
     ∙ ap (λ (o : Option Items). option_map (item (history_data h)) o) (histories_read hs fits.1)
 
 trace_read : (hs : List (List Claim)) → length hs ≤ NODES → TraceFits hs → of_json (outline (trace_data hs)) ≡ Some (trace_data hs)
-trace_read hs most fits = let nodes : length hs < 2 ^ 64 = omega (arith, most) in rw (histories_read hs fits, number_of-decimal (length hs) nodes) refl
+trace_read hs most fits = let nodes : length hs < 2 ^ 64 = omega (arith, most) in
+    rw (histories_read hs fits, number_of-decimal (length hs) nodes) refl
 
 -- ---- and its lists and objects aren't nested deep
 
@@ -79,18 +91,23 @@ sent_flat : (ms : List Envelope) → tree.items_depth (items_outline (items_of (
 sent_flat [] = refl
 sent_flat (m ∷ ms) = let rest = sent_flat ms in omega (arith, rest)
 
-priority_flat : (b : Bool) (priority : ℕ) (rest : Members) → tree.members_depth (members_outline (if b then rest else member (codes "priority") (number (unsigned priority)) rest)) ≤ tree.members_depth (members_outline rest)
+priority_flat : (b : Bool) (priority : ℕ) (rest : Members)
+    → tree.members_depth (members_outline (if b then rest else member (codes "priority") (number (unsigned priority)) rest)) ≤
+    tree.members_depth (members_outline rest)
 priority_flat true priority rest = omega arith
 priority_flat false priority rest = omega arith
 
-event_flat : (e : Event) (rest : Members) → tree.members_depth (members_outline (event_members e rest)) ≤ tree.members_depth (members_outline rest)
+event_flat : (e : Event) (rest : Members) → tree.members_depth (members_outline (event_members e rest)) ≤ tree.members_depth
+    (members_outline rest)
 event_flat (on.Timer timer) rest = omega arith
 event_flat (on.Deliver m) rest = omega arith
-event_flat (on.Submit w) rest = let ranked = priority_flat (w.priority == 0) w.priority (member (codes "queue") (number (unsigned w.queue)) rest) in omega (arith, ranked)
+event_flat (on.Submit w) rest = let ranked = priority_flat (w.priority == 0) w.priority
+    (member (codes "queue") (number (unsigned w.queue)) rest) in omega (arith, ranked)
 event_flat (on.Finish origin id) rest = omega arith
 event_flat on.Recover rest = omega arith
 
-action_flat : (d : TraceAction) (rest : Members) → tree.members_depth (members_outline (action_members d rest)) ≤ tree.members_depth (members_outline rest)
+action_flat : (d : TraceAction) (rest : Members) → tree.members_depth (members_outline (action_members d rest)) ≤ tree.members_depth
+    (members_outline rest)
 action_flat action.Nothing rest = omega arith
 action_flat (action.Done event) rest = event_flat event rest
 action_flat (action.Faulted event) rest = let flat = event_flat event rest in omega (arith, flat)
@@ -117,18 +134,25 @@ trace_flat hs = let inside = histories_flat hs in omega (arith, inside)
 
 -- ---- the text
 
-pub value_read : (text : List ℕ) (j : json.Json) (d : Data) → json.value max_depth (tokens text) ≡ Some (j, []) → of_json j ≡ Some d → read text ≡ Some d
-value_read text j d is means = ap (λ (r : Option (json.Json × List Token)). option_and_then of_json (option_and_then (λ (p : json.Json × List Token). json.if_last p.0 p.1) r)) is ∙ means
+pub value_read : (text : List ℕ) (j : json.Json) (d : Data) → json.value max_depth (tokens text) ≡ Some (j, []) → of_json j ≡ Some d
+    → read text ≡ Some d
+value_read text j d is means = ap (λ (r : Option (json.Json × List Token)).
+    option_and_then of_json (option_and_then (λ (p : json.Json × List Token). json.if_last p.0 p.1) r)) is ∙ means
 
-reads_back : (hs : List (List Claim)) (text : List ℕ) → tokens text ≡ trace_tokens hs → IsUtf8 text → length hs ≤ NODES → TraceFits hs → IsWritable hs → trace_of text ≡ Ok hs
+reads_back : (hs : List (List Claim)) (text : List ℕ) → tokens text ≡ trace_tokens hs → IsUtf8 text → length hs ≤ NODES → TraceFits hs
+    → IsWritable hs → trace_of text ≡ Ok hs
 reads_back hs text same utf8 most fits writable =
     let j = outline (trace_data hs) in
     let is : read text ≡ Some (trace_data hs) =
-    value_read text j (trace_data hs) (ap (json.value max_depth) (same ∙ sym (trace_tokens_of hs) ∙ sym (append-nil (tree.json_tokens j))) ∙ value-json_tokens j max_depth [] (trace_flat hs)) (trace_read hs most fits) in
+    value_read text j (trace_data hs) (ap (json.value max_depth) (same ∙ sym (trace_tokens_of hs) ∙ sym (append-nil (tree.json_tokens j)))
+    ∙ value-json_tokens j max_depth [] (trace_flat hs)) (trace_read hs most fits) in
     good_text text (trace_data hs) utf8 is ∙ trace_back hs most fits writable
 
-pub printed_back : (hs : List (List Claim)) (a b : Written) (items : List ℕ) → a.before ≡ [] → a.tokens ≡ [] → Adds a b (trace_tokens hs) → items ≡ b.before ++ print b.tokens
-    → tokens (print b.tokens) ≡ b.tokens → IsUtf8 (print b.tokens) → length hs ≤ NODES → TraceFits hs → IsWritable hs → trace_of items ≡ Ok hs
+pub printed_back : (hs : List (List Claim)) (a b : Written) (items : List ℕ) → a.before ≡ [] → a.tokens ≡ [] → Adds a b (trace_tokens hs)
+    → items ≡ b.before ++ print b.tokens
+    → tokens (print b.tokens) ≡ b.tokens → IsUtf8 (print b.tokens) → length hs ≤ NODES → TraceFits hs → IsWritable hs
+    → trace_of items ≡ Ok hs
 printed_back hs a b items none empty adds is again utf8 most fits writable =
     let text : items ≡ print b.tokens = is ∙ ap (λ (xs : List ℕ). xs ++ print b.tokens) (adds.before ∙ none) in
-    ap trace_of text ∙ reads_back hs (print b.tokens) (again ∙ adds.tokens ∙ ap (λ (ts : List Token). ts ++ trace_tokens hs) empty) utf8 most fits writable
+    ap trace_of text ∙ reads_back hs (print b.tokens) (again ∙ adds.tokens
+    ∙ ap (λ (ts : List Token). ts ++ trace_tokens hs) empty) utf8 most fits writable

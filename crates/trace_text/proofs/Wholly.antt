@@ -1,5 +1,6 @@
 -- A text piece by piece: what is read of each leads to what its rest is.
-use Rattle.std.proofs.Common.{◌≡◌, ℕ, true, List, [], ◌∷◌, ◌++◌, ◌<◌, length, Option, Some, None, is_some, Err, option_map, option_and_then, inl, inr, refl, sym, ap, ◌∙◌, subst, arith, length-append}
+use Rattle.std.proofs.Common.{◌≡◌, ℕ, true, List, [], ◌∷◌, ◌++◌, ◌<◌, length, Option, Some, None, is_some, Err, option_map, option_and_then}
+use Rattle.std.proofs.Common.{inl, inr, refl, sym, ap, ◌∙◌, subst, arith, length-append}
 use Rattle.std.proofs.lemmas.Bool.{false≢true}
 use Rattle.std.specs.Prelude.{IsSome}
 use Rattle.json.specs.Token.{Token, end_array, end_object}
@@ -10,7 +11,8 @@ use Rattle.serde_json.specs.Data.{Data, Items, no_items}
 use Rattle.serde_json.specs.Read.{converted, of_json}
 use Rattle.trace_text.specs.declared.stream.Histories.{Histories}
 use Rattle.trace_text.specs.declared.stream.Parts.{Parts}
-use Rattle.trace_text.specs.Pieces.{IsCut, IsNone, Judgement, Leads, begun_on, entries_then, list_then, open_text_on, parts_on, text_on, whole_on, with_more}
+use Rattle.trace_text.specs.Pieces.{IsCut, IsNone, Judgement, Leads, begun_on, entries_then, list_then, open_text_on, parts_on, text_on}
+use Rattle.trace_text.specs.Pieces.{whole_on, with_more}
 use Rattle.trace_text.specs.Streams.{Judged, Listed, Parted, items_at, shaped}
 use Rattle.trace_text.specs.Wholes.{in_shape, shape_in, trace_of}
 use Rattle.trace_text.proofs.Cut.{Follows, cut_tokens}
@@ -42,9 +44,14 @@ module _ (nodes : Option ℕ) (h : Histories) where
 
   whole_ends : is_some (whole_on nodes h ending) ≡ true
   whole_ends =
-      ap (λ (o : Option (Items × List Token)). is_some (option_and_then after_lists (option_and_then after_list (parse_map entries o)))) (list_ends 124 (end_array ∷ end_object ∷ []))
-      ∙ ap (λ (o : Option (Items × List Token)). is_some (option_and_then after_lists (parse_map (lists (entries no_items)) o))) (list_ends 125 (end_object ∷ []))
-      ∙ ap (λ (o : Option (Parted × List Token)). is_some o) (object_over (nodes, lists (entries no_items) no_items) (end_object ∷ []) [] refl)
+      ap (λ (o : Option (Items × List Token)). is_some (option_and_then after_lists (option_and_then after_list (parse_map entries o))))
+      (list_ends 124 (end_array ∷ end_object ∷ []))
+      ∙ ap (λ (o : Option (Items × List Token)). is_some (option_and_then after_lists (parse_map (lists (entries no_items)) o)))
+      (list_ends 125 (end_object ∷ []))
+      ∙ ap (λ (o : Option (Parted × List Token)). is_some o) (object_over (
+        nodes,
+        lists (entries no_items) no_items,
+      ) (end_object ∷ []) [] refl)
 
   whole_goes : whole_on nodes h [] ≡ None
   whole_goes =
@@ -58,7 +65,8 @@ some_mapped f (Some q) = refl
 not_over : (nodes : Option ℕ) (lists : Option Histories) → IsSome lists → begun_on nodes lists ending ≡ begun_on nodes lists [] → ⊥
 not_over nodes None some same = absurd (false≢true some)
 not_over nodes (Some h) some same =
-    false≢true (sym (ap (λ (o : Option (Parted × List Token)). is_some (parse_map shaped o)) (whole_goes nodes h)) ∙ ap is_some (sym same) ∙ some_mapped shaped (whole_on nodes h ending) ∙ whole_ends nodes h)
+    false≢true (sym (ap (λ (o : Option (Parted × List Token)). is_some (parse_map shaped o)) (whole_goes nodes h)) ∙ ap is_some (sym same)
+    ∙ some_mapped shaped (whole_on nodes h ending) ∙ whole_ends nodes h)
 
 -- ---- a piece, and the rest of the text
 
@@ -67,13 +75,16 @@ piece_follows text piece behind c =
     let whole = c.front ++ 125 ∷ 44 ∷ 123 ∷ c.back in
     subst (λ (t : List ℕ). Follows (tokens piece) (tokens t) (tokens behind)) (sym c.whole)
     (subst (λ (t : List ℕ). Follows (tokens t) (tokens whole) (tokens behind)) (sym c.first)
-    (subst (λ (t : List ℕ). Follows (tokens (c.front ++ 125 ∷ [])) (tokens whole) (tokens t)) (sym c.later) (cut_tokens c.front c.back c.plain)))
+    (subst (λ (t : List ℕ). Follows (tokens (c.front ++ 125 ∷ [])) (tokens whole) (tokens t)) (sym c.later)
+    (cut_tokens c.front c.back c.plain)))
 
-as_text : (nodes : Option ℕ) (lists : Option Histories) (ts : List Token) → IsSome lists → parse_map shaped (option_and_then (λ (h : Histories). whole_on nodes h ts) lists) ≡ begun_on nodes lists ts
+as_text : (nodes : Option ℕ) (lists : Option Histories) (ts : List Token) → IsSome lists
+    → parse_map shaped (option_and_then (λ (h : Histories). whole_on nodes h ts) lists) ≡ begun_on nodes lists ts
 as_text nodes None ts some = absurd (false≢true some)
 as_text nodes (Some h) ts some = refl
 
-pub piece_on : (old new : Parts) (text piece behind : List ℕ) → IsCut text piece behind → Leads (text_on old) (open_text_on new) (tokens piece) [] → IsSome new.histories
+pub piece_on : (old new : Parts) (text piece behind : List ℕ) → IsCut text piece behind
+    → Leads (text_on old) (open_text_on new) (tokens piece) [] → IsSome new.histories
     → text_on old (tokens text) ≡ text_on new (tokens behind)
 piece_on old new text piece behind cut paused some = by (piece_follows text piece behind cut)
   where
@@ -82,11 +93,13 @@ piece_on old new text piece behind cut paused some = by (piece_follows text piec
 
     by : Follows (tokens piece) (tokens text) (tokens behind) → text_on old (tokens text) ≡ text_on new (tokens behind)
     by (inl e) = ap (text_on old) e ∙ leads.at (Some (tokens behind))
-    by (inr same) = absurd (not_over new.nodes new.histories some (sym (leads.at (Some ending)) ∙ ap (text_on old) (same ending) ∙ leads.at (Some [])))
+    by (inr same) = absurd (not_over new.nodes new.histories some (sym (leads.at (Some ending)) ∙ ap (text_on old) (same ending)
+        ∙ leads.at (Some [])))
 
 pub cut_shorter : (text piece behind : List ℕ) → IsCut text piece behind → length behind < length text
 cut_shorter text piece behind c =
-    let whole = ap length c.whole in let later = ap length c.later in let all = length-append c.front (125 ∷ 44 ∷ 123 ∷ c.back) in omega (arith, whole, later, all)
+    let whole = ap length c.whole in let later = ap length c.later in let all = length-append c.front (125 ∷ 44 ∷ 123 ∷ c.back) in
+    omega (arith, whole, later, all)
 
 -- ---- the last piece
 
@@ -104,16 +117,20 @@ abbrev rest_in : {A : Type 0} → Option (A × List Token) → List Token
 rest_in None = []
 rest_in (Some q) = q.1
 
-pub not_last : {A : Type 0} (o : Option (A × List Token)) (b : A) (t : Token) (r s : List Token) → r ≡ t ∷ s → o ≡ Some (b, r) → (a : A) → o ≡ Some (a, []) → ⊥
-not_last o b t r s more is a some = let long : length (t ∷ s) ≡ length {A = Token} [] = ap length (sym more ∙ ap rest_in (sym is ∙ some)) in omega (arith, long)
+pub not_last : {A : Type 0} (o : Option (A × List Token)) (b : A) (t : Token) (r s : List Token) → r ≡ t ∷ s → o ≡ Some (b, r) → (a : A)
+    → o ≡ Some (a, []) → ⊥
+not_last o b t r s more is a some = let long : length (t ∷ s) ≡ length {A = Token} [] = ap length (sym more ∙ ap rest_in (sym is ∙ some)) in
+    omega (arith, long)
 
 -- ---- a text with no value, or with something behind it
 
-none_by : (o : Option Data) → ((r : Judgement) → parse_map (λ (d : Data). in_shape (shape_in d)) (option_map {U = Data × List Token} (λ d. (d, [])) o) ≡ Some (r, []) → ⊥) → o ≡ None
+none_by : (o : Option Data) → ((r : Judgement) → parse_map (λ (d : Data). in_shape (shape_in d)) (option_map {U = Data
+    × List Token} (λ d. (d, [])) o) ≡ Some (r, []) → ⊥) → o ≡ None
 none_by None h = refl
 none_by (Some d) h = absurd (h (in_shape (shape_in d)) refl)
 
-not_by : (o : Option (json.Json × List Token)) → ((r : Judgement) → parse_map (λ (d : Data). in_shape (shape_in d)) (converted of_json o) ≡ Some (r, []) → ⊥)
+not_by : (o : Option (json.Json × List Token)) → ((r : Judgement)
+    → parse_map (λ (d : Data). in_shape (shape_in d)) (converted of_json o) ≡ Some (r, []) → ⊥)
     → option_and_then of_json (option_and_then (λ p. if_last p.0 p.1) o) ≡ None
 not_by None h = refl
 not_by (Some (j, [])) h = none_by (of_json j) h

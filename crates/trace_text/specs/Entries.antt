@@ -1,5 +1,6 @@
 -- The entry that a JSON value stands for.
-use Rattle.std.specs.Prelude.{ℕ, Bool, true, false, List, [], ◌∷◌, Option, Some, None, option_map, option_and_then, if◌then◌else◌, ◌&&◌, nat_lt, nat_le, length, codes}
+use Rattle.std.specs.Prelude.{ℕ, Bool, true, false, List, [], ◌∷◌, Option, Some, None, option_map, option_and_then, if◌then◌else◌, ◌&&◌}
+use Rattle.std.specs.Prelude.{nat_lt, nat_le, length, codes}
 use Rattle.std.specs.Option.{option_or}
 use Rattle.std.specs.Result.{result_ok}
 use Rattle.std.specs.Str.{bytes_eq}
@@ -71,10 +72,12 @@ abbrev pub deliver_in : FieldData → Option Event
 deliver_in f = option_map (λ (m : Envelope). on.Deliver m) (message_in f.message)
 
 abbrev pub submit_in : FieldData → Option Event
-submit_in f = submitted (option_and_then (below QUEUES) (number_in f.queue)) (priority_in f.priority) (option_and_then short (bytes_in f.payload))
+submit_in f = submitted (option_and_then (below QUEUES) (number_in f.queue)) (priority_in f.priority)
+    (option_and_then short (bytes_in f.payload))
 
 abbrev pub finish_in : FieldData → Option Event
-finish_in f = option_and_then (λ (origin : ℕ). option_map (λ (id : ℕ). on.Finish origin id) (number_in f.id)) (option_and_then (below NODES) (number_in f.origin))
+finish_in f = option_and_then (λ (origin : ℕ). option_map (λ (id : ℕ). on.Finish origin id) (number_in f.id))
+    (option_and_then (below NODES) (number_in f.origin))
 
 -- an event: of a timer the name says all
 abbrev pub event_in : FieldData → List ℕ → Option Event
@@ -119,5 +122,6 @@ action_in f = option_and_then (action_named f) (option_and_then as_str f.name)
 -- the entry; None where a field is missing or wrong
 abbrev pub claim_in : Data → Option Claim
 claim_in d =
-    option_and_then (λ (done : TraceAction). option_map (λ (sent : List Envelope). record { action = done; sent = sent }) (option_and_then messages_in (option_and_then as_array (get (codes "sent") d))))
+    option_and_then (λ (done : TraceAction). option_map (λ (sent : List Envelope). record { action = done; sent = sent })
+    (option_and_then messages_in (option_and_then as_array (get (codes "sent") d))))
     (action_in (fields_in d))

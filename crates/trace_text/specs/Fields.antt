@@ -37,7 +37,18 @@ pub record FieldData : Type 0 where
   pub id : Option Data
 
 abbrev pub no_fields : FieldData
-no_fields = record { name = None; message = None; fault = None; kept = None; queue = None; priority = None; payload = None; origin = None; id = None }
+no_fields = record {
+  name = None;
+  message = None;
+  fault = None;
+  kept = None;
+  queue = None;
+  priority = None;
+  payload = None;
+  origin =
+      None;
+  id = None;
+}
 
 abbrev pub fields_by : Fields → FieldData
 fields_by f = record {

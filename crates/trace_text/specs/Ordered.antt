@@ -1,6 +1,7 @@
 -- The order of a run that was recorded, as a text has it beside the trace: two words a turn, its node and the number of the message that
 -- it was brought, or a dash.
-use Rattle.std.specs.Prelude.{ℕ, ◌≡◌, ◌<◌, ◌^◌, Bool, true, false, List, [], ◌∷◌, ◌++◌, length, Option, Some, None, option_map, option_and_then, if◌then◌else◌, codes, decimal, map}
+use Rattle.std.specs.Prelude.{ℕ, ◌≡◌, ◌<◌, ◌^◌, Bool, true, false, List, [], ◌∷◌, ◌++◌, length, Option, Some, None, option_map}
+use Rattle.std.specs.Prelude.{option_and_then, if◌then◌else◌, codes, decimal, map}
 use Rattle.std.specs.Borrow.{Bor}
 use Rattle.std.specs.Str.{bytes_eq, is_utf8}
 use Rattle.json.specs.Find.{as_str, get}
@@ -139,4 +140,5 @@ order_text o = turns_text false o.0 o.1
 -- the JSON value of a trace with its order
 abbrev pub ordered_data : List (List Claim) → Ordered → Data
 ordered_data hs o =
-    object (member (codes "histories") (array (items_of (map history_data hs))) (member (codes "nodes") (number (unsigned (length hs))) (member (codes "order") (string (order_text o)) no_members)))
+    object (member (codes "histories") (array (items_of (map history_data hs)))
+    (member (codes "nodes") (number (unsigned (length hs))) (member (codes "order") (string (order_text o)) no_members)))

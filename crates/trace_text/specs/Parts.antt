@@ -13,4 +13,5 @@ trace_end nodes = print (end_array ∷ key (codes "nodes") ∷ number (decimal n
 
 -- and with this text of the order of its turns
 abbrev pub ordered_end : ℕ → List ℕ → List ℕ
-ordered_end nodes order = print (end_array ∷ key (codes "nodes") ∷ number (decimal nodes) ∷ key (codes "order") ∷ string order ∷ end_object ∷ [])
+ordered_end nodes order = print (end_array ∷ key (codes "nodes") ∷ number (decimal nodes) ∷ key (codes "order") ∷ string order ∷ end_object
+    ∷ [])

@@ -1,5 +1,6 @@
 -- A text read piece by piece: what comes of what was read so far, if the reading goes on at some tokens.
-use Rattle.std.specs.Prelude.{ℕ, suc, ◌+◌, ◌≡◌, ◌==◌, ⊤, Bool, true, false, MatchBool, cond, List, [], ◌∷◌, ◌++◌, length, Option, Some, None, option_and_then, if◌then◌else◌, Result, Ok, Err}
+use Rattle.std.specs.Prelude.{ℕ, suc, ◌+◌, ◌≡◌, ◌==◌, ⊤, Bool, true, false, MatchBool, cond, List, [], ◌∷◌, ◌++◌, length, Option, Some}
+use Rattle.std.specs.Prelude.{None, option_and_then, if◌then◌else◌, Result, Ok, Err}
 use Rattle.json.specs.Align.{is_good}
 use Rattle.json.specs.Json as json
 use Rattle.json.specs.Json.{parse_map, members, value}
@@ -43,7 +44,8 @@ pub record Leads {A : Type 0} (old new : List Token → Option A) (before behind
   pub at : (more : Option (List Token)) → old (with_more more before) ≡ new (with_more more behind)
 
 -- what was being read is over, or it is paused where the tokens end
-abbrev pub Comes : {A : Type 0} → Bool → (List Token → Option A) → (List Token → Option A) → (List Token → Option A) → List Token → List Token → Type 0
+abbrev pub Comes : {A : Type 0} → Bool → (List Token → Option A) → (List Token → Option A) → (List Token → Option A) → List Token
+    → List Token → Type 0
 Comes ended old done paused before behind = MatchBool ended (Leads old done before behind) (Leads old paused before [])
 
 -- nothing more follows than these tokens
@@ -83,7 +85,8 @@ lists_on h ts = parse_map (lists_then h.all_lists h.histories.items h.bad) (item
 -- at an item that isn't read
 abbrev pub list_on : Histories → List Token → Option (Judged × List Token)
 list_on h ts =
-    option_and_then (λ (q : Data × List Token). parse_map (λ (ds : Items). lists_then h.all_lists h.histories.items h.bad (item q.0 ds)) (items_at 125 q.1)) (data_at 125 ts)
+    option_and_then (λ (q : Data × List Token). parse_map (λ (ds : Items). lists_then h.all_lists h.histories.items h.bad (item q.0 ds))
+    (items_at 125 q.1)) (data_at 125 ts)
 
 -- with a list more
 abbrev pub listed_then : List (List Claim) → Option Location → Listed → Items → Result (List (List Claim)) (Option Location)
@@ -97,7 +100,8 @@ list_then true hs bad r ds = if all_lists ds then Some (length hs + suc (count_i
 -- in a list, behind an entry
 abbrev pub open_on : Histories → List Token → Option (Judged × List Token)
 open_on h ts =
-    option_and_then (λ (q : Listed × List Token). parse_map (list_then h.all_lists h.histories.items h.bad q.0) (items_at 125 q.1)) (entries_on (length h.histories.items) h.entries ts)
+    option_and_then (λ (q : Listed × List Token). parse_map (list_then h.all_lists h.histories.items h.bad q.0) (items_at 125 q.1))
+    (entries_on (length h.histories.items) h.entries ts)
 
 -- ---- the whole
 

@@ -1,5 +1,6 @@
 -- What the front of a reader's tokens says, part by part: the value of JSON there, and the tokens behind it.
-use Rattle.std.specs.Prelude.{ℕ, ◌==◌, ◌&&◌, List, length, Option, Some, None, option_map, option_and_then, if◌then◌else◌, nat_lt, nat_le, codes, Result, Err}
+use Rattle.std.specs.Prelude.{ℕ, ◌==◌, ◌&&◌, List, length, Option, Some, None, option_map, option_and_then, if◌then◌else◌, nat_lt, nat_le}
+use Rattle.std.specs.Prelude.{codes, Result, Err}
 use Rattle.std.specs.Str.{bytes_eq}
 use Rattle.json.specs.Token.{Token}
 use Rattle.json.specs.Json as json

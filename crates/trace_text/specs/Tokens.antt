@@ -34,7 +34,8 @@ abbrev pub event_tokens : Event → List Token
 event_tokens (on.Timer timer) = []
 event_tokens (on.Deliver m) = token.key (codes "msg") ∷ token.string (encode_lower (spelling m)) ∷ []
 event_tokens (on.Submit work) = work_tokens work
-event_tokens (on.Finish origin id) = token.key (codes "id") ∷ token.number (decimal id) ∷ token.key (codes "origin") ∷ token.number (decimal origin) ∷ []
+event_tokens (on.Finish origin id) = token.key (codes "id") ∷ token.number (decimal id) ∷ token.key (codes "origin") ∷ token.number
+    (decimal origin) ∷ []
 event_tokens on.Recover = []
 
 abbrev pub action_tokens : TraceAction → List Token
@@ -43,7 +44,8 @@ action_tokens (action.Done event) = event_tokens event
 action_tokens (action.Faulted event) = token.key (codes "fault") ∷ token.string (codes "device") ∷ event_tokens event
 action_tokens action.Crashed = []
 action_tokens (action.Recovered kept) = token.key (codes "kept") ∷ token.boolean kept ∷ []
-action_tokens (action.NotRecovered kept fault) = token.key (codes "fault") ∷ token.string (fault_name fault) ∷ token.key (codes "kept") ∷ token.boolean kept ∷ []
+action_tokens (action.NotRecovered kept fault) = token.key (codes "fault") ∷ token.string (fault_name fault) ∷ token.key (codes "kept") ∷
+    token.boolean kept ∷ []
 
 abbrev pub message_tokens : List Envelope → List Token
 message_tokens [] = []
@@ -51,7 +53,8 @@ message_tokens (m ∷ ms) = token.string (encode_lower (spelling m)) ∷ message
 
 -- an entry up to the messages that it sent, and behind them
 abbrev pub head_tokens : TraceAction → List Token
-head_tokens d = token.begin_object ∷ token.key (codes "do") ∷ token.string (action_name d) ∷ (action_tokens d ++ token.key (codes "sent") ∷ token.begin_array ∷ [])
+head_tokens d = token.begin_object ∷ token.key (codes "do") ∷ token.string (action_name d) ∷ (action_tokens d
+    ++ token.key (codes "sent") ∷ token.begin_array ∷ [])
 
 abbrev pub end_tokens : List Token
 end_tokens = token.end_array ∷ token.end_object ∷ []
@@ -59,7 +62,8 @@ end_tokens = token.end_array ∷ token.end_object ∷ []
 abbrev pub entry_tokens : Claim → List Token
 entry_tokens c =
     token.begin_object ∷ token.key (codes "do") ∷ token.string (action_name c.action)
-    ∷ (action_tokens c.action ++ token.key (codes "sent") ∷ token.begin_array ∷ (message_tokens c.sent ++ token.end_array ∷ token.end_object ∷ []))
+    ∷ (action_tokens c.action ++ token.key (codes "sent") ∷ token.begin_array ∷ (message_tokens c.sent
+    ++ token.end_array ∷ token.end_object ∷ []))
 
 abbrev pub entries_tokens : List Claim → List Token
 entries_tokens [] = []
@@ -82,4 +86,5 @@ abbrev pub ordered_tokens : List (List Claim) → List ℕ → List Token
 ordered_tokens hs text =
     token.begin_object ∷ token.key (codes "histories") ∷ token.begin_array
     ∷ (histories_tokens hs
-    ++ token.end_array ∷ token.key (codes "nodes") ∷ token.number (decimal (length hs)) ∷ token.key (codes "order") ∷ token.string text ∷ token.end_object ∷ [])
+    ++ token.end_array ∷ token.key (codes "nodes") ∷ token.number (decimal (length hs)) ∷ token.key (codes "order") ∷ token.string text ∷
+    token.end_object ∷ [])

@@ -26,8 +26,10 @@ priority_members priority rest = if priority == 0 then rest else member (codes "
 abbrev pub event_members : Event → Members → Members
 event_members (on.Timer timer) rest = rest
 event_members (on.Deliver m) rest = member (codes "msg") (message_data m) rest
-event_members (on.Submit work) rest = member (codes "payload") (string (encode_lower work.payload)) (priority_members work.priority (member (codes "queue") (number (unsigned work.queue)) rest))
-event_members (on.Finish origin id) rest = member (codes "id") (number (unsigned id)) (member (codes "origin") (number (unsigned origin)) rest)
+event_members (on.Submit work) rest = member (codes "payload") (string (encode_lower work.payload))
+    (priority_members work.priority (member (codes "queue") (number (unsigned work.queue)) rest))
+event_members (on.Finish origin id) rest = member (codes "id") (number (unsigned id))
+    (member (codes "origin") (number (unsigned origin)) rest)
 event_members on.Recover rest = rest
 
 abbrev pub fault_name : RecoverFault → List ℕ
@@ -49,16 +51,19 @@ action_members (action.Done event) rest = event_members event rest
 action_members (action.Faulted event) rest = member (codes "fault") (string (codes "device")) (event_members event rest)
 action_members action.Crashed rest = rest
 action_members (action.Recovered kept) rest = member (codes "kept") (boolean kept) rest
-action_members (action.NotRecovered kept fault) rest = member (codes "fault") (string (fault_name fault)) (member (codes "kept") (boolean kept) rest)
+action_members (action.NotRecovered kept fault) rest = member (codes "fault") (string (fault_name fault))
+    (member (codes "kept") (boolean kept) rest)
 
 abbrev pub entry_data : Claim → Data
-entry_data c = object (member (codes "do") (string (action_name c.action)) (action_members c.action (member (codes "sent") (array (items_of (map message_data c.sent))) no_members)))
+entry_data c = object (member (codes "do") (string (action_name c.action))
+    (action_members c.action (member (codes "sent") (array (items_of (map message_data c.sent))) no_members)))
 
 abbrev pub history_data : List Claim → Data
 history_data h = array (items_of (map entry_data h))
 
 abbrev pub trace_data : List (List Claim) → Data
-trace_data hs = object (member (codes "histories") (array (items_of (map history_data hs))) (member (codes "nodes") (number (unsigned (length hs))) no_members))
+trace_data hs = object (member (codes "histories") (array (items_of (map history_data hs)))
+    (member (codes "nodes") (number (unsigned (length hs))) no_members))
 
 -- and its text
 abbrev pub text_of_trace : List (List Claim) → List ℕ

@@ -26,5 +26,5 @@ pub use ordered::{end_ordered, read_order, write_ordered};
 pub use parts::{begin_items, begin_trace, end_items, end_trace, push_item};
 pub use stream::read;
 pub use writing::{
-    begin_entry, begin_handled, action_name, end_entry, write, write_spelled, write_text,
+    action_name, begin_entry, begin_handled, end_entry, write, write_spelled, write_text,
 };

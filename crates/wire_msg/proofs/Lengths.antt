@@ -36,7 +36,8 @@ abbrev IsShortBody : Body → Type 0
 IsShortBody b = IsBody b → length (content b) ≤ BODY_CAPACITY
 
 -- the fields of a short form
-few_fields : (names id has : Bool) (g : Group) (answer : Bool) → length (cond names (group g) (cond id (to_be_bytes w64 g.count) []) ++ cond has (truth answer) []) ≤ 10
+few_fields : (names id has : Bool) (g : Group) (answer : Bool)
+    → length (cond names (group g) (cond id (to_be_bytes w64 g.count) []) ++ cond has (truth answer) []) ≤ 10
 few_fields true id true g answer = omega arith
 few_fields true id false g answer = omega arith
 few_fields false true true g answer = omega arith
@@ -48,7 +49,11 @@ pub short_body : (b : Body) → IsShortBody b
 short_body b = by_shape IsShortBody short (λ t fits. omega (arith, length-rising 0 NODES t.members (omega arith) fits.members)) work b
   where
     short : (s : Short) → IsShortBody (said s)
-    short s fits = omega (arith, ap (λ (c : List ℕ). length c) (said_is s).content, few_fields (names_group s.kind) (has_id s.kind) (has_answer s.kind) (group_of s) s.answer)
+    short s fits = omega (
+      arith,
+      ap (λ (c : List ℕ). length c) (said_is s).content,
+      few_fields (names_group s.kind) (has_id s.kind) (has_answer s.kind) (group_of s) s.answer,
+    )
 
     work : (g : Group) (id : ℕ) (w : JobWork) → IsShortBody (Work g id w)
     work g id w fits = omega (arith, fits.payload_fits, short_priority w.priority, length-work g id w)

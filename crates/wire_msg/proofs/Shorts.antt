@@ -12,7 +12,8 @@ use Rattle.wire_msg.specs.declared.body.Body.TheVariants as says
 use Rattle.wire_msg.specs.declared.short.Kind.{Kind}
 use Rattle.wire_msg.specs.declared.short.Kind.TheVariants as kind
 use Rattle.wire_msg.specs.declared.short.Short.{Short}
-use Rattle.wire_msg.specs.Kinds.{Shape, Brief, Tells, Gives, shape_of, body_of, kind_of, no_group, group_of, said_by, said, kind_numbered, number_of, names_group}
+use Rattle.wire_msg.specs.Kinds.{Shape, Brief, Tells, Gives, shape_of, body_of, kind_of, no_group, group_of, said_by, said, kind_numbered}
+use Rattle.wire_msg.specs.Kinds.{number_of, names_group}
 use Rattle.wire_msg.specs.Spelling.{content, place, answered, nodes_in, IsGroup, IsBody}
 use Rattle.wire_msg.specs.Reading.{named_at, answer_at, short_at}
 use Rattle.wire_msg.proofs.Fields.{wide64, number_again, truth_again, group_again}
@@ -31,7 +32,8 @@ shaped (says.Work g id w) = refl
 shaped (says.Done id) = refl
 
 -- a body has a short form, or is a Ready, or a Work
-pub by_shape : (P : Body → Type 0) → ((s : Short) → P (said s)) → ((t : Assignment) → P (says.Ready t)) → ((g : Group) (id : ℕ) (w : JobWork) → P (says.Work g id w)) → (b : Body) → P b
+pub by_shape : (P : Body → Type 0) → ((s : Short) → P (said s)) → ((t : Assignment) → P (says.Ready t))
+    → ((g : Group) (id : ℕ) (w : JobWork) → P (says.Work g id w)) → (b : Body) → P b
 by_shape P short ready work b = subst P (shaped b) (each (shape_of b))
   where
     each : (shape : Shape) → P (body_of shape)
@@ -59,14 +61,86 @@ group_fits : (g : Group) → Fits g true → IsGroup g
 group_fits g f = record { creator = f.creator; at_least_one = f.counted; fits = f.number }
 
 by_kind : (k : Kind) (g : Group) (answer : Bool) → IsSaid k g answer (said_by k g answer)
-by_kind kind.AreYouCoordinator g answer = record { number = refl; small = omega arith; numbered = refl; content = refl; nodes = refl; group = λ h. tt; fits = λ f. tt }
-by_kind kind.Coordinator g answer = record { number = refl; small = omega arith; numbered = refl; content = refl; nodes = refl; group = λ h. tt; fits = λ f. tt }
-by_kind kind.AreYouThere g answer = record { number = refl; small = omega arith; numbered = refl; content = refl; nodes = refl; group = λ h. h; fits = group_fits g }
-by_kind kind.Here g answer = record { number = refl; small = omega arith; numbered = refl; content = refl; nodes = refl; group = λ h. h; fits = group_fits g }
-by_kind kind.Invitation g answer = record { number = refl; small = omega arith; numbered = refl; content = refl; nodes = refl; group = λ h. h; fits = group_fits g }
-by_kind kind.Accept g answer = record { number = refl; small = omega arith; numbered = refl; content = refl; nodes = refl; group = λ h. h; fits = group_fits g }
-by_kind kind.ReadyAck g answer = record { number = refl; small = omega arith; numbered = refl; content = refl; nodes = refl; group = λ h. h; fits = group_fits g }
-by_kind kind.Done g answer = record { number = refl; small = omega arith; numbered = refl; content = refl; nodes = refl; group = λ h. tt; fits = λ f. f.number }
+by_kind kind.AreYouCoordinator g answer = record {
+  number = refl;
+  small = omega arith;
+  numbered = refl;
+  content = refl;
+  nodes =
+      refl;
+  group = λ h. tt;
+  fits = λ f. tt;
+}
+by_kind kind.Coordinator g answer = record {
+  number = refl;
+  small = omega arith;
+  numbered = refl;
+  content = refl;
+  nodes = refl;
+  group =
+      λ h. tt;
+  fits = λ f. tt;
+}
+by_kind kind.AreYouThere g answer = record {
+  number = refl;
+  small = omega arith;
+  numbered = refl;
+  content = refl;
+  nodes = refl;
+  group =
+      λ h. h;
+  fits = group_fits g;
+}
+by_kind kind.Here g answer = record {
+  number = refl;
+  small = omega arith;
+  numbered = refl;
+  content = refl;
+  nodes = refl;
+  group =
+      λ h. h;
+  fits = group_fits g;
+}
+by_kind kind.Invitation g answer = record {
+  number = refl;
+  small = omega arith;
+  numbered = refl;
+  content = refl;
+  nodes = refl;
+  group =
+      λ h. h;
+  fits = group_fits g;
+}
+by_kind kind.Accept g answer = record {
+  number = refl;
+  small = omega arith;
+  numbered = refl;
+  content = refl;
+  nodes = refl;
+  group =
+      λ h. h;
+  fits = group_fits g;
+}
+by_kind kind.ReadyAck g answer = record {
+  number = refl;
+  small = omega arith;
+  numbered = refl;
+  content = refl;
+  nodes = refl;
+  group =
+      λ h. h;
+  fits = group_fits g;
+}
+by_kind kind.Done g answer = record {
+  number = refl;
+  small = omega arith;
+  numbered = refl;
+  content = refl;
+  nodes = refl;
+  group =
+      λ h. tt;
+  fits = λ f. f.number;
+}
 
 pub kind_again : (k : Kind) → kind_numbered (number_of k) ≡ Some k
 kind_again k = (by_kind k no_group false).numbered
@@ -75,7 +149,8 @@ pub said_is : (s : Short) → IsSaid s.kind (group_of s) s.answer (said s)
 said_is s = by_kind s.kind (group_of s) s.answer
 
 -- what is spelled is read again
-again : (k : Kind) (g : Group) (answer : Bool) (rest : List ℕ) → IsBody (said_by k g answer) → short_at k ((place k g ++ answered k answer) ++ rest) ≡ Some (said_by k g answer, rest)
+again : (k : Kind) (g : Group) (answer : Bool) (rest : List ℕ) → IsBody (said_by k g answer)
+    → short_at k ((place k g ++ answered k answer) ++ rest) ≡ Some (said_by k g answer, rest)
 unfolding short_at named_at answer_at
 again kind.AreYouCoordinator g answer rest fits = refl
 again kind.Coordinator g answer rest fits = rw (truth_again answer rest) refl
@@ -86,11 +161,13 @@ again kind.Accept g answer rest fits = rw (group_again g rest fits) refl
 again kind.ReadyAck g answer rest fits = rw (group_again g rest fits) refl
 again kind.Done g answer rest fits = rw (number_again w64 (2 ^ 64) wide64 g.count rest fits) refl
 
-pub short_again : (s : Short) (rest : List ℕ) → IsBody (said s) → short_at s.kind ((place s.kind (group_of s) ++ answered s.kind s.answer) ++ rest) ≡ Some (said s, rest)
+pub short_again : (s : Short) (rest : List ℕ) → IsBody (said s)
+    → short_at s.kind ((place s.kind (group_of s) ++ answered s.kind s.answer) ++ rest) ≡ Some (said s, rest)
 short_again s rest fits = again s.kind (group_of s) s.answer rest fits
 
 -- one test of a number: it is this kind's, or the rest of the tests decide
-by_number : (n m : ℕ) (k x : Kind) (others : Option Kind) → m ≡ number_of k → (others ≡ Some x → n ≡ number_of x) → cond (eqb n m) (Some k) others ≡ Some x → n ≡ number_of x
+by_number : (n m : ℕ) (k x : Kind) (others : Option Kind) → m ≡ number_of k → (others ≡ Some x → n ≡ number_of x)
+    → cond (eqb n m) (Some k) others ≡ Some x → n ≡ number_of x
 by_number n m k x others is f e = split (eqb n m) refl e
   where
     split : (b : Bool) → eqb n m ≡ b → cond b (Some k) others ≡ Some x → n ≡ number_of x

@@ -11,5 +11,6 @@ returns-clause-counted c =
 
 pub returns-clause-areas : goal.returns-clause-areas
 returns-clause-areas c =
-    area_stays c.args.node.now.disk c.arm.new.self.disk c.nothing_sent.result (λ area_exhausted. let bad = sym c.nothing_sent.ensures ∙ area_exhausted in cc)
+    area_stays c.args.node.now.disk c.arm.new.self.disk c.nothing_sent.result (λ area_exhausted. let bad = sym c.nothing_sent.ensures
+    ∙ area_exhausted in cc)
     (armed_within c.args.calls c.args.node.now.disk c.arm.new.self.disk (λ i. (c.arm.ensures.armed i).disk))

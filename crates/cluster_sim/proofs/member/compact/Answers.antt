@@ -2,7 +2,8 @@ use Rattle.std.proofs.Common.{length, refl, ◌∙◌}
 use Rattle.cluster_sim.proofs.Answering.{compacted_areas}
 use Rattle.cluster_sim.specs.Operated.{IsCompacted}
 use Rattle.cluster_sim.specs.Outcomes.{compaction_outcome}
-use Rattle.cluster_sim.proofs.Coming.{some_of, same_by, compacted, compacted_refused, meets_up, compacted_comes, outcome_so, nothing_mounted, compact_counted}
+use Rattle.cluster_sim.proofs.Coming.{some_of, same_by, compacted, compacted_refused, meets_up, compacted_comes, outcome_so}
+use Rattle.cluster_sim.proofs.Coming.{nothing_mounted, compact_counted}
 use Rattle.cluster_sim.proofs.member.compact.Goals as goal
 
 pub returns-clause-same : goal.returns-clause-same
@@ -11,10 +12,12 @@ returns-clause-same c =
     same_by c.args.node.now c.compact-answer.new.self c.compact-answer.result e.id e.nodes e.counts
 
 -- what it leaves
-leaves : (c : goal.After-compaction_outcome) → IsCompacted c.args.node.now c.compact-answer.new.self (compaction_outcome (length c.args.net.now.network.sent) c.compact-answer.result)
+leaves : (c : goal.After-compaction_outcome) → IsCompacted c.args.node.now c.compact-answer.new.self
+    (compaction_outcome (length c.args.net.now.network.sent) c.compact-answer.result)
 leaves c =
     let e = c.compact-answer.ensures in
-    compacted c.args.node.now c.compact-answer.new.self (length c.args.net.now.network.sent) c.compact-answer.result e.answers e.moved e.fallen e.refused e.images
+    compacted c.args.node.now c.compact-answer.new.self (length c.args.net.now.network.sent) c.compact-answer.result e.answers e.moved
+    e.fallen e.refused e.images
 
 pub returns-clause-came : goal.returns-clause-came
 returns-clause-came c = λ slots n s stands.
@@ -22,13 +25,16 @@ returns-clause-came c = λ slots n s stands.
     let e = c.compact-answer.ensures in
     let was = some_of old.disk e.counts.was_there in
     let came = e.step was.0 s was.1 stands in
-    let reported = outcome_so old.id old.nodes (length c.args.net.now.network.sent) n s came.0 c.compact-answer.result came.1 (meets_up old s c.compact-answer.result stands e.answers (λ down. (c.shows_its_disk.ensures.down down).1)) in
-    compacted_comes slots n old.id old.nodes s c.compaction_outcome.result c.compact-answer.new.self c.args.net.now.network came.0 reported.0 came.2 (c.compaction_outcome.ensures ∙ reported.1)
+    let reported = outcome_so old.id old.nodes (length c.args.net.now.network.sent) n s came.0 c.compact-answer.result came.1
+    (meets_up old s c.compact-answer.result stands e.answers (λ down. (c.shows_its_disk.ensures.down down).1)) in
+    compacted_comes slots n old.id old.nodes s c.compaction_outcome.result c.compact-answer.new.self c.args.net.now.network came.0
+    reported.0 came.2 (c.compaction_outcome.ensures ∙ reported.1)
     (nothing_mounted old c.compact-answer.new.self _ (leaves c).left) came.3
 
 pub returns-clause-counted : goal.returns-clause-counted
 returns-clause-counted c =
-    rw c.compaction_outcome.ensures (compact_counted c.args.node.now.disk c.compact-answer.new.self.disk (length c.args.net.now.network.sent) c.compact-answer.result c.compact-answer.ensures.counts)
+    rw c.compaction_outcome.ensures (compact_counted c.args.node.now.disk c.compact-answer.new.self.disk
+    (length c.args.net.now.network.sent) c.compact-answer.result c.compact-answer.ensures.counts)
 
 pub returns-clause-compacted : goal.returns-clause-compacted
 returns-clause-compacted c = rw c.compaction_outcome.ensures (leaves c)

@@ -8,5 +8,6 @@ loop-number-preserved c =
     let e = c.in_ok-node.ensures in
     let number = c.loop-number.number in
     rw c.in_ok-push.ensures.items
-    (nodes_more c.args.slots c.args.nodes number c.loop-number.members.items node c.loop-number.invariant (e.id ∙ c.numbered-id.ensures) e.nodes (λ held at. e.sectors held at ∙ c.in_ok-disk.ensures.sectors)
+    (nodes_more c.args.slots c.args.nodes number c.loop-number.members.items node c.loop-number.invariant (e.id
+    ∙ c.numbered-id.ensures) e.nodes (λ held at. e.sectors held at ∙ c.in_ok-disk.ensures.sectors)
     (rw (← c.numbered-id.ensures) e.opens) e.number (λ held at. (e.disarmed held at, e.failures held at)))

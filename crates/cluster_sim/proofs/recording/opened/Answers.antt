@@ -15,12 +15,20 @@ loop-number-preserved c = λ nodes stands sent.
     let many : length c.args.world.now.nodes ≡ nodes = stands.count ∙ length_openings 0 nodes in
     let within : k < nodes = omega (arith, many, c.count-number-end.ensures.value, c.loop-number-test.true) in
     let id : c.numbered-id.result ≡ k = c.numbered-id.ensures in
-    let at : slice_get c.args.world.now.nodes k ≡ Some c.node.result.now = subst (λ (j : ℕ). slice_get c.args.world.now.nodes j ≡ Some c.node.result.now) id c.node.ensures in
-    let state : state_of c.vector.result.now ≡ _ = c.vector.ensures ∙ opened_state c.args.world.now nodes k c.node.result.now stands within at in
+    let at : slice_get c.args.world.now.nodes k ≡ Some c.node.result.now =
+    subst (λ (j : ℕ). slice_get c.args.world.now.nodes j ≡ Some c.node.result.now) id c.node.ensures in
+    let state : state_of c.vector.result.now ≡ _ = c.vector.ensures
+    ∙ opened_state c.args.world.now nodes k c.node.result.now stands within at in
     c.in_ok-add_opening.ensures sent ∙ (λ i. with_opening (id i) (state i) (c.loop-number.invariant nodes stands sent i)) ∙ opened_more k
 
 pub returns : goal.returns
 returns c = λ nodes stands sent.
     let many : length c.args.world.now.nodes ≡ nodes = stands.count ∙ length_openings 0 nodes in
-    let all : c.loop-number.number ≡ nodes = omega (arith, many, c.count-number-end.ensures.value, c.loop-number-test.false, c.loop-number.auto.number-end) in
+    let all : c.loop-number.number ≡ nodes = omega (
+      arith,
+      many,
+      c.count-number-end.ensures.value,
+      c.loop-number-test.false,
+      c.loop-number.auto.number-end,
+    ) in
     c.loop-number.invariant nodes stands sent ∙ ap first_report all

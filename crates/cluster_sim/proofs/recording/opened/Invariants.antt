@@ -7,4 +7,5 @@ use Rattle.runs.specs.Reporting.{first_report}
 use Rattle.cluster_sim.proofs.recording.opened.Given as goal
 
 abbrev pub invariant-loop-number : goal.invariant-loop-number
-invariant-loop-number l = (nodes : ℕ) → StandsFor l.world (start nodes) → (sent : List Envelope) → report_in l.report sent ≡ first_report l.number
+invariant-loop-number l = (nodes : ℕ) → StandsFor l.world (start nodes) → (sent : List Envelope)
+    → report_in l.report sent ≡ first_report l.number

@@ -12,4 +12,5 @@ loop-act-preserved c = record {
 }
 
 pub returns-clause-traced : goal.returns-clause-traced
-returns-clause-traced c = λ nodes slots so. rw (take_all c.loop-act.act-index c.args.acts.now (omega (arith, c.loop-act-test.false))) at (c.loop-act.invariant.traced nodes slots so)
+returns-clause-traced c = λ nodes slots so. rw (take_all c.loop-act.act-index c.args.acts.now (omega (arith, c.loop-act-test.false))) at
+    (c.loop-act.invariant.traced nodes slots so)

@@ -7,5 +7,6 @@ invariant-loop-act l = record {
   world : HasWorld l.world;
   many : length l.histories.items ≡ length l.world.nodes;
   kept : length l.histories.items ≡ length l.fn.histories.items;
-  traced : (nodes slots : ℕ) → IsSoFar nodes slots l.fn.world [] l.fn.histories.items l.fn.order → IsSoFar nodes slots l.world (take l.act-index l.acts) l.histories.items l.order;
+  traced : (nodes slots : ℕ) → IsSoFar nodes slots l.fn.world [] l.fn.histories.items l.fn.order
+      → IsSoFar nodes slots l.world (take l.act-index l.acts) l.histories.items l.order;
 }

@@ -10,6 +10,7 @@ pub returns : goal.returns
 returns g c = (
   sym c.in_ok-invocation.ensures ∙ ap (option_map asked) c.in_default.is,
   refl,
-  subst (λ (m : Mistake). Appends (g.W.Write.contents c.args.output.now) (g.W.Write.contents c.writeln.new.self) (mistake_line m)) c.mistake_in-mistake.ensures
+  subst (λ (m : Mistake). Appends (g.W.Write.contents c.args.output.now) (g.W.Write.contents c.writeln.new.self) (mistake_line m))
+      c.mistake_in-mistake.ensures
       c.in_ok-writeln.ensures.bytes,
 )

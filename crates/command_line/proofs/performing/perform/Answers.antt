@@ -2,7 +2,8 @@ use Rattle.std.proofs.Common.{rules, subst, sym}
 use Rattle.console_text.specs.Ends.{Prints}
 use Rattle.store_console.specs.Session.{IsSession, IsTold}
 use Rattle.command_line.specs.Performed.{IsOutcomeOf, IsSaidOf}
-use Rattle.command_line.proofs.performing.perform.Goals.{in-Answer, in-Show, in-Sim, in-Store, in-Trace, in-Record, in-Threads, in-Turns, in-Contradiction}
+use Rattle.command_line.proofs.performing.perform.Goals.{in-Answer, in-Show, in-Sim, in-Store, in-Trace, in-Record, in-Threads, in-Turns}
+use Rattle.command_line.proofs.performing.perform.Goals.{in-Contradiction}
 use Rattle.command_line.proofs.performing.perform.Goals as goal
 
 pub returns-clause-prints : goal.returns-clause-prints
@@ -11,9 +12,12 @@ returns-clause-prints g c = elim c.match-batch.branch [
   | in-Show w ↦ search rules
   | in-Sim w ↦ search rules
   | in-Store w ↦
-      subst (λ b. Prints (IsOutcomeOf b) (g.R.Read.remaining c.args.input.now.reader) (g.W.Write.contents c.args.output.now) (g.W.Write.contents c.match-batch.output) c.match-batch.ended.ending) (sym w.in-Store.is)
-      (subst (λ o. Prints IsSession (g.R.Read.remaining c.args.input.now.reader) (g.W.Write.contents c.args.output.now) (g.W.Write.contents o) c.match-batch.ended.ending) (sym w.output-is)
-      (subst (λ e. Prints IsSession (g.R.Read.remaining c.args.input.now.reader) (g.W.Write.contents c.args.output.now) (g.W.Write.contents w.store-ended.new.output) e.ending) (sym w.ended-is) w.store-ended.ensures.prints))
+      subst (λ b. Prints (IsOutcomeOf b) (g.R.Read.remaining c.args.input.now.reader) (g.W.Write.contents c.args.output.now)
+      (g.W.Write.contents c.match-batch.output) c.match-batch.ended.ending) (sym w.in-Store.is)
+      (subst (λ o. Prints IsSession (g.R.Read.remaining c.args.input.now.reader) (g.W.Write.contents c.args.output.now)
+      (g.W.Write.contents o) c.match-batch.ended.ending) (sym w.output-is)
+      (subst (λ e. Prints IsSession (g.R.Read.remaining c.args.input.now.reader) (g.W.Write.contents c.args.output.now)
+      (g.W.Write.contents w.store-ended.new.output) e.ending) (sym w.ended-is) w.store-ended.ensures.prints))
   | in-Trace w ↦ search rules
   | in-Record w ↦ search rules
   | in-Threads w ↦ search rules
@@ -27,9 +31,12 @@ returns-clause-said g c = elim c.match-batch.branch [
   | in-Show w ↦ search rules
   | in-Sim w ↦ search rules
   | in-Store w ↦
-      subst (λ b. IsSaidOf b (g.R.Read.remaining c.args.input.now.reader) (g.W.Write.contents c.args.output.now) (g.W.Write.contents c.match-batch.output) c.match-batch.ended.ending c.match-batch.ended.why.items) (sym w.in-Store.is)
-      (subst (λ o. IsTold (g.R.Read.remaining c.args.input.now.reader) (g.W.Write.contents c.args.output.now) (g.W.Write.contents o) c.match-batch.ended.ending c.match-batch.ended.why.items) (sym w.output-is)
-      (subst (λ e. IsTold (g.R.Read.remaining c.args.input.now.reader) (g.W.Write.contents c.args.output.now) (g.W.Write.contents w.store-ended.new.output) e.ending e.why.items) (sym w.ended-is) w.store-ended.ensures.told))
+      subst (λ b. IsSaidOf b (g.R.Read.remaining c.args.input.now.reader) (g.W.Write.contents c.args.output.now)
+      (g.W.Write.contents c.match-batch.output) c.match-batch.ended.ending c.match-batch.ended.why.items) (sym w.in-Store.is)
+      (subst (λ o. IsTold (g.R.Read.remaining c.args.input.now.reader) (g.W.Write.contents c.args.output.now) (g.W.Write.contents o)
+      c.match-batch.ended.ending c.match-batch.ended.why.items) (sym w.output-is)
+      (subst (λ e. IsTold (g.R.Read.remaining c.args.input.now.reader) (g.W.Write.contents c.args.output.now)
+      (g.W.Write.contents w.store-ended.new.output) e.ending e.why.items) (sym w.ended-is) w.store-ended.ensures.told))
   | in-Trace w ↦ search rules
   | in-Record w ↦ search rules
   | in-Threads w ↦ search rules

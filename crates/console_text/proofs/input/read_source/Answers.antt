@@ -9,4 +9,9 @@ returns-then-count-eq0-clause-bytes g c =
     consumes_all _ _ _ _ _ c.loop-read.invariant.consumed c.in-Ok.ensures.bytes.0 none (c.in-Ok.ensures.bytes.1 c.if-count-eq0.true room)
 
 pub returns-clause-unread : goal.returns-clause-unread
-returns-clause-unread g c = λ unread. inr (omega (arith, c.loop-read.invariant.counted, c.loop-read.invariant.most (omega arith), c.loop-read-test.false))
+returns-clause-unread g c = λ unread. inr (omega (
+  arith,
+  c.loop-read.invariant.counted,
+  c.loop-read.invariant.most (omega arith),
+  c.loop-read-test.false,
+))

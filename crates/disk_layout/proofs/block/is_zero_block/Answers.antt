@@ -12,4 +12,5 @@ returns-clause-value c = c.loop-at.invariant ∙ ap is_blank (take_all c.loop-at
 
 pub returns-clause-zeros : goal.returns-clause-zeros
 returns-clause-zeros c = λ is.
-    zeros_alone c.args.block.now (ap is_blank (sym (take_all c.loop-at.at c.args.block.now c.loop-at-test.false)) ∙ sym c.loop-at.invariant ∙ is)
+    zeros_alone c.args.block.now (ap is_blank (sym (take_all c.loop-at.at c.args.block.now c.loop-at-test.false)) ∙ sym c.loop-at.invariant
+    ∙ is)

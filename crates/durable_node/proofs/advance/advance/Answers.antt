@@ -10,7 +10,8 @@ use Rattle.durable_node.proofs.Serves.{serves}
 use Rattle.durable_node.proofs.advance.advance.Goals as goal
 
 pub handle-requires-clause-over : goal.handle-requires-clause-over
-handle-requires-clause-over g c = over g.D.SectorDisk.state c.args.setting.id c.args.setting.nodes c.args.core.now c.in-Mounted.store (rw c.in-Mounted.is at c.requires.node) (sym c.is_down.ensures ∙ c.if-not-is_down.true)
+handle-requires-clause-over g c = over g.D.SectorDisk.state c.args.setting.id c.args.setting.nodes c.args.core.now c.in-Mounted.store
+    (rw c.in-Mounted.is at c.requires.node) (sym c.is_down.ensures ∙ c.if-not-is_down.true)
 
 pub returns-in-Recover-clause-call : goal.returns-in-Recover-clause-call
 returns-in-Recover-clause-call g c =
@@ -31,11 +32,14 @@ returns g c =
     rw same (record {
       node = rw e.kept (assumption node);
       call = record {
-        step = ignores g.D.SectorDisk.state c.args.setting.id c.args.setting.nodes c.args.core.now c.ignore.new.core c.args.disk.now c.args.doubt.now c.args.mounted.now c.args.event.now
-            (node.fallen down) (rw e.kept) c.in_default-event.not-Recover (Ok c.ignore.result) (rw (node.core_nodes, node.core_id) at e.what) e.tried;
+        step = ignores g.D.SectorDisk.state c.args.setting.id c.args.setting.nodes c.args.core.now c.ignore.new.core c.args.disk.now
+            c.args.doubt.now c.args.mounted.now c.args.event.now
+            (node.fallen down) (rw e.kept) c.in_default-event.not-Recover (Ok c.ignore.result)
+            (rw (node.core_nodes, node.core_id) at e.what) e.tried;
         stuck = tt;
         answers = λ d area kept at. absurd (area_hidden (is_down c.args.core.now.state.phase) (store_in c.args.disk.now) area down at);
-        counts = counts_still g.D.SectorDisk.state (disk_in c.args.disk.now) (answered (Ok c.ignore.result)) node.there (no_device _ c.ignore.result e.what);
+        counts = counts_still g.D.SectorDisk.state (disk_in c.args.disk.now)
+            (answered (Ok c.ignore.result)) node.there (no_device _ c.ignore.result e.what);
         area = λ d area kept at. absurd (area_hidden (is_down c.args.core.now.state.phase) (store_in c.args.disk.now) area down at);
         mounting = λ _ is. absurd (c.in_default-event.not-Recover is);
         mounted = λ _ is. absurd (c.in_default-event.not-Recover is);
@@ -50,16 +54,22 @@ returns-in-Mounted g c =
     let up = sym c.is_down.ensures ∙ c.if-not-is_down.true in
     let node = rw c.in-Mounted.is at c.requires.node in
     record {
-      node = node_over g.D.SectorDisk.state c.args.setting.id c.args.setting.nodes c.args.core.now c.handle.new.core (Mounted store) node e.core store c.handle.new.store _ (node.slots store refl) e.store
-          (served c.args.setting.id c.args.setting.nodes c.args.core.now c.handle.new.core store c.handle.new.store c.args.doubt.now c.handle.new.doubt c.args.event.now c.handle.result up (node.up up) e.what e.stuck);
+      node = node_over g.D.SectorDisk.state c.args.setting.id c.args.setting.nodes c.args.core.now c.handle.new.core (Mounted store) node
+          e.core store c.handle.new.store _ (node.slots store refl) e.store
+          (served c.args.setting.id c.args.setting.nodes c.args.core.now c.handle.new.core store c.handle.new.store c.args.doubt.now
+          c.handle.new.doubt c.args.event.now c.handle.result up (node.up up) e.what e.stuck);
       call = record {
-        step = rw c.in-Mounted.is (serves g.D.SectorDisk.state c.args.setting.id c.args.setting.nodes c.args.core.now c.handle.new.core store c.handle.new.store c.args.doubt.now c.handle.new.doubt c.args.event.now
+        step = rw c.in-Mounted.is (serves g.D.SectorDisk.state c.args.setting.id c.args.setting.nodes c.args.core.now c.handle.new.core
+            store c.handle.new.store c.args.doubt.now c.handle.new.doubt c.args.event.now
             up (node.slots store refl) _ e.store c.args.mounted.now c.handle.result e.what e.tried e.disk);
-        stuck = rw c.in-Mounted.is (served_stuck c.args.setting.id c.args.setting.nodes c.args.core.now c.handle.new.core store c.handle.new.store c.args.doubt.now c.handle.new.doubt g.D.SectorDisk.state c.args.mounted.now
+        stuck = rw c.in-Mounted.is (served_stuck c.args.setting.id c.args.setting.nodes c.args.core.now c.handle.new.core store
+            c.handle.new.store c.args.doubt.now c.handle.new.doubt g.D.SectorDisk.state c.args.mounted.now
             c.args.event.now c.handle.result e.stuck up e.spares);
         answers = grind arith;
-        counts = rw c.in-Mounted.is (counts_of g.D.SectorDisk.state store.disk c.handle.new.store.disk (answered c.handle.result) e.store.counts (e.store.rises (node.up up)));
-        area = rw c.in-Mounted.is (area_goes_on c.args.setting.id c.args.setting.nodes c.args.core.now c.handle.new.core store c.handle.new.store c.args.doubt.now c.handle.new.doubt c.args.mounted.now c.args.event.now up
+        counts = rw c.in-Mounted.is (counts_of g.D.SectorDisk.state store.disk c.handle.new.store.disk (answered c.handle.result)
+            e.store.counts (e.store.rises (node.up up)));
+        area = rw c.in-Mounted.is (area_goes_on c.args.setting.id c.args.setting.nodes c.args.core.now c.handle.new.core store
+            c.handle.new.store c.args.doubt.now c.handle.new.doubt c.args.mounted.now c.args.event.now up
             g.D.SectorDisk.state c.handle.result e.what e.stuck e.area e.disk);
         mounting = grind arith;
         mounted = grind arith;

@@ -17,15 +17,20 @@ done_of (Err fault) t err ok = (let failed = rw err at ok in absurd cc)
 pub returns-in-Put-clause-disk : goal.returns-in-Put-clause-disk
 returns-in-Put-clause-disk g c =
     let e = c.put.ensures in
-    subst (λ (w : Option Command). Writes g.D.SectorDisk.state c.args.store.now c.put.new.store w (IsOk c.node_answer-in-Put.result)) (sym (ap lent_by c.in-Put.is))
-    (written g.D.SectorDisk.state c.args.store.now c.put.new.store (Put c.in-Put.work.now) (IsOk c.node_answer-in-Put.result) c.requires.ready.whole e.tries.areas.slots e.appends.images
+    subst (λ (w : Option Command). Writes g.D.SectorDisk.state c.args.store.now c.put.new.store w (IsOk c.node_answer-in-Put.result))
+    (sym (ap lent_by c.in-Put.is))
+    (written g.D.SectorDisk.state c.args.store.now c.put.new.store (Put c.in-Put.work.now) (IsOk c.node_answer-in-Put.result)
+    c.requires.ready.whole e.tries.areas.slots e.appends.images
     (λ honest ok. (e.appends.after honest (done_of c.put.result c.node_answer-in-Put.result c.node_answer-in-Put.ensures.err ok)).lasts)
     (λ honest ok. (e.appends.after honest (done_of c.put.result c.node_answer-in-Put.result c.node_answer-in-Put.ensures.err ok)).spelled))
 
 pub returns-in-Done-clause-disk : goal.returns-in-Done-clause-disk
 returns-in-Done-clause-disk g c =
     let e = c.done.ensures in
-    subst (λ (w : Option Command). Writes g.D.SectorDisk.state c.args.store.now c.done.new.self w (IsOk c.node_answer-in-Done.result)) (sym (ap lent_by c.in-Done.is))
-    (written g.D.SectorDisk.state c.args.store.now c.done.new.self (Done c.in-Done.id) (IsOk c.node_answer-in-Done.result) c.requires.ready.whole e.tries.areas.slots e.appends.images
+    subst (λ (w : Option Command). Writes g.D.SectorDisk.state c.args.store.now c.done.new.self w (IsOk c.node_answer-in-Done.result))
+    (sym (ap lent_by c.in-Done.is))
+    (written g.D.SectorDisk.state c.args.store.now c.done.new.self (Done c.in-Done.id) (IsOk c.node_answer-in-Done.result)
+    c.requires.ready.whole e.tries.areas.slots e.appends.images
     (λ honest ok. (e.appends.after honest (done_of c.done.result c.node_answer-in-Done.result c.node_answer-in-Done.ensures.err ok)).lasts)
-    (λ honest ok. (e.appends.after honest (done_of c.done.result c.node_answer-in-Done.result c.node_answer-in-Done.ensures.err ok)).spelled))
+    (λ honest ok. (e.appends.after honest (done_of c.done.result c.node_answer-in-Done.result c.node_answer-in-Done.ensures.err
+    ok)).spelled))

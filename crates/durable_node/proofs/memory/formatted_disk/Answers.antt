@@ -11,7 +11,8 @@ pub returns-clause-fresh : goal.returns-clause-fresh
 returns-clause-fresh c =
     let e = c.format.ensures in
     let ok = c.is_err.ensures.negation ∙ ap not c.if-is_err.false in
-    let blank : length c.in_ok-disk.disk.contents ≡ 8 + 4 * c.args.slots = ap (λ (m : Memory). length m.contents) c.in_ok-disk.ensures ∙ length-replicate _ _ ∙ c.sectors_for.ensures in
+    let blank : length c.in_ok-disk.disk.contents ≡ 8 + 4 * c.args.slots = ap (λ (m : Memory). length m.contents) c.in_ok-disk.ensures
+    ∙ length-replicate _ _ ∙ c.sectors_for.ensures in
     rw (c.shrink_to_fit.ensures, c.forget.ensures) (record {
       enough = omega (arith, e.makes.counts.sectors, blank, c.requires.least);
       unfailed = e.makes.counts.unchanged (ok_not c.format.result _ ok) ∙ ap (λ (m : Memory). m.failures) c.in_ok-disk.ensures;

@@ -21,7 +21,8 @@ pub returns-in-Err-clause-node : goal.returns-in-Err-clause-node
 returns-in-Err-clause-node g c =
     let node = c.requires.node in
     let e = c.in-Err.ensures in
-    node_bare g.D.SectorDisk.state c.args.setting.id c.args.setting.nodes c.args.core.now c.args.core.now c.args.disk.now node (record { id = node.core_id; nodes = node.core_nodes }) c.in-Err.refused.disk
+    node_bare g.D.SectorDisk.state c.args.setting.id c.args.setting.nodes c.args.core.now c.args.core.now c.args.disk.now node
+    (record { id = node.core_id; nodes = node.core_nodes }) c.in-Err.refused.disk
     (node.fallen c.requires.down) (rw e.counts.sectors (e.sound (node.sound c.take.result c.take.ensures.disk)))
 
 pub returns-in-Err-clause-call : goal.returns-in-Err-clause-call
@@ -33,16 +34,22 @@ returns-in-Err-clause-call g c =
     let e = c.in-Err.ensures in
     let m = c.unmounted.ensures in
     record {
-      step = mount_fails state a.setting.id a.setting.nodes a.core.now a.disk.now c.take.result disk a.doubt.now a.mounted.now c.take.ensures.disk fallen _ _ e.counts e.run c.node_fault.result c.unmounted.result m.what m.quiet m.tried;
-      stuck = stuck state a.setting.id a.setting.nodes a.core.now a.disk.now c.take.result disk a.doubt.now a.mounted.now c.take.ensures.disk
+      step = mount_fails state a.setting.id a.setting.nodes a.core.now a.disk.now c.take.result disk a.doubt.now a.mounted.now
+          c.take.ensures.disk fallen _ _ e.counts e.run c.node_fault.result c.unmounted.result m.what m.quiet m.tried;
+      stuck = stuck state a.setting.id a.setting.nodes a.core.now a.disk.now c.take.result disk a.doubt.now a.mounted.now
+          c.take.ensures.disk
           fallen c.in-Err.refused.fault e.no_other e.mounts e.untouched c.node_fault.result c.node_fault.ensures c.unmounted.result m.stuck;
       answers = λ d area kept at. absurd (area_hidden (is_down a.core.now.state.phase) (store_in a.disk.now) area c.requires.down at);
-      counts = rw c.take.ensures.disk (counts_of state c.take.result disk (answered c.unmounted.result) (search rules) (quiet_rises (state c.take.result) (state disk) e.run));
+      counts = rw c.take.ensures.disk (counts_of state c.take.result disk (answered c.unmounted.result) (search rules)
+          (quiet_rises (state c.take.result) (state disk) e.run));
       area = λ d area kept at. absurd (area_hidden (is_down a.core.now.state.phase) (store_in a.disk.now) area c.requires.down at);
-      mounting = λ _ _. rw (m.answered, c.node_fault.ensures) (unmounted_at a.setting.id a.setting.nodes a.core.now a.disk.now disk a.doubt.now a.mounted.now c.in-Err.refused.fault e.no_other);
+      mounting = λ _ _. rw (m.answered, c.node_fault.ensures) (unmounted_at a.setting.id a.setting.nodes a.core.now a.disk.now disk
+          a.doubt.now a.mounted.now c.in-Err.refused.fault e.no_other);
       mounted = λ _ _. (
         grind arith,
-        rw (c.take.ensures.disk, m.answered, c.node_fault.ensures) (at_both (λ was now. IsRead state was now _ _) c.take.result disk (unread_at state c.take.result disk c.in-Err.refused.fault e.too_small e.untouched e.answers_for e.run)),
+        rw (c.take.ensures.disk, m.answered, c.node_fault.ensures)
+            (at_both (λ was now. IsRead state was now _ _) c.take.result disk
+            (unread_at state c.take.result disk c.in-Err.refused.fault e.too_small e.untouched e.answers_for e.run)),
       );
       few = grind arith;
     }
@@ -74,25 +81,30 @@ returns g c =
     let fallen = c.requires.node.fallen c.requires.down in
     let kept = c.is_in-kept.result in
     let shown = shows a.setting.id kept a.core.now core mid end a.doubt.now doubt came came.event_outcome e.what in
-    let remounted = remounted_at a.setting.id a.setting.nodes a.core.now core a.disk.now mid end a.doubt.now doubt a.mounted.now kept came came.event_outcome e.what in
+    let remounted = remounted_at a.setting.id a.setting.nodes a.core.now core a.disk.now mid end a.doubt.now doubt a.mounted.now kept came
+    came.event_outcome e.what in
     let was = node_with a.setting.id a.setting.nodes a.core.now a.disk.now a.doubt.now a.mounted.now in
     let now = node_with a.setting.id a.setting.nodes core (Mounted end) doubt (Some (durable_of mid).counter) in
     rw c.counter.ensures (record {
-      node = node_over state a.setting.id a.setting.nodes a.core.now core a.disk.now c.requires.node e.core mid end _ (mount.whole.1 ∙ ap (λ (n : ℕ). slots_for n) (sym mount.counts.sectors)) e.store
+      node = node_over state a.setting.id a.setting.nodes a.core.now core a.disk.now c.requires.node e.core mid end _ (mount.whole.1
+          ∙ ap (λ (n : ℕ). slots_for n) (sym mount.counts.sectors)) e.store
           (risen a.setting.id a.setting.nodes a.core.now core mid end a.doubt.now doubt kept came came.event_outcome fallen e.what);
       call = record {
-        step = rises state a.setting.id a.setting.nodes a.core.now core mid end a.doubt.now doubt fallen _ e.store came a.disk.now c.take.result a.mounted.now c.take.ensures.disk mount.whole.1 _ _ mount.counts mount.run
+        step = rises state a.setting.id a.setting.nodes a.core.now core mid end a.doubt.now doubt fallen _ e.store came a.disk.now
+            c.take.result a.mounted.now c.take.ensures.disk mount.whole.1 _ _ mount.counts mount.run
             (λ honest. (mount.remains honest).stands) kept c.is_in-kept.ensures.kept e.what e.tried e.disk;
         stuck = tt;
         answers = λ d area kept at. absurd (area_hidden (is_down a.core.now.state.phase) (store_in a.disk.now) area c.requires.down at);
         counts = rw c.take.ensures.disk (counts_of state c.take.result end.disk (answered (Ok came)) (search rules)
-            (rises_behind (state c.take.result) (state mid.disk) (state end.disk) mount.counts.honest mount.run (e.store.rises mount.whole.0)));
+            (rises_behind (state c.take.result) (state mid.disk) (state end.disk) mount.counts.honest mount.run
+            (e.store.rises mount.whole.0)));
         area = λ d area kept at. absurd (area_hidden (is_down a.core.now.state.phase) (store_in a.disk.now) area c.requires.down at);
         mounting = λ _ _. rw shown.0 remounted;
         mounted = λ _ _. (
           rw shown.0 (shown.2 c.is_in-kept.ensures.kept),
           rw (c.take.ensures.disk, shown.0) (at_both (λ was now. IsRead state was now _ _) c.take.result end.disk
-              (read_at state c.take.result end.disk was now (durable_of mid) (answered (Ok came)) remounted (not_below 24 (state c.take.result).sectors mount.too_small.1) mount.answers_for)),
+              (read_at state c.take.result end.disk was now (durable_of mid) (answered (Ok came)) remounted
+              (not_below 24 (state c.take.result).sectors mount.too_small.1) mount.answers_for)),
         );
         few = rw shown.1 (omega arith);
       };

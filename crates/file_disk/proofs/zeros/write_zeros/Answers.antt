@@ -9,5 +9,8 @@ loop-left-preserved g c =
     let (within, before) = c.loop-left.invariant in
     let fits : next ≤ 65536 = search rules in
     let some : next ≤ c.loop-left.left = search rules in
-    let sum : c.args.count - c.loop-left.left + next ≡ c.args.count - (c.loop-left.left - next) = omega (arith, within, some) in
-    (omega (arith, within), more_zeros _ _ _ _ next _ (take next (replicate 65536 0)) (take-replicate next 65536 0 fits) sum before c.in_ok-write_all.ensures.bytes)
+    let sum : c.args.count - c.loop-left.left + next ≡ c.args.count - (c.loop-left.left - next) = omega (arith, within, some) in (
+      omega (arith, within),
+      more_zeros _ _ _ _ next _ (take next (replicate 65536 0)) (take-replicate next 65536 0 fits) sum before
+          c.in_ok-write_all.ensures.bytes,
+    )

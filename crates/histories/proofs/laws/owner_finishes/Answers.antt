@@ -6,4 +6,12 @@ use Rattle.histories.proofs.Gone.{done_is_gone}
 use Rattle.histories.proofs.laws.owner_finishes.Goals as goal
 
 pub returns : goal.returns
-returns c = record { finishes = owner_finishes; worker = one_worker; job = work_is_job; one_job = one_job; put = pending_was_put; gone = done_is_gone }
+returns c = record {
+  finishes = owner_finishes;
+  worker = one_worker;
+  job = work_is_job;
+  one_job = one_job;
+  put = pending_was_put;
+  gone =
+      done_is_gone;
+}

@@ -4,16 +4,21 @@ use Rattle.invite_console.proofs.answers.answers_to.Goals as goal
 
 pub returns-then-not-branch : goal.returns-then-not-branch
 returns-then-not-branch c =
-    c.ended.ensures ∙ (sym (ends_refused c.loop-after.session c.take_next.new.self c.loop-after.left.now c.in-Ok-Some.after.now c.decode_front.new.message
-    c.in_ok-take_next-in-Ok-Some.field-0 (rw c.in-Ok-Some.field-0-is at c.in-Ok-Some.ensures.front) c.in_ok-take_next-in-Ok-Some.ensures c.if-not-branch.true) ∙ c.loop-after.invariant)
+    c.ended.ensures ∙ (sym (ends_refused c.loop-after.session c.take_next.new.self c.loop-after.left.now c.in-Ok-Some.after.now
+    c.decode_front.new.message
+    c.in_ok-take_next-in-Ok-Some.field-0 (rw c.in-Ok-Some.field-0-is at c.in-Ok-Some.ensures.front) c.in_ok-take_next-in-Ok-Some.ensures
+    c.if-not-branch.true) ∙ c.loop-after.invariant)
 
 pub loop-after-preserved : goal.loop-after-preserved
 loop-after-preserved c =
     sym (goes_on c.loop-after.session c.take_next.new.self c.loop-after.left.now c.in-Ok-Some.after.now c.decode_front.new.message
-    c.in_ok-take_next-in-Ok-Some.field-0 (rw c.in-Ok-Some.field-0-is at c.in-Ok-Some.ensures.front) c.in_ok-take_next-in-Ok-Some.ensures c.if-not-branch.false) ∙ c.loop-after.invariant
+    c.in_ok-take_next-in-Ok-Some.field-0 (rw c.in-Ok-Some.field-0-is at c.in-Ok-Some.ensures.front) c.in_ok-take_next-in-Ok-Some.ensures
+    c.if-not-branch.false) ∙ c.loop-after.invariant
 
 pub returns-in-Ok-None : goal.returns-in-Ok-None
-returns-in-Ok-None c = c.ended-in-Ok-None.ensures ∙ (sym (ends_well c.loop-after.session c.loop-after.left.now (rw c.in-Ok-None.field-0-is at c.in-Ok-None.ensures.front).0) ∙ c.loop-after.invariant)
+returns-in-Ok-None c = c.ended-in-Ok-None.ensures ∙ (sym
+    (ends_well c.loop-after.session c.loop-after.left.now (rw c.in-Ok-None.field-0-is at c.in-Ok-None.ensures.front).0)
+    ∙ c.loop-after.invariant)
 
 pub returns-in-Err : goal.returns-in-Err
 returns-in-Err c =

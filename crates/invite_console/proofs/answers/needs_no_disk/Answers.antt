@@ -13,4 +13,5 @@ quiet_still nodes self (m ∷ before) s quiet =
     quiet_still nodes self before (delivery nodes self m s).state (stays_quiet self m.sender m.body next_count s quiet)
 
 pub returns : goal.returns
-returns c id nodes before m = quiet_wants id m (state_after nodes id before (alone id first_count)) (quiet_still nodes id before (alone id first_count) refl)
+returns c id nodes before m = quiet_wants id m (state_after nodes id before (alone id first_count))
+    (quiet_still nodes id before (alone id first_count) refl)

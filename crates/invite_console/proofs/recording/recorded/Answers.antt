@@ -9,4 +9,5 @@ unreachable-requires c =
     let run = c.in_ok-run.run' in
     let refused = c.in-Err-Unwritable in
     refused.ensures.refused.0 (subst (λ fault. IsUnwritable {A = ℕ} (Err fault)) (sym refused.field-0-is) tt)
-    (can_be_written schedule.size.nodes schedule.size.slots schedule.acts.items run.trace run.order c.requires.nodes.0 c.in_ok-run.ensures.recorded)
+    (can_be_written schedule.size.nodes schedule.size.slots schedule.acts.items run.trace run.order c.requires.nodes.0
+    c.in_ok-run.ensures.recorded)

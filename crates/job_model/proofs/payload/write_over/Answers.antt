@@ -10,10 +10,22 @@ returns-then-len-old_len c =
     let k = c.args.old_len - n in
     let rest = drop n c.args.cells.now in
     let one = c.copy_from_slice.new.self ++ rest in
-    let many : length (take k (drop n one)) ≡ k = omega (arith, length-take k (drop n one), length-drop n one, length-append c.copy_from_slice.new.self rest, length-drop n c.args.cells.now, ap (λ xs. length xs) c.copy_from_slice.ensures.after, c.requires.zeros.whole, c.requires.zeros.within, c.requires.fits) in
+    let many : length (take k (drop n one)) ≡ k = omega (
+      arith,
+      length-take k (drop n one),
+      length-drop n one,
+      length-append c.copy_from_slice.new.self rest,
+      length-drop n c.args.cells.now,
+      ap (λ xs. length xs) c.copy_from_slice.ensures.after,
+      c.requires.zeros.whole,
+      c.requires.zeros.within,
+      c.requires.fits,
+    ) in
     let zeros : c.fill.new.self ≡ replicate k 0 = c.fill.ensures.after (λ y h. h) ∙ ap (λ m. replicate m 0) many in
-    rw c.copy_from_slice.ensures.after (cleared PAYLOAD_CAPACITY c.args.old_len c.args.bytes.now c.args.cells.now c.fill.new.self c.requires.zeros c.if-len-old_len.true zeros)
+    rw c.copy_from_slice.ensures.after (cleared PAYLOAD_CAPACITY c.args.old_len c.args.bytes.now c.args.cells.now c.fill.new.self
+    c.requires.zeros c.if-len-old_len.true zeros)
 
 pub returns-else-len-old_len : goal.returns-else-len-old_len
 returns-else-len-old_len c =
-    rw c.copy_from_slice.ensures.after (written PAYLOAD_CAPACITY c.args.old_len c.args.bytes.now c.args.cells.now c.requires.zeros c.if-len-old_len.false)
+    rw c.copy_from_slice.ensures.after (written PAYLOAD_CAPACITY c.args.old_len c.args.bytes.now c.args.cells.now c.requires.zeros
+    c.if-len-old_len.false)

@@ -13,7 +13,8 @@ sorted sector queue priority = slice_set (slice_set sector 9 queue) 10 priority
 abbrev headed : ℕ → ℕ → ℕ → ℕ → ℕ → List ℕ
 headed kind id queue priority n = kind ∷ (to_be_bytes w64 id ++ queue ∷ priority ∷ (to_be_bytes w16 n ++ replicate 499 0))
 
-with_length : (kind id queue priority n : ℕ) → take 11 (sorted (number_bytes kind id) queue priority) ++ to_be_bytes w16 n ++ drop 13 (sorted (number_bytes kind id) queue priority)
+with_length : (kind id queue priority n : ℕ) → take 11 (sorted (number_bytes kind id) queue priority) ++ to_be_bytes w16 n
+    ++ drop 13 (sorted (number_bytes kind id) queue priority)
     ≡ headed kind id queue priority n
 with_length kind id queue priority n = refl
 
@@ -37,8 +38,11 @@ returns-clause-bytes c =
     c.place-2.ensures
     ∙ ap (λ s. take 13 s ++ p ++ drop (13 + n) s) one
     ∙ ap (λ t. c.args.kind ∷ (to_be_bytes w64 job.id ++ q ∷ r ∷ (to_be_bytes w16 n ++ (p ++ t)))) (drop_more c.args.kind job.id q r n n)
-    ∙ ap (λ b. job_bytes c.args.kind (record { id = job.id; work = record { queue = q; priority = r; payload = b } })) c.as_slice-bytes.ensures.value
-    ∙ ap (λ k. job_bytes c.args.kind (record { id = job.id; work = record { queue = k; priority = r; payload = job.work.payload } })) c.number.ensures.value
+    ∙ ap (λ b. job_bytes c.args.kind (record { id = job.id; work = record { queue = q; priority = r; payload = b } }))
+    c.as_slice-bytes.ensures.value
+    ∙ ap (λ k. job_bytes c.args.kind (record { id = job.id; work = record { queue = k; priority = r; payload = job.work.payload } }))
+    c.number.ensures.value
 
 pub returns-clause-job : goal.returns-clause-job
-returns-clause-job c = ap job_of (returns-clause-bytes c) ∙ job_of-job_bytes c.args.kind c.args.job.now c.number_sector-sector.ensures.fits c.number.ensures.below c.as_slice-bytes.ensures.fits
+returns-clause-job c = ap job_of (returns-clause-bytes c)
+    ∙ job_of-job_bytes c.args.kind c.args.job.now c.number_sector-sector.ensures.fits c.number.ensures.below c.as_slice-bytes.ensures.fits

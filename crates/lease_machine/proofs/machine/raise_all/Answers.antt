@@ -11,10 +11,12 @@ loop-entry-preserved c =
     let i = c.loop-entry.entry-index in
     let ys = c.loop-entry.entry-items in
     let x = get_or ys i c.entry-item.result in
-    let is : c.raise.new.self ≡ record x.voter { bound = c.args.bound } = raised_is x.voter c.raise.new.self c.args.bound (c.raise.ensures 0) in
+    let is : c.raise.new.self ≡ record x.voter { bound = c.args.bound } =
+    raised_is x.voter c.raise.new.self c.args.bound (c.raise.ensures 0) in
     let here : x ≡ get_or ys i x = sym c.entry-item.is ∙ c.entry-item.is ∙ ap (λ (d : NameEntry). get_or ys i d) c.entry-item.is in
     record {
       written = ap (λ (v : LeaseVoter). set ys i (record { name = x.name; voter = v; claim = x.claim })) is
-          ∙ map_over_more (raised c.args.bound) c.deref_mut-entry-items.result.now ys i x c.loop-entry-test.true c.loop-entry.invariant.written here;
+          ∙ map_over_more (raised c.args.bound) c.deref_mut-entry-items.result.now ys i x c.loop-entry-test.true
+          c.loop-entry.invariant.written here;
       same = c.loop-entry.invariant.same;
     }

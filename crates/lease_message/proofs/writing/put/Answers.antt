@@ -6,7 +6,8 @@ use Rattle.lease_message.proofs.writing.put.Goals as goal
 pub returns-clause-bytes : goal.returns-clause-bytes
 returns-clause-bytes c =
     let m = c.args.message.now in
-    joined6 c.args.out.now.items (1 ∷ kind_of m.body ∷ []) (client_bytes m.client) (m.voter ∷ []) (number m.epoch) (content m.body) m.name _ _ _ _ _ _
+    joined6 c.args.out.now.items (1 ∷ kind_of m.body ∷ []) (client_bytes m.client) (m.voter ∷ []) (number m.epoch)
+    (content m.body) m.name _ _ _ _ _ _
     (c.in_ok-extend_from_slice.ensures.items ∙ ap (λ (k : ℕ). c.args.out.now.items ++ 1 ∷ k ∷ []) c.kind-kind.ensures)
     c.in_ok-put_client.ensures.bytes
     (c.in_ok-push.ensures.items ∙ ap (λ (n : ℕ). c.put_client.new.out.items ++ n ∷ []) c.number.ensures.value)

@@ -41,4 +41,5 @@ returns-then-value-lt16-clause-value c =
 pub returns-else-value-lt16-clause-value : goal.returns-else-value-lt16-clause-value
 returns-else-value-lt16-clause-value c =
     let fits : c.args.byte < 256 = omega (arith, c.ranges.byte.fits) in
-    none_worth (hex_digit_value c.args.byte) _ (ap (λ n. get_or VALUES n 0) c.from.ensures ∙ read c.args.byte fits) (small c.args.byte fits) c.if-value-lt16.false
+    none_worth (hex_digit_value c.args.byte) _ (ap (λ n. get_or VALUES n 0) c.from.ensures ∙ read c.args.byte fits)
+    (small c.args.byte fits) c.if-value-lt16.false

@@ -9,7 +9,10 @@ loop-place-preserved c =
     let inv = c.loop-place.invariant in
     let same = length-set c.loop-place.out c.loop-place.place (c.value_of.result * 16 + c.value_of-in-loop-place.result) in (
       omega (arith, inv.0, same),
-      pair_more c.args.digits.now c.loop-place.out c.loop-place.place c.value_of.result c.value_of-in-loop-place.result (omega (arith, inv.0)) (omega arith) c.value_of.ensures.value
+      pair_more c.args.digits.now c.loop-place.out c.loop-place.place c.value_of.result c.value_of-in-loop-place.result (omega (
+        arith,
+        inv.0,
+      )) (omega arith) c.value_of.ensures.value
           c.value_of-in-loop-place.ensures.value inv.1,
     )
 

@@ -30,4 +30,5 @@ loop-at-preserved c =
     }
 
 pub returns : goal.returns
-returns c = let begins : c.loop-at.at ≡ 0 = omega arith in subst (λ n. ArePlacesFrom c.args.jobs.now n c.loop-at.first c.loop-at.next.items) begins c.loop-at.invariant.placed
+returns c = let begins : c.loop-at.at ≡ 0 = omega arith in
+    subst (λ n. ArePlacesFrom c.args.jobs.now n c.loop-at.first c.loop-at.next.items) begins c.loop-at.invariant.placed

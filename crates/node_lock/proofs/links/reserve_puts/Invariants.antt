@@ -7,4 +7,5 @@ use Rattle.node_lock.proofs.links.reserve_puts.Given as goal
 abbrev pub invariant-loop-end : goal.invariant-loop-end
 invariant-loop-end l =
     SameSides l.initial.end-items l.end-items
-    × ((k : ℕ) (d : Side) → k < l.end-index → (if may_give_to l.node.state (slice_index_or l.end-items k d).receiver then l.members else l.others) ≤ (slice_index_or l.end-items k d).room)
+    × ((k : ℕ) (d : Side) → k < l.end-index → (if may_give_to l.node.state (slice_index_or l.end-items k d).receiver then l.members
+    else l.others) ≤ (slice_index_or l.end-items k d).room)

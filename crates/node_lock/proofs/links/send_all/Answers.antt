@@ -21,10 +21,17 @@ loop-place-preserved c =
     let noted = c.note.ensures.lost in
     let turns : length log.turns ≡ length was.turns = ap (λ (l : Log). length l.turns) before.history in
     record {
-      history = noted ∙ ap (λ (ls : List Loss). record log { losses = c.note.new.history.losses; lost = ls }) (sym (ap (λ (l : Log). l.lost) noted)) ∙ ap (λ (l : Log). record l { losses = c.note.new.history.losses; lost = c.note.new.history.lost }) before.history;
+      history = noted ∙ ap (λ (ls : List Loss). record log { losses = c.note.new.history.losses; lost = ls })
+          (sym (ap (λ (l : Log). l.lost) noted)) ∙ ap (λ (l : Log). record l {
+            losses = c.note.new.history.losses;
+            lost =
+                c.note.new.history.lost;
+          }) before.history;
       losses = (let spent = c.note.ensures.room in omega (arith, spent, before.losses));
-      lost = noted_next (length was.turns) sent i m c.send-went.result was.lost log.lost c.note.new.history.lost old mid new c.loop-place-test.true c.index-sent-place.is before.sent before.lost c.send-went.ensures.went
-          (ap (λ (l : Log). l.lost) noted ∙ ap (λ (n : ℕ). log.lost ++ (if c.send-went.result then [] else record { turn = n; message = i } ∷ [])) turns);
+      lost = noted_next (length was.turns) sent i m c.send-went.result was.lost log.lost c.note.new.history.lost old mid new
+          c.loop-place-test.true c.index-sent-place.is before.sent before.lost c.send-went.ensures.went
+          (ap (λ (l : Log). l.lost) noted ∙ ap (λ (n : ℕ). log.lost
+          ++ (if c.send-went.result then [] else record { turn = n; message = i } ∷ [])) turns);
       sent = sent_on_more sent i m old mid new c.loop-place-test.true c.index-sent-place.is before.sent c.send-went.ensures.sent;
       room = λ k d lt.
           let len = before.sent.len in
@@ -33,7 +40,8 @@ loop-place-preserved c =
           let all = before.room k d lt in
           let parts = rest_split to sent i m c.loop-place-test.true c.index-sent-place.is in
           let spent : (slice_index_or mid k d).room ≤ (slice_index_or new k d).room + length (addressed_to to (m ∷ [])) =
-          subst (λ (j : ℕ). (slice_index_or mid k d).room ≤ (slice_index_or new k d).room + length (addressed_to j (m ∷ []))) same (c.send-went.ensures.room k d (omega (arith, lt, len))) in
+          subst (λ (j : ℕ). (slice_index_or mid k d).room ≤ (slice_index_or new k d).room + length (addressed_to j (m ∷ []))) same
+          (c.send-went.ensures.room k d (omega (arith, lt, len))) in
           let left : length (addressed_to to (drop (i + 1) sent)) ≤ (slice_index_or new k d).room = omega (arith, all, parts, spent) in
           left;
     }

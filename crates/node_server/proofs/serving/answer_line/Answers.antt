@@ -4,7 +4,10 @@ use Rattle.node_server.proofs.Bytes.{keeps_same, on_err}
 use Rattle.node_server.proofs.serving.answer_line.Goals as goal
 
 pub returns-then-not-starts_with-clause-ended : goal.returns-then-not-starts_with-clause-ended
-returns-then-not-starts_with-clause-ended g c = inl (c.at_once_is_fed.ensures _ _ _ c.in_ok-feed.ensures, keeps_same (g.W.Write.contents c.args.output.now))
+returns-then-not-starts_with-clause-ended g c = inl (
+  c.at_once_is_fed.ensures _ _ _ c.in_ok-feed.ensures,
+  keeps_same (g.W.Write.contents c.args.output.now),
+)
 
 pub returns-clause-ended : goal.returns-clause-ended
 returns-clause-ended g c = inr (

@@ -10,14 +10,17 @@ use Rattle.node_session.proofs.due.next_due.Goals as goal
 
 pub returns-clause-quiet : goal.returns-clause-quiet
 returns-clause-quiet c = λ later less.
-    before c.due_at.result (λ now. (event : Event) → MayFire (passed now c.args.pace.now) c.args.snapshot.now event → ⊥) later c.unwrap_or-timer.result c.unwrap_or-timer.ensures
+    before c.due_at.result (λ now. (event : Event) → MayFire (passed now c.args.pace.now) c.args.snapshot.now event
+    → ⊥) later c.unwrap_or-timer.result c.unwrap_or-timer.ensures
     c.due_at.ensures.quiet c.due_at.ensures.never (let least = c.min.ensures in omega (arith, least, less))
 
 pub returns-clause-fires : goal.returns-clause-fires
 returns-clause-fires c = λ d runs told less.
     ⊎_elim (λ due. inl (due d runs told)) (λ come. inr come)
-    (at_first c.due_at.result c.due_at-2.result (λ next. (d : Deadline) → Runs c.args.pace.now c.args.snapshot.now d → is_some c.args.pace.now.told ≡ true → IsDue (passed next c.args.pace.now) c.args.snapshot.now)
-    (λ next. has_come next c.args.waiting.now ≡ true) c.unwrap_or-timer.result c.unwrap_or-again.result c.min.result c.unwrap_or-timer.ensures c.unwrap_or-again.ensures c.min.ensures less
+    (at_first c.due_at.result c.due_at-2.result (λ next. (d : Deadline) → Runs c.args.pace.now c.args.snapshot.now d
+    → is_some c.args.pace.now.told ≡ true → IsDue (passed next c.args.pace.now) c.args.snapshot.now)
+    (λ next. has_come next c.args.waiting.now ≡ true) c.unwrap_or-timer.result c.unwrap_or-again.result c.min.result
+    c.unwrap_or-timer.ensures c.unwrap_or-again.ensures c.min.ensures less
     c.due_at.ensures.fires c.due_at-2.ensures.comes)
 
 pub returns-clause-at_once : goal.returns-clause-at_once

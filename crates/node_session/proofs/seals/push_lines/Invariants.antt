@@ -5,7 +5,8 @@ use Rattle.node_session.proofs.seals.push_lines.Given as goal
 
 abbrev pub invariant-loop-line : goal.invariant-loop-line
 invariant-loop-line l = record {
-  text : l.text.items ++ sealed_lines l.fn.keys l.fn.life l.number (lines_of l.left) ≡ l.fn.text.items ++ sealed_lines l.fn.keys l.fn.life l.fn.number (lines_of l.fn.plain);
+  text : l.text.items ++ sealed_lines l.fn.keys l.fn.life l.number (lines_of l.left)
+      ≡ l.fn.text.items ++ sealed_lines l.fn.keys l.fn.life l.fn.number (lines_of l.fn.plain);
   number : numbered l.fn.life l.number (lines_of l.left) ≡ numbered l.fn.life l.fn.number (lines_of l.fn.plain);
 }
 

@@ -12,7 +12,8 @@ returns-then-is_full g c =
     let node : c.from-node.result ≡ c.args.stopped.node = search rules in
     let facts : (MOST_ENTRIES < planned plan) × (0 < plan_len plan c.args.stopped.worker) = search rules in
     let below : c.from-node.result < length plans = search rules in
-    let at : slice_get plans c.from-node.result ≡ Some plan = slice_get_read plans (length plans) c.from-node.result plan refl below c.index-plans-node.is in
+    let at : slice_get plans c.from-node.result ≡ Some plan =
+    slice_get_read plans (length plans) c.from-node.result plan refl below c.index-plans-node.is in
     let before : FirstFit c.from-node.result plans = c.if-not-have_ended.ensures refl in
     record {
       plan = plan;

@@ -13,8 +13,11 @@ loop-node-preserved c =
     let plan = c.index-plans-node.result in
     let log = c.in_ok-history.history in
     let mine = c.in_ok-history.ends in
-    let at : slice_get plans node ≡ Some plan = slice_get_read plans (length plans) node plan refl c.loop-node-test.true c.index-plans-node.is in
+    let at : slice_get plans node ≡ Some plan = slice_get_read plans (length plans) node plan refl c.loop-node-test.true
+    c.index-plans-node.is in
     let has : HasEnded (run_at c.args.size node) plan log mine = rw (c.run-run.ensures, c.numbered.ensures) at c.in_ok-history.ensures in
-    ended_more node c.args.size plans c.loop-node.histories.items c.loop-node.left.items plan log mine c.push_reserved.new.self.items c.push_reserved-in-loop-node.new.self.items
+    ended_more node c.args.size plans c.loop-node.histories.items c.loop-node.left.items plan log mine c.push_reserved.new.self.items
+    c.push_reserved-in-loop-node.new.self.items
     (c.push_reserved.ensures.items ∙ ap (λ (xs : List Log). xs ++ log ∷ []) c.reserve.ensures.items)
-    (c.push_reserved-in-loop-node.ensures.items ∙ ap (λ (xs : List NodeEnds). xs ++ mine ∷ []) c.reserve-in-loop-node.ensures.items) at has c.loop-node.invariant
+    (c.push_reserved-in-loop-node.ensures.items ∙ ap (λ (xs : List NodeEnds). xs ++ mine ∷ []) c.reserve-in-loop-node.ensures.items) at has
+    c.loop-node.invariant

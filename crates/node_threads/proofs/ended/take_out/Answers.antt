@@ -31,7 +31,8 @@ returns c =
       is_history = sym p.2;
       is_lost = sym p.3;
       is_numbers = sym p.4;
-      failures = subst (λ (ts : List Turn). HasFailed (entries_of ts) c.into_parts-parts.result.history.failures) (sym p.2) c.into_parts-parts.ensures.failures;
+      failures = subst (λ (ts : List Turn). HasFailed (entries_of ts) c.into_parts-parts.result.history.failures)
+          (sym p.2) c.into_parts-parts.ensures.failures;
       is_puts = sym p.5 ∙ sym (ap (λ (e : NodeEnds). e.puts) ends);
       is_takes = sym p.6 ∙ sym (ap (λ (e : NodeEnds). e.takes) ends);
       used_up = c.is_ended.ensures c.if-not-is_ended.false;

@@ -17,11 +17,16 @@ loop-receiver-preserved c =
           λ i. unused_put ring (w.numbered.ensures i) (w.numbered-then-receiver-sender.ensures i) capacity in
           let take_is : unused ring w.numbered.result w.numbered-then-receiver-sender.result capacity ≡ unused ring s r capacity =
           λ i. unused ring (w.numbered.ensures i) (w.numbered-then-receiver-sender.ensures i) capacity in
-          rw w.ends-is (linked_as ring nodes capacity s r w.in_ok-put.put w.in_ok-put.take c.loop-receiver.ends.items w.add_ends.new.ends.items c.loop-receiver-test.true w.if-receiver-sender.true (w.in_ok-put.ensures.1 ∙ put_is) (w.in_ok-put.ensures.2 ∙ take_is) w.in_ok-add_ends.ensures c.loop-receiver.invariant)
-      | else-receiver-sender w ↦ rw w.ends-is (wires_past nodes capacity s r c.loop-receiver.ends.items c.requires.within.0 w.if-receiver-sender.false c.loop-receiver.invariant)
+          rw w.ends-is (linked_as ring nodes capacity s r w.in_ok-put.put w.in_ok-put.take c.loop-receiver.ends.items
+          w.add_ends.new.ends.items c.loop-receiver-test.true w.if-receiver-sender.true (w.in_ok-put.ensures.1 ∙ put_is)
+          (w.in_ok-put.ensures.2 ∙ take_is) w.in_ok-add_ends.ensures c.loop-receiver.invariant)
+      | else-receiver-sender w ↦ rw w.ends-is (wires_past nodes capacity s r c.loop-receiver.ends.items c.requires.within.0
+          w.if-receiver-sender.false c.loop-receiver.invariant)
     ]
 
 pub returns : goal.returns
 returns c =
     ends_with c.args.nodes c.args.capacity c.args.sender c.loop-receiver.ends.items
-    (subst (λ n. IsWiring c.args.nodes c.args.capacity c.args.sender n c.loop-receiver.ends.items) (end_of c.loop-receiver.receiver c.args.nodes c.args.nodes c.args.nodes c.loop-receiver.auto.receiver-end c.loop-receiver-test.false refl refl) c.loop-receiver.invariant)
+    (subst (λ n. IsWiring c.args.nodes c.args.capacity c.args.sender n c.loop-receiver.ends.items)
+    (end_of c.loop-receiver.receiver c.args.nodes c.args.nodes c.args.nodes c.loop-receiver.auto.receiver-end c.loop-receiver-test.false
+    refl refl) c.loop-receiver.invariant)

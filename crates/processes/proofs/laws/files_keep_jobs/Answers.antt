@@ -5,4 +5,12 @@ use Rattle.processes.proofs.Works.{work_is_job}
 use Rattle.processes.proofs.laws.files_keep_jobs.Goals as goal
 
 pub returns : goal.returns
-returns c = record { kept = jobs_are_kept; whole = commands_are_whole; done = done_stays_done; new = ids_are_new; finished = done_was_finished; work = work_is_job }
+returns c = record {
+  kept = jobs_are_kept;
+  whole = commands_are_whole;
+  done = done_stays_done;
+  new = ids_are_new;
+  finished =
+      done_was_finished;
+  work = work_is_job;
+}

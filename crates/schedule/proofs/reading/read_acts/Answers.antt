@@ -7,5 +7,6 @@ use Rattle.schedule.proofs.reading.read_acts.Goals as goal
 pub returns-clause-ok : goal.returns-clause-ok
 returns-clause-ok c =
     let last : lines_of c.loop-line.left.now ≡ c.loop-line.left.now ∷ [] = search rules in
-    sym c.loop-line.invariant.rest_read ∙ (ap (λ ls. behind c.loop-line.acts.items (acts_from c.loop-line.number (length c.loop-line.acts.items) ls)) last
+    sym c.loop-line.invariant.rest_read ∙ (ap (λ ls. behind c.loop-line.acts.items
+    (acts_from c.loop-line.number (length c.loop-line.acts.items) ls)) last
     ∙ behind_last c.loop-line.number c.loop-line.acts.items c.read_act-2.new.acts.items c.loop-line.left.now (search rules))

@@ -2,4 +2,5 @@ use Rattle.std.proofs.Common.{◌≡◌, ◌++◌, map, take, drop, bit_xor}
 use Rattle.sealed_msg.proofs.hmac.padded.Given as goal
 
 abbrev pub invariant-loop-byte : goal.invariant-loop-byte
-invariant-loop-byte l = l.byte-items ≡ map (λ b. bit_xor b l.pad) (take l.byte-index l.initial.byte-items) ++ drop l.byte-index l.initial.byte-items
+invariant-loop-byte l = l.byte-items ≡ map (λ b. bit_xor b l.pad)
+    (take l.byte-index l.initial.byte-items) ++ drop l.byte-index l.initial.byte-items

@@ -25,12 +25,15 @@ loop-at-preserved c =
     let is : now ≡ set sectors at sector = c.fill_from-rest.ensures.torn in
     record {
       size = ap length is ∙ length-set sectors at sector ∙ so_far.size;
-      left = c.fill_from-rest.ensures.rest ∙ ap (λ (l : List ℕ). drop 512 l) so_far.left ∙ fill_after unsynced fill at flag c.if-not-unsynced-at.false;
+      left = c.fill_from-rest.ensures.rest ∙ ap (λ (l : List ℕ). drop 512 l) so_far.left
+          ∙ fill_after unsynced fill at flag c.if-not-unsynced-at.false;
       behind = λ k below. ap (λ (s : Image). sector_at s k) is ∙ ⊎_elim
           (λ before. get_or-set_other sectors at k sector [] (omega (arith, before)) ∙ so_far.behind k before)
           (λ here.
           let same : k ≡ at = omega (arith, here, below) in
-          subst (λ j. sector_at (set sectors at sector) j ≡ torn_at unsynced fill j (sector_at initial j)) (sym same) (get_or-set_same sectors at sector [] on ∙ torn))
+          subst (λ j. sector_at (set sectors at sector) j ≡ torn_at unsynced fill j (sector_at initial j)) (sym same)
+          (get_or-set_same sectors at sector [] on ∙ torn))
           (cases_lt k at);
-      ahead = λ k above. ap (λ (s : Image). sector_at s k) is ∙ get_or-set_other sectors at k sector [] (omega (arith, above)) ∙ so_far.ahead k (omega (arith, above));
+      ahead = λ k above. ap (λ (s : Image). sector_at s k) is ∙ get_or-set_other sectors at k sector [] (omega (arith, above))
+          ∙ so_far.ahead k (omega (arith, above));
     }

@@ -11,5 +11,6 @@ returns-clause-ok c = λ ok.
       note = note;
       added = ap (λ (n : Noted). n.since) (c.add.ensures.ok ok);
       here = refl;
-      was = ap (λ bytes. whole (last_of c.parts.result.0.now bytes)) (c.in_ok-long.ensures.items_if_clones_equal (λ x y same. same)) ∙ c.parts.ensures;
+      was = ap (λ bytes. whole (last_of c.parts.result.0.now bytes)) (c.in_ok-long.ensures.items_if_clones_equal (λ x y same. same))
+          ∙ c.parts.ensures;
     }

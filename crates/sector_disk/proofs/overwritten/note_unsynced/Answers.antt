@@ -22,6 +22,7 @@ loop-at-preserved c =
       kept = λ k was. touched_before sectors at old new k adds (so_far.kept k was);
       all = λ k below flagged. ⊎_elim
           (λ before. touched_before sectors at old new k adds (so_far.all k before flagged))
-          (λ here. let is : k ≡ at = omega (arith, here, below) in subst (λ j. IsTrue (has_touched new j)) (sym is) (touched_here sectors at old new adds))
+          (λ here. let is : k ≡ at = omega (arith, here, below) in
+          subst (λ j. IsTrue (has_touched new j)) (sym is) (touched_here sectors at old new adds))
           (cases_lt k at);
     }

@@ -14,7 +14,8 @@ returns-then-short c =
       | then-short-via-then-short w ↦ c.requires w.if-short.true
       | then-short-via-else-short+then-is_short w ↦ w.is_short.ensures w.if-is_short.true
     ] in
-    let first = subst (λ o. MatchOption o (length sector < 32) (λ y. IsFirstChunk sector y.now 32)) c.unwrap-first.ensures c.first_chunk.ensures.cases in
+    let first = subst (λ o. MatchOption o (length sector < 32) (λ y. IsFirstChunk sector y.now 32)) c.unwrap-first.ensures
+    c.first_chunk.ensures.cases in
     short_alone sector c.unwrap-first.result.now c.told-sector first.same (is ∙ ap (λ (n : ℕ). replicate (n - 32) 0) c.told-sector)
 
 pub returns : goal.returns

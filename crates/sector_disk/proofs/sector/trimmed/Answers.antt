@@ -17,9 +17,17 @@ loop-block-preserved c =
         omega (arith, w.len-is, room),
         omega (arith, c.loop-block-test.true),
         subst (λ (n : ℕ). drop n c.args.sector.now ≡ replicate (512 - n) 0) (sym w.len-is)
-            (trim_step c.args.sector.now c.loop-block.len c.loop-block.block c.told-sector (omega (arith, room)) h.0 (c.is_zero_block.ensures.zeros w.if-is_zero_block.true) h.3),
+            (trim_step c.args.sector.now c.loop-block.len c.loop-block.block c.told-sector (omega (
+              arith,
+              room,
+            )) h.0 (c.is_zero_block.ensures.zeros w.if-is_zero_block.true) h.3),
       )
-      | else-is_zero_block w ↦ (omega (arith, w.len-is, h.0), omega (arith, w.len-is, room), omega (arith, c.loop-block-test.true), subst (λ (n : ℕ). drop n c.args.sector.now ≡ replicate (512 - n) 0) (sym w.len-is) h.3)
+      | else-is_zero_block w ↦ (
+        omega (arith, w.len-is, h.0),
+        omega (arith, w.len-is, room),
+        omega (arith, c.loop-block-test.true),
+        subst (λ (n : ℕ). drop n c.args.sector.now ≡ replicate (512 - n) 0) (sym w.len-is) h.3,
+      )
     ]
 
 pub returns-clause-least : goal.returns-clause-least

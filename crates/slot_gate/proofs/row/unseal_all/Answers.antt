@@ -11,7 +11,8 @@ returns-in_err-write-clause-writes g c =
       answers = grind arith;
       counts = grind arith;
       run = erased_run c.args.first c.args.slots now.unsealed _ _ _ c.loop-unsealed-test.true now.invariant
-          (write_call g.D.SectorDisk.state g.met.D.SectorDisk.laws now.disk c.write.new.self (c.args.first + 2 * now.unsealed + 1) c.write.ensures.counts.honest
+          (write_call g.D.SectorDisk.state g.met.D.SectorDisk.laws now.disk c.write.new.self (c.args.first + 2 * now.unsealed + 1)
+          c.write.ensures.counts.honest
           (omega (arith, now.invariant.sectors, c.requires.on_disk, c.loop-unsealed-test.true)) c.write.ensures.touches);
     }
 
@@ -20,9 +21,11 @@ unfolding unsealed_gate
 loop-unsealed-preserved g c =
     let state = g.D.SectorDisk.state in
     let now = c.loop-unsealed in
-    erased_more c.args.first c.args.slots now.unsealed (state c.args.disk.now) (state now.disk) (state c.write.new.self) _ (true ≡ true) refl
+    erased_more c.args.first c.args.slots now.unsealed (state c.args.disk.now) (state now.disk)
+    (state c.write.new.self) _ (true ≡ true) refl
     c.loop-unsealed-test.true now.invariant c.in_ok-write.ensures.counts
-    (write_call g.D.SectorDisk.state g.met.D.SectorDisk.laws now.disk c.write.new.self (c.args.first + 2 * now.unsealed + 1) c.write.ensures.counts.honest
+    (write_call g.D.SectorDisk.state g.met.D.SectorDisk.laws now.disk c.write.new.self (c.args.first + 2 * now.unsealed + 1)
+    c.write.ensures.counts.honest
     (omega (arith, now.invariant.sectors, c.requires.on_disk, c.loop-unsealed-test.true)) c.write.ensures.touches)
     (λ honest. slot_unsealed (state c.write.new.self).contents (c.args.first + 2 * now.unsealed) (c.in_ok-write.ensures.gives honest refl))
 

@@ -13,7 +13,9 @@ returns c =
     on_ok_weaker c.push_text-4.result
     (λ last. (
       w,
-      joined b (apart b) (codes "line " ++ decimal c.args.number) (codes ": ") (kind_text c.args.fault) (codes ": ") w c.push_apart.new.why.items c.push_named_number.new.text.items c.push_text.new.text.items
-          c.push_text-2.new.text.items c.push_text-3.new.text.items c.push_text-4.new.text.items c.in_ok-push_apart.ensures c.in_ok-push_named_number.ensures c.in_ok-push_text.ensures named c.in_ok-push_text-3.ensures last,
+      joined b (apart b) (codes "line " ++ decimal c.args.number) (codes ": ") (kind_text c.args.fault)
+          (codes ": ") w c.push_apart.new.why.items c.push_named_number.new.text.items c.push_text.new.text.items
+          c.push_text-2.new.text.items c.push_text-3.new.text.items c.push_text-4.new.text.items c.in_ok-push_apart.ensures
+          c.in_ok-push_named_number.ensures c.in_ok-push_text.ensures named c.in_ok-push_text-3.ensures last,
     ))
     c.push_text-4.ensures

@@ -9,7 +9,9 @@ loop-at-preserved c =
     let number = c.number.ensures.value ∙ c.queue.ensures in
     elim c.if-number-queue.branch [
       | then-number-queue w ↦
-          w.count-is ∙ ap (λ n. n + 1) c.loop-at.invariant ∙ sym (counted_yes c.args.jobs.now c.args.queue c.loop-at.at c.unwrap.result there (sym number ∙ w.if-number-queue.true))
+          w.count-is ∙ ap (λ n. n + 1) c.loop-at.invariant ∙ sym (counted_yes c.args.jobs.now c.args.queue c.loop-at.at c.unwrap.result
+          there (sym number ∙ w.if-number-queue.true))
       | else-number-queue w ↦
-          w.count-is ∙ c.loop-at.invariant ∙ sym (counted_no c.args.jobs.now c.args.queue c.loop-at.at c.unwrap.result there (λ is. w.if-number-queue.false (number ∙ is)))
+          w.count-is ∙ c.loop-at.invariant ∙ sym (counted_no c.args.jobs.now c.args.queue c.loop-at.at c.unwrap.result there (λ is.
+          w.if-number-queue.false (number ∙ is)))
     ]

@@ -12,7 +12,8 @@ returns-clause-found c =
     let first = c.in_ok-used.ensures.kept in
     let second = c.in_ok-counter.ensures.kept ∙ first in
     subst (λ (o : Printout). IfOk c.described.result (λ p. printout_of p ≡ o))
-    (found_is c.args.owner image slots c.in_ok-used.used c.in_ok-counter.counter (found_in c.in_ok-journal.journal) (c.slots_of-slots.ensures.value ∙ ap slots_for c.sectors.ensures) c.in_ok-used.ensures.found
+    (found_is c.args.owner image slots c.in_ok-used.used c.in_ok-counter.counter (found_in c.in_ok-journal.journal)
+    (c.slots_of-slots.ensures.value ∙ ap slots_for c.sectors.ensures) c.in_ok-used.ensures.found
     (c.in_ok-counter.ensures.found ∙ ap counter_of first) (c.in_ok-journal.ensures.found ∙ ap (λ d. journal_of slots d) second))
     c.described.ensures
 

@@ -10,8 +10,10 @@ invariant-loop-line l = record {
   room : l.slots ≤ l.table.room;
   next : l.table.next ≡ l.next;
   fits : length l.table.pending + 2 ≤ l.slots;
-  taken : (new : Jobs) → TakesLines l.slots (jobs_of l.table) (lines_of l.left) new → TakesLines l.slots (begun_at l.next) (lines_of l.input) new;
-  bad : (bad : ℕ) → IsFirstBad l.slots (jobs_of l.table) l.number (lines_of l.left) bad → IsFirstBad l.slots (begun_at l.next) 0 (lines_of l.input) bad;
+  taken : (new : Jobs) → TakesLines l.slots (jobs_of l.table) (lines_of l.left) new
+      → TakesLines l.slots (begun_at l.next) (lines_of l.input) new;
+  bad : (bad : ℕ) → IsFirstBad l.slots (jobs_of l.table) l.number (lines_of l.left) bad
+      → IsFirstBad l.slots (begun_at l.next) 0 (lines_of l.input) bad;
 }
 
 abbrev pub decreases-loop-line : goal.decreases-loop-line

@@ -11,5 +11,6 @@ returns-in-Ok c =
     let old = state_of c.args.disk.now in
     let new = state_of c.format.new.disk in
     subst (λ (found : Result Jobs ℕ). IfOk c.journal.result (λ journal. found_in journal ≡ found))
-    (other_read c.args.slots c.args.first old new (c.in-Ok.ensures.writes.run refl).contents (subst (λ v. AllHave 4 v new) c.value_across.ensures (c.in-Ok.ensures.value refl refl)))
+    (other_read c.args.slots c.args.first old new (c.in-Ok.ensures.writes.run refl).contents
+    (subst (λ v. AllHave 4 v new) c.value_across.ensures (c.in-Ok.ensures.value refl refl)))
     c.journal.ensures.found

@@ -15,7 +15,8 @@ returns-in-Ok-Some-clause-found c =
     let at = c.args.first + 2 * c.loop-at.at in
     let here = ap (λ d. slot_at d at) (sym c.loop-at.invariant.kept) ∙ sym (c.in-Ok-Some.ensures.content refl) ∙ c.in-Ok-Some.field-0-is in
     let left : c.args.slots - c.loop-at.at ≡ suc (c.args.slots - (c.loop-at.at + 1)) = omega (arith, c.loop-at-test.true) in
-    sym (found_here c.args.disk.now.contents at (c.args.slots - c.loop-at.at) (c.args.slots - (c.loop-at.at + 1)) _ left here) ∙ c.loop-at.invariant.left
+    sym (found_here c.args.disk.now.contents at (c.args.slots - c.loop-at.at) (c.args.slots - (c.loop-at.at + 1)) _ left here)
+    ∙ c.loop-at.invariant.left
 
 pub loop-at-preserved : goal.loop-at-preserved
 loop-at-preserved c =
@@ -25,5 +26,6 @@ loop-at-preserved c =
     let left : c.args.slots - c.loop-at.at ≡ suc (c.args.slots - (c.loop-at.at + 1)) = omega (arith, c.loop-at-test.true) in
     record {
       kept = quiet_contents (c.look.ensures.run refl) ∙ c.loop-at.invariant.kept;
-      left = sym (passed_over c.args.disk.now.contents at next (c.args.slots - c.loop-at.at) (c.args.slots - (c.loop-at.at + 1)) (omega arith) left here) ∙ c.loop-at.invariant.left;
+      left = sym (passed_over c.args.disk.now.contents at next (c.args.slots - c.loop-at.at) (c.args.slots - (c.loop-at.at + 1))
+          (omega arith) left here) ∙ c.loop-at.invariant.left;
     }

@@ -6,5 +6,6 @@ use Rattle.store_console.proofs.verifying.sealed_behind.Given as goal
 abbrev pub invariant-loop-at : goal.invariant-loop-at
 invariant-loop-at l = record {
   kept : l.disk.contents ≡ l.fn.disk.contents;
-  left : first_sealed (l.first + 2 * l.at) (slots_from l.fn.disk.contents (l.first + 2 * l.at) (l.slots - l.at)) ≡ sealed_behind l.slots l.fn.disk.contents l.first;
+  left : first_sealed (l.first + 2 * l.at) (slots_from l.fn.disk.contents (l.first + 2 * l.at) (l.slots - l.at))
+      ≡ sealed_behind l.slots l.fn.disk.contents l.first;
 }

@@ -8,7 +8,8 @@ use Rattle.threads_console.proofs.reading.read_turns.Given as goal
 abbrev pub invariant-loop-number : goal.invariant-loop-number
 invariant-loop-number l = record {
   count : length l.plans.items ≡ l.nodes;
-  rest_read : filled l.plans.items (turns_of l.nodes l.lines.lines) ≡ filled (replicate l.nodes no_plans) (turns_of l.nodes l.fn.lines.lines);
+  rest_read : filled l.plans.items (turns_of l.nodes l.lines.lines) ≡ filled (replicate l.nodes no_plans)
+      (turns_of l.nodes l.fn.lines.lines);
   polls : PollOthers l.plans.items;
 }
 

@@ -4,4 +4,5 @@ use Rattle.threads_console.proofs.tracing.messages_of.Goals as goal
 
 pub loop-place-preserved : goal.loop-place-preserved
 loop-place-preserved c =
-    item_more c.args.sent.now c.loop-place.messages.items c.push.new.self.items c.loop-place.place c.in-Some.message (sym c.in-Some.ensures) c.loop-place.invariant c.in_ok-push.ensures.items
+    item_more c.args.sent.now c.loop-place.messages.items c.push.new.self.items c.loop-place.place c.in-Some.message (sym c.in-Some.ensures)
+    c.loop-place.invariant c.in_ok-push.ensures.items

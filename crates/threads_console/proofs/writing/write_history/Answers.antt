@@ -10,5 +10,6 @@ returns c =
     let comma = comma_if c.args.later in
     let texts = entries_text false c.args.history.now.turns in
     on_ok_weaker c.end_items.result
-    (λ last. last ∙ c.in_ok-write_turns.ensures ∙ ap (λ s. s ++ texts) c.in_ok-begin_items.ensures ∙ append_assoc t (comma ++ 91 ∷ []) texts ∙ ap (λ s. t ++ s) (append_assoc comma (91 ∷ []) texts))
+    (λ last. last ∙ c.in_ok-write_turns.ensures ∙ ap (λ s. s ++ texts) c.in_ok-begin_items.ensures ∙ append_assoc t (comma ++ 91 ∷ []) texts
+    ∙ ap (λ s. t ++ s) (append_assoc comma (91 ∷ []) texts))
     c.end_items.ensures

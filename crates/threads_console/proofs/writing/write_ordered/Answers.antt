@@ -16,7 +16,12 @@ returns-in-Some c =
     let many : c.len-nodes.result ≡ length hs = c.len-nodes.ensures ∙ c.args.run.histories.ok.0 ∙ sym (length-map logs log_claims) in
     let order = c.in-Some.order in
     let is : IsOrderOf logs order = subst (λ (o : Option Order). IfSome o (IsOrderOf logs)) c.in-Some.is c.in_ok-order.ensures.some in
-    IfOk-weaker c.end_ordered.result _ _ (λ text ended. inl (record { order = order; is_order = is; is_text = ended ∙ ordered_whole hs (ordered_by order) c.len-nodes.result c.in_ok-text.text.items many c.in_ok-text.ensures })) c.end_ordered.ensures
+    IfOk-weaker c.end_ordered.result _ _ (λ text ended. inl (record {
+      order = order;
+      is_order = is;
+      is_text = ended
+          ∙ ordered_whole hs (ordered_by order) c.len-nodes.result c.in_ok-text.text.items many c.in_ok-text.ensures;
+    })) c.end_ordered.ensures
 
 pub returns-in-None : goal.returns-in-None
 returns-in-None c =
@@ -24,4 +29,7 @@ returns-in-None c =
     let hs = run_claims logs in
     let many : c.len-nodes.result ≡ length hs = c.len-nodes.ensures ∙ c.args.run.histories.ok.0 ∙ sym (length-map logs log_claims) in
     let none : IsNone c.in_ok-order.order = search rules in
-    IfOk-weaker c.end_trace.result _ _ (λ text ended. inr (c.in_ok-order.ensures.none none, ended ∙ whole_text hs c.len-nodes.result c.in_ok-text.text.items many c.in_ok-text.ensures)) c.end_trace.ensures
+    IfOk-weaker c.end_trace.result _ _ (λ text ended. inr (
+      c.in_ok-order.ensures.none none,
+      ended ∙ whole_text hs c.len-nodes.result c.in_ok-text.text.items many c.in_ok-text.ensures,
+    )) c.end_trace.ensures

@@ -10,4 +10,5 @@ returns c =
     let logs = c.args.run.histories.items in
     let hs = run_claims logs in
     let many : c.len-nodes.result ≡ length hs = c.len-nodes.ensures ∙ c.args.run.histories.ok.0 ∙ sym (length-map logs log_claims) in
-    IfOk-weaker c.end_trace.result _ _ (λ text ended. ended ∙ whole_text hs c.len-nodes.result c.in_ok-text.text.items many c.in_ok-text.ensures) c.end_trace.ensures
+    IfOk-weaker c.end_trace.result _ _ (λ text ended. ended ∙ whole_text hs c.len-nodes.result c.in_ok-text.text.items many
+    c.in_ok-text.ensures) c.end_trace.ensures

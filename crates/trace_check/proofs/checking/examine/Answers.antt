@@ -6,7 +6,8 @@ use Rattle.trace_check.specs.Searches.{IsAtRest}
 use Rattle.trace_check.specs.Verdicts.{AreTaken, IsOrderOf}
 use Rattle.trace_check.proofs.checking.examine.Goals as goal
 
-taken_at_rest : (hs : List (List Claim)) (seats : List NodeCursor) (order taken : List ℕ) (v : Verdict) → IsAtRest hs seats (reverse order) → taken ≡ order → IsOrderOf v order → AreTaken hs v taken
+taken_at_rest : (hs : List (List Claim)) (seats : List NodeCursor) (order taken : List ℕ) (v : Verdict) → IsAtRest hs seats (reverse order)
+    → taken ≡ order → IsOrderOf v order → AreTaken hs v taken
 taken_at_rest hs seats order taken v rests same run =
     subst (λ (o : List ℕ). AreTaken hs v o) (sym same) (record { legal = rests.legal; least = rests.least; stuck = rests.stuck; run = run })
 

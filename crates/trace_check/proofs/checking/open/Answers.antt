@@ -8,8 +8,11 @@ use Rattle.trace_check.proofs.checking.open.Goals as goal
 
 pub loop-number-init : goal.loop-number-init
 loop-number-init c =
-    let none = c.in_ok-seats.ensures.items in
-    (ap (λ (ss : List NodeCursor). length ss) none, subst (λ (ss : List NodeCursor). AreOpen c.nodes-nodes.result ss) (sym none) (λ n s at. absurd cc))
+    let none = c.in_ok-seats.ensures.items in (
+      ap (λ (ss : List NodeCursor). length ss) none,
+      subst (λ (ss : List NodeCursor). AreOpen c.nodes-nodes.result ss) (sym none) (λ n s at.
+          absurd cc),
+    )
 
 pub loop-number-preserved : goal.loop-number-preserved
 loop-number-preserved c =
@@ -23,7 +26,8 @@ loop-number-preserved c =
       ap (λ (ss : List NodeCursor). length ss) pushed ∙ many ∙ ap (λ (k : ℕ). k + 1) len,
       subst (λ (ss : List NodeCursor). AreOpen nodes ss) (sym pushed)
           (open_more nodes seats node_cursor c.loop-number.invariant.1
-          (ap (λ (t : Twin). record { node_model = t; place = 0 }) (c.in_ok-node_model.ensures ∙ ap (λ (k : ℕ). record { id = k; nodes = nodes; node = opening k }) here))),
+          (ap (λ (t : Twin). record { node_model = t; place = 0 }) (c.in_ok-node_model.ensures
+          ∙ ap (λ (k : ℕ). record { id = k; nodes = nodes; node = opening k }) here))),
     )
 
 pub returns-clause-fits : goal.returns-clause-fits
@@ -34,5 +38,7 @@ returns-clause-fits c =
     let test = c.loop-number-test.false in
     let end = c.loop-number.auto.number-end in
     let count : length c.loop-number.seats.items ≡ length hs = omega (arith, len, test, end, size) in
-    subst (λ (order : List ℕ). IsDesk hs c.loop-number.seats.items c.below.result c.new-2.result c.in_ok-with_room.field-0 (reverse order)) (sym c.in_ok-with_capacity.ensures.items)
-    (desk_same hs _ _ _ _ _ _ _ _ [] refl c.below.ensures c.new-2.ensures c.in_ok-with_room.ensures (desk_opens hs c.nodes-nodes.result c.loop-number.seats.items size count c.loop-number.invariant.1))
+    subst (λ (order : List ℕ). IsDesk hs c.loop-number.seats.items c.below.result c.new-2.result c.in_ok-with_room.field-0 (reverse order))
+    (sym c.in_ok-with_capacity.ensures.items)
+    (desk_same hs _ _ _ _ _ _ _ _ [] refl c.below.ensures c.new-2.ensures c.in_ok-with_room.ensures
+    (desk_opens hs c.nodes-nodes.result c.loop-number.seats.items size count c.loop-number.invariant.1))

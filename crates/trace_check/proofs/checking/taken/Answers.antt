@@ -5,4 +5,5 @@ use Rattle.trace_check.proofs.checking.taken.Goals as goal
 pub returns-then-not-branch-clause-rests : goal.returns-then-not-branch-clause-rests
 returns-then-not-branch-clause-rests c =
     let s = c.take_turn.new.search in
-    desk_rests c.args.trace.now s.seats.items s.ready s.stopped s.posted (reverse s.order.items) c.in_ok-take_turn.ensures.fits (c.in_ok-take_turn.ensures.none c.if-not-branch.true).0
+    desk_rests c.args.trace.now s.seats.items s.ready s.stopped s.posted (reverse s.order.items) c.in_ok-take_turn.ensures.fits
+    (c.in_ok-take_turn.ensures.none c.if-not-branch.true).0

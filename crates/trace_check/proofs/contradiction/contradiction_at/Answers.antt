@@ -15,6 +15,9 @@ returns c =
     let first = c.in_ok-first.first in
     let start = c.in_ok-first.ensures in
     let copied : c.copy_entry.new.history ≡ part first (index + 1) (history hs n) =
-    copied_more (history hs n) c.in_ok-entries.entries c.copy_entry.new.history first index (claim_seen c.in-Some.entry) start.few.0 c.in_ok-entries.ensures c.in-Some.ensures.some c.in_ok-copy_entry.ensures in
-    found hs n index (record { node = n; first = first; before = c.in_ok-before.before; trace = c.in_ok-trace.trace }) refl c.requires start c.in_ok-before.ensures
-    (c.in_ok-trace.ensures ∙ ap (λ (m : ℕ). lone m n c.copy_entry.new.history) c.nodes.ensures.value ∙ ap (λ (es : List Claim). lone (length hs) n es) copied)
+    copied_more (history hs n) c.in_ok-entries.entries c.copy_entry.new.history first index (claim_seen c.in-Some.entry) start.few.0
+    c.in_ok-entries.ensures c.in-Some.ensures.some c.in_ok-copy_entry.ensures in
+    found hs n index (record { node = n; first = first; before = c.in_ok-before.before; trace = c.in_ok-trace.trace }) refl c.requires start
+    c.in_ok-before.ensures
+    (c.in_ok-trace.ensures ∙ ap (λ (m : ℕ). lone m n c.copy_entry.new.history) c.nodes.ensures.value
+    ∙ ap (λ (es : List Claim). lone (length hs) n es) copied)

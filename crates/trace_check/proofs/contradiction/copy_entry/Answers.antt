@@ -3,4 +3,5 @@ use Rattle.trace_check.proofs.Contradictions.{taken_more}
 use Rattle.trace_check.proofs.contradiction.copy_entry.Goals as goal
 
 pub loop-place-preserved : goal.loop-place-preserved
-loop-place-preserved c = taken_more c.args.entry.now.sent c.loop-place.sent.items c.push.new.self.items c.loop-place.place c.in-Some.message c.loop-place.invariant (search rules) c.in_ok-push.ensures.items
+loop-place-preserved c = taken_more c.args.entry.now.sent c.loop-place.sent.items c.push.new.self.items c.loop-place.place c.in-Some.message
+    c.loop-place.invariant (search rules) c.in_ok-push.ensures.items

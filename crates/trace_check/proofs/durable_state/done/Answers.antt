@@ -15,4 +15,5 @@ without_none (job ∷ jobs) id none = elim (cases_Bool (eqb job.id id)) [
 
 pub returns-else-contains : goal.returns-else-contains
 returns-else-contains c = λ counter.
-    ap (λ (jobs : List Job). durable_of counter (record c.args.table.now { pending = jobs })) (sym (without_none c.args.table.now.pending c.args.id (sym c.contains.ensures ∙ c.if-contains.false)))
+    ap (λ (jobs : List Job). durable_of counter (record c.args.table.now { pending = jobs }))
+    (sym (without_none c.args.table.now.pending c.args.id (sym c.contains.ensures ∙ c.if-contains.false)))

@@ -16,6 +16,7 @@ loop-place-preserved c =
     take_more sent l.place m within ∙ ap (λ (y : Envelope). take l.place sent ++ y ∷ []) (get_or_from_slice_get sent l.place m m at) in
     let old = c.args.messages.now.messages in
     let room = l.invariant.1 in (
-      ap (λ (k : MessagesKept). k.messages) c.push_lent.ensures ∙ ap (λ (ms : List Envelope). ms ++ m ∷ []) l.invariant.0 ∙ append_assoc old (take l.place sent) (m ∷ []) ∙ ap (λ (ms : List Envelope). old ++ ms) (sym one),
+      ap (λ (k : MessagesKept). k.messages) c.push_lent.ensures ∙ ap (λ (ms : List Envelope). ms ++ m ∷ []) l.invariant.0
+          ∙ append_assoc old (take l.place sent) (m ∷ []) ∙ ap (λ (ms : List Envelope). old ++ ms) (sym one),
       omega (arith, ap (λ (k : MessagesKept). k.room) c.push_lent.ensures, room, within),
     )

@@ -1,4 +1,5 @@
-use Rattle.std.proofs.Common.{◌≡◌, ℕ, zero, suc, ◌+◌, List, [], ◌∷◌, ◌++◌, take, slice_get, length, ◌<◌, Some, refl, sym, ap, ◌∙◌, subst, arith}
+use Rattle.std.proofs.Common.{◌≡◌, ℕ, zero, suc, ◌+◌, List, [], ◌∷◌, ◌++◌, take, slice_get, length, ◌<◌, Some, refl, sym, ap, ◌∙◌, subst}
+use Rattle.std.proofs.Common.{arith}
 use Rattle.std.proofs.lemmas.Option.{same_Some}
 use Rattle.wire_msg.specs.Envelope.{Envelope}
 use Rattle.trace_check.specs.Searches.{PostsAll}
@@ -24,5 +25,7 @@ loop-place-preserved c =
     let next : i + 1 ≡ suc i = omega arith in
     let here : slice_get sent i ≡ Some m = at_i.1 in
     let more : take i sent ++ m ∷ [] ≡ take (i + 1) sent = sym (take_more sent i m here) ∙ ap (λ (k : ℕ). take k sent) (sym next) in
-    subst (λ (ms : List Envelope). PostsAll c.args.stopped.now c.args.posted.now c.post.new.posted c.args.ready.now c.post.new.ready ms) more
-    (posts_more c.args.stopped.now c.args.posted.now c.loop-place.posted c.post.new.posted c.args.ready.now c.loop-place.ready c.post.new.ready (take i sent) (m ∷ []) c.loop-place.invariant (c.in_ok-post.ensures m here))
+    subst (λ (ms : List Envelope). PostsAll c.args.stopped.now c.args.posted.now c.post.new.posted c.args.ready.now c.post.new.ready ms)
+    more
+    (posts_more c.args.stopped.now c.args.posted.now c.loop-place.posted c.post.new.posted c.args.ready.now c.loop-place.ready
+    c.post.new.ready (take i sent) (m ∷ []) c.loop-place.invariant (c.in_ok-post.ensures m here))

@@ -11,5 +11,7 @@ pub returns-clause-why : goal.returns-clause-why
 returns-clause-why c =
     let hs = c.args.histories.items in
     let few : length hs ≤ NODES = omega (arith, c.if-from-len.false, c.len.ensures, c.from.ensures) in
-    IfOk-weaker c.judge-2.result (λ explained. IsReport c.new.result explained.why.items) (λ explained. IsReportBehind (Ok hs) explained.why.items)
-    (λ explained is. report_if hs explained.why.items few (subst (λ (trace : List (List Claim)). IsReport trace explained.why.items) c.new.ensures is)) c.judge-2.ensures.why
+    IfOk-weaker c.judge-2.result (λ explained. IsReport c.new.result explained.why.items)
+    (λ explained. IsReportBehind (Ok hs) explained.why.items)
+    (λ explained is. report_if hs explained.why.items few (subst (λ (trace : List (List Claim)). IsReport trace explained.why.items)
+    c.new.ensures is)) c.judge-2.ensures.why

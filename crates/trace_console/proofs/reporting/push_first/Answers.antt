@@ -8,5 +8,6 @@ unfolding first_text
 returns c =
     let place = place_text (codes ", entry ") c.args.node c.args.index in
     on_ok_weaker c.push_place.result
-    (λ more. more ∙ ap (λ (text : List ℕ). text ++ place) c.in_ok-push_text.ensures ∙ append_assoc c.args.text.now.items (codes "no order takes all entries: look first at node ") place)
+    (λ more. more ∙ ap (λ (text : List ℕ). text ++ place) c.in_ok-push_text.ensures
+    ∙ append_assoc c.args.text.now.items (codes "no order takes all entries: look first at node ") place)
     c.push_place.ensures

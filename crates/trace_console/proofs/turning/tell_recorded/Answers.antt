@@ -19,4 +19,8 @@ returns-clause-printed c =
     })
 
 pub returns-clause-why : goal.returns-clause-why
-returns-clause-why c = ([], nothing_left c.args.trace.now (reverse c.args.order.now.nodes.items) c.requires.0 c.requires.1, c.without_why.ensures.why)
+returns-clause-why c = (
+  [],
+  nothing_left c.args.trace.now (reverse c.args.order.now.nodes.items) c.requires.0 c.requires.1,
+  c.without_why.ensures.why,
+)

@@ -41,7 +41,9 @@ returns-in_err-pass_member-clause-err c =
     let all = members (value 126) (length c.args.reader.now) c.args.reader.now in
     let named : read_key l.reader ≡ Some (Some k, s) = grind arith in
     let p = err_from_is_err_and c.from_residual-in_err-pass_member.result c.from_residual-in_err-pass_member.ensures.1 in
-    rw (p.1, p.2) (lacking (value 126 s) all c.in_err-pass_member.field-0.0 (λ none. no_value l.invariant.0 l.reader (option_map (λ s. s.now) l.found) all k s l.invariant.2 named none) c.in_err-pass_member.ensures.err)
+    rw (p.1, p.2) (lacking (value 126 s) all c.in_err-pass_member.field-0.0 (λ none.
+    no_value l.invariant.0 l.reader (option_map (λ s. s.now) l.found) all k s l.invariant.2 named none)
+    c.in_err-pass_member.ensures.err)
 
 pub returns-clause-ok : goal.returns-clause-ok
 returns-clause-ok c =

@@ -5,5 +5,7 @@ use Rattle.trace_text.proofs.ordered.order_words.Given as goal
 
 abbrev pub invariant-loop-place : goal.invariant-loop-place
 invariant-loop-place l =
-    (string_bytes l.text ++ turns_text (nat_lt 0 l.place) (drop l.place l.order.nodes.items) (drop l.place l.order.messages.items) ≡ order_text (ordered_by l.order))
-    × (TurnsFit (drop l.place l.order.nodes.items) (drop l.place l.order.messages.items) → TurnsFit l.order.nodes.items l.order.messages.items)
+    (string_bytes l.text ++ turns_text (nat_lt 0 l.place) (drop l.place l.order.nodes.items) (drop l.place l.order.messages.items)
+    ≡ order_text (ordered_by l.order))
+    × (TurnsFit (drop l.place l.order.nodes.items) (drop l.place l.order.messages.items)
+    → TurnsFit l.order.nodes.items l.order.messages.items)

@@ -11,5 +11,7 @@ turns-preserved c =
     let messages : c.push-in-Some.new.self.items ≡ l.messages.items ++ turn.message ∷ [] = search rules in
     let so_far : Ordered = (l.nodes.items, l.messages.items) in
     let rest = turns_of (words_behind turn.behind) in
-    ap₂ (λ (ns : List ℕ) (ms : List (Option ℕ)). joined (ns, ms) rest) nodes messages ∙ sym (turn_joined l.nodes.items l.messages.items turn.node turn.message rest)
-    ∙ ap (λ (o : Option Ordered). joined so_far o) (sym c.in-Some-cut_turn.ensures.turns) ∙ ap (λ left. joined so_far (turns_of (words_behind left))) (sym c.in-Some.is) ∙ l.invariant
+    ap₂ (λ (ns : List ℕ) (ms : List (Option ℕ)). joined (ns, ms) rest) nodes messages
+    ∙ sym (turn_joined l.nodes.items l.messages.items turn.node turn.message rest)
+    ∙ ap (λ (o : Option Ordered). joined so_far o) (sym c.in-Some-cut_turn.ensures.turns)
+    ∙ ap (λ left. joined so_far (turns_of (words_behind left))) (sym c.in-Some.is) ∙ l.invariant

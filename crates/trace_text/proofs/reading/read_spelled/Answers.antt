@@ -10,11 +10,14 @@ use Rattle.trace_text.proofs.reading.read_spelled.Goals as goal
 pub returns-in-Ok : goal.returns-in-Ok
 returns-in-Ok c =
     let bytes = c.in-Some.bytes.now in
-    let there : result_ok (decode_of c.args.text.now) ≡ Some bytes = sym c.in_ok-bytes.ensures ∙ ap (option_map (λ b. b.now)) c.in-Some.is in
+    let there : result_ok (decode_of c.args.text.now) ≡ Some bytes = sym c.in_ok-bytes.ensures
+    ∙ ap (option_map (λ b. b.now)) c.in-Some.is in
     ap (option_and_then message_of) there ∙ spelled_is_message bytes c.decode_into.new.message c.in-Ok.ensures.read
 
 pub returns-in-Err : goal.returns-in-Err
 returns-in-Err c =
     let bytes = c.in-Some.bytes.now in
-    let there : result_ok (decode_of c.args.text.now) ≡ Some bytes = sym c.in_ok-bytes.ensures ∙ ap (option_map (λ b. b.now)) c.in-Some.is in
-    ap (option_and_then message_of) there ∙ none_by bytes (message_of bytes) refl (λ m spells. (let never = (c.in-Err.ensures.only m spells).0 in cc))
+    let there : result_ok (decode_of c.args.text.now) ≡ Some bytes = sym c.in_ok-bytes.ensures
+    ∙ ap (option_map (λ b. b.now)) c.in-Some.is in
+    ap (option_and_then message_of) there ∙ none_by bytes (message_of bytes) refl (λ m spells. (let never =
+    (c.in-Err.ensures.only m spells).0 in cc))

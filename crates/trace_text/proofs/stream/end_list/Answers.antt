@@ -23,6 +23,13 @@ returns-clause-ok c =
       at = λ more.
           ap (λ (n : ℕ). option_and_then after (entries_on n h.entries (with_more more c.args.reader.now))) (sym node)
           ∙ ap (option_and_then after) (read.at more)
-          ∙ list_ended h (record { all_lists = h.all_lists; histories = c.push_reserved.new.self; bad = c.first-histories.result; entries = c.replace-entries.new.dest }) e (with_more more c.read_entries.new.reader) refl
-          (pushed ∙ ap (λ (x : Entries). hs ++ x.history ∷ []) same) (c.first-histories.ensures ∙ ap (λ (x : Entries). option_or h.bad x.bad) same);
+          ∙ list_ended h (record {
+            all_lists = h.all_lists;
+            histories = c.push_reserved.new.self;
+            bad = c.first-histories.result;
+            entries =
+                c.replace-entries.new.dest;
+          }) e (with_more more c.read_entries.new.reader) refl
+          (pushed ∙ ap (λ (x : Entries). hs ++ x.history ∷ []) same)
+          (c.first-histories.ensures ∙ ap (λ (x : Entries). option_or h.bad x.bad) same);
     }

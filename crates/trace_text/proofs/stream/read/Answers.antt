@@ -26,4 +26,5 @@ returns-in-Ok-read_text c =
     }
 
 pub returns-in-Err-NoJson-clause-err : goal.returns-in-Err-NoJson-clause-err
-returns-in-Err-NoJson-clause-err c = ap trace_of (sym c.in-Ok.ensures.0) ∙ text_not c.in-Ok.text.now (c.in-Err-NoJson.ensures.err (ap (λ (h : Halt). Err h) c.in-Err-NoJson.field-0-is))
+returns-in-Err-NoJson-clause-err c = ap trace_of (sym c.in-Ok.ensures.0)
+    ∙ text_not c.in-Ok.text.now (c.in-Err-NoJson.ensures.err (ap (λ (h : Halt). Err h) c.in-Err-NoJson.field-0-is))

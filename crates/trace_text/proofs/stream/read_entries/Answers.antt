@@ -16,7 +16,9 @@ entries-init c = (leads_same (entries_on c.args.node c.args.entries.now) c.args.
 pub returns-in_err-read_entry-clause-err : goal.returns-in_err-read_entry-clause-err
 returns-in_err-read_entry-clause-err c =
     let e = c.entries.entries in
-    λ refused. c.entries.invariant.0.at None ∙ item_wrong (entries_then c.args.node e.history e.bad) 124 c.entries.reader c.take_end_array.new.self (grind arith) (ap (data_at 124) c.in-Some.ensures.value ∙ c.in_err-read_entry.ensures.err (grind (arith, refused)))
+    λ refused. c.entries.invariant.0.at None ∙ item_wrong (entries_then c.args.node e.history e.bad) 124 c.entries.reader
+    c.take_end_array.new.self (grind arith) (ap (data_at 124) c.in-Some.ensures.value
+    ∙ c.in_err-read_entry.ensures.err (grind (arith, refused)))
 
 pub entries-preserved-then-not-branch : goal.entries-preserved-then-not-branch
 entries-preserved-then-not-branch c =
@@ -29,10 +31,13 @@ entries-preserved-then-not-branch c =
     let place = λ (i : ℕ). option_or l.entries.bad (Some (record { node = node; index = i })) in
     let bad : c.first-entries.result ≡ place (length h) = c.first-entries.ensures ∙ ap place c.len-index.ensures in (
       leads_then l.invariant.0
-          (item_leads (entries_then node h l.entries.bad) 124 l.reader c.take_end_array.new.self (grind arith) (added_in h) (entries_then node new c.first-entries.result)
-          (ap (λ (ts : List Token). parse_map (added_in h) (data_at 124 ts)) c.in-Some.ensures.value ∙ read.ok ∙ ap (λ (b : Bool). Some (if b then Some new else None, c.read_entry.new.reader)) c.if-not-branch.true)
+          (item_leads (entries_then node h l.entries.bad) 124 l.reader c.take_end_array.new.self (grind arith) (added_in h)
+          (entries_then node new c.first-entries.result)
+          (ap (λ (ts : List Token). parse_map (added_in h) (data_at 124 ts)) c.in-Some.ensures.value ∙ read.ok
+          ∙ ap (λ (b : Bool). Some (if b then Some new else None, c.read_entry.new.reader)) c.if-not-branch.true)
           (omega (arith, front, read.shorter))
-          (λ d ds is. entry_bad node h new l.entries.bad d ds is ∙ ap (λ (location : Option Location). entries_then node new location ds) (sym bad))),
+          (λ d ds is. entry_bad node h new l.entries.bad d ds is ∙ ap (λ (location : Option Location). entries_then node new location ds)
+          (sym bad))),
       grind (arith, front, read.shorter, l.invariant.1),
     )
 
@@ -45,8 +50,10 @@ entries-preserved c =
     let read = c.in_ok-read_entry.ensures in
     let front = ap length c.in-Some.ensures.value in (
       leads_then l.invariant.0
-          (item_leads (entries_then node h l.entries.bad) 124 l.reader c.take_end_array.new.self (grind arith) (added_in h) (entries_then node new l.entries.bad)
-          (ap (λ (ts : List Token). parse_map (added_in h) (data_at 124 ts)) c.in-Some.ensures.value ∙ read.ok ∙ ap (λ (b : Bool). Some (if b then Some new else None, c.read_entry.new.reader)) c.if-not-branch.false)
+          (item_leads (entries_then node h l.entries.bad) 124 l.reader c.take_end_array.new.self (grind arith) (added_in h)
+          (entries_then node new l.entries.bad)
+          (ap (λ (ts : List Token). parse_map (added_in h) (data_at 124 ts)) c.in-Some.ensures.value ∙ read.ok
+          ∙ ap (λ (b : Bool). Some (if b then Some new else None, c.read_entry.new.reader)) c.if-not-branch.false)
           (omega (arith, front, read.shorter)) (λ d ds is. entry_more node h new l.entries.bad d ds is)),
       grind (arith, front, read.shorter, l.invariant.1),
     )
@@ -54,4 +61,5 @@ entries-preserved c =
 pub returns-clause-ok : goal.returns-clause-ok
 returns-clause-ok c =
     let e = c.entries.entries in
-    leads_then c.entries.invariant.0 (items_done (entries_then c.args.node e.history e.bad) 124 c.entries.reader c.take_end_array.new.self (grind arith) (entries_done c.args.node e.history e.bad))
+    leads_then c.entries.invariant.0 (items_done (entries_then c.args.node e.history e.bad) 124 c.entries.reader c.take_end_array.new.self
+    (grind arith) (entries_done c.args.node e.history e.bad))

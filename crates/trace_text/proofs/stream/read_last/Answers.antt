@@ -11,11 +11,13 @@ use Rattle.trace_text.proofs.stream.read_last.Goals as goal
 
 pub returns-then-not-branch-clause-err : goal.returns-then-not-branch-clause-err
 returns-then-not-branch-clause-err c =
-    λ refused. not_some _ (ap (text_on c.args.parts) (sym c.in_ok-reader.ensures.ok) ∙ (shut _ _ _ c.if-not-branch.true c.in_ok-read_piece.ensures.ok).at None ∙ paused_none c.read_piece.new.parts)
+    λ refused. not_some _ (ap (text_on c.args.parts) (sym c.in_ok-reader.ensures.ok)
+    ∙ (shut _ _ _ c.if-not-branch.true c.in_ok-read_piece.ensures.ok).at None ∙ paused_none c.read_piece.new.parts)
 
 pub returns-in-Some-clause-err : goal.returns-in-Some-clause-err
 returns-in-Some-clause-err c =
-    λ refused. not_last _ (shaped (parted_by c.read_piece.new.parts)) (token_of c.in-Some.field-0) c.read_piece.new.reader _ c.in-Some.ensures.value
+    λ refused. not_last _ (shaped (parted_by c.read_piece.new.parts))
+    (token_of c.in-Some.field-0) c.read_piece.new.reader _ c.in-Some.ensures.value
     (ap (text_on c.args.parts) (sym c.in_ok-reader.ensures.ok) ∙ (opened _ _ _ c.if-not-branch.false c.in_ok-read_piece.ensures.ok).at None)
 
 pub returns-in-None-clause-ok : goal.returns-in-None-clause-ok

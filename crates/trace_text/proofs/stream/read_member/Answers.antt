@@ -13,4 +13,5 @@ returns-in_ok-field-clause-ok c =
     let x = data_of c.in_ok-field.field in
     let other : bytes_eq key (codes "sent") ≡ false = search rules in
     let put : fields_put old.0 key x ≡ fields_by c.put.new.self = search rules in
-    field_put old key (data_at 123 c.args.reader.now) x r other c.in_ok-field.ensures.value ∙ ap (λ (f : FieldData). Some ((f, old.1), r)) put
+    field_put old key (data_at 123 c.args.reader.now) x r other c.in_ok-field.ensures.value
+    ∙ ap (λ (f : FieldData). Some ((f, old.1), r)) put

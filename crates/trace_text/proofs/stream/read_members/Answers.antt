@@ -13,11 +13,13 @@ returns-in_err-key-clause-err c = λ _. key_missing c.members.invariant c.in_err
 
 pub members-preserved : goal.members-preserved
 members-preserved c =
-    member_on c.members.invariant c.in-Some.key.now c.next_key.new.self (grind arith) drafted_put drafted_law c.in_ok-read_member.ensures.ok c.in_ok-read_member.ensures.shorter
+    member_on c.members.invariant c.in-Some.key.now c.next_key.new.self (grind arith) drafted_put drafted_law c.in_ok-read_member.ensures.ok
+    c.in_ok-read_member.ensures.shorter
 
 pub returns-in_err-read_member-clause-err : goal.returns-in_err-read_member-clause-err
 returns-in_err-read_member-clause-err c =
-    λ refused. member_missing c.members.invariant c.in-Some.key.now c.next_key.new.self (grind arith) (c.in_err-read_member.ensures.err (grind (arith, refused)))
+    λ refused. member_missing c.members.invariant c.in-Some.key.now c.next_key.new.self (grind arith)
+    (c.in_err-read_member.ensures.err (grind (arith, refused)))
 
 pub returns-clause-ok : goal.returns-clause-ok
 returns-clause-ok c = members_done c.members.invariant c.next_key.new.self (grind arith)

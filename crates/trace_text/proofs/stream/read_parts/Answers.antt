@@ -12,7 +12,8 @@ pub members-init : goal.members-init
 members-init c = leads_same (parts_on (parted_by c.args.parts.now)) c.args.reader.now
 
 pub returns-in_err-key-clause-err : goal.returns-in_err-key-clause-err
-returns-in_err-key-clause-err c = λ _. c.members.invariant.at None ∙ object_wrong (parted_by c.members.parts) c.members.reader c.in_err-key.ensures.value
+returns-in_err-key-clause-err c = λ _. c.members.invariant.at None
+    ∙ object_wrong (parted_by c.members.parts) c.members.reader c.in_err-key.ensures.value
 
 pub returns-in_err-read_part-clause-err : goal.returns-in_err-read_part-clause-err
 returns-in_err-read_part-clause-err c =
@@ -23,12 +24,15 @@ returns-in_err-read_part-clause-err c =
 
 pub returns-then-not-branch-clause-ok : goal.returns-then-not-branch-clause-ok
 returns-then-not-branch-clause-ok c =
-    leads_then c.members.invariant (leads_then (key_leads (parted_by c.members.parts) c.in-Some.key.now c.members.reader c.next_key.new.self (grind arith)) (shut _ _ _ c.if-not-branch.true c.in_ok-read_part.ensures.ok))
+    leads_then c.members.invariant (leads_then (key_leads (parted_by c.members.parts) c.in-Some.key.now c.members.reader c.next_key.new.self
+    (grind arith)) (shut _ _ _ c.if-not-branch.true c.in_ok-read_part.ensures.ok))
 
 pub members-preserved : goal.members-preserved
 members-preserved c =
     leads_then c.members.invariant
-    (leads_then (key_leads (parted_by c.members.parts) c.in-Some.key.now c.members.reader c.next_key.new.self (grind arith)) (members_on _ _ c.in-Some.key.now (opened _ _ _ c.if-not-branch.false c.in_ok-read_part.ensures.ok)))
+    (leads_then (key_leads (parted_by c.members.parts) c.in-Some.key.now c.members.reader c.next_key.new.self (grind arith))
+    (members_on _ _ c.in-Some.key.now (opened _ _ _ c.if-not-branch.false c.in_ok-read_part.ensures.ok)))
 
 pub returns-clause-ok : goal.returns-clause-ok
-returns-clause-ok c = leads_then c.members.invariant (members_done (parted_by c.members.parts) c.members.reader c.next_key.new.self (grind arith))
+returns-clause-ok c = leads_then c.members.invariant (members_done (parted_by c.members.parts) c.members.reader c.next_key.new.self
+    (grind arith))

@@ -8,6 +8,7 @@ pub returns : goal.returns
 returns c =
     let ts = c.args.reader.now in
     record {
-      value = no_object c.args.depth ts c.args.token (token_of c.args.token ∷ ts) (data_of c.in_ok-read_rest.field-0) c.read_rest.new.reader refl c.in_ok-read_rest.ensures.value c.in_default.not-BeginObject;
+      value = no_object c.args.depth ts c.args.token (token_of c.args.token ∷ ts)
+          (data_of c.in_ok-read_rest.field-0) c.read_rest.new.reader refl c.in_ok-read_rest.ensures.value c.in_default.not-BeginObject;
       shorter = c.in_ok-read_rest.ensures.shorter;
     }

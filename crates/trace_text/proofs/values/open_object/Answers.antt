@@ -8,4 +8,5 @@ returns-in_err-token-clause-value c = let none = nothing_there c.args.depth c.ar
 
 pub returns-clause-value : goal.returns-clause-value
 returns-clause-value c =
-    no_object c.args.depth c.next.new.self c.in_ok-token.token c.args.reader.now (data_of c.in_ok-read_rest.field-0) c.read_rest.new.reader (grind arith) c.in_ok-read_rest.ensures.value c.in_default.not-BeginObject
+    no_object c.args.depth c.next.new.self c.in_ok-token.token c.args.reader.now (data_of c.in_ok-read_rest.field-0) c.read_rest.new.reader
+    (grind arith) c.in_ok-read_rest.ensures.value c.in_default.not-BeginObject

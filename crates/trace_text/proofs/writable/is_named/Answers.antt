@@ -6,4 +6,5 @@ use Rattle.trace_text.proofs.writable.is_named.Goals as goal
 
 pub loop-place-preserved : goal.loop-place-preserved
 loop-place-preserved c rest =
-    c.loop-place.invariant (each_more (λ (k : Claim). HasName k.action) c.args.history.now c.loop-place.place (claim_seen c.in-Some.entry) c.in-Some.ensures.some (c.has_name.ensures.0 c.if-not-has_name.false) rest)
+    c.loop-place.invariant (each_more (λ (k : Claim). HasName k.action) c.args.history.now c.loop-place.place (claim_seen c.in-Some.entry)
+    c.in-Some.ensures.some (c.has_name.ensures.0 c.if-not-has_name.false) rest)

@@ -14,7 +14,8 @@ loop-place-preserved c =
     let test = c.loop-place-test.true in
     let many = c.len-place-end.ensures in
     let m = there (λ m. Spells m c.spell.new.bytes.items) ms i (omega (arith, test, many)) c.in_ok-spell.ensures.spelled in
-    let added = c.in_ok-write_spelled.ensures.tokens ∙ ap (λ (bytes : List ℕ). out ++ string (encode_lower bytes) ∷ []) (c.deref.ensures.value ∙ m.2.spelled) in (
+    let added = c.in_ok-write_spelled.ensures.tokens ∙ ap (λ (bytes : List ℕ). out ++ string (encode_lower bytes) ∷ [])
+    (c.deref.ensures.value ∙ m.2.spelled) in (
       c.in_ok-write_spelled.ensures.before ∙ c.loop-place.invariant.0,
       messages_more out c.write_spelled.new.out.tokens ms i m.0 m.1 added ∙ c.loop-place.invariant.1,
       λ rest. c.loop-place.invariant.2 (each_more IsMessage ms i m.0 m.1 m.2.message rest),

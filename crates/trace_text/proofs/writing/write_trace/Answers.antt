@@ -8,6 +8,9 @@ use Rattle.trace_text.proofs.writing.write_trace.Goals as goal
 
 pub returns-clause-text : goal.returns-clause-text
 returns-clause-text c =
-    whole_added c.args.trace.now (end_array ∷ key (codes "nodes") ∷ number (decimal (length c.args.trace.now)) ∷ end_object ∷ []) c.write_nodes.result c.args.out.now c.write_head.new.out c.write_histories.new.out c.write_nodes.new.out c.in_ok-write_head.ensures
-    (subst (λ (xs : List (List Claim)). Adds c.write_head.new.out c.write_histories.new.out (histories_tokens xs)) c.histories.ensures c.in_ok-write_histories.ensures.text)
-    (subst (λ (n : ℕ). OnOk c.write_nodes.result (Adds c.write_histories.new.out c.write_nodes.new.out (end_array ∷ key (codes "nodes") ∷ number (decimal n) ∷ end_object ∷ []))) c.nodes-nodes.ensures.value c.write_nodes.ensures)
+    whole_added c.args.trace.now (end_array ∷ key (codes "nodes") ∷ number (decimal (length c.args.trace.now)) ∷ end_object ∷ [])
+    c.write_nodes.result c.args.out.now c.write_head.new.out c.write_histories.new.out c.write_nodes.new.out c.in_ok-write_head.ensures
+    (subst (λ (xs : List (List Claim)). Adds c.write_head.new.out c.write_histories.new.out (histories_tokens xs)) c.histories.ensures
+    c.in_ok-write_histories.ensures.text)
+    (subst (λ (n : ℕ). OnOk c.write_nodes.result (Adds c.write_histories.new.out c.write_nodes.new.out
+    (end_array ∷ key (codes "nodes") ∷ number (decimal n) ∷ end_object ∷ []))) c.nodes-nodes.ensures.value c.write_nodes.ensures)

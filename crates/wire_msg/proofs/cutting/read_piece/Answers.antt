@@ -11,15 +11,19 @@ use Rattle.wire_msg.proofs.cutting.read_piece.Goals as goal
 
 pub returns-in_err-taken-clause-malformed : goal.returns-in_err-taken-clause-malformed
 returns-in_err-taken-clause-malformed c = λ h.
-    let came = passed_on c.from_residual.result c.in_err-taken.field-0.0 Malformed (err_from_is_err_and c.from_residual.result c.from_residual.ensures.1) h in
+    let came = passed_on c.from_residual.result c.in_err-taken.field-0.0 Malformed
+    (err_from_is_err_and c.from_residual.result c.from_residual.ensures.1) h in
     let e = c.in_err-taken.ensures.malformed (ap (λ (f : WireFault). Err f) came) in
-    fed c.args.rest.now.items c.args.piece.now c.args.piece.now e.0 c.args.out.now.items c.take_frames.new.out.items None (ap (λ (r : List ℕ). r ++ c.args.piece.now) (sym c.requires)) e.2 e.1
+    fed c.args.rest.now.items c.args.piece.now c.args.piece.now e.0 c.args.out.now.items c.take_frames.new.out.items None
+    (ap (λ (r : List ℕ). r ++ c.args.piece.now) (sym c.requires)) e.2 e.1
 
 pub returns-clause-ok : goal.returns-clause-ok
 returns-clause-ok c =
     let e = c.in_ok-taken.ensures.ok in
     let left : c.extend_from_slice.new.self.items ≡ drop c.in_ok-taken.taken c.args.piece.now =
-    c.in-Ok.ensures.items ∙ ap (λ (r : List ℕ). r ++ take (length c.args.piece.now - c.in_ok-taken.taken) (drop c.in_ok-taken.taken c.args.piece.now)) c.requires ∙ take_rest c.args.piece.now c.in_ok-taken.taken in
-    fed c.args.rest.now.items c.args.piece.now c.args.piece.now e.1 c.args.out.now.items c.take_frames.new.out.items (Some c.extend_from_slice.new.self.items)
+    c.in-Ok.ensures.items ∙ ap (λ (r : List ℕ). r ++ take (length c.args.piece.now - c.in_ok-taken.taken)
+    (drop c.in_ok-taken.taken c.args.piece.now)) c.requires ∙ take_rest c.args.piece.now c.in_ok-taken.taken in
+    fed c.args.rest.now.items c.args.piece.now c.args.piece.now e.1 c.args.out.now.items c.take_frames.new.out.items
+    (Some c.extend_from_slice.new.self.items)
     (ap (λ (r : List ℕ). r ++ c.args.piece.now) (sym c.requires))
     (subst (λ (b : List ℕ). IsAt c.args.piece.now e.1 (Some b)) (sym left) e.3) e.2

@@ -7,7 +7,8 @@ use Rattle.wire_msg.proofs.cutting.take_frame.Goals as goal
 put_last : (before with_blank : List Envelope) (blank m : Envelope) (place : ℕ) → with_blank ≡ before ++ blank ∷ [] → place ≡ length before
     → slice_set with_blank place m ≡ before ++ m ∷ []
 put_last before with_blank blank m place e last =
-    ap (λ (ms : List Envelope). slice_set ms place m) e ∙ (ap (λ i. slice_set (before ++ blank ∷ []) i m) last ∙ set-append_seam before blank [] m)
+    ap (λ (ms : List Envelope). slice_set ms place m) e ∙ (ap (λ i. slice_set (before ++ blank ∷ []) i m) last
+    ∙ set-append_seam before blank [] m)
 
 pub returns-clause-ok : goal.returns-clause-ok
 returns-clause-ok c =

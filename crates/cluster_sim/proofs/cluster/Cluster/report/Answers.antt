@@ -4,7 +4,13 @@ use Rattle.cluster_sim.proofs.Promised.{promised}
 use Rattle.cluster_sim.proofs.cluster.Cluster.report.Goals as goal
 
 pub returns-clause-run : goal.returns-clause-run
-returns-clause-run c = rw (← c.self.view_is) (record { last = c.self.invariant.last; reports = c.self.invariant.reports; as_many = refl; of_acts = refl })
+returns-clause-run c = rw (← c.self.view_is) (record {
+  last = c.self.invariant.last;
+  reports = c.self.invariant.reports;
+  as_many =
+      refl;
+  of_acts = refl;
+})
 
 pub returns-clause-keeps : goal.returns-clause-keeps
 returns-clause-keeps c =

@@ -11,10 +11,12 @@ pub returns-in-Mend-clause-acted : goal.returns-in-Mend-clause-acted
 returns-in-Mend-clause-acted c = rw c.in-Mend.is c.link-in-Mend.ensures.acted
 
 pub returns-in-Lose-clause-areas : goal.returns-in-Lose-clause-areas
-returns-in-Lose-clause-areas c = idle_areas c.args.self.now.nodes c.lose.new.self.nodes c.lose.result c.lose.ensures.nodes c.lose.ensures.own
+returns-in-Lose-clause-areas c = idle_areas c.args.self.now.nodes c.lose.new.self.nodes c.lose.result c.lose.ensures.nodes
+    c.lose.ensures.own
 
 pub returns-in-Cut-clause-areas : goal.returns-in-Cut-clause-areas
 returns-in-Cut-clause-areas c = idle_areas c.args.self.now.nodes c.link.new.self.nodes c.link.result c.link.ensures.nodes c.link.ensures.own
 
 pub returns-in-Mend-clause-areas : goal.returns-in-Mend-clause-areas
-returns-in-Mend-clause-areas c = idle_areas c.args.self.now.nodes c.link-in-Mend.new.self.nodes c.link-in-Mend.result c.link-in-Mend.ensures.nodes c.link-in-Mend.ensures.own
+returns-in-Mend-clause-areas c = idle_areas c.args.self.now.nodes c.link-in-Mend.new.self.nodes c.link-in-Mend.result
+    c.link-in-Mend.ensures.nodes c.link-in-Mend.ensures.own

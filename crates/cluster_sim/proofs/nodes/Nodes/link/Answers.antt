@@ -12,4 +12,5 @@ returns-clause-acted c = λ w stands.
 pub returns-then-not-has_both-clause-acted : goal.returns-then-not-has_both-clause-acted
 returns-then-not-has_both-clause-acted c = λ w stands.
     denies w (link_act c.args.joined c.args.a c.args.b) 0 Stranger c.args.self.now stands
-    (is_link c.args.joined _ w c.args.a c.args.b _ (known_step w c.args.a c.args.b c.args.self.now (linked c.args.joined w.net c.args.a c.args.b) false stands (sym c.has_both.ensures ∙ c.if-not-has_both.true)))
+    (is_link c.args.joined _ w c.args.a c.args.b _ (known_step w c.args.a c.args.b c.args.self.now
+    (linked c.args.joined w.net c.args.a c.args.b) false stands (sym c.has_both.ensures ∙ c.if-not-has_both.true)))

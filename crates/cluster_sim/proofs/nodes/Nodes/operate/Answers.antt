@@ -22,29 +22,43 @@ returns-then-place-len-clause-acted c = λ w stands.
     (denied_at w c.args.id 0 c.args.act.now (OperatedAs c.args.act.now (node_in w.states c.args.id)) c.args.self.now stands beyond)
 
 there : (c : goal.After-self-1) → slice_get c.self.inside.nodes.items c.from-place.result ≡ Some c.index_mut.result.now
-there c = slice_get_read c.self.inside.nodes.items c.len.result c.from-place.result c.index_mut.result.now (grind (arith)) (grind (arith)) c.index_mut.ensures.value
+there c = slice_get_read c.self.inside.nodes.items c.len.result c.from-place.result c.index_mut.result.now (grind (arith))
+    (grind (arith)) c.index_mut.ensures.value
 
 pub invariant_of-self : goal.invariant_of-self
-invariant_of-self c = still_cluster c.self.inside.slots c.from-place.result c.self.inside.nodes.items c.index_mut.result.now c.operate.new.node c.self.invariant (there c) c.operate.ensures.same
+invariant_of-self c = still_cluster c.self.inside.slots c.from-place.result c.self.inside.nodes.items c.index_mut.result.now
+    c.operate.new.node c.self.invariant (there c) c.operate.ensures.same
 
 pub returns-clause-acted : goal.returns-clause-acted
 returns-clause-acted c = λ w stands.
     let was = c.self.inside in
     let a = c.args.act.now in
     let is = operates a c.args.id c.requires in
-    performed {E = ℕ} (λ step. At (nat_lt c.args.id (length w.states)) c.args.id 0 (OperatedAs a (node_in w.states c.args.id)) step) w a (Ok (bare c.operate.result)) _ (is.is_step (length w.states) w) (rw (← c.from-place.ensures ∙ c.number.ensures.value)
-    (takes {E = ℕ} was.slots c.from-place.result 0 a (OperatedAs a) was.nodes.items c.index_mut.result.now c.operate.new.node was.net.network was.net.network (Ok (bare c.operate.result)) w c.self.invariant (there c)
-    (rw c.self.view_is stands) (λ s what of. quietly w c.from-place.result _ (is.brings s what of)) (λ s. c.operate.ensures.came was.slots s)))
+    performed {E = ℕ} (λ step. At (nat_lt c.args.id (length w.states)) c.args.id 0 (OperatedAs a (node_in w.states c.args.id)) step) w a
+    (Ok (bare c.operate.result)) _ (is.is_step (length w.states) w) (rw (← c.from-place.ensures ∙ c.number.ensures.value)
+    (takes {E = ℕ} was.slots c.from-place.result 0 a (OperatedAs a) was.nodes.items c.index_mut.result.now c.operate.new.node
+    was.net.network was.net.network (Ok (bare c.operate.result)) w c.self.invariant (there c)
+    (rw c.self.view_is stands) (λ s what of. quietly w c.from-place.result _ (is.brings s what of))
+    (λ s. c.operate.ensures.came was.slots s)))
 
 pub returns-clause-faults : goal.returns-clause-faults
 returns-clause-faults c =
     let was = c.self.inside in
-    rw ((operates c.args.act.now c.args.id c.requires).named (length c.args.self.now.nodes) c.args.self.now.net.sent, ← c.from-place.ensures ∙ c.number.ensures.value)
-    (faults_if {E = ℕ} (armed_by c.args.act.now) was.slots c.from-place.result was.nodes.items c.index_mut.result.now c.operate.new.node was.net.network was.net.network (Ok (bare c.operate.result)) c.args.self.now c.self.view_is (there c) c.operate.ensures.counted)
+    rw (
+      (operates c.args.act.now c.args.id c.requires).named (length c.args.self.now.nodes) c.args.self.now.net.sent,
+      ← c.from-place.ensures ∙ c.number.ensures.value,
+    )
+    (faults_if {E = ℕ} (armed_by c.args.act.now) was.slots c.from-place.result was.nodes.items c.index_mut.result.now c.operate.new.node
+    was.net.network was.net.network (Ok (bare c.operate.result)) c.args.self.now c.self.view_is (there c) c.operate.ensures.counted)
 
 pub returns-then-place-len-clause-faults : goal.returns-then-place-len-clause-faults
 returns-then-place-len-clause-faults c =
-    record { here = still_counted c.args.act.now (disk_of (slice_get c.args.self.now.nodes (node_named (length c.args.self.now.nodes) c.args.self.now.net.sent c.args.act.now))) refusal.Stranger; elsewhere = λ k other. refl }
+    record {
+      here = still_counted c.args.act.now (disk_of (slice_get c.args.self.now.nodes
+          (node_named (length c.args.self.now.nodes) c.args.self.now.net.sent c.args.act.now))) refusal.Stranger;
+      elsewhere =
+          λ k other. refl;
+    }
 
 pub returns-then-place-len-clause-disk : goal.returns-then-place-len-clause-disk
 returns-then-place-len-clause-disk c =
@@ -55,8 +69,10 @@ returns-then-place-len-clause-disk c =
 pub returns-clause-disk : goal.returns-clause-disk
 returns-clause-disk c =
     let id = c.from-place.ensures ∙ c.number.ensures.value in
-    (operates c.args.act.now c.args.id c.requires).there c.args.self.now _ c.index_mut.result.now c.operate.new.node c.operate.result (rw (← c.self.view_is, ← id) (there c))
-    (rw (← id) (get_set_same c.self.inside.nodes.items c.from-place.result c.index_mut.result.now c.operate.new.node (there c))) c.operate.ensures.disk
+    (operates c.args.act.now c.args.id c.requires).there c.args.self.now _ c.index_mut.result.now c.operate.new.node c.operate.result
+    (rw (← c.self.view_is, ← id) (there c))
+    (rw (← id) (get_set_same c.self.inside.nodes.items c.from-place.result c.index_mut.result.now c.operate.new.node (there c)))
+    c.operate.ensures.disk
 
 pub returns-then-place-len-clause-areas : goal.returns-then-place-len-clause-areas
 returns-then-place-len-clause-areas c = idle_areas c.args.self.now.nodes _ _ refl (λ bad. cc)
@@ -64,4 +80,5 @@ returns-then-place-len-clause-areas c = idle_areas c.args.self.now.nodes _ _ ref
 pub returns-clause-areas : goal.returns-clause-areas
 returns-clause-areas c =
     let was = c.self.inside in
-    areas_if {E = ℕ} was.slots c.from-place.result was.nodes.items c.index_mut.result.now c.operate.new.node was.net.network was.net.network (Ok (bare c.operate.result)) c.args.self.now c.self.view_is (there c) c.operate.ensures.areas
+    areas_if {E = ℕ} was.slots c.from-place.result was.nodes.items c.index_mut.result.now c.operate.new.node was.net.network was.net.network
+    (Ok (bare c.operate.result)) c.args.self.now c.self.view_is (there c) c.operate.ensures.areas

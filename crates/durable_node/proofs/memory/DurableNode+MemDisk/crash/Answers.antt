@@ -9,13 +9,18 @@ pub invariant_of-self : goal.invariant_of-self
 invariant_of-self c =
     let was = c.self.inside in
     let e = c.crash.ensures in
-    node_bare state_of was.setting.id was.setting.nodes was.core c.down.result was.disk c.self.invariant (record { id = c.down.ensures.id; nodes = c.down.ensures.nodes }) c.crash.new.self c.down.ensures.state
+    node_bare state_of was.setting.id was.setting.nodes was.core c.down.result was.disk c.self.invariant (record {
+      id =
+          c.down.ensures.id;
+      nodes = c.down.ensures.nodes;
+    }) c.crash.new.self c.down.ensures.state
     (sound_left c.take-disk.result c.crash.new.self e.left e.anew (c.self.invariant.sound c.take-disk.result c.take-disk.ensures.disk))
 
 pub returns-clause-stands : goal.returns-clause-stands
 returns-clause-stands c =
     let was = c.self.inside in
-    rw (← c.self.view_is) (λ s stands. crashes was.setting.id was.setting.nodes was.core c.down.result was.disk c.take-disk.result c.crash.new.self was.doubt was.mounted s c.take-disk.ensures.disk
+    rw (← c.self.view_is) (λ s stands. crashes was.setting.id was.setting.nodes was.core c.down.result was.disk c.take-disk.result
+    c.crash.new.self was.doubt was.mounted s c.take-disk.ensures.disk
     c.down.ensures.state c.crash.ensures.left c.crash.ensures.anew stands)
 
 pub returns-clause-there : goal.returns-clause-there

@@ -27,10 +27,12 @@ returns-clause-failures c = λ held at.
     held (ap (λ (n : Node Memory). n.disk) (sym c.disarm.ensures.disarmed) ∙ at)
 
 pub returns-clause-disarmed : goal.returns-clause-disarmed
-returns-clause-disarmed c = λ held at. unarmed c.recover.new.self.disk held (ap (λ (n : Node Memory). n.disk) (sym c.disarm.ensures.disarmed) ∙ at)
+returns-clause-disarmed c = λ held at. unarmed c.recover.new.self.disk held
+    (ap (λ (n : Node Memory). n.disk) (sym c.disarm.ensures.disarmed) ∙ at)
 
 pub returns-clause-number : goal.returns-clause-number
 returns-clause-number c = λ held at.
     under_left (λ (m : Memory). AllWithin 2 (state_of m)) (λ m is. is) c.recover.new.self.disk
-    (λ m there. c.recover.ensures.call.counts.rises c.args.disk m (ap (λ (n : Node Memory). n.disk) c.down-node.ensures) there refl 1 c.requires.fresh.number)
+    (λ m there. c.recover.ensures.call.counts.rises c.args.disk m (ap (λ (n : Node Memory). n.disk) c.down-node.ensures) there refl 1
+    c.requires.fresh.number)
     held (ap (λ (n : Node Memory). n.disk) (sym c.disarm.ensures.disarmed) ∙ at)

@@ -13,4 +13,5 @@ returns-in_ok-print c =
 pub returns-else-not-taken : goal.returns-else-not-taken
 returns-else-not-taken c =
     let on = c.if-not-taken.false in
-    takes_taken c.args.self.now c.take.new.self c.args.message.now c.in_ok-taken.taken c.in_ok-taken.ensures.refused on (c.in_ok-taken.ensures.goes (cc))
+    takes_taken c.args.self.now c.take.new.self c.args.message.now c.in_ok-taken.taken c.in_ok-taken.ensures.refused on
+    (c.in_ok-taken.ensures.goes (cc))

@@ -7,5 +7,7 @@ use Rattle.job_model.proofs.job_list.JobList.remove.Goals as goal
 pub returns : goal.returns
 returns c =
     let was = c.self.inside in
-    ap (λ (jobs : List KeptJob). record { jobs = jobs; room = was.room }) (removed (kept_in was.payloads.items) (drop was.first was.rows.items) (drop c.take_out.new.first c.take_out.new.rows.items) c.args.place c.take_out.ensures.rows)
+    ap (λ (jobs : List KeptJob). record { jobs = jobs; room = was.room })
+    (removed (kept_in was.payloads.items) (drop was.first was.rows.items) (drop c.take_out.new.first c.take_out.new.rows.items)
+    c.args.place c.take_out.ensures.rows)
     ∙ ap (λ (list : JobRoom). record list { jobs = take c.args.place list.jobs ++ drop (c.args.place + 1) list.jobs }) c.self.view_is

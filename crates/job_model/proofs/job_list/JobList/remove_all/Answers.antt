@@ -13,8 +13,15 @@ invariant_of-self c =
     let P = HasPayload (length was.payloads.items) in
     record {
       within = omega arith;
-      read = subst (λ (rows : List PackedJob). All P rows) (sym (c.remove_rows.ensures.rows ∙ ap (λ rows. filter test rows) c.drop_front.ensures.items)) (All-filter test P (drop was.first was.rows.items) c.self.invariant.read);
-      few = omega (arith, c.self.invariant.few, c.remove_rows.ensures.few, ap (λ (rows : List PackedJob). length rows) c.drop_front.ensures.items);
+      read = subst (λ (rows : List PackedJob). All P rows) (sym (c.remove_rows.ensures.rows
+          ∙ ap (λ rows. filter test rows) c.drop_front.ensures.items))
+          (All-filter test P (drop was.first was.rows.items) c.self.invariant.read);
+      few = omega (
+        arith,
+        c.self.invariant.few,
+        c.remove_rows.ensures.few,
+        ap (λ (rows : List PackedJob). length rows) c.drop_front.ensures.items,
+      );
       rows = omega (arith, c.self.invariant.rows, c.remove_rows.ensures.capacity, c.drop_front.ensures.capacity);
       bytes = c.self.invariant.bytes;
       spare = c.self.invariant.spare;
@@ -24,6 +31,8 @@ pub returns : goal.returns
 returns c =
     let was = c.self.inside in
     let test : KeptJob → Bool = λ kept. not (kept.origin == c.args.origin && kept.job.id == c.args.id) in
-    ap (λ (rows : List PackedJob). record { jobs = map (kept_in was.payloads.items) rows; room = was.room }) (c.remove_rows.ensures.rows ∙ ap (λ rows. filter (λ row. test (kept_in was.payloads.items row)) rows) c.drop_front.ensures.items)
-    ∙ ap (λ (jobs : List KeptJob). record { jobs = jobs; room = was.room }) (filtered was.payloads.items test (drop was.first was.rows.items))
+    ap (λ (rows : List PackedJob). record { jobs = map (kept_in was.payloads.items) rows; room = was.room })
+    (c.remove_rows.ensures.rows ∙ ap (λ rows. filter (λ row. test (kept_in was.payloads.items row)) rows) c.drop_front.ensures.items)
+    ∙ ap (λ (jobs : List KeptJob). record { jobs = jobs; room = was.room })
+    (filtered was.payloads.items test (drop was.first was.rows.items))
     ∙ ap (λ (list : JobRoom). record list { jobs = filter test list.jobs }) c.self.view_is

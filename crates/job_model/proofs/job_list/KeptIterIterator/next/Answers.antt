@@ -6,4 +6,5 @@ use Rattle.job_model.proofs.job_list.KeptIterIterator.next.Goals as goal
 
 pub invariant_of-self : goal.invariant_of-self
 invariant_of-self c = All-tail (HasPayload (length c.self.inside.payloads.now)) c.in_ok-row.row.now c.in_ok-row.rest.now
-    (subst (λ (rows : List PackedJob). All (HasPayload (length c.self.inside.payloads.now)) rows) c.in_ok-row.ensures.cases.0 c.self.invariant)
+    (subst (λ (rows : List PackedJob). All (HasPayload (length c.self.inside.payloads.now)) rows) c.in_ok-row.ensures.cases.0
+    c.self.invariant)

@@ -10,7 +10,8 @@ use Rattle.lease_machine.proofs.state.LeaseMachine.claimed.Goals as goal
 
 pub index-requires : goal.index-requires
 index-requires c =
-    let p = name_found c.args.name.now c.in-Some.place _ c.args.self.now.names.items _ c.deref.ensures.value c.place_of.ensures c.in-Some.is in
+    let p = name_found c.args.name.now c.in-Some.place _ c.args.self.now.names.items _ c.deref.ensures.value c.place_of.ensures c.in-Some.is
+    in
     omega (arith, p.within, c.deref.ensures.len, ap (λ (es : List NameEntry). length es) c.deref.ensures.value)
 
 pub returns-in-Some-clause-some : goal.returns-in-Some-clause-some
@@ -31,4 +32,5 @@ returns-in-Some-clause-none c = λ none.
 
 pub returns-in-None-clause-none : goal.returns-in-None-clause-none
 returns-in-None-clause-none c = λ _.
-    ap claim_in (unplaced 0 c.args.name.now c.args.self.now.names.items (ap (place_from 0 c.args.name.now) (sym c.deref.ensures.value) ∙ sym c.place_of.ensures ∙ c.in-None.is))
+    ap claim_in (unplaced 0 c.args.name.now c.args.self.now.names.items (ap (place_from 0 c.args.name.now) (sym c.deref.ensures.value)
+    ∙ sym c.place_of.ensures ∙ c.in-None.is))

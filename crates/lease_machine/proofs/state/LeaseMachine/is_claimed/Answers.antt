@@ -10,7 +10,8 @@ use Rattle.lease_machine.proofs.state.LeaseMachine.is_claimed.Goals as goal
 
 pub index-requires : goal.index-requires
 index-requires c =
-    let p = name_found c.args.name.now c.in-Some.place _ c.args.self.now.names.items _ c.deref.ensures.value c.place_of.ensures c.in-Some.is in
+    let p = name_found c.args.name.now c.in-Some.place _ c.args.self.now.names.items _ c.deref.ensures.value c.place_of.ensures c.in-Some.is
+    in
     omega (arith, p.within, c.deref.ensures.len, ap (λ (es : List NameEntry). length es) c.deref.ensures.value)
 
 pub returns-in-Some : goal.returns-in-Some
@@ -22,4 +23,6 @@ returns-in-Some c =
     c.is_some.ensures ∙ ap (λ (o : Option Claim). is_some o) (sym (ap claim_in r.old))
 
 pub returns-in-None : goal.returns-in-None
-returns-in-None c = ap (λ (o : Option NameEntry). is_some (claim_in o)) (sym (unplaced 0 c.args.name.now c.args.self.now.names.items (ap (place_from 0 c.args.name.now) (sym c.deref.ensures.value) ∙ sym c.place_of.ensures ∙ c.in-None.is)))
+returns-in-None c = ap (λ (o : Option NameEntry). is_some (claim_in o))
+    (sym (unplaced 0 c.args.name.now c.args.self.now.names.items (ap (place_from 0 c.args.name.now) (sym c.deref.ensures.value)
+    ∙ sym c.place_of.ensures ∙ c.in-None.is)))

@@ -11,7 +11,8 @@ use Rattle.lease_machine.proofs.state.LeaseMachine.place_claim.Goals as goal
 
 pub index_mut-requires : goal.index_mut-requires
 index_mut-requires c =
-    let p = name_found c.args.name.now c.in-Some.place _ c.args.self.now.names.items _ c.deref.ensures.value c.place_of.ensures c.in-Some.is in
+    let p = name_found c.args.name.now c.in-Some.place _ c.args.self.now.names.items _ c.deref.ensures.value c.place_of.ensures c.in-Some.is
+    in
     omega (arith, p.within, c.deref.ensures.len, ap (λ (es : List NameEntry). length es) c.deref.ensures.value)
 
 pub invariant_of-self : goal.invariant_of-self
@@ -19,9 +20,14 @@ invariant_of-self c =
     let m = c.args.self.now in
     let e = c.index_mut.result.now in
     let p = name_found c.args.name.now c.in-Some.place _ m.names.items _ c.deref.ensures.value c.place_of.ensures c.in-Some.is in
-    let r = is_read c.args.name.now m.names.items c.in-Some.place e (record e { claim = Some c.args.claim }) p m.kept.apart c.index_mut.ensures.value refl in
+    let r = is_read c.args.name.now m.names.items c.in-Some.place e (record e { claim = Some c.args.claim }) p m.kept.apart
+    c.index_mut.ensures.value refl in
     record {
-      kept = kept_asked m.terms m.process m.claims m.began m.bound m.floor m.names.items c.in-Some.place e (record e { claim = Some c.args.claim }) m.kept r.at refl refl (λ y h. subst (λ (k : Claim). IsOwn m.terms m.process m.claims k.candidate) (the_claim c.args.claim y h) c.requires);
+      kept = kept_asked m.terms m.process m.claims m.began m.bound m.floor m.names.items c.in-Some.place e (record e {
+        claim =
+            Some c.args.claim;
+      }) m.kept r.at refl refl (λ y h. subst (λ (k : Claim). IsOwn m.terms m.process m.claims k.candidate)
+          (the_claim c.args.claim y h) c.requires);
       room = m.room;
     }
 
@@ -30,7 +36,8 @@ returns-in-Some-clause-voter c =
     let m = c.args.self.now in
     let e = c.index_mut.result.now in
     let p = name_found c.args.name.now c.in-Some.place _ m.names.items _ c.deref.ensures.value c.place_of.ensures c.in-Some.is in
-    let r = is_read c.args.name.now m.names.items c.in-Some.place e (record e { claim = Some c.args.claim }) p m.kept.apart c.index_mut.ensures.value refl in
+    let r = is_read c.args.name.now m.names.items c.in-Some.place e (record e { claim = Some c.args.claim }) p m.kept.apart
+    c.index_mut.ensures.value refl in
     ap (voter_in (unknown m)) r.new ∙ sym (ap (voter_in (unknown m)) r.old)
 
 pub returns-in-Some-clause-others : goal.returns-in-Some-clause-others
@@ -38,7 +45,8 @@ returns-in-Some-clause-others c = λ other differ.
     let m = c.args.self.now in
     let e = c.index_mut.result.now in
     let p = name_found c.args.name.now c.in-Some.place _ m.names.items _ c.deref.ensures.value c.place_of.ensures c.in-Some.is in
-    let r = is_read c.args.name.now m.names.items c.in-Some.place e (record e { claim = Some c.args.claim }) p m.kept.apart c.index_mut.ensures.value refl in
+    let r = is_read c.args.name.now m.names.items c.in-Some.place e (record e { claim = Some c.args.claim }) p m.kept.apart
+    c.index_mut.ensures.value refl in
     same_left c.args.now (unknown m) (unknown m) (entry_of other m.names.items) _ (inl refl) (r.others other differ)
 
 pub returns-in-Some-clause-placed : goal.returns-in-Some-clause-placed
@@ -46,21 +54,30 @@ returns-in-Some-clause-placed c = λ _.
     let m = c.args.self.now in
     let e = c.index_mut.result.now in
     let p = name_found c.args.name.now c.in-Some.place _ m.names.items _ c.deref.ensures.value c.place_of.ensures c.in-Some.is in
-    let r = is_read c.args.name.now m.names.items c.in-Some.place e (record e { claim = Some c.args.claim }) p m.kept.apart c.index_mut.ensures.value refl in
+    let r = is_read c.args.name.now m.names.items c.in-Some.place e (record e { claim = Some c.args.claim }) p m.kept.apart
+    c.index_mut.ensures.value refl in
     ap claim_in r.new
 
 pub add-requires-clause-new : goal.add-requires-clause-new
-add-requires-clause-new c = unplaced 0 c.args.name.now c.args.self.now.names.items (ap (place_from 0 c.args.name.now) (sym c.deref.ensures.value) ∙ sym c.place_of.ensures ∙ c.in_default.is)
+add-requires-clause-new c = unplaced 0 c.args.name.now c.args.self.now.names.items
+    (ap (place_from 0 c.args.name.now) (sym c.deref.ensures.value) ∙ sym c.place_of.ensures ∙ c.in_default.is)
 
 pub returns-clause-voter : goal.returns-clause-voter
 returns-clause-voter c =
-    added_voter c.add.result c.args.self.now c.add.new.self c.args.name.now (record { name = c.args.name.now; voter = c.unknown.result; claim = Some c.args.claim }) c.add.ensures.added (λ no. (c.add.ensures.full no).0)
-    (unplaced 0 c.args.name.now c.args.self.now.names.items (ap (place_from 0 c.args.name.now) (sym c.deref.ensures.value) ∙ sym c.place_of.ensures ∙ c.in_default.is)) c.unknown.ensures
+    added_voter c.add.result c.args.self.now c.add.new.self c.args.name.now (record {
+      name = c.args.name.now;
+      voter =
+          c.unknown.result;
+      claim = Some c.args.claim;
+    }) c.add.ensures.added (λ no. (c.add.ensures.full no).0)
+    (unplaced 0 c.args.name.now c.args.self.now.names.items (ap (place_from 0 c.args.name.now) (sym c.deref.ensures.value)
+    ∙ sym c.place_of.ensures ∙ c.in_default.is)) c.unknown.ensures
 
 pub returns-clause-full : goal.returns-clause-full
 returns-clause-full c = λ no.
     let full = c.add.ensures.full no in
-    let unkept = unplaced 0 c.args.name.now c.args.self.now.names.items (ap (place_from 0 c.args.name.now) (sym c.deref.ensures.value) ∙ sym c.place_of.ensures ∙ c.in_default.is) in
+    let unkept = unplaced 0 c.args.name.now c.args.self.now.names.items (ap (place_from 0 c.args.name.now) (sym c.deref.ensures.value)
+    ∙ sym c.place_of.ensures ∙ c.in_default.is) in
     (all_stay c.args.self.now c.add.new.self full.0, (unkept, full.1))
 
 pub returns-clause-room : goal.returns-clause-room
@@ -71,5 +88,6 @@ returns-in-Some-clause-room c = λ _ none.
     let m = c.args.self.now in
     let e = c.index_mut.result.now in
     let p = name_found c.args.name.now c.in-Some.place _ m.names.items _ c.deref.ensures.value c.place_of.ensures c.in-Some.is in
-    let r = is_read c.args.name.now m.names.items c.in-Some.place e (record e { claim = Some c.args.claim }) p m.kept.apart c.index_mut.ensures.value refl in
+    let r = is_read c.args.name.now m.names.items c.in-Some.place e (record e { claim = Some c.args.claim }) p m.kept.apart
+    c.index_mut.ensures.value refl in
     kept_needs_none (entry_of c.args.name.now m.names.items) r.old none.0

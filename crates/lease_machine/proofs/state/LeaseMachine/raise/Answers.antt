@@ -6,13 +6,15 @@ use Rattle.lease_machine.proofs.Keeping.{kept_raised, allowed_before, raised_ent
 use Rattle.lease_machine.proofs.state.LeaseMachine.raise.Goals as goal
 
 pub raise_all-requires : goal.raise_all-requires
-raise_all-requires c = allowed_before c.args.self.now.terms c.args.self.now.process c.args.self.now.claims c.args.self.now.began c.args.self.now.bound c.args.self.now.floor c.args.bound c.args.self.now.names.items c.args.self.now.kept c.requires
+raise_all-requires c = allowed_before c.args.self.now.terms c.args.self.now.process c.args.self.now.claims c.args.self.now.began
+    c.args.self.now.bound c.args.self.now.floor c.args.bound c.args.self.now.names.items c.args.self.now.kept c.requires
 
 pub invariant_of-self : goal.invariant_of-self
 invariant_of-self c =
     let m = c.args.self.now in
     record {
-      kept = kept_raised m.terms m.process m.claims m.began m.bound m.floor c.args.bound m.names.items _ m.kept c.requires c.raise_all.ensures.items;
+      kept = kept_raised m.terms m.process m.claims m.began m.bound m.floor c.args.bound m.names.items _ m.kept c.requires
+          c.raise_all.ensures.items;
       room = omega (arith, c.raise_all.ensures.capacity, m.room);
     }
 
@@ -20,7 +22,8 @@ pub returns-clause-raises : goal.returns-clause-raises
 returns-clause-raises c = λ name now.
     let m = c.args.self.now in
     raises_step name (unknown m) m.names.items _ now m.bound c.args.bound
-    (All-weaker (IsEntry m.terms m.process m.claims m.began m.bound) (λ e. e.voter.bound ≡ m.bound) (λ e fits. fits.allowed) m.names.items m.kept.entries) refl c.requires
+    (All-weaker (IsEntry m.terms m.process m.claims m.began m.bound) (λ e. e.voter.bound
+    ≡ m.bound) (λ e fits. fits.allowed) m.names.items m.kept.entries) refl c.requires
     (raised_entry name m.names.items _ c.args.bound c.raise_all.ensures.items)
 
 pub returns-clause-claims : goal.returns-clause-claims

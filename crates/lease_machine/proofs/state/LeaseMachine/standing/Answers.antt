@@ -9,7 +9,8 @@ use Rattle.lease_machine.proofs.state.LeaseMachine.standing.Goals as goal
 
 pub index-requires : goal.index-requires
 index-requires c =
-    let p = name_found c.args.name.now c.in-Some.place _ c.args.self.now.names.items _ c.deref.ensures.value c.place_of.ensures c.in-Some.is in
+    let p = name_found c.args.name.now c.in-Some.place _ c.args.self.now.names.items _ c.deref.ensures.value c.place_of.ensures c.in-Some.is
+    in
     omega (arith, p.within, c.deref.ensures.len, ap (λ (es : List NameEntry). length es) c.deref.ensures.value)
 
 pub returns-in-Some-clause-last : goal.returns-in-Some-clause-last
@@ -23,7 +24,9 @@ returns-in-Some-clause-last c =
 pub returns-in-None-clause-last : goal.returns-in-None-clause-last
 returns-in-None-clause-last c =
     let m = c.args.self.now in
-    sym (ap (λ (o : Option NameEntry). (voter_in (unknown m) o).last) (unplaced 0 c.args.name.now m.names.items (ap (place_from 0 c.args.name.now) (sym c.deref.ensures.value) ∙ sym c.place_of.ensures ∙ c.in-None.is)))
+    sym (ap (λ (o : Option NameEntry). (voter_in (unknown m) o).last)
+    (unplaced 0 c.args.name.now m.names.items (ap (place_from 0 c.args.name.now) (sym c.deref.ensures.value) ∙ sym c.place_of.ensures
+    ∙ c.in-None.is)))
 
 pub returns-in-Some-clause-holder : goal.returns-in-Some-clause-holder
 returns-in-Some-clause-holder c =
@@ -36,7 +39,9 @@ returns-in-Some-clause-holder c =
 pub returns-in-None-clause-holder : goal.returns-in-None-clause-holder
 returns-in-None-clause-holder c =
     let m = c.args.self.now in
-    sym (ap (λ (o : Option NameEntry). (voter_in (unknown m) o).holder) (unplaced 0 c.args.name.now m.names.items (ap (place_from 0 c.args.name.now) (sym c.deref.ensures.value) ∙ sym c.place_of.ensures ∙ c.in-None.is)))
+    sym (ap (λ (o : Option NameEntry). (voter_in (unknown m) o).holder)
+    (unplaced 0 c.args.name.now m.names.items (ap (place_from 0 c.args.name.now) (sym c.deref.ensures.value) ∙ sym c.place_of.ensures
+    ∙ c.in-None.is)))
 
 pub returns-in-Some-clause-ends : goal.returns-in-Some-clause-ends
 returns-in-Some-clause-ends c =
@@ -49,4 +54,6 @@ returns-in-Some-clause-ends c =
 pub returns-in-None-clause-ends : goal.returns-in-None-clause-ends
 returns-in-None-clause-ends c =
     let m = c.args.self.now in
-    sym (ap (λ (o : Option NameEntry). (voter_in (unknown m) o).ends) (unplaced 0 c.args.name.now m.names.items (ap (place_from 0 c.args.name.now) (sym c.deref.ensures.value) ∙ sym c.place_of.ensures ∙ c.in-None.is)))
+    sym (ap (λ (o : Option NameEntry). (voter_in (unknown m) o).ends)
+    (unplaced 0 c.args.name.now m.names.items (ap (place_from 0 c.args.name.now) (sym c.deref.ensures.value) ∙ sym c.place_of.ensures
+    ∙ c.in-None.is)))

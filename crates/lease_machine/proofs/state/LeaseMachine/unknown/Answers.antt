@@ -13,7 +13,16 @@ raise-requires c =
 pub returns : goal.returns
 returns c =
     let m = c.args.self.now in
-    let restarted : LeaseVoter = record { keeps = m.terms.keeps; bound = m.floor; began = m.began; last = m.floor; holder = None; ends = 0 } in
+    let restarted : LeaseVoter = record {
+      keeps = m.terms.keeps;
+      bound = m.floor;
+      began = m.began;
+      last = m.floor;
+      holder = None;
+      ends =
+          0;
+    } in
     let view_is = c.restart-voter.ensures.begins (opening (λ boot at. 0)) (λ boot at. m.began) 0 0 refl in
-    let is : c.restart-voter.result ≡ restarted = voter_same c.restart-voter.result restarted (c.restart-voter.ensures.keeps ∙ c.keeps.ensures.value) view_is in
+    let is : c.restart-voter.result ≡ restarted = voter_same c.restart-voter.result restarted (c.restart-voter.ensures.keeps
+    ∙ c.keeps.ensures.value) view_is in
     raised_is c.restart-voter.result c.raise.new.self m.bound (c.raise.ensures 0) ∙ ap (λ (v : LeaseVoter). record v { bound = m.bound }) is

@@ -6,16 +6,19 @@ use Rattle.lease_machine.specs.declared.name_entry.NameEntry.{NameEntry}
 use Rattle.lease_machine.specs.Names.{entry_of, place_from}
 use Rattle.lease_machine.specs.Machine.{claim_in, unknown, voter_in}
 use Rattle.lease_machine.proofs.Names.{unplaced}
-use Rattle.lease_machine.proofs.Keeping.{asked_like, entry_at, is_read, kept_like, kept_needs_none, name_found, same_left, step_of, unchanged}
+use Rattle.lease_machine.proofs.Keeping.{asked_like, entry_at, is_read, kept_like, kept_needs_none, name_found, same_left, step_of}
+use Rattle.lease_machine.proofs.Keeping.{unchanged}
 use Rattle.lease_machine.proofs.state.LeaseMachine.vote.Goals as goal
 
 pub vote_anew-requires-clause-new : goal.vote_anew-requires-clause-new
 vote_anew-requires-clause-new c =
-    unplaced 0 c.args.name.now c.args.self.now.names.items (ap (place_from 0 c.args.name.now) (sym c.deref.ensures.value) ∙ sym c.place_of.ensures ∙ c.in_default.is)
+    unplaced 0 c.args.name.now c.args.self.now.names.items (ap (place_from 0 c.args.name.now) (sym c.deref.ensures.value)
+    ∙ sym c.place_of.ensures ∙ c.in_default.is)
 
 pub index_mut-requires : goal.index_mut-requires
 index_mut-requires c =
-    let p = name_found c.args.name.now c.in-Some.place _ c.args.self.now.names.items _ c.deref.ensures.value c.place_of.ensures c.in-Some.is in
+    let p = name_found c.args.name.now c.in-Some.place _ c.args.self.now.names.items _ c.deref.ensures.value c.place_of.ensures c.in-Some.is
+    in
     omega (arith, p.within, c.deref.ensures.len, ap (λ (es : List NameEntry). length es) c.deref.ensures.value)
 
 pub ask-requires : goal.ask-requires
@@ -32,7 +35,8 @@ invariant_of-self c =
     let m = c.args.self.now in
     let e = c.index_mut.result.now in
     let p = name_found c.args.name.now c.in-Some.place _ m.names.items _ c.deref.ensures.value c.place_of.ensures c.in-Some.is in
-    let r = is_read c.args.name.now m.names.items c.in-Some.place e (record e { voter = c.ask.new.self }) p m.kept.apart c.index_mut.ensures.value refl in
+    let r = is_read c.args.name.now m.names.items c.in-Some.place e (record e { voter = c.ask.new.self }) p m.kept.apart
+    c.index_mut.ensures.value refl in
     record {
       kept = kept_like m.terms m.process m.claims m.began m.bound m.floor m.names.items c.in-Some.place e c.ask.new.self m.kept r.at
           (asked_like e.voter c.ask.new.self c.args.now c.args.client c.args.epoch c.ask.result c.ask.ensures.grants c.ask.ensures.same);
@@ -44,8 +48,10 @@ returns-then-ask-clause-granted c = λ _ number sent.
     let m = c.args.self.now in
     let e = c.index_mut.result.now in
     let p = name_found c.args.name.now c.in-Some.place _ m.names.items _ c.deref.ensures.value c.place_of.ensures c.in-Some.is in
-    let r = is_read c.args.name.now m.names.items c.in-Some.place e (record e { voter = c.ask.new.self }) p m.kept.apart c.index_mut.ensures.value refl in
-    step_of e.voter c.ask.new.self (voter_in (unknown m) (entry_of c.args.name.now m.names.items)) _ c.args.now (grants (ask_of c.args.client number c.args.epoch sent))
+    let r = is_read c.args.name.now m.names.items c.in-Some.place e (record e { voter = c.ask.new.self }) p m.kept.apart
+    c.index_mut.ensures.value refl in
+    step_of e.voter c.ask.new.self (voter_in (unknown m) (entry_of c.args.name.now m.names.items)) _ c.args.now
+    (grants (ask_of c.args.client number c.args.epoch sent))
     (ap (voter_in (unknown m)) r.old) (ap (voter_in (unknown m)) r.new) (c.ask.ensures.grants c.if-ask.true number sent)
 
 pub returns-then-ask-clause-others : goal.returns-then-ask-clause-others
@@ -53,7 +59,8 @@ returns-then-ask-clause-others c = λ other differ.
     let m = c.args.self.now in
     let e = c.index_mut.result.now in
     let p = name_found c.args.name.now c.in-Some.place _ m.names.items _ c.deref.ensures.value c.place_of.ensures c.in-Some.is in
-    let r = is_read c.args.name.now m.names.items c.in-Some.place e (record e { voter = c.ask.new.self }) p m.kept.apart c.index_mut.ensures.value refl in
+    let r = is_read c.args.name.now m.names.items c.in-Some.place e (record e { voter = c.ask.new.self }) p m.kept.apart
+    c.index_mut.ensures.value refl in
     same_left c.args.now (unknown m) (unknown m) (entry_of other m.names.items) _ (inl refl) (r.others other differ)
 
 pub returns-then-ask-clause-claim : goal.returns-then-ask-clause-claim
@@ -61,7 +68,8 @@ returns-then-ask-clause-claim c =
     let m = c.args.self.now in
     let e = c.index_mut.result.now in
     let p = name_found c.args.name.now c.in-Some.place _ m.names.items _ c.deref.ensures.value c.place_of.ensures c.in-Some.is in
-    let r = is_read c.args.name.now m.names.items c.in-Some.place e (record e { voter = c.ask.new.self }) p m.kept.apart c.index_mut.ensures.value refl in
+    let r = is_read c.args.name.now m.names.items c.in-Some.place e (record e { voter = c.ask.new.self }) p m.kept.apart
+    c.index_mut.ensures.value refl in
     ap claim_in r.new ∙ sym (ap claim_in r.old)
 
 pub returns-else-ask-clause-refused : goal.returns-else-ask-clause-refused
@@ -69,9 +77,12 @@ returns-else-ask-clause-refused c = λ _.
     let m = c.args.self.now in
     let e = c.index_mut.result.now in
     let p = name_found c.args.name.now c.in-Some.place _ m.names.items _ c.deref.ensures.value c.place_of.ensures c.in-Some.is in
-    let r = is_read c.args.name.now m.names.items c.in-Some.place e (record e { voter = c.ask.new.self }) p m.kept.apart c.index_mut.ensures.value refl in (
-      unchanged c.args.name.now m.names.items c.in-Some.place e (record e { voter = c.ask.new.self }) (unknown m) r (ap (λ (v : LeaseVoter). record e { voter = v }) (c.ask.ensures.same c.if-ask.false)),
-      λ can. c.ask.ensures.refuses c.if-ask.false (subst (λ (v : LeaseVoter). CanGrant v c.args.now c.args.client c.args.epoch) (ap (voter_in (unknown m)) r.old) can),
+    let r = is_read c.args.name.now m.names.items c.in-Some.place e (record e { voter = c.ask.new.self }) p m.kept.apart
+    c.index_mut.ensures.value refl in (
+      unchanged c.args.name.now m.names.items c.in-Some.place e (record e { voter = c.ask.new.self })
+          (unknown m) r (ap (λ (v : LeaseVoter). record e { voter = v }) (c.ask.ensures.same c.if-ask.false)),
+      λ can. c.ask.ensures.refuses c.if-ask.false (subst (λ (v : LeaseVoter). CanGrant v c.args.now c.args.client c.args.epoch)
+          (ap (voter_in (unknown m)) r.old) can),
     )
 
 pub returns-else-ask-clause-others : goal.returns-else-ask-clause-others
@@ -79,7 +90,8 @@ returns-else-ask-clause-others c = λ other differ.
     let m = c.args.self.now in
     let e = c.index_mut.result.now in
     let p = name_found c.args.name.now c.in-Some.place _ m.names.items _ c.deref.ensures.value c.place_of.ensures c.in-Some.is in
-    let r = is_read c.args.name.now m.names.items c.in-Some.place e (record e { voter = c.ask.new.self }) p m.kept.apart c.index_mut.ensures.value refl in
+    let r = is_read c.args.name.now m.names.items c.in-Some.place e (record e { voter = c.ask.new.self }) p m.kept.apart
+    c.index_mut.ensures.value refl in
     same_left c.args.now (unknown m) (unknown m) (entry_of other m.names.items) _ (inl refl) (r.others other differ)
 
 pub returns-else-ask-clause-claim : goal.returns-else-ask-clause-claim
@@ -87,7 +99,8 @@ returns-else-ask-clause-claim c =
     let m = c.args.self.now in
     let e = c.index_mut.result.now in
     let p = name_found c.args.name.now c.in-Some.place _ m.names.items _ c.deref.ensures.value c.place_of.ensures c.in-Some.is in
-    let r = is_read c.args.name.now m.names.items c.in-Some.place e (record e { voter = c.ask.new.self }) p m.kept.apart c.index_mut.ensures.value refl in
+    let r = is_read c.args.name.now m.names.items c.in-Some.place e (record e { voter = c.ask.new.self }) p m.kept.apart
+    c.index_mut.ensures.value refl in
     ap claim_in r.new ∙ sym (ap claim_in r.old)
 
 pub returns-then-ask-clause-room : goal.returns-then-ask-clause-room
@@ -95,5 +108,6 @@ returns-then-ask-clause-room c = λ _ none.
     let m = c.args.self.now in
     let e = c.index_mut.result.now in
     let p = name_found c.args.name.now c.in-Some.place _ m.names.items _ c.deref.ensures.value c.place_of.ensures c.in-Some.is in
-    let r = is_read c.args.name.now m.names.items c.in-Some.place e (record e { voter = c.ask.new.self }) p m.kept.apart c.index_mut.ensures.value refl in
+    let r = is_read c.args.name.now m.names.items c.in-Some.place e (record e { voter = c.ask.new.self }) p m.kept.apart
+    c.index_mut.ensures.value refl in
     kept_needs_none (entry_of c.args.name.now m.names.items) r.old none.0

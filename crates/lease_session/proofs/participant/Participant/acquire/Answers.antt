@@ -11,7 +11,14 @@ returns-in-Err-clause-turn g c = then c.claim.ensures.turn (c.refuse_user.ensure
 
 pub returns-in-Err-clause-asks : goal.returns-in-Err-clause-asks
 returns-in-Err-clause-asks g c =
-    inr (record { kept = c.args.self.now.process; by_then = stay c.args.self.now.process; reason = c.in-Err.why; right = c.in-Err.ensures.refused; told = c.refuse_user.ensures.says })
+    inr (record {
+      kept = c.args.self.now.process;
+      by_then = stay c.args.self.now.process;
+      reason = c.in-Err.why;
+      right =
+          c.in-Err.ensures.refused;
+      told = c.refuse_user.ensures.says;
+    })
 
 pub returns-then-is_err-clause-turn : goal.returns-then-is_err-clause-turn
 returns-then-is_err-clause-turn g c = then (then c.claim.ensures.turn c.ask_or_tell.ensures.turn) (ran_out c.run_out.ensures)

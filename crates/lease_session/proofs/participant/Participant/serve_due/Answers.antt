@@ -6,4 +6,8 @@ pub loop-place-init : goal.loop-place-init
 loop-place-init g c = record { turn = stay c.args.self.now.process; told = refl }
 
 pub loop-place-preserved : goal.loop-place-preserved
-loop-place-preserved g c = record { turn = then c.loop-place.invariant.turn c.serve_at.ensures.turn; told = c.serve_at.ensures.told ∙ c.loop-place.invariant.told }
+loop-place-preserved g c = record {
+  turn = then c.loop-place.invariant.turn c.serve_at.ensures.turn;
+  told = c.serve_at.ensures.told
+      ∙ c.loop-place.invariant.told;
+}

@@ -12,11 +12,13 @@ returns-in-Nothing-clause-turn g c =
 
 pub returns-in-Message-clause-turn : goal.returns-in-Message-clause-turn
 returns-in-Message-clause-turn g c =
-    brought_is c.args.came c.in-Message.is (then_too (then (as_brought c.begin_where_due.ensures.turn) c.serve_due.ensures.turn) c.take.ensures.turn)
+    brought_is c.args.came c.in-Message.is (then_too (then (as_brought c.begin_where_due.ensures.turn) c.serve_due.ensures.turn)
+    c.take.ensures.turn)
 
 pub returns-in-Unsealed-clause-turn : goal.returns-in-Unsealed-clause-turn
 returns-in-Unsealed-clause-turn g c =
-    brought_is c.args.came c.in-Unsealed.is (then (then c.begin_where_due.ensures.turn c.serve_due.ensures.turn) (c.refuse.ensures.turn c.args.now))
+    brought_is c.args.came c.in-Unsealed.is (then (then c.begin_where_due.ensures.turn c.serve_due.ensures.turn)
+    (c.refuse.ensures.turn c.args.now))
 
 pub returns-in-Acquire-clause-turn : goal.returns-in-Acquire-clause-turn
 returns-in-Acquire-clause-turn g c =
@@ -30,7 +32,8 @@ pub returns-in-Message-clause-replies : goal.returns-in-Message-clause-replies
 returns-in-Message-clause-replies g c =
     let p = c.take.new.self.process in
     subst (λ (it : Came). RepliesTo c.args.self.now.process.terms c.args.now it p) (sym c.in-Message.is)
-    (subst (λ (t : LeaseTerms). Replies t c.args.now c.in-Message.message p) (c.serve_due.ensures.turn.terms ∙ c.begin_where_due.ensures.turn.terms) c.take.ensures.replies)
+    (subst (λ (t : LeaseTerms). Replies t c.args.now c.in-Message.message p) (c.serve_due.ensures.turn.terms
+    ∙ c.begin_where_due.ensures.turn.terms) c.take.ensures.replies)
 
 pub returns-in-Acquire-clause-asks : goal.returns-in-Acquire-clause-asks
 returns-in-Acquire-clause-asks g c =

@@ -8,7 +8,8 @@ pub returns-then-relies_on-clause-turn : goal.returns-then-relies_on-clause-turn
 returns-then-relies_on-clause-turn g c =
     let m = c.args.message.now in
     to_same c.keep.ensures.0 (from_same c.time_answer.ensures.0
-    (said_is m (grant_said m c.args.number c.requires (client_of c.client_of-client.result) c.client_of-client.ensures) c.hear.ensures.turn))
+    (said_is m (grant_said m c.args.number c.requires (client_of c.client_of-client.result) c.client_of-client.ensures)
+    c.hear.ensures.turn))
 
 pub returns-then-relies_on-clause-told : goal.returns-then-relies_on-clause-told
 returns-then-relies_on-clause-told g c = c.keep.ensures.1 ∙ (c.hear.ensures.told ∙ c.time_answer.ensures.1)

@@ -22,13 +22,15 @@ returns-then-keeps-clause-turn g c = then (as_brought (c.refuse.ensures.turn c.a
 pub answer-requires : goal.answer-requires
 answer-requires g c = (
   c.is_for_voter.ensures.voter c.if-not-is_for_voter.false
-      ∙ ap (λ (t : LeaseTerms). t.machine) (sym ((c.vote.ensures.vote 0).turn.terms ∙ (c.yield_to.ensures.turn.terms ∙ ap (λ (p : LeaseProcess). p.terms) c.know.ensures.0))),
+      ∙ ap (λ (t : LeaseTerms). t.machine) (sym ((c.vote.ensures.vote 0).turn.terms
+      ∙ (c.yield_to.ensures.turn.terms ∙ ap (λ (p : LeaseProcess). p.terms) c.know.ensures.0))),
   refl,
 )
 
 pub refuse_request-requires-in-Refused : goal.refuse_request-requires-in-Refused
 refuse_request-requires-in-Refused g c = c.is_for_voter.ensures.voter c.if-not-is_for_voter.false
-    ∙ ap (λ (t : LeaseTerms). t.machine) (sym ((c.vote.ensures.vote 0).turn.terms ∙ (c.yield_to.ensures.turn.terms ∙ ap (λ (p : LeaseProcess). p.terms) c.know.ensures.0)))
+    ∙ ap (λ (t : LeaseTerms). t.machine) (sym ((c.vote.ensures.vote 0).turn.terms
+    ∙ (c.yield_to.ensures.turn.terms ∙ ap (λ (p : LeaseProcess). p.terms) c.know.ensures.0)))
 
 pub returns-in-Granted-clause-turn : goal.returns-in-Granted-clause-turn
 returns-in-Granted-clause-turn g c =
@@ -36,14 +38,17 @@ returns-in-Granted-clause-turn g c =
     let client = client_of c.client_of.result in
     let voter = c.is_for_voter.ensures.voter c.if-not-is_for_voter.false
     ∙ ap (λ (t : LeaseTerms). t.machine) (sym (c.yield_to.ensures.turn.terms ∙ ap (λ (p : LeaseProcess). p.terms) c.know.ensures.0)) in
-    from_same c.know.ensures.0 (then_too (as_brought c.yield_to.ensures.turn) (said_is m (request_said m c.args.number c.args.keeps c.args.list c.requires.body client c.client_of.ensures)
-    (answered m client c.client_of.ensures voter (ap (λ (a : Answer). vote_of a) c.in-Granted.is) (c.vote.ensures.vote c.args.number) (c.answer.ensures.turn c.args.now))))
+    from_same c.know.ensures.0 (then_too (as_brought c.yield_to.ensures.turn)
+    (said_is m (request_said m c.args.number c.args.keeps c.args.list c.requires.body client c.client_of.ensures)
+    (answered m client c.client_of.ensures voter (ap (λ (a : Answer). vote_of a) c.in-Granted.is) (c.vote.ensures.vote c.args.number)
+    (c.answer.ensures.turn c.args.now))))
 
 pub returns-in-Refused-clause-turn : goal.returns-in-Refused-clause-turn
 returns-in-Refused-clause-turn g c =
     let m = c.args.message.now in
     let client = client_of c.client_of.result in
-    from_same c.know.ensures.0 (then_too (as_brought c.yield_to.ensures.turn) (said_is m (request_said m c.args.number c.args.keeps c.args.list c.requires.body client c.client_of.ensures)
+    from_same c.know.ensures.0 (then_too (as_brought c.yield_to.ensures.turn)
+    (said_is m (request_said m c.args.number c.args.keeps c.args.list c.requires.body client c.client_of.ensures)
     (then (c.vote.ensures.vote c.args.number).turn (c.refuse_request-in-Refused.ensures.turn c.args.now))))
 
 pub returns-then-keeps-clause-replies : goal.returns-then-keeps-clause-replies
@@ -65,7 +70,8 @@ returns-in-Granted-clause-replies g c = λ is none. record {
   right = (
     grind (arith, c.if-keeps.false, c.keeps.ensures.value),
     grind (arith, c.if-list.false, c.list.ensures),
-    right_granted c.args.now c.vote.new.self.process c.answer.new.self c.args.message.now c.in-Granted.is c.client_of.ensures c.answer.ensures.quiet.machine (c.vote.ensures.right ((c.answer.ensures.turn c.args.now).goes_on none)),
+    right_granted c.args.now c.vote.new.self.process c.answer.new.self c.args.message.now c.in-Granted.is c.client_of.ensures
+        c.answer.ensures.quiet.machine (c.vote.ensures.right ((c.answer.ensures.turn c.args.now).goes_on none)),
   );
 }
 
@@ -77,7 +83,8 @@ returns-in-Refused-clause-replies g c = λ is none. record {
   right = inr (
     grind (arith, c.if-keeps.false, c.keeps.ensures.value),
     grind (arith, c.if-list.false, c.list.ensures),
-    right_refused c.args.now c.vote.new.self.process c.refuse_request-in-Refused.new.self.process c.args.message.now c.in-Refused.is c.client_of.ensures c.refuse_request-in-Refused.ensures.quiet.machine
+    right_refused c.args.now c.vote.new.self.process c.refuse_request-in-Refused.new.self.process c.args.message.now c.in-Refused.is
+        c.client_of.ensures c.refuse_request-in-Refused.ensures.quiet.machine
         (c.vote.ensures.right ((c.refuse_request-in-Refused.ensures.turn c.args.now).goes_on none)),
   );
 }

@@ -10,18 +10,33 @@ pub returns-in-Some-claimed-clause-turn : goal.returns-in-Some-claimed-clause-tu
 returns-in-Some-claimed-clause-turn c =
     let ok : IsOk c.claim.result = search rules in
     no_action (record { terms = refl; start = refl; seal = refl; text = refl; halt = refl; told = refl }) c.in-Some.is refl
-    (c.asking_is_steps.ensures.claims c.in-Some.machine c.claim.new.self c.args.now c.args.user c.args.name.now (c.claim.ensures.claimed ok) (c.claim.ensures.counts ok)
+    (c.asking_is_steps.ensures.claims c.in-Some.machine c.claim.new.self c.args.now c.args.user c.args.name.now (c.claim.ensures.claimed ok)
+    (c.claim.ensures.counts ok)
     c.claim.ensures.voter c.claim.ensures.others c.claim.ensures.goes_on)
-    (leases_beside c.in-Some.machine c.claim.new.self c.args.now c.args.name.now (kept_begun c.in-Some.machine c.claim.new.self c.args.name.now (c.claim.ensures.claimed ok)) c.claim.ensures.others)
+    (leases_beside c.in-Some.machine c.claim.new.self c.args.now c.args.name.now
+    (kept_begun c.in-Some.machine c.claim.new.self c.args.name.now (c.claim.ensures.claimed ok)) c.claim.ensures.others)
 
 pub returns-in-Err-Claimed-clause-turn : goal.returns-in-Err-Claimed-clause-turn
-returns-in-Err-Claimed-clause-turn c = no_action (record { terms = refl; start = refl; seal = refl; text = refl; halt = refl; told = refl }) c.in-Some.is refl (all_still c.in-Err-Claimed.ensures.refused c.claim.ensures.goes_on) (leases_still c.in-Some.machine c.claim.new.self c.in-Err-Claimed.ensures.refused)
+returns-in-Err-Claimed-clause-turn c = no_action (record { terms = refl; start = refl; seal = refl; text = refl; halt = refl; told = refl })
+    c.in-Some.is refl (all_still c.in-Err-Claimed.ensures.refused c.claim.ensures.goes_on)
+    (leases_still c.in-Some.machine c.claim.new.self c.in-Err-Claimed.ensures.refused)
 
 pub returns-in-Err-Exhausted-clause-turn : goal.returns-in-Err-Exhausted-clause-turn
-returns-in-Err-Exhausted-clause-turn c = no_action (record { terms = refl; start = refl; seal = refl; text = refl; halt = refl; told = refl }) c.in-Some.is refl (all_still c.in-Err-Exhausted.ensures.refused c.claim.ensures.goes_on) (leases_still c.in-Some.machine c.claim.new.self c.in-Err-Exhausted.ensures.refused)
+returns-in-Err-Exhausted-clause-turn c = no_action (record {
+  terms = refl;
+  start = refl;
+  seal = refl;
+  text = refl;
+  halt = refl;
+  told =
+      refl;
+}) c.in-Some.is refl (all_still c.in-Err-Exhausted.ensures.refused c.claim.ensures.goes_on)
+    (leases_still c.in-Some.machine c.claim.new.self c.in-Err-Exhausted.ensures.refused)
 
 pub returns-in-Err-Full-clause-turn : goal.returns-in-Err-Full-clause-turn
-returns-in-Err-Full-clause-turn c = no_action (record { terms = refl; start = refl; seal = refl; text = refl; halt = refl; told = refl }) c.in-Some.is refl (all_still c.in-Err-Full.ensures.refused c.claim.ensures.goes_on) (leases_still c.in-Some.machine c.claim.new.self c.in-Err-Full.ensures.refused)
+returns-in-Err-Full-clause-turn c = no_action (record { terms = refl; start = refl; seal = refl; text = refl; halt = refl; told = refl })
+    c.in-Some.is refl (all_still c.in-Err-Full.ensures.refused c.claim.ensures.goes_on)
+    (leases_still c.in-Some.machine c.claim.new.self c.in-Err-Full.ensures.refused)
 
 pub returns-in-Some-claimed-clause-bound : goal.returns-in-Some-claimed-clause-bound
 returns-in-Some-claimed-clause-bound c = bound_kept refl c.in-Some.is refl c.claim.ensures.goes_on.bound

@@ -6,7 +6,8 @@ use Rattle.lease_session.proofs.Turns.{fell, written}
 use Rattle.lease_session.proofs.process.LeaseProcess.refuse.Goals as goal
 
 pub returns-in-Ok-clause-turn : goal.returns-in-Ok-clause-turn
-returns-in-Ok-clause-turn c = λ now. written (refused c.args.why) (record { machine = refl; terms = refl; start = refl; key = refl }) (λ out. out) (λ none. none) c.in-Ok.ensures refl refl (λ terms at m clock is. tt)
+returns-in-Ok-clause-turn c = λ now. written (refused c.args.why) (record { machine = refl; terms = refl; start = refl; key = refl })
+    (λ out. out) (λ none. none) c.in-Ok.ensures refl refl (λ terms at m clock is. tt)
 
 pub returns-in-Ok-clause-still : goal.returns-in-Ok-clause-still
 returns-in-Ok-clause-still c = record { machine = refl; terms = refl; start = refl; key = refl; told = refl }

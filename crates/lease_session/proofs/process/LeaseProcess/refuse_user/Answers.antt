@@ -5,7 +5,8 @@ use Rattle.lease_session.proofs.process.LeaseProcess.refuse_user.Goals as goal
 
 pub returns-in-Ok-clause-turn : goal.returns-in-Ok-clause-turn
 returns-in-Ok-clause-turn c = λ now.
-    written (unserved c.args.why c.args.name.now c.args.user) (record { machine = refl; terms = refl; start = refl; key = refl }) (λ out. out) (λ none. none) c.in-Ok.ensures refl refl (λ terms at m clock is. tt)
+    written (unserved c.args.why c.args.name.now c.args.user) (record { machine = refl; terms = refl; start = refl; key = refl })
+    (λ out. out) (λ none. none) c.in-Ok.ensures refl refl (λ terms at m clock is. tt)
 
 pub returns-in-Ok-clause-says : goal.returns-in-Ok-clause-says
 returns-in-Ok-clause-says c = λ none. record { before = c.args.self.now.text.items; ends = c.in-Ok.ensures }

@@ -6,7 +6,8 @@ use Rattle.lease_session.proofs.process.LeaseProcess.send.Goals as goal
 
 pub returns-in-Ok-push_send-clause-turn : goal.returns-in-Ok-push_send-clause-turn
 returns-in-Ok-push_send-clause-turn c = λ now.
-    written (send c.args.to c.args.message.now c.in-Ok.bytes.items) (record { machine = refl; terms = refl; start = refl; key = c.bytes_of.ensures.key }) (λ out. out) (λ none. none)
+    written (send c.args.to c.args.message.now c.in-Ok.bytes.items)
+    (record { machine = refl; terms = refl; start = refl; key = c.bytes_of.ensures.key }) (λ out. out) (λ none. none)
     (c.in-Ok-push_send.ensures c.args.message.now
     ∙ ap (λ (b : List ℕ). c.args.self.now.text.items ++ row_text (send c.args.to c.args.message.now b)) c.deref.ensures.value)
     refl refl (λ terms at m clock is. record { by_step = λ x i. i; goes_to = c.requires; carried = c.in-Ok.ensures.bytes })

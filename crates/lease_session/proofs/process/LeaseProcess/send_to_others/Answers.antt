@@ -13,4 +13,8 @@ loop-number-preserved c = record {
 }
 
 pub send_to-requires : goal.send_to-requires
-send_to-requires c = record { client = c.requires.client ∙ ap (λ (t : LeaseTerms). t.machine) (sym c.loop-number.invariant.quiet.terms); body = c.requires.body }
+send_to-requires c = record {
+  client = c.requires.client
+      ∙ ap (λ (t : LeaseTerms). t.machine) (sym c.loop-number.invariant.quiet.terms);
+  body = c.requires.body;
+}

@@ -12,7 +12,8 @@ returns-in_default-held c = record {
     same_halt = refl;
     same_text = refl;
     same_told = refl;
-    is_so = λ going. none_held c.args.now c.args.name.now c.args.self.now c.in-Some.machine c.in-Some.is (c.held.ensures.none (search rules));
+    is_so = λ going. none_held c.args.now c.args.name.now c.args.self.now c.in-Some.machine c.in-Some.is
+        (c.held.ensures.none (search rules));
   }));
 }
 
@@ -24,9 +25,21 @@ returns-then-is_told c = record {
     same_text = refl;
     same_told = refl;
     is_so = λ going.
-        told_held c.args.now c.args.name.now c.args.self.now c.in-Some.machine c.in-Some-claimed.claim.now c.in-Some-held.request c.in-Some-checked_add.until c.in-Some.is
-        c.in-Some-claimed.ensures.some c.in-Some-held.ensures.held (omega (arith, c.in-Some-checked_add.ensures, c.relies_for.ensures.value))
-        (subst (λ (ts : List Told). last_told c.args.name.now ts ≡ Some (record { name = c.args.name.now; user = c.in-Some-claimed.claim.now.user; epoch = c.in-Some-held.request.epoch; until = c.in-Some-checked_add.until }))
+        told_held c.args.now c.args.name.now c.args.self.now c.in-Some.machine c.in-Some-claimed.claim.now c.in-Some-held.request
+        c.in-Some-checked_add.until c.in-Some.is
+        c.in-Some-claimed.ensures.some c.in-Some-held.ensures.held (omega (
+          arith,
+          c.in-Some-checked_add.ensures,
+          c.relies_for.ensures.value,
+        ))
+        (subst (λ (ts : List Told). last_told c.args.name.now ts
+        ≡ Some (record {
+          name = c.args.name.now;
+          user = c.in-Some-claimed.claim.now.user;
+          epoch = c.in-Some-held.request.epoch;
+          until =
+              c.in-Some-checked_add.until;
+        }))
         c.deref.ensures.value (c.is_told.ensures c.if-is_told.true));
   }));
 }
@@ -49,7 +62,12 @@ returns-in-Ok c = record {
     told = c.in-Ok.ensures.told;
     holds = λ terms at m clock is. held_row c.args.self.now c.in-Some.machine c.in-Some.is c.in-Some-held.ensures.held
         (omega (arith, c.in-Some-checked_add.ensures, c.relies_for.ensures.value)) terms at m clock is;
-    is_so = news_of_it c.args.now c.args.name.now c.args.self.now c.in-Some.machine c.in-Some-claimed.claim.now c.in-Some-held.request c.in-Some-checked_add.until c.in-Some.is
-        c.in-Some-claimed.ensures.some c.in-Some-held.ensures.held (omega (arith, c.in-Some-checked_add.ensures, c.relies_for.ensures.value));
+    is_so = news_of_it c.args.now c.args.name.now c.args.self.now c.in-Some.machine c.in-Some-claimed.claim.now c.in-Some-held.request
+        c.in-Some-checked_add.until c.in-Some.is
+        c.in-Some-claimed.ensures.some c.in-Some-held.ensures.held (omega (
+          arith,
+          c.in-Some-checked_add.ensures,
+          c.relies_for.ensures.value,
+        ));
   }));
 }

@@ -7,7 +7,8 @@ abbrev pub invariant-loop-line : goal.invariant-loop-line
 invariant-loop-line g l = record {
   unread : l.self.unread ≡ l.fn.self.unread;
   so : (before : List (List ℕ)) × (lines_of l.fn.whole ≡ before ++ lines_of l.left)
-      × AreAnswered before (at l.fn.self.participant.process l.fn.self.participant.told l.fn.self.stopped (g.S.EpochStore.bound l.fn.self.participant.store))
+      × AreAnswered before (at l.fn.self.participant.process l.fn.self.participant.told l.fn.self.stopped
+      (g.S.EpochStore.bound l.fn.self.participant.store))
       (at l.self.participant.process l.self.participant.told l.self.stopped (g.S.EpochStore.bound l.self.participant.store));
 }
 

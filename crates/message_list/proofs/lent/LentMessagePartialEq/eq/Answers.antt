@@ -7,4 +7,7 @@ pub returns : goal.returns
 returns c =
     let one : c.args.self.now ≡ message_opened c.opened.result = cc (c.self.view_is, c.opened.ensures.message) in
     let other : c.args.other.now ≡ message_opened c.opened-2.result = cc (c.other.view_is, c.opened-2.ensures.message) in
-    as_same c.is_same.result c.args.self.now c.args.other.now (λ yes. one ∙ c.is_same.ensures.0 yes ∙ sym other, λ same. c.is_same.ensures.1 (sym one ∙ same ∙ other))
+    as_same c.is_same.result c.args.self.now c.args.other.now (
+      λ yes. one ∙ c.is_same.ensures.0 yes ∙ sym other,
+      λ same. c.is_same.ensures.1 (sym one ∙ same ∙ other),
+    )

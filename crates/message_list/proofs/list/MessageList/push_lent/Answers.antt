@@ -10,16 +10,47 @@ invariant_of-self c =
     let was = c.self.inside in
     let lent = c.opened-lent.result in
     let is : c.args.message.now ≡ message_opened lent = cc (c.message.view_is, c.opened-lent.ensures.message) in
-    let now = added was.letters.items _ was.tasks.items _ was.works.items _ was.payloads.items _ c.args.message.now c.lent_letter_of-packed_message.result (shape_opened lent)
-    _ _ _ (c.len.ensures ∙ was.tasks.ok.0) (c.len-2.ensures ∙ was.works.ok.0) (c.len-3.ensures ∙ was.payloads.ok.0) (lent_shape lent c.opened-lent.ensures.opened c.args.message.now is) (c.lent_letter_of-packed_message.ensures.value ∙ ap (λ (e : Envelope). letter_of c.len.result c.len-2.result e) (sym is))
+    let now = added was.letters.items _ was.tasks.items _ was.works.items _ was.payloads.items _ c.args.message.now
+    c.lent_letter_of-packed_message.result (shape_opened lent)
+    _ _ _ (c.len.ensures ∙ was.tasks.ok.0) (c.len-2.ensures ∙ was.works.ok.0) (c.len-3.ensures ∙ was.payloads.ok.0)
+    (lent_shape lent c.opened-lent.ensures.opened c.args.message.now is)
+    (c.lent_letter_of-packed_message.ensures.value ∙ ap (λ (e : Envelope). letter_of c.len.result c.len-2.result e) (sym is))
     c.push_reserved.ensures.items c.keep_lent_task.ensures.tasks c.keep_lent_work.ensures.works c.keep_lent_payload.ensures.payloads
     c.lent_letter_of-packed_message.ensures.can_be_read c.keep_lent_payload.ensures.fits c.self.invariant.read in
     record {
       read = now.0;
-      letters = omega (arith, c.self.invariant.room, c.self.invariant.letters, c.push_reserved.ensures.len, c.push_reserved.ensures.capacity, c.requires);
-      tasks = omega (arith, c.self.invariant.room, c.self.invariant.tasks, c.keep_lent_task.ensures.few, c.keep_lent_task.ensures.room, c.requires);
-      works = omega (arith, c.self.invariant.room, c.self.invariant.works, c.keep_lent_work.ensures.few, c.keep_lent_work.ensures.room, c.requires);
-      payloads = omega (arith, c.self.invariant.payloads, c.self.invariant.room, c.keep_lent_payload.ensures.few, c.keep_lent_payload.ensures.room, c.requires);
+      letters = omega (
+        arith,
+        c.self.invariant.room,
+        c.self.invariant.letters,
+        c.push_reserved.ensures.len,
+        c.push_reserved.ensures.capacity,
+        c.requires,
+      );
+      tasks = omega (
+        arith,
+        c.self.invariant.room,
+        c.self.invariant.tasks,
+        c.keep_lent_task.ensures.few,
+        c.keep_lent_task.ensures.room,
+        c.requires,
+      );
+      works = omega (
+        arith,
+        c.self.invariant.room,
+        c.self.invariant.works,
+        c.keep_lent_work.ensures.few,
+        c.keep_lent_work.ensures.room,
+        c.requires,
+      );
+      payloads = omega (
+        arith,
+        c.self.invariant.payloads,
+        c.self.invariant.room,
+        c.keep_lent_payload.ensures.few,
+        c.keep_lent_payload.ensures.room,
+        c.requires,
+      );
       room = omega (arith, c.self.invariant.room, c.requires);
     }
 
@@ -28,8 +59,11 @@ returns c =
     let was = c.self.inside in
     let lent = c.opened-lent.result in
     let is : c.args.message.now ≡ message_opened lent = cc (c.message.view_is, c.opened-lent.ensures.message) in
-    let now = added was.letters.items _ was.tasks.items _ was.works.items _ was.payloads.items _ c.args.message.now c.lent_letter_of-packed_message.result (shape_opened lent)
-    _ _ _ (c.len.ensures ∙ was.tasks.ok.0) (c.len-2.ensures ∙ was.works.ok.0) (c.len-3.ensures ∙ was.payloads.ok.0) (lent_shape lent c.opened-lent.ensures.opened c.args.message.now is) (c.lent_letter_of-packed_message.ensures.value ∙ ap (λ (e : Envelope). letter_of c.len.result c.len-2.result e) (sym is))
+    let now = added was.letters.items _ was.tasks.items _ was.works.items _ was.payloads.items _ c.args.message.now
+    c.lent_letter_of-packed_message.result (shape_opened lent)
+    _ _ _ (c.len.ensures ∙ was.tasks.ok.0) (c.len-2.ensures ∙ was.works.ok.0) (c.len-3.ensures ∙ was.payloads.ok.0)
+    (lent_shape lent c.opened-lent.ensures.opened c.args.message.now is)
+    (c.lent_letter_of-packed_message.ensures.value ∙ ap (λ (e : Envelope). letter_of c.len.result c.len-2.result e) (sym is))
     c.push_reserved.ensures.items c.keep_lent_task.ensures.tasks c.keep_lent_work.ensures.works c.keep_lent_payload.ensures.payloads
     c.lent_letter_of-packed_message.ensures.can_be_read c.keep_lent_payload.ensures.fits c.self.invariant.read in
     rw (now.1, ← c.self.view_is) refl

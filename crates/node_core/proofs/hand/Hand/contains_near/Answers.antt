@@ -10,5 +10,6 @@ returns-in-Some c =
     let job = c.in-Some.job in
     let found : slice_get jobs c.args.place ≡ Some job = search rules in
     let is : (job.origin == c.args.origin && job.id == c.args.id) ≡ true = search rules in
-    sym (list_any_at (λ (j : InHand). j.origin == c.args.origin && j.id == c.args.id) jobs c.args.place job (slice_get_within jobs c.args.place job found)
+    sym (list_any_at (λ (j : InHand). j.origin == c.args.origin
+    && j.id == c.args.id) jobs c.args.place job (slice_get_within jobs c.args.place job found)
     (ap (λ (j : InHand). j.origin == c.args.origin && j.id == c.args.id) (get_or_from_slice_get jobs c.args.place job job found) ∙ is))

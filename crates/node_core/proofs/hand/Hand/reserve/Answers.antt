@@ -8,5 +8,6 @@ invariant_of-self-2 c =
     let was = c.self.inside in
     record {
       nodes = subst (λ (kept : List KeptJob). All HasNode kept) (sym c.reserve.ensures.jobs) c.self.invariant.nodes;
-      lists = subst (λ (kept : List KeptJob). Lists c.reserve-2.new.self (in_hand kept)) (sym c.reserve.ensures.jobs) (c.reserve-2.ensures (in_hand was.list.jobs) c.self.invariant.lists);
+      lists = subst (λ (kept : List KeptJob). Lists c.reserve-2.new.self (in_hand kept)) (sym c.reserve.ensures.jobs)
+          (c.reserve-2.ensures (in_hand was.list.jobs) c.self.invariant.lists);
     }

@@ -5,4 +5,5 @@ use Rattle.node_core.specs.Listing.{HasNode}
 use Rattle.node_core.proofs.held_jobs.HandIterIterator.next.Goals as goal
 
 pub invariant_of-self-2 : goal.invariant_of-self-2
-invariant_of-self-2 c = All-tail HasNode c.in_ok-next.field-0 c.next.new.self (subst (λ (kept : List KeptJob). All HasNode kept) c.in_ok-next.ensures.steps c.self.invariant)
+invariant_of-self-2 c = All-tail HasNode c.in_ok-next.field-0 c.next.new.self
+    (subst (λ (kept : List KeptJob). All HasNode kept) c.in_ok-next.ensures.steps c.self.invariant)

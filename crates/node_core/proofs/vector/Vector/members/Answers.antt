@@ -16,4 +16,5 @@ shared members id one even set in_it = record {
 
 pub returns-in-Some-clause-shared : goal.returns-in-Some-clause-shared
 returns-in-Some-clause-shared c = λ there. rw c.members.ensures.value
-    (shared c.in-Some.task.members c.in-Some.task.group.creator c.one_owner.ensures c.even_shares.ensures c.members.ensures.set c.members.ensures.creator)
+    (shared c.in-Some.task.members c.in-Some.task.group.creator c.one_owner.ensures c.even_shares.ensures c.members.ensures.set
+    c.members.ensures.creator)

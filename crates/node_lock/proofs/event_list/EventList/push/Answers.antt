@@ -9,7 +9,8 @@ invariant_of-self c =
     let kept = c.keep_event-kept.ensures in
     let events = c.push_reserved.ensures.items ∙ ap (λ (k : PackedEvent). was.kept.items ++ k ∷ []) kept.value in
     record {
-      read = rw (events, kept.messages, kept.payloads) (all_read_more was.kept.items was.messages.messages was.payloads.items c.args.event.now kept.few c.self.invariant.read);
+      read = rw (events, kept.messages, kept.payloads) (all_read_more was.kept.items was.messages.messages was.payloads.items
+          c.args.event.now kept.few c.self.invariant.read);
       events = omega (arith, c.self.invariant.events, c.push_reserved.ensures.len, c.push_reserved.ensures.capacity, c.requires);
       messages = omega (arith, c.self.invariant.messages, kept.left, c.requires);
       payloads = omega (arith, c.self.invariant.payloads, kept.long, kept.capacity, c.requires);
@@ -20,4 +21,11 @@ returns c =
     let was = c.self.inside in
     let kept = c.keep_event-kept.ensures in
     let events = c.push_reserved.ensures.items ∙ ap (λ (k : PackedEvent). was.kept.items ++ k ∷ []) kept.value in
-    rw (events, kept.messages, kept.payloads, events_more was.kept.items was.messages.messages was.payloads.items c.args.event.now c.self.invariant.read, ← c.self.view_is) refl
+    rw (
+      events,
+      kept.messages,
+      kept.payloads,
+      events_more was.kept.items was.messages.messages was.payloads.items c.args.event.now
+          c.self.invariant.read,
+      ← c.self.view_is,
+    ) refl

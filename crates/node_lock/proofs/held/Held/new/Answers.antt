@@ -25,7 +25,8 @@ invariant_of-result c = rw (c.in_ok-history.ensures.turns, c.in_ok-history.ensur
   intake = search rules;
   waiting = search rules;
   few = search rules;
-  lost = nothing_lost c.args.puts.items (λ k d lt. (let long : length c.args.puts.items ≡ vec_len c.args.puts = search rules in (c.requires.ends k d (subst (λ (n : ℕ). k < n) long lt)).2));
+  lost = nothing_lost c.args.puts.items (λ k d lt. (let long : length c.args.puts.items ≡ vec_len c.args.puts = search rules in
+      (c.requires.ends k d (subst (λ (n : ℕ). k < n) long lt)).2));
   numbers = rw (c.requires.none_drawn, c.in_ok-history.ensures.numbers) no_numbers;
   area = c.in_ok-node.ensures.number;
   never_area_exhausted = tt;

@@ -20,18 +20,32 @@ pub returns-in-Crash-clause-taken : goal.returns-in-Crash-clause-taken
 returns-in-Crash-clause-taken c =
     let old = c.args.self.now.node in
     let new = c.crash.new.self in
-    let crashed : WasCrashed c.as_slice.result.now old new = record { there = c.crash.ensures.there; down = c.crash.ensures.down; disk = c.crash.ensures.disk; stands = c.crash.ensures.stands } in
+    let crashed : WasCrashed c.as_slice.result.now old new =
+    record {
+      there = c.crash.ensures.there;
+      down = c.crash.ensures.down;
+      disk = c.crash.ensures.disk;
+      stands =
+          c.crash.ensures.stands;
+    } in
     let did : TurnDid old (asked_in c.args.order.now) Crashed [] new =
-    subst (λ (o : OperatorOrder). TurnDid old (asked_in o) Crashed [] new) (sym c.in-Crash.is) (subst (λ (f : List ℕ). WasCrashed f old new) c.as_slice.ensures crashed, refl, refl) in (
+    subst (λ (o : OperatorOrder). TurnDid old (asked_in o) Crashed [] new) (sym c.in-Crash.is)
+    (subst (λ (f : List ℕ). WasCrashed f old new) c.as_slice.ensures crashed, refl, refl) in (
       record { what = Crashed; sent = [] },
       record {
         did = did;
         id = ap (λ (n : Node Memory). n.id) c.crash.ensures.down;
         nodes = ap (λ (n : Node Memory). n.nodes) c.crash.ensures.down;
         sent = nothing_sent _;
-        turns = c.push_quiet.ensures.turns ∙ ap (λ (ts : List Turn). ts ++ turn_of Operator c.args.index (record { what = Crashed; sent = [] }) ∷ []) c.reserve_quiet.ensures.turns;
+        turns = c.push_quiet.ensures.turns ∙ ap (λ (ts : List Turn). ts
+            ++ turn_of Operator c.args.index (record { what = Crashed; sent = [] }) ∷ []) c.reserve_quiet.ensures.turns;
         lost = none_noted _ _ _ _ (c.push_quiet.ensures.lost ∙ c.reserve_quiet.ensures.lost);
-        number = record { number = c.draw-number.result; draws = c.draw-number.ensures.draws; given = c.push_quiet.ensures.numbers ∙ ap (λ (ns : List ℕ). ns ++ c.draw-number.result ∷ []) c.reserve_quiet.ensures.numbers };
+        number = record {
+          number = c.draw-number.result;
+          draws = c.draw-number.ensures.draws;
+          given = c.push_quiet.ensures.numbers
+              ∙ ap (λ (ns : List ℕ). ns ++ c.draw-number.result ∷ []) c.reserve_quiet.ensures.numbers;
+        };
         area = crashed_area _ _ c.crash.ensures.there c.crash.ensures.number;
       },
     )
@@ -53,6 +67,7 @@ returns-in-Arm-clause-taken c =
         turns = rested.taken;
         lost = none_noted _ _ _ _ rested.lost;
         number = rested.number;
-        area = subst (λ (d : Option Memory). AreaRises old.disk d (NoOp Nothing)) (sym (ap (λ (n : Node Memory). n.disk) c.arm.ensures.armed)) (armed_area _ old.disk);
+        area = subst (λ (d : Option Memory). AreaRises old.disk d (NoOp Nothing))
+            (sym (ap (λ (n : Node Memory). n.disk) c.arm.ensures.armed)) (armed_area _ old.disk);
       },
     )

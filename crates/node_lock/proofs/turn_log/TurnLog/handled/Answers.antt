@@ -16,4 +16,5 @@ returns-clause-some c =
     let at = line_read c.deref.result.now was.lines.items place line c.deref.ensures.value read.3.0 read.1 in
     subst (λ (sent : List Envelope). IsHandledAt place c.read.new.event sent c.args.self.now.turns) (sym c.part.ensures)
     (subst (λ (log : Log). IsHandledAt place c.read.new.event (part line.start line.end was.sent.messages) log.turns) c.self.view_is
-    (handled_at was.lines.items was.sent.messages was.events.events place line c.in-Handed.at c.read.new.event at (c.in-Handed.is ∙ ap (λ (f : EventOutcome). Handed f c.in-Handed.at) c.in-Done.is) c.read.ensures))
+    (handled_at was.lines.items was.sent.messages was.events.events place line c.in-Handed.at c.read.new.event at (c.in-Handed.is
+    ∙ ap (λ (f : EventOutcome). Handed f c.in-Handed.at) c.in-Done.is) c.read.ensures))

@@ -6,4 +6,5 @@ use Rattle.node_session.proofs.session.Session.answer.Goals as goal
 
 pub returns-in-Nothing-clause-replies : goal.returns-in-Nothing-clause-replies
 returns-in-Nothing-clause-replies g c =
-    subst (λ (a : Asked). Replies g.D.SectorDisk.state c.args.self.now c.args.self.now a) (sym c.in-Nothing.is) (nothing_line g.D.SectorDisk.state c.args.self.now c.requires)
+    subst (λ (a : Asked). Replies g.D.SectorDisk.state c.args.self.now c.args.self.now a) (sym c.in-Nothing.is)
+    (nothing_line g.D.SectorDisk.state c.args.self.now c.requires)

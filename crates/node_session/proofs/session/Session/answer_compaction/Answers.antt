@@ -5,6 +5,8 @@ use Rattle.node_session.proofs.session.Session.answer_compaction.Goals as goal
 pub returns-clause-replies : goal.returns-clause-replies
 returns-clause-replies g c =
     on_ok c.push_closing.result
-    (λ said. compact_line g.D.SectorDisk.state c.args.self.now c.next_number.new.self c.compact.new.self _ c.in_ok-number.number c.in_ok-ended.ended c.push_closing.new.text.items
-    c.in_ok-number.ensures.number.0 c.in_ok-number.ensures.number.1 c.in_ok-ended.ensures.turn (c.self.view_is ∙ c.stop_where_failed.ensures) said)
+    (λ said. compact_line g.D.SectorDisk.state c.args.self.now c.next_number.new.self c.compact.new.self _ c.in_ok-number.number
+    c.in_ok-ended.ended c.push_closing.new.text.items
+    c.in_ok-number.ensures.number.0 c.in_ok-number.ensures.number.1 c.in_ok-ended.ensures.turn (c.self.view_is
+    ∙ c.stop_where_failed.ensures) said)
     c.push_closing.ensures

@@ -8,28 +8,39 @@ pub loop-fired-init : goal.loop-fired-init
 loop-fired-init g c = record {
   rest = refl;
   done = λ denied. absurd cc;
-  calls = no_call g.D.SectorDisk.state c.args.self.now (end.Done None) (IsFiring c.args.self.now.waits c.args.self.now.timers c.args.self.now.timers 0) (λ s stands. (refl, refl));
+  calls = no_call g.D.SectorDisk.state c.args.self.now (end.Done None)
+      (IsFiring c.args.self.now.waits c.args.self.now.timers c.args.self.now.timers 0) (λ s stands. (refl, refl));
 }
 
 pub returns-in_default-clause-calls : goal.returns-in_default-clause-calls
 returns-in_default-clause-calls g c =
-    calls_rest g.D.SectorDisk.state c.args.self.now c.loop-fired.self c.due.new.self c.due.result c.loop-fired.ended c.loop-fired._fired c.in_default.is c.due.ensures.same c.due.ensures.due (omega (arith, c.loop-fired-test.true))
+    calls_rest g.D.SectorDisk.state c.args.self.now c.loop-fired.self c.due.new.self c.due.result c.loop-fired.ended c.loop-fired._fired
+    c.in_default.is c.due.ensures.same c.due.ensures.due (omega (arith, c.loop-fired-test.true))
     c.loop-fired.invariant.calls
 
 pub returns-then-is_denied-clause-calls : goal.returns-then-is_denied-clause-calls
 returns-then-is_denied-clause-calls g c =
-    calls_denied g.D.SectorDisk.state c.args.self.now c.turn.new.self c.in_ok-ended.ended (c.loop-fired._fired + 1) (sym c.is_denied.ensures ∙ c.if-is_denied.true) (omega (arith, c.loop-fired-test.true))
-    (calls_due g.D.SectorDisk.state c.args.self.now c.loop-fired.self c.due.new.self c.add_fired.new.self c.turn.new.self c.in-Some.event c.due.result c.loop-fired.ended c.in_ok-ended.ended c.loop-fired._fired
-    c.in-Some.ensures.fired c.in-Some.is c.due.ensures.same c.due.ensures.due c.in_ok-add_fired.ensures.text c.loop-fired.invariant.done c.loop-fired.invariant.calls c.in_ok-ended.ensures.turn)
+    calls_denied g.D.SectorDisk.state c.args.self.now c.turn.new.self c.in_ok-ended.ended (c.loop-fired._fired + 1)
+    (sym c.is_denied.ensures ∙ c.if-is_denied.true) (omega (arith, c.loop-fired-test.true))
+    (calls_due g.D.SectorDisk.state c.args.self.now c.loop-fired.self c.due.new.self c.add_fired.new.self c.turn.new.self c.in-Some.event
+    c.due.result c.loop-fired.ended c.in_ok-ended.ended c.loop-fired._fired
+    c.in-Some.ensures.fired c.in-Some.is c.due.ensures.same c.due.ensures.due c.in_ok-add_fired.ensures.text c.loop-fired.invariant.done
+    c.loop-fired.invariant.calls c.in_ok-ended.ensures.turn)
 
 pub loop-fired-preserved : goal.loop-fired-preserved
 loop-fired-preserved g c = record {
   rest = c.turn.ensures.rest ∙ (c.add_fired.ensures.rest ∙ (ap (λ p. p.rest) c.due.ensures.same ∙ c.loop-fired.invariant.rest));
   done = λ denied. (let bad : false ≡ true = sym c.if-is_denied.false ∙ (c.is_denied.ensures ∙ denied) in absurd cc);
-  calls = calls_due g.D.SectorDisk.state c.args.self.now c.loop-fired.self c.due.new.self c.add_fired.new.self c.turn.new.self c.in-Some.event c.due.result c.loop-fired.ended c.in_ok-ended.ended c.loop-fired._fired
-      c.in-Some.ensures.fired c.in-Some.is c.due.ensures.same c.due.ensures.due c.in_ok-add_fired.ensures.text c.loop-fired.invariant.done c.loop-fired.invariant.calls c.in_ok-ended.ensures.turn;
+  calls = calls_due g.D.SectorDisk.state c.args.self.now c.loop-fired.self c.due.new.self c.add_fired.new.self c.turn.new.self
+      c.in-Some.event c.due.result c.loop-fired.ended c.in_ok-ended.ended c.loop-fired._fired
+      c.in-Some.ensures.fired c.in-Some.is c.due.ensures.same c.due.ensures.due c.in_ok-add_fired.ensures.text c.loop-fired.invariant.done
+      c.loop-fired.invariant.calls c.in_ok-ended.ensures.turn;
 }
 
 pub returns-clause-calls : goal.returns-clause-calls
 returns-clause-calls g c =
-    calls_ended g.D.SectorDisk.state c.args.self.now c.loop-fired.self c.loop-fired.ended c.loop-fired._fired (omega (arith, c.loop-fired-test.false, c.loop-fired.auto._fired-end)) c.loop-fired.invariant.calls
+    calls_ended g.D.SectorDisk.state c.args.self.now c.loop-fired.self c.loop-fired.ended c.loop-fired._fired (omega (
+      arith,
+      c.loop-fired-test.false,
+      c.loop-fired.auto._fired-end,
+    )) c.loop-fired.invariant.calls

@@ -10,5 +10,6 @@ abbrev pub invariant-loop-fired : goal.invariant-loop-fired
 invariant-loop-fired g l = record {
   rest : l.self.rest ≡ l.fn.self.rest;
   done : IsDenied l.ended → ⊥;
-  calls : Calls g.D.SectorDisk.state l.fn.self l.self fired_news (Timely (IsFiring l.fn.self.waits l.fn.self.timers l.self.timers l._fired)) (end.Done None) l.ended;
+  calls : Calls g.D.SectorDisk.state l.fn.self l.self fired_news (Timely (IsFiring l.fn.self.waits l.fn.self.timers l.self.timers l._fired))
+      (end.Done None) l.ended;
 }

@@ -13,7 +13,8 @@ tear-requires c =
     let i = c.self.inside in
     let test = c.is_synced-synced.ensures in
     record {
-      flags = ap length c.deref.ensures.value ∙ c.self.invariant.size ∙ sym (length-undone i.notes.since i.sectors) ∙ sym (ap length c.undo.ensures.back);
+      flags = ap length c.deref.ensures.value ∙ c.self.invariant.size ∙ sym (length-undone i.notes.since i.sectors)
+          ∙ sym (ap length c.undo.ensures.back);
       synced = λ is at. subst (λ u. IsFalse (get_or u at false)) (sym c.deref.ensures.value)
           (none_flagged i.sectors i.unsynced.items i.notes.since i.torn c.self.invariant (test.untorn is) (test.none is) at);
     }
@@ -29,8 +30,10 @@ returns-clause-image c =
     let i = c.self.inside in
     let fill = c.args.fill.now in
     let torn = c.tear.new.sectors in
-    let tears = subst (λ (s : Image). (at : ℕ) → at < length s → sector_at torn at ≡ torn_at i.unsynced.items fill at (sector_at s at)) c.undo.ensures.back
-    (subst (λ u. (at : ℕ) → at < length c.undo.new.sectors → sector_at torn at ≡ torn_at u fill at (sector_at c.undo.new.sectors at)) c.deref.ensures.value c.tear.ensures.torn) in
+    let tears = subst (λ (s : Image). (at : ℕ) → at < length s
+    → sector_at torn at ≡ torn_at i.unsynced.items fill at (sector_at s at)) c.undo.ensures.back
+    (subst (λ u. (at : ℕ) → at < length c.undo.new.sectors → sector_at torn at
+    ≡ torn_at u fill at (sector_at c.undo.new.sectors at)) c.deref.ensures.value c.tear.ensures.torn) in
     subst (λ (m : Memory). IsCrashed m fill torn) c.self.view_is
     (crashed i.sectors torn i.unsynced.items i.notes.since i.notes.times i.failures i.left i.torn fill c.self.invariant (size c) tears)
 
@@ -41,7 +44,8 @@ pub returns-clause-anew : goal.returns-clause-anew
 returns-clause-anew c =
     let after = c.tear.new.sectors in
     let cleared = c.clear.ensures in
-    begun_anew after c.mark_synced.new.unsynced.items c.clear.new.self.since c.clear.new.self.times c.self.inside.failures (length c.self.inside.unsynced.items)
+    begun_anew after c.mark_synced.new.unsynced.items c.clear.new.self.since c.clear.new.self.times c.self.inside.failures
+    (length c.self.inside.unsynced.items)
     (ap (λ (n : Noted). n.since) cleared) (ap (λ (n : Noted). n.times) cleared) c.mark_synced.ensures (same_size c)
     ∙ ap (λ (m : Memory). all_synced after m.failures) c.self.view_is
 

@@ -15,15 +15,26 @@ invariant_of-self-2 c =
     noted_and_written i.sectors c.write.new.self i.unsynced.items i.torn c.args.at c.args.from.now i.notes.since c.may_write.new.notes.since
     (omega (arith, c.if-len-at.false)) c.write.ensures (added c) c.self.invariant
 
-sees : (c : goal.After-write) → seen c.write.new.self (set c.self.inside.unsynced.items c.args.at true) c.may_write.new.notes.since c.may_write.new.notes.times c.self.inside.failures c.may_write.new.left
-    ≡ record c.args.self.now { contents = set c.args.self.now.contents c.args.at c.args.from.now; unsynced = set c.args.self.now.unsynced c.args.at true; left = spent c.args.self.now.left }
+sees : (c : goal.After-write) → seen c.write.new.self (set c.self.inside.unsynced.items c.args.at true) c.may_write.new.notes.since
+    c.may_write.new.notes.times c.self.inside.failures c.may_write.new.left
+    ≡ record c.args.self.now {
+      contents = set c.args.self.now.contents c.args.at c.args.from.now;
+      unsynced =
+          set c.args.self.now.unsynced c.args.at true;
+      left = spent c.args.self.now.left;
+    }
 sees c =
     let i = c.self.inside in
-    let after = λ (s : Image). seen s (set i.unsynced.items c.args.at true) c.may_write.new.notes.since i.notes.times i.failures c.may_write.new.left in
-    ap (λ times. seen c.write.new.self (set i.unsynced.items c.args.at true) c.may_write.new.notes.since times i.failures c.may_write.new.left) c.may_write.ensures.times
+    let after = λ (s : Image). seen s (set i.unsynced.items c.args.at true) c.may_write.new.notes.since i.notes.times i.failures
+    c.may_write.new.left in
+    ap (λ times. seen c.write.new.self (set i.unsynced.items c.args.at true) c.may_write.new.notes.since times i.failures
+    c.may_write.new.left) c.may_write.ensures.times
     ∙ ap after c.write.ensures
-    ∙ subst (λ (m : Memory). after (set i.sectors c.args.at c.args.from.now) ≡ record m { contents = set m.contents c.args.at c.args.from.now; unsynced = set m.unsynced c.args.at true; left = spent m.left }) c.self.view_is
-    (written i.sectors i.unsynced.items i.notes.since c.may_write.new.notes.since i.notes.times i.failures c.args.at c.args.from.now i.left c.may_write.new.left (added c) c.may_write.ensures.spent)
+    ∙ subst (λ (m : Memory). after (set i.sectors c.args.at c.args.from.now)
+    ≡ record m { contents = set m.contents c.args.at c.args.from.now; unsynced = set m.unsynced c.args.at true; left = spent m.left })
+    c.self.view_is
+    (written i.sectors i.unsynced.items i.notes.since c.may_write.new.notes.since i.notes.times i.failures c.args.at c.args.from.now i.left
+    c.may_write.new.left (added c) c.may_write.ensures.spent)
 
 pub returns-clause-ok : goal.returns-clause-ok
 returns-clause-ok c = λ ok. sees c

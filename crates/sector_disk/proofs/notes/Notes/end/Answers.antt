@@ -26,5 +26,6 @@ returns-clause-ok c = λ ok.
     let i = c.self.inside in
     let now = c.push.new.self.items in
     ap (λ k. noted now k i.notes.items) (here c)
-    ∙ subst (λ (n : Noted). noted now (length i.notes.items) i.notes.items ≡ record { times = n.times ++ n.since ∷ []; since = [] }) c.self.view_is
+    ∙ subst (λ (n : Noted). noted now (length i.notes.items) i.notes.items
+    ≡ record { times = n.times ++ n.since ∷ []; since = [] }) c.self.view_is
     (noted-end i.ends.items now i.closed i.notes.items c.self.invariant.closed (ends c))

@@ -20,7 +20,8 @@ stays c =
 follows : (c : goal.After-pop) → FollowFrom 0 c.self.inside.ends.items (length c.pop.new.self.items)
 follows c =
     let i = c.self.inside in
-    follow_within 0 i.ends.items (length i.notes.items) (length c.pop.new.self.items) c.self.invariant.follow (subst (λ k. k ≤ length c.pop.new.self.items) c.self.invariant.closed (stays c))
+    follow_within 0 i.ends.items (length i.notes.items) (length c.pop.new.self.items) c.self.invariant.follow
+    (subst (λ k. k ≤ length c.pop.new.self.items) c.self.invariant.closed (stays c))
 
 pub invariant_of-self : goal.invariant_of-self
 invariant_of-self c = record { closed = c.self.invariant.closed; follow = follows c; within = stays c }
@@ -29,5 +30,6 @@ pub returns-clause-some : goal.returns-clause-some
 returns-clause-some c =
     let i = c.self.inside in
     let now = c.pop.new.self.items in
-    subst (λ (n : Noted). IfSome c.pop.result (λ note. (n.since ≡ drop i.closed now ++ note ∷ []) × (times_from 0 i.ends.items now ≡ n.times))) c.self.view_is
+    subst (λ (n : Noted). IfSome c.pop.result (λ note. (n.since ≡ drop i.closed now ++ note ∷ [])
+    × (times_from 0 i.ends.items now ≡ n.times))) c.self.view_is
     (noted-pop i.ends.items i.closed i.notes.items now c.pop.result (follows c) (stays c) c.pop.ensures.items)

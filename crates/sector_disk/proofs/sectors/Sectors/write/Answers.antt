@@ -10,6 +10,7 @@ returns-then-at-below c =
 
 pub returns-else-at-below : goal.returns-else-at-below
 returns-else-at-below c =
-    ap (λ l. c.self.inside.low ++ l) (c.write-else-at-below.ensures ∙ ap (λ k. set c.self.inside.high (c.args.at - k) c.args.from.now) c.len-below.ensures)
+    ap (λ l. c.self.inside.low ++ l) (c.write-else-at-below.ensures
+    ∙ ap (λ k. set c.self.inside.high (c.args.at - k) c.args.from.now) c.len-below.ensures)
     ∙ set_high c.self.inside.low c.self.inside.high c.args.at c.args.from.now (omega (arith, c.if-at-below.false, c.len-below.ensures))
     ∙ ap (λ l. set l c.args.at c.args.from.now) c.self.view_is

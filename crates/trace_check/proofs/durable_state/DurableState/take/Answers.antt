@@ -21,4 +21,5 @@ returns-in-Put-clause-step c =
 
 pub returns-in-Done-clause-step : goal.returns-in-Done-clause-step
 returns-in-Done-clause-step c =
-    c.done.ensures c.self.inside.counter ∙ ap (λ (d : Durable). after_command d (Done c.in-Done.id)) c.self.view_is ∙ ap (λ (w : WantedRef). after_wanted c.args.self.now (lent_by w)) (sym c.in-Done.is)
+    c.done.ensures c.self.inside.counter ∙ ap (λ (d : Durable). after_command d (Done c.in-Done.id)) c.self.view_is
+    ∙ ap (λ (w : WantedRef). after_wanted c.args.self.now (lent_by w)) (sym c.in-Done.is)
