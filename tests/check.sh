@@ -144,7 +144,7 @@ has 'a part: what it runs' <(grep -v ^apt-get "$room/log") 'agent/tests/units' "
 has 'a part: its last line' <(tail -n 1 "$room/out") '9 passed, 0 failed'
 has 'a part: no word for the package' <(ls "$room/repo/crates/invite/out") invite
 BUILT=invite call "$check" package pages
-has 'two parts, in their order' <(grep -v ^apt-get "$room/log" | sed 's/ .*//') tests/crates_used.sh tests/more_edits.sh tests/promises.py tests/trusted.py tests/pages.py packaging/test
+has 'two parts, in their order' <(grep -v ^apt-get "$room/log" | sed 's/ .*//') tests/crates_used.sh tests/columns.py tests/more_edits.sh tests/promises.py tests/trusted.py tests/pages.py packaging/test
 : >"$room/mine" && chmod +x "$room/mine"
 ONLY=$room/alone call "$check" agent "$room/mine"
 expect 'a named program, without a kit' 0
@@ -176,20 +176,20 @@ has 'the program can'"'"'t be built: what is said' <(grep -E '^it was|^left|pass
 
 # What is quick, side by side.
 quick=$(BUILT=invite call "$check" --quick && tail -n 1 "$room/out")
-has 'quick: what it runs' <(sed 's,.*/,,; s/ .*//' <(cut -d ' ' -f 1 "$room/log") | sort) command_lines.sh crates_used.sh examples.sh files.py help.sh lease_lines.py more_edits.sh pages.py promises.py \
+has 'quick: what it runs' <(sed 's,.*/,,; s/ .*//' <(cut -d ' ' -f 1 "$room/log") | sort) columns.py command_lines.sh crates_used.sh examples.sh files.py help.sh lease_lines.py more_edits.sh pages.py promises.py \
     schedules.sh texts.py trace_rows.py trusted.py
-has 'quick: its last line' <(echo "$quick") '39 passed, 0 failed'
+has 'quick: its last line' <(echo "$quick") '42 passed, 0 failed'
 BUILT=invite WAITS=tests/crates_used.sh call "$check" --quick
 if [ "$(nproc)" -gt 1 ]; then has 'quick: side by side' <(grep -E -m 2 'crates_used|pages' "$room/log") tests/pages.py tests/crates_used.sh; fi
 has 'quick: in order' <(grep -m 1 ': 3 passed' "$room/out") 'bash tests/crates_used.sh: 3 passed, 0 failed'
 BUILT=invite BAD='tests/texts.py counts' call "$check" --quick
 expect 'quick: one that counts' 1
-has 'quick: one that counts: what is said' <(grep -E 'wrong|1 failed' "$room/out") 'what went wrong' "python3 tests/texts.py $program: 2 passed, 1 failed" '38 passed, 1 failed'
+has 'quick: one that counts: what is said' <(grep -E 'wrong|1 failed' "$room/out") 'what went wrong' "python3 tests/texts.py $program: 2 passed, 1 failed" '41 passed, 1 failed'
 BUILT=invite BAD='tests/texts.py ends' call "$check" --quick
-has 'quick: one that ends' <(tail -n 1 "$room/out") '39 passed, 1 failed'
+has 'quick: one that ends' <(tail -n 1 "$room/out") '42 passed, 1 failed'
 ONLY=$room/alone call "$check" --quick
 expect 'quick: no program, and no kit' 0
-has 'quick: no program, and no kit: what is run' <(tail -n 1 "$room/out") '15 passed, 0 failed'
+has 'quick: no program, and no kit: what is run' <(tail -n 1 "$room/out") '18 passed, 0 failed'
 
 # What is tried by its name alone; a number that is another each time.
 BUILT=invite SEED=7 call "$check" long
