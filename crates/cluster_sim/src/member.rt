@@ -23,8 +23,8 @@ use durable_node::{DurableNode, NodeFault, StepReport};
 use histories::EventOutcome;
 use node_core::{Event, Refusal};
 use runs::{ActRefusal, Outcome};
-use schedule::{Act, Fill};
-use sector_disk::MemDisk;
+use schedule::Act;
+use sector_disk::{CrashFill, MemDisk};
 use sim_net::Net;
 use std::alloc::AllocError;
 use wire_msg::Message;
@@ -172,7 +172,7 @@ fn arm(node: &mut DurableNode<MemDisk>, net: &Net, calls: u64) -> Outcome
 }
 
 /// Crashes a node.
-fn crash(node: &mut DurableNode<MemDisk>, net: &Net, fill: &Fill) -> Outcome
+fn crash(node: &mut DurableNode<MemDisk>, net: &Net, fill: &CrashFill) -> Outcome
     ensures same { IsSame node.old node.new }
     ensures came { (slots n : ℕ) (s : NodeState) → Stands state_of node.old s
         → Comes slots node.old.id node.old.nodes (acts.Crash n fill.now) (λ what. what ≡ Crashed) s (bare result) node.new net.now.network net.now.network }

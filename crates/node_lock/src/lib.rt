@@ -31,7 +31,7 @@ pub use held::{Held, HeldFault, HeldParts, MOST_ENTRIES};
 pub use laws::limits;
 pub use line::Quiet;
 pub use lock::{Gate, NodeLock, TurnFault};
-pub use order::{CrashFill, OperatorOrder};
+pub use order::OperatorOrder;
 pub use plans::Plans;
 pub use run::Run;
 pub use trace_check::Sent;

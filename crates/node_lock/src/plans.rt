@@ -95,8 +95,8 @@ impl Plans {
     /// The same plans once more.
     pub fn try_clone(&self, alloc: Global) -> Result<Plans, AllocError>
         // Promise: Plans that are cloned are the same, and two plans are compared by what they say.
-        // Also: Plans::eq, OperatorOrder::try_clone, CrashFill::try_clone.
-        // Refuses: intake_plan_not_copied, copy_arms_at_once, fill_copied_empty, timers_not_compared, fill_not_compared.
+        // Also: Plans::eq, OperatorOrder::try_clone.
+        // Refuses: intake_plan_not_copied, copy_arms_at_once, timers_not_compared.
         ensures { IfOk result (λ plans. plans ≡ self.now) }
     {
         let intake = Vec::from_slice(alloc, &self.intake)?;

@@ -3,43 +3,9 @@ ghost use Rattle.std.specs.Prelude.{◌≡◌, IfOk};
 use group_task::NodeId;
 use job_model::{NewJob, Work};
 use node_core::Timer;
+use sector_disk::CrashFill;
 use std::alloc::{AllocError, Global};
 use std::marker::Model;
-
-/// What a crash leaves in the sectors that weren't synced, in their order.
-///
-/// It is kept apart from its act: a schedule is a long list of acts, and few of them are crashes.
-#[derive(Debug, Drop)]
-pub struct Fill {
-    bytes: Box<Vec<u8>>,
-}
-
-impl Model for Fill {
-    ghost use Rattle.std.specs.Prelude.{ℕ, List};
-
-    ghost Value = { List ℕ };
-
-    ghost view = { λ a. a.bytes.value.items };
-}
-
-impl Fill {
-    pub fn new(alloc: Global, bytes: Vec<u8>) -> Result<Fill, AllocError>
-        // Promise: A crash's fill is the bytes that it was made of, or none.
-        // Also: Fill::as_slice.
-        // Refuses: fill_begins_empty, fill_without_its_bytes.
-        ensures { IfOk result (λ fill. fill ≡ bytes.items) }
-    {
-        Ok(Fill {
-            bytes: Box::new(alloc, bytes)?,
-        })
-    }
-
-    pub fn as_slice(&self) -> &[u8]
-        ensures { result.now ≡ self.now }
-    {
-        &self.bytes
-    }
-}
 
 /// The work of a job that is submitted, kept apart from its act: a schedule is a long list of
 /// acts, most of which have none.
@@ -87,7 +53,7 @@ pub enum Act {
     Submit(NodeId, Submitted),
     Finish(NodeId, NodeId, u64),
     Arm(NodeId, u64),
-    Crash(NodeId, Fill),
+    Crash(NodeId, CrashFill),
     Recover(NodeId),
     Compact(NodeId),
 }

@@ -16,7 +16,7 @@ mod reading;
 mod size;
 mod verb;
 
-pub use act::{Act, Fill, Submitted};
+pub use act::{Act, Submitted};
 pub use disk_layout::{LEAST_SLOTS, MOST_SLOTS};
 pub use flaw::{Flaw, flaw_in};
 pub use laws::limits;

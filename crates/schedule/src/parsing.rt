@@ -4,11 +4,12 @@ ghost use Rattle.schedule.specs.Acts.{act_of, act_with, short_act, middle_act, l
 ghost use Rattle.schedule.specs.declared.act.Act.TheVariants.{Deliver};
 ghost use Rattle.schedule.specs.declared.verb.Verb.TheVariants.{Cut, Mend, Arm, Crash, Finish};
 
-use crate::act::{Act, Fill, Submitted};
+use crate::act::{Act, Submitted};
 use crate::fields::{new_job, node, priority};
 use crate::verb::Verb;
 use line_words::{bytes, cut_word, number};
 use node_core::Timer;
+use sector_disk::CrashFill;
 use std::alloc::{AllocError, Global};
 
 /// The act of the words of a line.
@@ -149,7 +150,7 @@ fn bare_crash(alloc: Global, field: &[u8]) -> Result<Option<Act>, AllocError>
     let Some(node) = node(field) else {
         return Ok(None);
     };
-    let fill = Fill::new(alloc, Vec::new(alloc))?;
+    let fill = CrashFill::new(alloc, Vec::new(alloc))?;
     Ok(Some(Act::Crash(node, fill)))
 }
 
@@ -160,7 +161,7 @@ fn crash(alloc: Global, first: &[u8], second: &[u8]) -> Result<Option<Act>, Allo
         return Ok(None);
     };
     match bytes(alloc, second)? {
-        Some(bytes) => Ok(Some(Act::Crash(node, Fill::new(alloc, bytes)?))),
+        Some(bytes) => Ok(Some(Act::Crash(node, CrashFill::new(alloc, bytes)?))),
         None => Ok(None),
     }
 }

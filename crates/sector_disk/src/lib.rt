@@ -9,6 +9,7 @@
 //! ```
 #![tactic(auto)]
 
+mod crash_fill;
 mod disk;
 mod fault;
 mod front;
@@ -18,6 +19,7 @@ mod overwritten;
 mod sector;
 mod sectors;
 
+pub use crash_fill::CrashFill;
 pub use disk::SectorDisk;
 pub use disk_layout::Sector;
 pub use fault::DiskFault;

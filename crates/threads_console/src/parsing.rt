@@ -13,8 +13,9 @@ use crate::turn::PlanTurn;
 use group_task::NodeId;
 use line_words::{bytes, cut_word, is_word, number};
 use node_core::Timer;
-use node_lock::{CrashFill, OperatorOrder};
+use node_lock::OperatorOrder;
 use schedule::fields::{new_job, node, priority};
+use sector_disk::CrashFill;
 use std::alloc::{AllocError, Global};
 
 /// The node and the turn of a line, in a cluster of so many nodes.
@@ -104,7 +105,7 @@ fn order(alloc: Global, line: &[u8]) -> Result<Option<OperatorOrder>, AllocError
     ensures { IfOk result (λ order. order ≡ order_of (words_of line.now)) }
 {
     let Some((name, fields)) = cut_word(line) else {
-        return Ok(alone(alloc, line));
+        return alone(alloc, line);
     };
     let Some((first, more)) = cut_word(fields) else {
         return short(alloc, name, fields);
@@ -119,15 +120,16 @@ fn order(alloc: Global, line: &[u8]) -> Result<Option<OperatorOrder>, AllocError
 }
 
 /// An order with no field.
-fn alone(alloc: Global, name: &[u8]) -> Option<OperatorOrder>
-    ensures { result ≡ alone_order name.now }
+fn alone(alloc: Global, name: &[u8]) -> Result<Option<OperatorOrder>, AllocError>
+    ensures { IfOk result (λ order. order ≡ alone_order name.now) }
 {
     if is_word(name, "crash") {
-        Some(OperatorOrder::Crash(CrashFill::new(Vec::new(alloc))))
+        let fill = CrashFill::new(alloc, Vec::new(alloc))?;
+        Ok(Some(OperatorOrder::Crash(fill)))
     } else if is_word(name, "recover") {
-        Some(OperatorOrder::Recover)
+        Ok(Some(OperatorOrder::Recover))
     } else {
-        None
+        Ok(None)
     }
 }
 
@@ -142,7 +144,7 @@ fn short(alloc: Global, name: &[u8], field: &[u8]) -> Result<Option<OperatorOrde
         }
     } else if is_word(name, "crash") {
         match bytes(alloc, field)? {
-            Some(bytes) => Ok(Some(OperatorOrder::Crash(CrashFill::new(bytes)))),
+            Some(bytes) => Ok(Some(OperatorOrder::Crash(CrashFill::new(alloc, bytes)?))),
             None => Ok(None),
         }
     } else {
