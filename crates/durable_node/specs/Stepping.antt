@@ -1,6 +1,6 @@
 -- What a call of a node does, and how it is answered.
-use Rattle.std.specs.Prelude.{ℕ, ◌≡◌, ◌+◌, Bool, true, false, if◌then◌else◌, IsTrue, IsFalse, IsSome, IsOk, IsErrOf, [], Option, Some, None}
-use Rattle.std.specs.Prelude.{option_map, Result}
+use Rattle.std.specs.Prelude.{ℕ, ◌≡◌, ◌≤◌, ◌+◌, Bool, true, false, if◌then◌else◌, IsTrue, IsFalse, IsSome, IsOk, IfOk, IfErr, IsErrOf, []}
+use Rattle.std.specs.Prelude.{length, Option, Some, None, option_map, Result}
 use Rattle.sector_disk.specs.Disk.{DiskState, Counts}
 use Rattle.job_journal.specs.Journal.{RisesByOne}
 use Rattle.job_model.specs.Answer.{answer_of}
@@ -25,7 +25,7 @@ use Rattle.histories.specs.declared.history_event.HistoryEvent.{HistoryEvent}
 use Rattle.histories.specs.declared.history_event.HistoryEvent.TheVariants.{Did, Faulted, Recovered, RaiseFailed}
 use Rattle.histories.specs.After.{after, sent_at, mounted_at}
 use Rattle.histories.specs.Possible.{IsPossible, IsOfSlots, FitsSlots}
-use Rattle.histories.specs.EventOutcomes.{IsTriedAt, what_of}
+use Rattle.histories.specs.EventOutcomes.{IsTriedAt, attempt_of, what_of}
 use Rattle.histories.specs.declared.event_outcome.EventOutcome.{EventOutcome}
 use Rattle.histories.specs.declared.event_outcome.EventOutcome.TheVariants as event_outcome
 use Rattle.node_core.specs.declared.fault.Refusal.{Refusal}
@@ -92,6 +92,17 @@ abbrev pub command_by : Option Command → EventOutcome → Option Command
 command_by wants event_outcome.Done = wants
 command_by wants event_outcome.Faulted = wants
 command_by wants other = None
+
+-- what a report says of the command that was tried, and how many messages it hands out at most
+pub record Reports (wants : Option Command) (most : ℕ) (result : Result StepReport NodeFault) : Type 0 where
+  pub tried : IfOk result (λ came. came.tried ≡ option_map attempt_of (command_by wants came.event_outcome))
+  pub few : IfOk result (λ came. length came.sent.items ≤ most)
+
+-- an event that came to nothing left all as it was: there was no memory, of which it takes some
+pub record ComesToNothing {Disk : Type 0} (self : ℕ) (event : Event) (core core' : Core) (store store' : StoreState Disk)
+    (doubt doubt' : Option (Wanted × ℕ)) (result : Result StepReport NodeFault) : Type 0 where
+  pub as_before : IfErr result (λ fault. (fault ≡ node.Core NoMemory) × IsAsBefore core core' store store' doubt doubt')
+  pub memory : IfErr result (λ _. takes_memory self event core.state ≡ true)
 
 -- ---- an event at a node that is down
 

@@ -1,20 +1,17 @@
-ghost use Rattle.std.specs.Prelude.{◌≡◌, ◌≤◌, ◌↔◌, ℕ, IsTrue, IsOk, IfOk, IfErr, IsErrOf, Some, [], length, option_map, true};
-ghost use Rattle.node_core.specs.declared.fault.CoreFault.TheVariants.{NoMemory};
+ghost use Rattle.std.specs.Prelude.{◌≡◌, ◌↔◌, ℕ, IsTrue, IsOk, IfOk, IsErrOf, Some, []};
 ghost use Rattle.node_core.specs.Core.{IsPlanned};
-ghost use Rattle.node_core.specs.Memory.{takes_memory};
 ghost use Rattle.node_core.specs.Most.{most_of};
 ghost use Rattle.node_core.specs.NodeStep.{IsSpent};
 ghost use Rattle.node_core.specs.Planned.{lent_by};
 ghost use Rattle.node_core.specs.Refusals.{refusal_of};
 ghost use Rattle.node_core.specs.Wants.{wants_of};
 ghost use Rattle.node_store.specs.Store.{durable_of};
-ghost use Rattle.histories.specs.EventOutcomes.{attempt_of};
 ghost use Rattle.durable_node.specs.Area.{LeavesArea};
 ghost use Rattle.durable_node.specs.Carrying.{CantCarry, KeepsSound, Writes};
 ghost use Rattle.durable_node.specs.Faults.{answered};
 ghost use Rattle.durable_node.specs.Node.{IsCoreOf, IsOver, area_of, shown_doubt};
 ghost use Rattle.durable_node.specs.Refusing.{AnswersEvent, disk_refusal};
-ghost use Rattle.durable_node.specs.Stepping.{IsAsBefore, IsServed, command_by};
+ghost use Rattle.durable_node.specs.Stepping.{ComesToNothing, IsServed, Reports};
 
 use crate::carry::carry;
 use crate::fault::NodeFault;
@@ -44,10 +41,8 @@ pub(crate) fn handle<D: SectorDisk>(
     ensures core { IsCoreOf setting.id setting.nodes core.new }
     // What came of the event, and which command it wanted, if it was tried.
     ensures what { IfOk result (λ came. IsServed setting.nodes setting.id core.old core.new store.old store.new doubt.old doubt.new event.now came came.event_outcome) }
-    ensures tried { IfOk result (λ came. came.tried ≡ option_map attempt_of (command_by (wants_of setting.id (durable_of store.old).pending event.now core.old.state) came.event_outcome)) }
-    ensures few { IfOk result (λ came. length came.sent.items ≤ most_of setting.nodes (durable_of store.old).pending) }
-    ensures stuck { IfErr result (λ fault. (fault ≡ NodeFault.Core NoMemory) × IsAsBefore core.old core.new store.old store.new doubt.old doubt.new) }
-    ensures spares { IfErr result (λ _. takes_memory setting.id event.now core.old.state ≡ true) }
+    ensures report { Reports (wants_of setting.id (durable_of store.old).pending event.now core.old.state) (most_of setting.nodes (durable_of store.old).pending) result }
+    ensures stuck { ComesToNothing setting.id event.now core.old core.new store.old store.new doubt.old doubt.new result }
     ensures answers { AnswersEvent (refusal_of setting.nodes setting.id event.now core.old.state)
         (disk_refusal (durable_of store.old) (area_of store.old) (wants_of setting.id (durable_of store.old).pending event.now core.old.state)) (answered result) }
     ensures area { LeavesArea (durable_of store.old) (area_of store.old) (wants_of setting.id (durable_of store.old).pending event.now core.old.state) (answered result) (Some (area_of store.new)) }

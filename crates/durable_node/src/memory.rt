@@ -10,7 +10,7 @@ ghost use Rattle.node_core.specs.Start.{down};
 ghost use Rattle.histories.specs.After.{after};
 ghost use Rattle.durable_node.specs.Arming.{armed_disk, with_left};
 ghost use Rattle.durable_node.specs.Forgetting.{forgotten_disk};
-ghost use Rattle.durable_node.specs.Fresh.{IsFresh};
+ghost use Rattle.durable_node.specs.Fresh.{HasNewDisk, IsFresh};
 ghost use Rattle.durable_node.specs.Node.{Stands};
 ghost use Rattle.histories.specs.NodeState.{NodeState, opening};
 ghost use Rattle.histories.specs.declared.history_event.HistoryEvent.TheVariants.{Crashed};
@@ -41,17 +41,12 @@ impl DurableNode<MemDisk> {
         ensures id { IfOk result (λ node. node.id ≡ id) }
         ensures nodes { IfOk result (λ node. node.nodes ≡ nodes) }
         ensures opens { IfOk result (λ node. Stands state_of node (opening id)) }
-        ensures sectors { IfOk result (λ node. (disk : Memory) → node.disk ≡ Some disk → (state_of disk).sectors ≡ sectors_for slots) }
-        // No call of its disk failed, and it isn't armed.
-        ensures failures { IfOk result (λ node. (disk : Memory) → node.disk ≡ Some disk → disk.failures ≡ 0) }
         // Promise: Opened over a disk in memory, a node is Normal in the group of its first count, with no job, and every image of
         // its disk stands for that; no call of the disk failed, and it isn't armed.
-        // Also: DurableNode::open_copy, formatted_disk.
+        // Also: opens, DurableNode::open_copy, formatted_disk.
         // Refuses: opened_on_a_blank_copy, opening_stays_down, opened_after_a_failure, opened_on_an_armed_disk.
-        ensures disarmed { IfOk result (λ node. (disk : Memory) → node.disk ≡ Some disk → disk.left ≡ None) }
+        ensures disk { IfOk result (HasNewDisk (sectors_for slots)) }
         ensures mounted { IfOk result (λ node. node.mounted ≡ None) }
-        // It was formatted with the area's number 1, and recovered once.
-        ensures number { IfOk result (λ node. (held : Memory) → node.disk ≡ Some held → AllWithin 2 (state_of held)) }
     {
         let disk = formatted_disk(alloc, slots)?;
         DurableNode::open_on(alloc, id, nodes, disk)
@@ -71,13 +66,8 @@ impl DurableNode<MemDisk> {
         ensures id { IfOk result (λ node. node.id ≡ id) }
         ensures nodes { IfOk result (λ node. node.nodes ≡ nodes) }
         ensures opens { IfOk result (λ node. Stands state_of node (opening id)) }
-        ensures sectors { IfOk result (λ node. (held : Memory) → node.disk ≡ Some held → (state_of held).sectors ≡ (state_of disk.now).sectors) }
-        // No call of its disk failed, and it isn't armed.
-        ensures failures { IfOk result (λ node. (held : Memory) → node.disk ≡ Some held → held.failures ≡ 0) }
-        ensures disarmed { IfOk result (λ node. (held : Memory) → node.disk ≡ Some held → held.left ≡ None) }
+        ensures disk { IfOk result (HasNewDisk (state_of disk.now).sectors) }
         ensures mounted { IfOk result (λ node. node.mounted ≡ None) }
-        // It was formatted with the area's number 1, and recovered once.
-        ensures number { IfOk result (λ node. (held : Memory) → node.disk ≡ Some held → AllWithin 2 (state_of held)) }
     {
         let copy = disk.copy(alloc)?;
         DurableNode::open_on(alloc, id, nodes, copy)
@@ -96,13 +86,8 @@ impl DurableNode<MemDisk> {
         ensures id { IfOk result (λ node. node.id ≡ id) }
         ensures nodes { IfOk result (λ node. node.nodes ≡ nodes) }
         ensures opens { IfOk result (λ node. Stands state_of node (opening id)) }
-        ensures sectors { IfOk result (λ node. (held : Memory) → node.disk ≡ Some held → (state_of held).sectors ≡ (state_of disk).sectors) }
-        // No call of its disk failed, and it isn't armed.
-        ensures failures { IfOk result (λ node. (held : Memory) → node.disk ≡ Some held → held.failures ≡ 0) }
-        ensures disarmed { IfOk result (λ node. (held : Memory) → node.disk ≡ Some held → held.left ≡ None) }
+        ensures disk { IfOk result (HasNewDisk (state_of disk).sectors) }
         ensures mounted { IfOk result (λ node. node.mounted ≡ None) }
-        // It was formatted with the area's number 1, and recovered once.
-        ensures number { IfOk result (λ node. (held : Memory) → node.disk ≡ Some held → AllWithin 2 (state_of held)) }
     {
         let mut node = DurableNode::down(alloc, id, nodes, disk);
         let Ok(came) = node.recover() else {

@@ -9,5 +9,5 @@ loop-number-preserved c =
     let number = c.loop-number.number in
     rw c.in_ok-push.ensures.items
     (nodes_more c.args.slots c.args.nodes number c.loop-number.members.items node c.loop-number.invariant (e.id
-    ∙ c.numbered-id.ensures) e.nodes (λ held at. e.sectors held at ∙ c.in_ok-disk.ensures.sectors)
-    (rw (← c.numbered-id.ensures) e.opens) e.number (λ held at. (e.disarmed held at, e.failures held at)))
+    ∙ c.numbered-id.ensures) e.nodes (λ held at. e.disk.sectors held at ∙ c.in_ok-disk.ensures.sectors)
+    (rw (← c.numbered-id.ensures) e.opens) e.disk.number (λ held at. (e.disk.disarmed held at, e.disk.failures held at)))

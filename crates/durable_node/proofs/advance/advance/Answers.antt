@@ -57,20 +57,20 @@ returns-in-Mounted g c =
       node = node_over g.D.SectorDisk.state c.args.setting.id c.args.setting.nodes c.args.core.now c.handle.new.core (Mounted store) node
           e.core store c.handle.new.store _ (node.slots store refl) e.store
           (served c.args.setting.id c.args.setting.nodes c.args.core.now c.handle.new.core store c.handle.new.store c.args.doubt.now
-          c.handle.new.doubt c.args.event.now c.handle.result up (node.up up) e.what e.stuck);
+          c.handle.new.doubt c.args.event.now c.handle.result up (node.up up) e.what e.stuck.as_before);
       call = record {
         step = rw c.in-Mounted.is (serves g.D.SectorDisk.state c.args.setting.id c.args.setting.nodes c.args.core.now c.handle.new.core
             store c.handle.new.store c.args.doubt.now c.handle.new.doubt c.args.event.now
-            up (node.slots store refl) _ e.store c.args.mounted.now c.handle.result e.what e.tried e.disk);
+            up (node.slots store refl) _ e.store c.args.mounted.now c.handle.result e.what e.report.tried e.disk);
         stuck = rw c.in-Mounted.is (served_stuck c.args.setting.id c.args.setting.nodes c.args.core.now c.handle.new.core store
             c.handle.new.store c.args.doubt.now c.handle.new.doubt g.D.SectorDisk.state c.args.mounted.now
-            c.args.event.now c.handle.result e.stuck up e.spares);
+            c.args.event.now c.handle.result e.stuck.as_before up e.stuck.memory);
         answers = grind arith;
         counts = rw c.in-Mounted.is (counts_of g.D.SectorDisk.state store.disk c.handle.new.store.disk (answered c.handle.result)
             e.store.counts (e.store.rises (node.up up)));
         area = rw c.in-Mounted.is (area_goes_on c.args.setting.id c.args.setting.nodes c.args.core.now c.handle.new.core store
             c.handle.new.store c.args.doubt.now c.handle.new.doubt c.args.mounted.now c.args.event.now up
-            g.D.SectorDisk.state c.handle.result e.what e.stuck e.area e.disk);
+            g.D.SectorDisk.state c.handle.result e.what e.stuck.as_before e.area e.disk);
         mounting = grind arith;
         mounted = grind arith;
         few = grind arith;

@@ -12,7 +12,7 @@ invariant_of-result c = rw (c.in_ok-history.ensures.turns, c.in_ok-history.ensur
   replay = search rules;
   least_slots = search rules;
   most_slots = search rules;
-  sectors = search rules;
+  sectors = c.in_ok-node.ensures.disk.sectors;
   slots = search rules;
   turns = search rules;
   links = search rules;
@@ -28,7 +28,7 @@ invariant_of-result c = rw (c.in_ok-history.ensures.turns, c.in_ok-history.ensur
   lost = nothing_lost c.args.puts.items (λ k d lt. (let long : length c.args.puts.items ≡ vec_len c.args.puts = search rules in
       (c.requires.ends k d (subst (λ (n : ℕ). k < n) long lt)).2));
   numbers = rw (c.requires.none_drawn, c.in_ok-history.ensures.numbers) no_numbers;
-  area = c.in_ok-node.ensures.number;
+  area = c.in_ok-node.ensures.disk.number;
   never_area_exhausted = tt;
-  failures = λ disk at. sym (c.in_ok-node.ensures.failures disk at);
+  failures = λ disk at. sym (c.in_ok-node.ensures.disk.failures disk at);
 })
