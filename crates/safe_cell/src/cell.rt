@@ -3,7 +3,7 @@ ghost use Rattle.std.specs.Prelude.{◌≡◌, ◌⊎◌, ◌<◌, ◌+◌, ◌-
 ghost use Rattle.sector_disk.specs.Disk.{Image, Counts, AllSynced};
 ghost use Rattle.sector_disk.specs.Run.{Run, Each};
 ghost use Rattle.slot_gate.specs.Slot.{slot_at, InSlot};
-ghost use Rattle.safe_cell.specs.Answered.{AnswersOr};
+ghost use Rattle.safe_cell.specs.Answered.{AnswersOr, FaultLeaves};
 ghost use Rattle.safe_cell.specs.Cell.{cell_at, AllHave};
 ghost use Rattle.safe_cell.specs.Mounted.{CellState, IsCellAt, IsRead, Stands, AllStand, raised, raised_to};
 ghost use Rattle.safe_cell.specs.Raising.{broken_refusal, raise_refusal};
@@ -152,13 +152,11 @@ impl SafeCell {
         // Which answer comes when, and what it leaves.
         // Promise: A raise to a greater value is refused in the order Broken, Device; the first leaves disk and cell as they were, the
         // second leaves the cell broken.
-        // Also: refused, device.
+        // Also: faults.
         // Refuses: device_fault_of_a_greater_value.
         ensures answers { AnswersOr CellFault.Device (broken_refusal self.old) result }
-        ensures refused { IsSome (broken_refusal self.old)
-            → (disk.new ≡ disk.old) × (self.new ≡ self.old) }
-        ensures device { IsErrOf result CellFault.Device
-            → self.new ≡ record self.old { broken = true } }
+        ensures faults { FaultLeaves CellFault.Device (broken_refusal self.old) result disk.old disk.new self.old self.new
+            (self.new ≡ record self.old { broken = true }) }
         ensures ok { IsOk result → self.new ≡ raised_to value self.old }
 
         // No sector outside the spare slot changes in any image.
