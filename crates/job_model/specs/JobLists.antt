@@ -38,6 +38,12 @@ pub record HasPayload (payloads : ℕ) (row : PackedJob) : Type 0 where
   pub within : row.start + row.len ≤ payloads
   pub fits : row.len ≤ PAYLOAD_CAPACITY
 
+-- There are places for twice as many rows as there is room for, and for three times as many payloads, of which one part is free.
+pub record HasPlaces (room for_rows for_bytes used : ℕ) : Type 0 where
+  pub rows : 2 * room ≤ for_rows
+  pub bytes : 3 * (PAYLOAD_CAPACITY * room) ≤ for_bytes
+  pub spare : used + PAYLOAD_CAPACITY * room ≤ for_bytes
+
 -- Each job has its payload. There are places for twice as many jobs as there is room for, and for three times as many payloads, of
 -- which one part is free: that is where they are put together again.
 pub record IsTidy (a : Inside) : Type 0 where

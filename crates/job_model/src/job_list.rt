@@ -4,7 +4,7 @@ ghost use Rattle.std.specs.Prelude.{◌≡◌, ◌+◌, ◌*◌, ◌<◌, ◌≤
 ghost use Rattle.std.specs.Iterator.{YieldsFirst, item_count};
 ghost use Rattle.job_model.specs.Order.{IsInOrder};
 ghost use Rattle.job_model.specs.Table.{IsPlaceOf};
-ghost use Rattle.job_model.specs.JobLists.{kept_in, jobs_in, jobs_of, HasPayload};
+ghost use Rattle.job_model.specs.JobLists.{kept_in, jobs_in, jobs_of, HasPayload, HasPlaces};
 ghost use Rattle.job_model.specs.declared.job_list.PackedJob.{PackedJob};
 ghost use Rattle.job_model.specs.declared.kept_job.KeptJob.{KeptJob};
 ghost use Rattle.job_model.specs.declared.payload.TheConstants.{PAYLOAD_CAPACITY};
@@ -296,9 +296,7 @@ fn make_place(rows: &mut Vec<PackedJob>, first: &mut usize, payloads: &mut Vec<u
     requires within { first.old ≤ length rows.old.items }
     requires read { All (HasPayload (length payloads.old.items)) (drop first.old rows.old.items) }
     requires few { length (drop first.old rows.old.items) < room }
-    requires places { 2 * room ≤ vec_capacity rows.old }
-    requires bytes { 3 * (PAYLOAD_CAPACITY * room) ≤ vec_capacity payloads.old }
-    requires spare { vec_len payloads.old + PAYLOAD_CAPACITY * room ≤ vec_capacity payloads.old }
+    requires places { HasPlaces room (vec_capacity rows.old) (vec_capacity payloads.old) (vec_len payloads.old) }
     ensures jobs { map (kept_in payloads.new.items) (drop first.new rows.new.items) ≡ map (kept_in payloads.old.items) (drop first.old rows.old.items) }
     ensures within { first.new ≤ length rows.new.items }
     ensures read { All (HasPayload (length payloads.new.items)) (drop first.new rows.new.items) }
