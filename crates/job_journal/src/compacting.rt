@@ -1,10 +1,11 @@
 // A journal moved into its other area, with no record in it but those of the pending jobs.
-ghost use Rattle.std.specs.Prelude.{◌≡◌, ◌≢◌, ◌<◌, ◌≤◌, ◌+◌, ◌-◌, ◌*◌, ◌^◌, IsTrue, IsOk, IsErrOf, IsSome, Some, None};
+ghost use Rattle.std.specs.Prelude.{◌≡◌, ◌≢◌, ◌<◌, ◌≤◌, ◌+◌, ◌-◌, ◌*◌, ◌^◌, IsTrue, IsOk, IsErrOf, Some, None};
 ghost use Rattle.disk_layout.specs.Layout.{sectors_for};
 ghost use Rattle.disk_layout.specs.declared.layout.TheConstants.{MOST_SLOTS};
 ghost use Rattle.sector_disk.specs.Disk.{Counts};
 ghost use Rattle.sector_disk.specs.Run.{Run, Each};
 ghost use Rattle.slot_gate.specs.Writing.{CallWrites};
+ghost use Rattle.safe_cell.specs.Answered.{FaultLeaves};
 ghost use Rattle.job_journal.specs.Appending.{Answers};
 ghost use Rattle.job_journal.specs.Areas.{first_of, EndsIn};
 ghost use Rattle.job_journal.specs.Compacting.{compaction_refusal, compacted, records_for, with_slot, KeepsJobs, IsGivenUp};
@@ -33,12 +34,11 @@ impl JobJournal {
         // Which answer comes when, and what it leaves.
         // Promise: It is refused in the order Broken, Exhausted, and these change neither disk nor journal; else it answers Ok or
         // Device.
-        // Also: refused, device, JobJournal::refuse_compaction.
+        // Also: faults, JobJournal::refuse_compaction.
         // Refuses: compaction_does_nothing.
         ensures answers { Answers (compaction_refusal self.old) result }
-        ensures refused { IsSome (compaction_refusal self.old)
-            → (disk.new ≡ disk.old) × (self.new ≡ self.old) }
-        ensures device { IsErrOf result JournalFault.Device → IsGivenUp self.old self.new }
+        ensures faults { FaultLeaves JournalFault.Device (compaction_refusal self.old) result disk.old disk.new self.old self.new
+            (IsGivenUp self.old self.new) }
         // Promise: After its Ok every image has the other area, with a Base and one Keep for each job and no sealed slot behind
         // them; nothing is unsynced.
         // Also: after.
