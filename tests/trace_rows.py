@@ -309,6 +309,81 @@ ONGOING = [
     ("no trace", r'{"nodes":1,"histories":[[{"do":"none","sent":[]},{"do":"none"}]]}', "bad trace 0 1\n", 1, ""),
 ]
 
+# The entries of "two become one", and of each the group that its node tells behind it: phase, coordinator, number and members, as the rows of its turns have them.
+JOINED = json.loads(next(trace for name, trace, *_ in TURNS if name == "two become one"))["histories"]
+JOINED_GROUPS = [
+    ["Normal 0 0:1 0", "Reorganization 1 1:2 -", "Normal 1 1:2 0,1"],
+    ["Normal 1 1:1 1", "Normal 1 1:1 1", "Election 1 1:2 -", "Election 1 1:2 -", "Reorganization 1 1:2 0,1", "Normal 1 1:2 0,1"],
+]
+JOINED_RUN = "Run 1 0 1 1 0 1 1 0 1\n"
+
+# The same cluster, which works on a job of node 1, and what is told of these entries.
+WORKED = [
+    JOINED[0] + [
+        {"do": "deliver", "msg": "01090100001601000000000000000200000000000000000000026869", "sent": []},
+        {"do": "finish", "origin": 1, "id": 0, "sent": ["010a000100080000000000000000"]},
+    ],
+    JOINED[1] + [
+        {"do": "submit", "queue": 0, "payload": "6869", "sent": ["01090100001601000000000000000200000000000000000000026869"]},
+        {"do": "deliver", "msg": "010a000100080000000000000000", "sent": []},
+    ],
+]
+WORKED_ANSWERS = {
+    (0, 3): {"took": "1 0 0 6869;", "dropped": "", "gone": "", "id": "", "kept": "1 0 0", "group": "Normal 1 1:2 0,1"},
+    (0, 4): {"took": "", "dropped": "", "gone": "", "id": "", "kept": "1 0 0"},
+    (1, 6): {"took": "", "dropped": "", "gone": "", "id": "0", "kept": "2 1 1"},
+    (1, 7): {"took": "", "dropped": "", "gone": "0;", "id": "", "kept": "2 1 0"},
+}
+WORKED_RUN = "Run 1 0 1 1 0 1 1 0 1 1 0 0 1\n"
+
+# What a node tells that is alone, and is given a job, and what it doesn't: the entries, their answers, and others.
+ALONE = [
+    (
+        [{"do": "submit", "queue": 3, "payload": "6869", "sent": []}, {"do": "finish", "origin": 0, "id": 0, "sent": []}],
+        [
+            {"took": "0 0 3 6869;", "dropped": "", "gone": "", "id": "0", "kept": "1 1 1"},
+            {"took": "", "dropped": "", "gone": "0;", "id": "", "kept": "1 1 0"},
+        ],
+    ),
+    # a recovery drops the work, and a dispatch takes it up again
+    (
+        [{"do": "submit", "queue": 0, "payload": "", "priority": 7, "sent": []}, {"do": "recover", "kept": False, "sent": []}, {"do": "dispatch", "sent": []}, {"do": "crash", "sent": []}],
+        [
+            {"took": "0 0 0 - 7;", "dropped": "", "id": "0"},
+            {"took": "", "dropped": "0 0;", "gone": "", "id": "", "kept": "2 1 1", "group": "Normal 0 0:2 0"},
+            {"took": "0 0 0 - 7;", "dropped": "", "gone": ""},
+            {"took": "", "dropped": "0 0;", "gone": "", "group": "Down"},
+        ],
+    ),
+]
+OTHER_ANSWERS = ["0 0 3 6868;", "0 1 3 6869;", "1 0 3 6869;", "0 0 2 6869;", "0 0 3 6869", "0 0;", "0 0;0 1;", "0;", "1;", "0", "1", "", "-", "1 1 1", "2 1 1", "1 0 1", "1 1 2", "Down"]
+
+# What a node tells that is alone, as text of JSON: the entries, and what is printed.
+TOLD = [
+    (r'{"do":"none","sent":[],"told":{"group":"Normal 0 0:1 0"}}', "Run 0\n"),
+    (r'{"do":"none","sent":[],"told":{"group":"Normal 0 0:2 0"}}', "NotARun 0 0\n"),
+    (r'{"do":"none","sent":[]},{"do":"crash","sent":[],"told":{"group":"Down"}}', "Run 0 0\n"),
+    (r'{"do":"none","sent":[]},{"do":"crash","sent":[],"told":{"group":"Normal 0 0:1 0"}}', "NotARun 0 1\n"),
+    (r'{"do":"none","sent":[],"told":{"group":"Down"}},{"do":"crash","sent":[]}', "NotARun 0 0\n"),
+    (r'{"do":"crash","sent":[]},{"do":"recover","kept":false,"sent":[],"told":{"group":"Normal 0 0:2 0"}}', "Run 0 0\n"),
+    (r'{"do":"crash","sent":[]},{"do":"recover","kept":false,"sent":[],"told":{"group":"Normal 0 0:1 0"}}', "NotARun 0 1\n"),
+    # what isn't said isn't asked, and of equal keys the last counts
+    (r'{"do":"none","sent":[],"told":{}}', "Run 0\n"),
+    (r'{"do":"none","sent":[],"told":{"x":[1.5]}}', "Run 0\n"),
+    (r'{"do":"none","sent":[],"told":{"group":"Down"},"told":{"group":"Down","group":"Normal 0 0:1 0"}}', "Run 0\n"),
+    (r'{"told":{"group":"Normal 0 0:1 0"},"do":"none","sent":[],"told":{"group":"Down"}}', "NotARun 0 0\n"),
+    # a field of another type is no answer
+    (r'{"do":"none","sent":[],"told":{"group":null}}', "NotARun 0 0\n"),
+    (r'{"do":"none","sent":[],"told":{"group":["Normal 0 0:1 0"]}}', "NotARun 0 0\n"),
+    (r'{"do":"none","sent":[],"told":{"group":"Normal 0 0:1 0 "}}', "NotARun 0 0\n"),
+    (r'{"do":"none","sent":[],"told":{"group":""}}', "NotARun 0 0\n"),
+    # the first of two is named; one that can't come is named as ever, unless something else was told before
+    (r'{"do":"none","sent":[],"told":{"group":"Down"}},{"do":"none","sent":[],"told":{"group":"Down"}}', "NotARun 0 0\n"),
+    (r'{"do":"none","sent":[],"told":{"group":"Normal 0 0:1 0"}},{"do":"none","sent":["010100010000"],"told":{"group":"Down"}}', "NotARun 0 1\n"),
+    (r'{"do":"none","sent":[],"told":{"group":"Down"}},{"do":"none","sent":["010100010000"]}', "NotARun 0 0\n"),
+    (r'{"do":"none","sent":[],"told":{"group":"Down"}},{"do":"none"}', "bad trace 0 1\n"),
+]
+
 # Plans, each trace that a run of them in threads can have, and the verdict on it.
 PLANS = [
     ("no turns", "cluster 1 4\nlinks 1\n", [(r'{"histories":[[]],"nodes":1}', "Run\n")]),
@@ -467,6 +542,79 @@ def judged(name, trace, verdict):
     return [Row(name, command, fed, status, (verdict.encode(),)) for command in commands]
 
 
+def with_told(histories, answers):
+    """A trace of these histories, in which these are the groups that were told."""
+    told = [[{**entry, "told": {"group": group}} for entry, group in zip(*pair)] for pair in zip(histories, answers)]
+    return json.dumps({"nodes": len(histories), "histories": told})
+
+
+def with_answers(histories, answers):
+    """A trace of these histories, in which this was told of some entries."""
+    told = [[{**entry, "told": answers[node, index]} if (node, index) in answers else entry for index, entry in enumerate(history)] for node, history in enumerate(histories)]
+    return json.dumps({"nodes": len(histories), "histories": told})
+
+
+def altered_rows(histories, answers):
+    """Each answer by each other one."""
+    for (node, index), answer in answers.items():
+        for key, text in answer.items():
+            for other in OTHER_ANSWERS:
+                if other != text:
+                    altered = {**answers, (node, index): {**answer, key: other}}
+                    yield told_row(f"{key} {other!r} in place of {text!r}", "trace", with_answers(histories, altered), f"NotARun {node} {index}\n", (node, index))
+
+
+def told_elsewise(group):
+    """A group as it is told, with another phase, coordinator, number, list of members; each by itself."""
+    phase, coordinator, number, members = group.split(" ")
+    creator, count = number.split(":")
+    yield " ".join(["Election" if phase == "Normal" else "Normal", coordinator, number, members])
+    yield " ".join([phase, str(1 - int(coordinator)), number, members])
+    yield " ".join([phase, coordinator, f"{1 - int(creator)}:{count}", members])
+    yield " ".join([phase, coordinator, f"{creator}:{int(count) + 1}", members])
+    yield " ".join([phase, coordinator, number, "0" if members != "0" else "0,1"])
+
+
+def told_rows():
+    """Traces in which it stands what their nodes told."""
+    for entries, verdict in TOLD:
+        trace = of_one_node(entries)
+        place = tuple(int(word) for word in verdict.split()[1:]) if verdict.startswith("NotARun") else ()
+        if verdict.startswith("NotARun 0 1") and "010100010000" in entries:
+            yield Row(entries, "trace", trace.encode(), 1, (verdict.encode(),))
+        else:
+            yield told_row(entries, "trace", trace, verdict, place)
+    yield told_row("all that was told", "trace", with_told(JOINED, JOINED_GROUPS), JOINED_RUN, ())
+    for node, groups in enumerate(JOINED_GROUPS):
+        for index, group in enumerate(groups):
+            for other in told_elsewise(group):
+                answers = [list(told) for told in JOINED_GROUPS]
+                answers[node][index] = other
+                name = f"node {node}, entry {index} told {other}"
+                yield told_row(name, "trace", with_told(JOINED, answers), f"NotARun {node} {index}\n", (node, index))
+    yield told_row("all that was told of a job", "trace", with_answers(WORKED, WORKED_ANSWERS), WORKED_RUN, ())
+    yield from altered_rows(WORKED, WORKED_ANSWERS)
+    for entries, told in ALONE:
+        answers = {(0, index): answer for index, answer in enumerate(told)}
+        yield told_row("a job of one node", "trace", with_answers([entries], answers), "Run" + " 0" * len(entries) + "\n", ())
+        yield from altered_rows([entries], answers)
+    # of a run that may go on, what was told of the entries that can be taken
+    front = [JOINED[0][:2], JOINED[1][:3]]
+    yield told_row("a front of a run", "trace --ongoing", with_told(front, JOINED_GROUPS), "Run 1 0 1 1 0\n", ())
+    yield told_row("a front that lacks a record", "trace --ongoing", with_told([[], JOINED[1]], JOINED_GROUPS), "Ongoing 1\n", ())
+    altered = [JOINED_GROUPS[0], ["Normal 1 1:1 0"] + JOINED_GROUPS[1][1:]]
+    yield told_row("a front told otherwise", "trace --ongoing", with_told([[], JOINED[1]], altered), "NotARun 1 0\n", (1, 0))
+
+
+def told_row(name, command, trace, printed, place):
+    """What is printed of a trace, and the place of an entry of which something else was told."""
+    status = 0 if printed.startswith(("Run", "Ongoing")) else 1
+    said = b"invite: no order takes all entries as they were told: look first at node %d, entry %d\n" % place if place else b""
+    if printed.startswith("Ongoing"):
+        said = b"invite: no order takes all entries: each that is left waits for a message that none sent\nnode 1: entry 1 waits for 01020001000101\n"
+    return Row(name, command, trace.encode(), status, (printed.encode(),), said)
+
+
 def of_one_node(entries):
     return '{"nodes":1,"histories":[[' + entries + "]]}"
 
@@ -486,6 +634,7 @@ def all_rows():
     for name, trace, printed, status, said in ONGOING:
         reason = f"invite: no order takes all entries: {said}\n".encode() if said else b""
         yield Row(name, "trace --ongoing", trace.encode(), status, (printed.encode(),), reason)
+    yield from told_rows()
     for name, plans, traces in PLANS:
         yield Row(name, "threads", plans.encode(), 0, tuple(f"{trace}\n".encode() for trace, _ in traces))
         yield Row(name, "threads --order", plans.encode(), 0, tuple(text for trace, _ in traces for text in with_orders(trace)))
@@ -541,7 +690,7 @@ def problem_of(program, row):
     if ended.stdout not in row.printed:
         return f"it prints {ended.stdout[:300]!r} in place of {' or '.join(repr(text[:300]) for text in row.printed)}"
     said = ended.stderr
-    if row.command == "trace" and ended.stdout.startswith(b"NotARun "):
+    if row.command == "trace" and not row.said and ended.stdout.startswith(b"NotARun "):
         node, entry = ended.stdout.split()[1:]
         if not REASONS.fullmatch(said) or b"\nnode %s: entry %s " % (node, entry) not in said:
             return f"it says {said[:300]!r}, which is no reason for {ended.stdout!r}"
@@ -557,7 +706,7 @@ def main(program):
     passed = failed = 0
     with tempfile.TemporaryDirectory() as room:
         for given in all_rows():
-            rows = [given, in_files(given, room)] if given.command in ("trace", "trace --ongoing") else [given]
+            rows = [given, in_files(given, room)] if given.command in ("trace", "trace --ongoing") and b'"told"' not in given.fed else [given]
             for row in rows:
                 problem = problem_of(program, row)
                 passed += not problem

@@ -8,7 +8,7 @@ use Rattle.invite_console.specs.Sim.{IsSimPrintout}
 use Rattle.invite_console.specs.Reasons.{answer_flaw, schedule_flaw, show_flaw}
 use Rattle.store_console.specs.Session.{IsSession, IsSessionWhy, IsTold as IsSessionTold}
 use Rattle.trace_console.specs.Contradicting.{IsContradictionOf}
-use Rattle.trace_console.specs.Ongoing.{IsJudgedAt}
+use Rattle.trace_console.specs.Answers.{IsJudgedAt, IsVerdictTold}
 use Rattle.trace_console.specs.Reported.{IsTold}
 use Rattle.invite_console.specs.Recording.{IsRecording}
 use Rattle.threads_console.specs.Printed.{IsThreading}
@@ -36,7 +36,7 @@ IsWhyOf (Answer place) = IsWhy (answer_flaw place.id place.nodes)
 IsWhyOf Show = IsWhy show_flaw
 IsWhyOf (Sim details) = IsWhy schedule_flaw
 IsWhyOf (Store path) = IsSessionWhy
-IsWhyOf (Trace stage) = IsTold
+IsWhyOf (Trace stage) = IsVerdictTold
 IsWhyOf Record = IsWhy schedule_flaw
 IsWhyOf (Threads kind) = IsWhy plans_flaw
 IsWhyOf Turns = IsTold

@@ -5,3 +5,5 @@ mod Joins
 mod Looks
 mod Stages
 mod Stopped
+mod Answered
+mod Tellings

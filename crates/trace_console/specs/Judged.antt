@@ -6,7 +6,6 @@ use Rattle.trace_check.specs.declared.trace.Verdict.TheVariants.{Run, NotARun}
 use Rattle.trace_check.specs.Claims.{Claim}
 use Rattle.trace_check.specs.Verdicts.{IsVerdict, DecidesRun}
 use Rattle.trace_text.specs.declared.fault.Location.{Location}
-use Rattle.trace_text.specs.Wholes.{trace_of}
 
 -- each number behind a space
 abbrev pub words : List ℕ → List ℕ
@@ -31,7 +30,3 @@ pub record IsJudgement (histories : List (List Claim)) (printout : Printout) : T
 abbrev pub IsJudgedBy : Result (List (List Claim)) (Option Location) → Printout → Type 0
 IsJudgedBy (Ok histories) printout = IsJudgement histories printout
 IsJudgedBy (Err location) printout = printout ≡ refused (bad_trace location)
-
--- the verdict on the trace that the text is, or where the text is none
-abbrev pub IsJudged : List ℕ → Printout → Type 0
-IsJudged text printout = IsJudgedBy (trace_of text) printout

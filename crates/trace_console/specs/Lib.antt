@@ -1,9 +1,12 @@
+pub mod Answers
 pub mod Contradicting
 pub mod Files
 pub mod Judged
+pub mod NodeAnswers
 pub mod NodeStates
 pub mod Ongoing
 pub mod Reported
 pub mod Stands
+pub mod Told
 pub mod Turns
 pub mod Turning

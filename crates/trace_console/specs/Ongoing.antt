@@ -9,10 +9,9 @@ use Rattle.trace_check.specs.Claims.{Claim}
 use Rattle.trace_check.specs.Leftovers.{AreLeftovers}
 use Rattle.trace_check.specs.Verdicts.{AreTaken, DecidesRun, IsVerdict}
 use Rattle.trace_text.specs.declared.fault.Location.{Location}
-use Rattle.trace_text.specs.Wholes.{trace_of}
 use Rattle.trace_console.specs.declared.judging.Stage.{Stage}
 use Rattle.trace_console.specs.declared.judging.Stage.TheVariants.{Over, Ongoing}
-use Rattle.trace_console.specs.Judged.{IsJudged, IsJudgedBy, IsJudgement, bad_trace, verdict_printed, words}
+use Rattle.trace_console.specs.Judged.{IsJudgedBy, IsJudgement, bad_trace, verdict_printed, words}
 use Rattle.trace_console.specs.Reported.{waits}
 
 -- of entries that are left the first that can't be, whatever others send
@@ -53,11 +52,6 @@ IsFollowedBy (Err location) printout = printout ≡ refused (bad_trace location)
 abbrev pub IsFoundAt : Stage → Result (List (List Claim)) (Option Location) → Printout → Type 0
 IsFoundAt Over found printout = IsJudgedBy found printout
 IsFoundAt Ongoing found printout = IsFollowedBy found printout
-
--- what is printed of the trace that the text is
-abbrev pub IsJudgedAt : Stage → List ℕ → Printout → Type 0
-IsJudgedAt Over text printout = IsJudged text printout
-IsJudgedAt Ongoing text printout = IsFollowedBy (trace_of text) printout
 
 -- so of its histories
 abbrev pub IsJudgementAt : Stage → List (List Claim) → Printout → Type 0

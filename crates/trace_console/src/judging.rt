@@ -1,16 +1,21 @@
-ghost use Rattle.std.specs.Prelude.{◌≡◌, ◌≤◌, ◌+◌, ◌++◌, ◌∷◌, [], ℕ, List, codes, IfOk, OnOk};
+ghost use Rattle.std.specs.Prelude.{◌≡◌, ◌≤◌, ◌+◌, ◌++◌, ◌∷◌, [], ℕ, List, codes, IfOk, OnOk, Ok, option_map};
 ghost use Rattle.console_text.specs.Ends.{Prints, printout_of, refused};
+ghost use Rattle.serde_json.specs.View.{view};
 ghost use Rattle.trace_console.specs.Judged.{bad_trace, verdict_printed, words};
-ghost use Rattle.trace_console.specs.Ongoing.{IsJudgedAt, IsJudgementAt, printed_at};
-ghost use Rattle.trace_console.specs.Reported.{IsReport, IsReported, IsTold};
+ghost use Rattle.trace_console.specs.Answers.{IsJudgedAt, IsJudgedWith, IsReportedAsTold, IsReportedWith, IsVerdictTold};
+ghost use Rattle.trace_console.specs.Ongoing.{IsJudgementAt, printed_at};
+ghost use Rattle.trace_console.specs.Reported.{IsReport};
 
+use crate::comparing::judge_told;
 use crate::ongoing::ongoing_printout;
 use crate::reporting::report;
+use crate::told::read_told;
 use console_text::{
     CommandError, Ended, IoTrouble, Output, Source, print_explained, push_number, push_text,
     read_source,
 };
 use group_task::NodeId;
+use serde_json::Value;
 use std::alloc::{AllocError, Global};
 use std::io::{Read, Write};
 use trace_check::{Examined, Trace, Verdict, examine};
@@ -27,7 +32,8 @@ pub enum Stage {
 /// the least node that has entries left once none can be taken, and the index of its next. Of a run that may go on it is `Ongoing` and
 /// the nodes of the entries that can be taken, where each entry left waits for a message, and else `NotARun` with the first that can't be,
 /// whatever others send. A text that is no trace is a `bad trace`, with the node and the index of the first bad entry where the whole has
-/// the shape of a trace. What holds up the entries that are left is handed on.
+/// the shape of a trace. What holds up the entries that are left is handed on. Where an entry says what its node told behind it, and the node tells
+/// something else, that entry can't be.
 pub fn trace<R: Read, W: Write>(
     alloc: Global,
     stage: Stage,
@@ -37,11 +43,16 @@ pub fn trace<R: Read, W: Write>(
     // Promise: What `trace` writes is the verdict on what was read; of a run that may go on it is `Ongoing` exactly where no order takes all
     // entries and each that is left merely waits, and `NotARun` names an entry that can't be, whatever others send.
     // Refuses: index_before_node, place_of_a_bad_trace_left_out, no_run_with_status_of_done, waiting_is_a_fault, ongoing_though_refused.
+    // Promise: Where the text says what nodes told, it is `Run` exactly where some order of all entries is a run in which each node would also have told
+    // so; else `NotARun` names the first entry, in the order in which they are taken, of which its node tells something else.
+    // Also: answers_decide.
+    // Refuses: answer_not_compared, group_told_as_before, finished_job_told_as_dropped, told_of_the_next_entry, later_false_answer_named,
+    // false_answer_printed_as_a_run.
     ensures prints { Prints (IsJudgedAt stage) (R.remaining input.old.reader) (W.contents output.old) (W.contents output.new) result.ending }
     // Promise: Where no order takes all entries, standard error says of each node with entries left why its next one can't be taken: it
     // waits for a message that none sent, or it can't be at the node's state.
     // Refuses: trace_check::waiting_told_as_impossible, trace_check::reason_of_another_entry.
-    ensures why { IsTold (R.remaining input.old.reader) result.ending result.why.items }
+    ensures why { IsVerdictTold (R.remaining input.old.reader) result.ending result.why.items }
     ensures reads { input.old.left ≤ input.new.left + 16777216 }
 {
     let outcome = match read_source(alloc, input) {
@@ -54,15 +65,32 @@ pub fn trace<R: Read, W: Write>(
 /// What `trace` prints for an input, and what it says of it.
 fn judge_text(alloc: Global, stage: Stage, text: &[u8]) -> Result<CommandError, AllocError>
     ensures printed { IfOk result (λ explained. IsJudgedAt stage text.now (printout_of explained.printout)) }
-    ensures why { IfOk result (λ explained. IsReported text.now explained.why.items) }
+    ensures why { IfOk result (λ explained. IsReportedAsTold text.now explained.why.items) }
 {
+    let told = read_told(alloc, text)?;
     match read(alloc, text) {
-        Ok(trace) => judge(alloc, stage, &trace),
+        Ok(trace) => judge_all(alloc, stage, &trace, &told),
         Err(TraceFault::BadTrace(location)) => {
             let printout = bad_printout(alloc, location)?;
             Ok(printout.without_why(alloc))
         }
         Err(TraceFault::NoMemory) => Err(AllocError),
+    }
+}
+
+/// The verdict on a trace, and on what its text says was told, if it says something.
+fn judge_all(
+    alloc: Global,
+    stage: Stage,
+    trace: &Trace,
+    told: &Option<Value>,
+) -> Result<CommandError, AllocError>
+    ensures printed { IfOk result (λ explained. IsJudgedWith stage (option_map view told.now) (Ok trace.now) (printout_of explained.printout)) }
+    ensures why { IfOk result (λ explained. IsReportedWith (option_map view told.now) (Ok trace.now) explained.why.items) }
+{
+    match told {
+        Some(told) => judge_told(alloc, stage, trace, told),
+        None => judge(alloc, stage, trace),
     }
 }
 

@@ -6,16 +6,21 @@
 //! ```
 #![tactic(auto)]
 
+mod answers;
+mod comparing;
 mod contradicting;
 mod files;
 mod judging;
+mod node_answers;
 mod node_states;
 mod ongoing;
 mod reporting;
+mod told;
 mod turn;
 mod turning;
 mod walk;
 
+pub use answers::{FalseAnswer, answers_decide};
 pub use contradicting::contradiction;
 pub use files::{TraceFile, trace_files};
 pub use judging::{Stage, trace};

@@ -67,7 +67,7 @@ fn push_first(text: &mut Vec<u8>, node: NodeId, index: usize) -> Result<(), Allo
 
 /// Adds a node and an index.
 #[tactic(auto, unfolding(crate::specs::Reported::place_text))]
-fn push_place(
+pub(crate) fn push_place(
     text: &mut Vec<u8>,
     node: NodeId,
     between: &str,

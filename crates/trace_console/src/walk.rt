@@ -32,7 +32,7 @@ pub(crate) fn walk(alloc: Global, trace: &Trace, order: &[NodeId]) -> Result<Vec
 }
 
 /// All nodes, before the first turn.
-fn open(alloc: Global, trace: &Trace) -> Result<Vec<NodeCursor>, AllocError>
+pub(crate) fn open(alloc: Global, trace: &Trace) -> Result<Vec<NodeCursor>, AllocError>
     ensures { IfOk result (λ seats. AreSeats trace.now [] seats.items) }
 {
     let nodes = trace.nodes();
@@ -98,7 +98,7 @@ pub(crate) fn stand_of(node_model: &NodeModel) -> Option<Stand>
 }
 
 /// The members of a task; none where there is no task.
-fn members_of(task: &Option<Task>) -> Members
+pub(crate) fn members_of(task: &Option<Task>) -> Members
     ensures { result ≡ members_of task.now }
 {
     match task {

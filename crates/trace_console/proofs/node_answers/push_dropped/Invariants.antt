@@ -1,0 +1,7 @@
+use Rattle.std.proofs.Common.{◌≡◌, ◌++◌, flat_map}
+use Rattle.trace_console.specs.NodeAnswers.{dropped_text}
+use Rattle.trace_console.proofs.node_answers.push_dropped.Given as goal
+
+abbrev pub invariant-loop-job : goal.invariant-loop-job
+invariant-loop-job l = l.text.items ++ flat_map (dropped_text l.new.jobs) l.job-iterator
+    ≡ l.fn.text.items ++ flat_map (dropped_text l.new.jobs) l.jobs
