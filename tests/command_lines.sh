@@ -138,7 +138,7 @@ for word in --version -V; do
     mark "$problem" invite "$word"
 done
 "$program" format --lease "$room/leases0" 0
-for command in answer show sim store format node lease inspect export trace record threads; do
+for command in answer show sim store format node lease inspect export trace judge record threads; do
     problem=''
     start '' "$room/out" --help
     grep -q "^  $command " "$room/out" || problem="the help doesn't name $command"

@@ -6,7 +6,7 @@
 A text that is no trace of a run is given to `trace` and to `trace --turns`, which print the same for it; each trace that a run is expected to have is judged
 too. Each trace is judged once more as files, with the history of one node in each. The status and what stands on standard error are compared as well. What is expected was written by hand, from the pages under docs/. The last
 line counts the checks."""
-import json, os, re, subprocess, sys, tempfile
+import json, os, re, select, subprocess, sys, tempfile, time
 from typing import NamedTuple
 
 
@@ -24,6 +24,24 @@ class Row(NamedTuple):
 
 ASKED = r'{"nodes":2,"histories":[[{"do":"check","sent":["010100010000"]},{"do":"deliver","msg":"01020100000101","sent":[]}],[{"do":"deliver","msg":"010100010000","sent":["01020100000101"]}]]}'
 NOBODY_ASKED = r'{"nodes":2,"histories":[[],[{"do":"deliver","msg":"010100010000","sent":["01020100000101"]}]]}'
+# A run of two nodes as it comes: who is asked says so first.
+ANSWERS = r'{"nodes":2,"histories":[[],[{"do":"deliver","msg":"010100010000","sent":["01020100000101"]}]]}'
+ASKS = r'{"nodes":2,"histories":[[{"do":"check","sent":["010100010000"]}],[]]}'
+HEARS = r'{"nodes":2,"histories":[[{"do":"deliver","msg":"01020100000101","sent":[]}],[]]}'
+SAYS_NOTHING = r'{"nodes":2,"histories":[[],[{"do":"deliver","msg":"010100010000","sent":[]}]]}'
+
+# Lines of `judge`, what it prints of them, and its status.
+AS_IT_COMES = [
+    ("each prefix has its own verdict", ["", ANSWERS, "", ASKS, "", "", HEARS, "", ""], "Run\nOngoing\nRun 0 1\nRun 0 1\nRun 0 1 0\n", 0),
+    ("nobody asks", [ANSWERS, ASKS, ""], "", 0),
+    ("a line that isn't whole asks nothing", [ASKS, "", ANSWERS], "Run 0\n", 0),
+    ("what can't be never can", [SAYS_NOTHING, "", ASKS, "", HEARS, "", ""], "NotARun 1 0\nNotARun 1 0\nNotARun 1 0\n", 1),
+    ("entries of one node in one line and in two", [ASKED, "", ASKS, "", ""], "Run 0 1 0\nRun 0 1 0 0\n", 0),
+    ("no trace", [ASKS, "", "{}", "", ""], "Run 0\nbad trace\n", 1),
+    ("a bad entry, by its place in the line", [ASKS, "", r'{"nodes":2,"histories":[[],[{"do":"none","sent":[]},{"do":"check"}]]}', "", ""], "Run 0\nbad trace 1 1\n", 1),
+    ("more nodes", [ASKS, r'{"nodes":3,"histories":[[],[],[]]}', "", ""], "bad trace\n", 1),
+    ("fewer nodes", [ASKS, "", r'{"nodes":1,"histories":[[]]}', "", ""], "Run 0\nbad trace\n", 1),
+]
 
 # Whole traces.
 WHOLE = [
@@ -634,7 +652,10 @@ def all_rows():
     for name, trace, printed, status, said in ONGOING:
         reason = f"invite: no order takes all entries: {said}\n".encode() if said else b""
         yield Row(name, "trace --ongoing", trace.encode(), status, (printed.encode(),), reason)
+        yield Row(name, "judge", f"{trace}\n\n".encode(), status, (printed.encode(),))
     yield from told_rows()
+    for name, lines, printed, status in AS_IT_COMES:
+        yield Row(name, "judge", "\n".join(lines).encode(), status, (printed.encode(),))
     for name, plans, traces in PLANS:
         yield Row(name, "threads", plans.encode(), 0, tuple(f"{trace}\n".encode() for trace, _ in traces))
         yield Row(name, "threads --order", plans.encode(), 0, tuple(text for trace, _ in traces for text in with_orders(trace)))
@@ -699,6 +720,27 @@ def problem_of(program, row):
     return ""
 
 
+def at_once(program):
+    """What is wrong with when `judge` answers: each verdict has to come before anything behind its line is written."""
+    with subprocess.Popen([program, "judge"], stdin=subprocess.PIPE, stdout=subprocess.PIPE) as judge:
+        for line, verdict in ((ANSWERS, b"Ongoing\n"), (ASKS, b"Run 0 1\n"), (HEARS, b"Run 0 1 0\n")):
+            text = f"{line}\n\n".encode()
+            # in two writes, so that a line comes in two pieces
+            for part in (text[:40], text[40:]):
+                judge.stdin.write(part)
+                judge.stdin.flush()
+                time.sleep(0.01)
+            if not select.select([judge.stdout], [], [], 60)[0]:
+                judge.kill()
+                return f"no verdict on {line}"
+            said = judge.stdout.readline()
+            if said != verdict:
+                judge.kill()
+                return f"it prints {said!r} in place of {verdict!r}"
+        judge.stdin.close()
+        return "" if judge.wait(60) == 0 else f"status {judge.returncode} in place of 0"
+
+
 def main(program):
     if not os.access(program, os.X_OK):
         print(f"trace_rows.py: there is no program {program}\n0 passed, 1 failed")
@@ -713,6 +755,11 @@ def main(program):
                 failed += bool(problem)
                 if problem:
                     print(f"trace_rows.py: {row.command}, {row.name}{', in files' if row.files else ''}: {problem}")
+    problem = at_once(program)
+    passed += not problem
+    failed += bool(problem)
+    if problem:
+        print(f"trace_rows.py: judge, line by line: {problem}")
     print(f"{passed} passed, {failed} failed")
     return 0 if failed == 0 and passed > 0 else 1
 

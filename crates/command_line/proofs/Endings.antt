@@ -4,10 +4,11 @@ use Rattle.console_text.specs.Ends.{Printout, Prints, status_of}
 use Rattle.console_text.specs.declared.ends.ExitKind.{ExitKind}
 use Rattle.node_timers.specs.Timers.{measured}
 use Rattle.trace_console.specs.Files.{PrintsFiles}
+use Rattle.trace_console.specs.Prefixes.{JudgesPrefixes}
 use Rattle.trace_console.specs.declared.files.TraceFile.{TraceFile}
 use Rattle.trace_console.specs.declared.judging.Stage.{Stage}
 use Rattle.command_line.specs.Ends.{code_of}
-use Rattle.command_line.specs.Obeyed.{AreKeysOf, EndsByFile, EndsByRecords, ServesFor, names_of}
+use Rattle.command_line.specs.Obeyed.{AreKeysOf, EndsByFile, EndsByRecords, JudgesFor, ServesFor, names_of}
 use Rattle.command_line.specs.Served.{BreaksOff, ServesSo, ServesTo}
 use Rattle.command_line.specs.declared.invocation.NodePlace.{NodePlace}
 use Rattle.command_line.specs.declared.invocation.Sealing.{Sealing}
@@ -28,6 +29,12 @@ pub records_end : {E : Type 0} (stage : Stage) (names : List (List ℕ)) (old ne
     → IfOk result (EndsByRecords stage names old new)
 records_end stage names old new files ending (Ok code) named prints is = inr (files, ending, named, prints, is)
 records_end stage names old new files ending (Err e) named prints is = tt
+
+pub coming_ends : {E : Type 0} (input rest before behind : Option (List ℕ)) (ending : ExitKind) (result : Result ℕ E)
+    → JudgesPrefixes input rest before behind ending
+    → IfOk result (λ (code : ℕ). code ≡ status_of ending) → IfOk result (JudgesFor input rest before behind)
+coming_ends input rest before behind ending (Ok code) judges is = (ending, judges, is)
+coming_ends input rest before behind ending (Err e) judges is = tt
 
 -- where nothing was done, less is said of that
 pub untouched_so : (A B Broken : Type 0) (To : ServingEnd → Type 0) (ended : Status) → (A → B) → ServesSo A Broken To ended

@@ -45,6 +45,8 @@ pub data Asked : Type 0 where
   stores : List ℕ → Asked
   -- whether the run may go on, and the files that its records stand in: none where they are read from standard input
   traces : Bool → List (List ℕ) → Asked
+  -- the same of a run as it comes
+  judges : Asked
   records : Asked
   -- whether the order is printed, too
   runs_threads : Bool → Asked
@@ -111,6 +113,7 @@ asked (invocation.Lease path place round_trip sealing) =
 asked (invocation.Look path shown) = looks shown (string_bytes path)
 asked (invocation.Salvage path) = exports true (string_bytes path)
 asked (invocation.Trace stage files) = traces (is_ongoing stage) (map string_bytes files.items)
+asked invocation.Judge = judges
 
 -- ---- arguments, by their names
 
@@ -263,6 +266,7 @@ asked_by name arguments lists =
     if bytes_eq name (codes "sim") then Some (simulates (is_set (arguments (codes "names"))) (is_set (arguments (codes "nodes")))) else
     if bytes_eq name (codes "store") then option_map stores (arguments (codes "PATH")) else
     if bytes_eq name (codes "trace") then Some (trace_of arguments lists) else
+    if bytes_eq name (codes "judge") then Some judges else
     if bytes_eq name (codes "record") then Some records else
     if bytes_eq name (codes "threads") then Some (runs_threads (is_set (arguments (codes "order")))) else
     if bytes_eq name (codes "format") then format_of arguments else

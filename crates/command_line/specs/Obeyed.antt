@@ -7,6 +7,7 @@ use Rattle.node_timers.specs.Timers.{measured}
 use Rattle.store_console.specs.Printed.{IsShown}
 use Rattle.store_console.specs.Salvaged.{IsSalvagePrintout}
 use Rattle.trace_console.specs.Files.{PrintsFiles}
+use Rattle.trace_console.specs.Prefixes.{JudgesPrefixes}
 use Rattle.trace_console.specs.declared.files.TraceFile.{TraceFile}
 use Rattle.trace_console.specs.declared.judging.Stage.{Stage}
 use Rattle.command_line.specs.Ends.{code_of}
@@ -69,6 +70,10 @@ LeasesFor place round_trip sealing input rest before behind code =
     × AreTermsOf place round_trip sealing terms
     × LeaseServesSo ((rest ≡ input) × (behind ≡ before)) (LeaseServesTo keys terms input rest before behind) status)
 
+-- a run was judged as it came
+abbrev pub JudgesFor : Option (List ℕ) → Option (List ℕ) → Option (List ℕ) → Option (List ℕ) → ℕ → Type 0
+JudgesFor input rest before behind code = (ending : ExitKind) × JudgesPrefixes input rest before behind ending × (code ≡ status_of ending)
+
 -- By what is asked for. Of a file that is made nothing is printed: its jobs can't be read, or the status is that of how it was made.
 abbrev pub Obeys : Invocation → Option (List ℕ) → Option (List ℕ) → Option (List ℕ) → Option (List ℕ) → ℕ → Type 0
 Obeys (invocation.Batch batch) input rest before behind code = EndsBy (IsOutcomeOf batch) input before behind code
@@ -82,3 +87,4 @@ Obeys (invocation.Look path shown) input rest before behind code = (rest ≡ inp
 Obeys (invocation.Salvage path) input rest before behind code = (rest ≡ input) × EndsByFile IsSalvagePrintout before behind code
 Obeys (invocation.Trace stage paths) input rest before behind code = (rest ≡ input)
     × EndsByRecords stage (map string_bytes paths.items) before behind code
+Obeys invocation.Judge input rest before behind code = JudgesFor input rest before behind code

@@ -40,6 +40,8 @@ pub fn invocation(
         store(alloc, words)
     } else if is(name, "trace") {
         trace(alloc, words)
+    } else if is(name, "judge") {
+        Ok(Some(Invocation::Judge))
     } else if is(name, "record") {
         Ok(Some(Invocation::Batch(Batch::Record)))
     } else if is(name, "threads") {

@@ -217,7 +217,7 @@ const CORE: Argument = Argument {
 };
 
 /// The commands in the order of the help.
-const COMMANDS: [Described; 12] = [
+const COMMANDS: [Described; 13] = [
     Described {
         name: "answer",
         about: "Reads messages in hex lines, and prints what one node answers",
@@ -287,6 +287,12 @@ const COMMANDS: [Described; 12] = [
         about: "Reads a trace, and prints an order in which its entries can have come, or where none goes on",
         more: "A trace is the nodes' histories as JSON. It is read from standard input, or from files that have some of the nodes each, in their order (docs/SIMULATION.md).\n\nExit status: 0 it is a run, or one that may go on; 1 it is none, or no trace, reading or writing failed, or there was no memory; 2 the command line can't be read, or asks for help.\n\nExample: echo '{\"nodes\":1,\"histories\":[[{\"do\":\"check\",\"sent\":[]}]]}' | invite trace",
         arguments: &[JUDGED, ONGOING, TURNS, CORE],
+    },
+    Described {
+        name: "judge",
+        about: "Reads the entries of a run as they come, and prints the verdict on all that came where that is asked for",
+        more: "A line is a trace of all nodes, whose entries come behind those before (docs/SIMULATION.md). An empty line asks; what it prints is what trace --ongoing prints of all that came.\n\nExit status: 0 the input ended, and each verdict was Run or Ongoing; 1 one was NotARun, a line is no trace of as many nodes as the first, reading or writing failed, or there was no memory; 2 the command line can't be read, or asks for help.\n\nExample: printf '{\"nodes\":1,\"histories\":[[{\"do\":\"check\",\"sent\":[]}]]}\\n\\n' | invite judge",
+        arguments: &[],
     },
     Described {
         name: "record",

@@ -35,6 +35,8 @@ pub enum Invocation {
     Salvage(String),
     /// A run whose records stand in the files of these paths is to be judged.
     Trace(Stage, Vec<String>),
+    /// A run is to be judged as it comes.
+    Judge,
 }
 
 /// A command that reads its whole input first.

@@ -4,7 +4,7 @@ ghost use Rattle.console_text.specs.Ends.{status_of};
 ghost use Rattle.store_console.specs.Printed.{IsShown};
 ghost use Rattle.store_console.specs.Salvaged.{IsSalvagePrintout};
 ghost use Rattle.command_line.specs.Ends.{code_of};
-ghost use Rattle.command_line.specs.Obeyed.{AreKeysOf, EndsAs, EndsBy, EndsByFile, EndsByRecords, LeasesFor, Obeys, ServesFor, names_of};
+ghost use Rattle.command_line.specs.Obeyed.{AreKeysOf, EndsAs, EndsBy, EndsByFile, EndsByRecords, JudgesFor, LeasesFor, Obeys, ServesFor, names_of};
 ghost use Rattle.command_line.specs.Performed.{IsOutcomeOf};
 
 use crate::invocation::{Batch, Invocation, Making, NodePlace, Sealing};
@@ -90,6 +90,7 @@ pub(crate) fn carry_out<T: Threads + Wait + Sync, R: Read, W: Write, E: Write>(
         Invocation::Look(path, shown) => look(rt, alloc, path.as_str(), *shown, output, errors),
         Invocation::Salvage(path) => salvage(rt, alloc, path.as_str(), output, errors),
         Invocation::Trace(stage, paths) => judge(rt, alloc, *stage, paths, output, errors),
+        Invocation::Judge => judge_coming(alloc, input, output, errors),
     }
 }
 
@@ -131,6 +132,26 @@ fn judge<W: Write, E: Write>(
     };
     let ended = trace_console::trace_files(alloc, stage, &files, output);
     tell(ended, None, output.fault(), errors)
+}
+
+/// Judges a run as it comes, and answers the exit status.
+fn judge_coming<R: Read, W: Write, E: Write>(
+    alloc: Global,
+    input: &mut R,
+    output: &mut Sink<W>,
+    errors: &mut E,
+) -> io::Result<u8>
+    ensures { IfOk result (JudgesFor (R.remaining input.old) (R.remaining input.new) (W.contents output.old.writer) (W.contents output.new.writer)) }
+{
+    let mut source = Source::new(input);
+    let ending = trace_console::judge_prefixes(alloc, &mut source, output);
+    let why = Vec::new(alloc);
+    tell(
+        Ended { ending, why },
+        source.fault(),
+        output.fault(),
+        errors,
+    )
 }
 
 /// The files of these paths. None, and a word to `errors`, where one of them can't be read.

@@ -3,6 +3,7 @@ mod NodeCursors
 mod Wholes
 mod Joins
 mod Looks
+mod Pieces
 mod Stages
 mod Stopped
 mod Answered

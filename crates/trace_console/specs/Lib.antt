@@ -5,6 +5,7 @@ pub mod Judged
 pub mod NodeAnswers
 pub mod NodeStates
 pub mod Ongoing
+pub mod Prefixes
 pub mod Reported
 pub mod Stands
 pub mod Told
