@@ -10,54 +10,90 @@ use std::time::{Duration, Instant};
 /// So many lines wait at most; more are left out, and counted.
 const MAX_WAITING: usize = 256;
 
-/// An end waits so long for the last lines to be written.
-const PATIENCE: Duration = Duration::from_millis(200);
+/// An end waits so long for the last lines to be written, where somebody takes them.
+const PATIENCE: Duration = Duration::from_secs(1);
+
+/// Whoever takes no line for so long is nobody.
+const PATIENCE_FOR_A_LINE: Duration = Duration::from_millis(200);
 
 /// What a logger writes to: each write is a whole line.
 #[derive(Clone)]
 pub struct LogLines {
     to: SyncSender<Vec<u8>>,
-    waiting: Arc<AtomicUsize>,
-    left_out: Arc<AtomicUsize>,
+    counts: Arc<Counts>,
+}
+
+/// How many lines wait, and were left out since that was said last; how many times something was begun to be written, and how many times that was done.
+#[derive(Default)]
+struct Counts {
+    waiting: AtomicUsize,
+    left_out: AtomicUsize,
+    begun: AtomicUsize,
+    done: AtomicUsize,
 }
 
 impl LogLines {
     /// To be written to `out`.
     pub fn start(out: impl Write + Send + 'static) -> io::Result<LogLines> {
         let (to, from) = sync_channel(MAX_WAITING);
-        let lines = LogLines { to, waiting: Arc::default(), left_out: Arc::default() };
-        let (waiting, left_out) = (Arc::clone(&lines.waiting), Arc::clone(&lines.left_out));
-        thread::Builder::new().spawn(move || write_all(from, out, &waiting, &left_out))?;
-        Ok(lines)
+        let counts = Arc::<Counts>::default();
+        let of_thread = Arc::clone(&counts);
+        thread::Builder::new().spawn(move || write_all(from, out, &of_thread))?;
+        Ok(LogLines { to, counts })
     }
 
-    /// Waits until all is written, for a while.
+    /// Waits until all is written, for a while: not for a line that nobody takes. A thread that has no turn yet on a busy machine is waited for.
     pub fn finish(&self) {
-        let until = Instant::now() + PATIENCE;
-        while self.waiting.load(Ordering::SeqCst) > 0 && Instant::now() < until {
+        let begin = Instant::now();
+        let (mut now, mut line, mut since) = (begin, self.counts.begun(), begin);
+        while self.counts.waiting.load(Ordering::SeqCst) > 0 && now - begin < PATIENCE {
+            let last = line;
+            line = self.counts.begun();
+            if line != last || self.counts.done.load(Ordering::SeqCst) == line {
+                since = now;
+            }
+            if now - since >= PATIENCE_FOR_A_LINE {
+                return;
+            }
             thread::sleep(Duration::from_millis(1));
+            now = Instant::now();
         }
     }
 }
 
-/// Where nobody takes a line there is nobody to be told so.
-fn write_all(from: Receiver<Vec<u8>>, mut out: impl Write, waiting: &AtomicUsize, left_out: &AtomicUsize) {
+impl Counts {
+    fn begun(&self) -> usize {
+        self.begun.load(Ordering::SeqCst)
+    }
+
+    /// Writes a line. Where nobody takes it there is nobody to be told so.
+    fn write(&self, out: &mut impl Write, line: &[u8]) {
+        self.begun.fetch_add(1, Ordering::SeqCst);
+        let _untold = out.write_all(line);
+        self.done.fetch_add(1, Ordering::SeqCst);
+    }
+}
+
+fn write_all(from: Receiver<Vec<u8>>, mut out: impl Write, counts: &Counts) {
     for line in from {
-        let _untold = out.write_all(&line);
-        match left_out.swap(0, Ordering::SeqCst) {
+        counts.write(&mut out, &line);
+        match counts.left_out.swap(0, Ordering::SeqCst) {
             0 => {}
-            count => drop(writeln!(out, "dumgerokd: {count} lines of the log were left out: nobody took them")),
+            count => {
+                let line = format!("dumgerokd: {count} lines of the log were left out: nobody took them\n");
+                counts.write(&mut out, line.as_bytes());
+            }
         }
-        waiting.fetch_sub(1, Ordering::SeqCst);
+        counts.waiting.fetch_sub(1, Ordering::SeqCst);
     }
 }
 
 impl Write for LogLines {
     fn write(&mut self, line: &[u8]) -> io::Result<usize> {
-        self.waiting.fetch_add(1, Ordering::SeqCst);
+        self.counts.waiting.fetch_add(1, Ordering::SeqCst);
         if self.to.try_send(line.to_vec()).is_err() {
-            self.waiting.fetch_sub(1, Ordering::SeqCst);
-            self.left_out.fetch_add(1, Ordering::SeqCst);
+            self.counts.waiting.fetch_sub(1, Ordering::SeqCst);
+            self.counts.left_out.fetch_add(1, Ordering::SeqCst);
         }
         Ok(line.len())
     }
@@ -96,8 +132,10 @@ mod tests {
         let mut lines = LogLines::start(SlowReader { begin: begun, took }).unwrap();
         let count = 40_000;
         (0..count).for_each(|_| lines.write_all(b"twenty bytes of text\n").unwrap());
+        let at = Instant::now();
         lines.finish();
-        assert!(lines.waiting.load(Ordering::SeqCst) > 0, "it ends though nobody reads");
+        assert!(lines.counts.waiting.load(Ordering::SeqCst) > 0, "it ends though nobody reads");
+        assert!(at.elapsed() < PATIENCE, "and soon");
         drop(begin);
         drop(lines);
         let text = String::from_utf8(all.iter().flatten().collect()).unwrap();
@@ -105,5 +143,28 @@ mod tests {
         let left_out: usize = text.lines().filter_map(number).sum();
         assert!((count - MAX_WAITING - 1..=count - MAX_WAITING).contains(&left_out), "{left_out}");
         assert_eq!(left_out + text.matches("twenty").count(), count);
+    }
+    /// Takes each line in so long.
+    struct Steady(Duration, Sender<Vec<u8>>);
+
+    impl Write for Steady {
+        fn write(&mut self, bytes: &[u8]) -> io::Result<usize> {
+            thread::sleep(self.0);
+            self.1.send(bytes.to_vec()).map_err(|_| io::ErrorKind::BrokenPipe)?;
+            Ok(bytes.len())
+        }
+
+        fn flush(&mut self) -> io::Result<()> {
+            Ok(())
+        }
+    }
+
+    #[test]
+    fn whoever_takes_lines_slowly_is_waited_for() {
+        let (took, all) = channel();
+        let mut lines = LogLines::start(Steady(Duration::from_millis(60), took)).unwrap();
+        (0..8).for_each(|at| lines.write_all(format!("{at}\n").as_bytes()).unwrap());
+        lines.finish();
+        assert_eq!(all.try_iter().flatten().collect::<Vec<u8>>(), b"0\n1\n2\n3\n4\n5\n6\n7\n");
     }
 }

@@ -1,5 +1,5 @@
 """A node that stops or dies, and a file that can't be used."""
-import fcntl, json, os, re, shutil, signal, socket, stat, subprocess, sys, tempfile, time
+import ctypes, fcntl, json, os, re, shutil, signal, socket, stat, subprocess, sys, tempfile, time
 
 from bed import PATIENCE
 from cluster import judged, metric, page
@@ -200,15 +200,31 @@ def at_once(bed):
     agents, check = bed.agents("at_once", count=1, record=None, http=None), bed.tally.check
 
     def begin():
-        return subprocess.Popen([agents.daemon, agents.path(0, "toml")], stderr=subprocess.DEVNULL, start_new_session=True)
+        with open(agents.path(0, "log"), "ab") as log:
+            return subprocess.Popen([agents.daemon, agents.path(0, "toml")], stderr=log, start_new_session=True)
 
-    for number in (signal.SIGTERM, signal.SIGINT) * 5:
+    def ends_with_0(name, end):
         agents.processes[0] = begin()
         agents.one_group()
-        os.killpg(agents.processes[0].pid, number)
+        said = os.path.getsize(agents.path(0, "log"))
+        end()
         status = agents.processes[0].wait(PATIENCE)
-        if not check("a signal to the agent and its node ends it with 0", status == 0, (number, status)):
+        with open(agents.path(0, "log")) as log:
+            log.seek(said)
+            last = log.read()
+        return check(name, status == 0, (status, last)) and last
+
+    for number in (signal.SIGTERM, signal.SIGINT) * 5:
+        if not ends_with_0("%s to the agent's process group ends it with 0" % number.name, lambda: os.killpg(agents.processes[0].pid, number)):
             return
+
+    def node_first():
+        os.kill(agents.node(0), number)
+        time.sleep(0.05)
+        os.kill(agents.processes[0].pid, number)
+    for number in (signal.SIGTERM, signal.SIGINT):
+        ends_with_0("%s to the node, and then to its agent, ends it with 0" % number.name, node_first)
+    not_ended_in_time(bed, agents, ends_with_0)
     agents.processes[0] = begin()
     agents.one_group()
     for _ in range(3):
@@ -221,6 +237,30 @@ def at_once(bed):
             return
         agents.one_group()
     agents.stop()
+
+
+PTRACE_SEIZE = 0x4206
+
+
+def not_ended_in_time(bed, agents, ends_with_0):
+    """A node that is killed and isn't gone, as one that waits for its disk: of a process that another one traces its parent isn't told before that one lets go of it."""
+    trace = ctypes.CDLL(None, use_errno=True).ptrace
+    trace.argtypes = [ctypes.c_long, ctypes.c_long, ctypes.c_void_p, ctypes.c_void_p]
+    nodes, times = [], []
+
+    def end():
+        nodes.append(agents.node(0))
+        if trace(PTRACE_SEIZE, nodes[0], None, None) != 0:
+            nodes[0] = 0
+        times.append(time.monotonic())
+        agents.processes[0].send_signal(signal.SIGTERM)
+    last = ends_with_0("SIGTERM ends an agent with 0 whose node isn't gone in time", end)
+    took = time.monotonic() - times[0]
+    if not nodes[0]:
+        return bed.tally.left_out("a node that isn't gone in time", "no process may be traced here")
+    os.waitpid(nodes[0], 0x40000000)         # __WALL
+    bed.tally.check("and the log says so once", last and last.count("the node can't be ended") == 1, last)
+    bed.tally.timed("within a second", took < 1.2, took)
 
 
 def narrow_socket(bed):

@@ -127,16 +127,16 @@ impl<P: Ports> Leases<P> {
         self.start = now + PAUSE_WITHOUT;
     }
 
-    /// Ends the process, by the end of its input.
-    pub(super) fn end(&mut self) {
-        if let Some(Err(why)) = self.process.take().map(|mut process| process.end(PATIENCE_AT_END)) {
+    /// Ends the process, by the end of its input, or in so long by force.
+    pub(super) fn end(&mut self, within: Duration) {
+        if let Some(Err(why)) = self.process.take().map(|mut process| process.end(within)) {
             warn!("the process of leases can't be ended: {why}");
         }
     }
 
     /// Ends the process, which is started again at once.
     pub(super) fn stop(&mut self, now: Instant) {
-        self.end();
+        self.end(PATIENCE_AT_END);
         (self.start, self.due, self.pause) = (now, None, Duration::ZERO);
     }
 

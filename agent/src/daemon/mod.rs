@@ -50,7 +50,7 @@ use log::{debug, error, info, warn};
 use looks::Looks;
 use mio::event::Event;
 use mio::{Events, Poll, Registry, Token, Waker};
-use signals::Signals;
+use signals::{Signals, ENDING};
 use std::collections::BTreeSet;
 use std::io::{self, ErrorKind};
 use std::net::SocketAddr;
@@ -87,7 +87,13 @@ const FILE_GONE: u8 = 7;
 const FILE_IS_COPY: u8 = 9;
 
 /// A node whose input ended may take so long to end: SIGTERM ends the agent within a second.
-const PATIENCE_AT_END: Duration = Duration::from_millis(700);
+const PATIENCE_AT_END: Duration = Duration::from_millis(600);
+
+/// What is ended behind it has at least so long.
+const LEAST_PATIENCE: Duration = Duration::from_millis(20);
+
+/// A signal that ended the node may come to the agent so much later.
+const PATIENCE_FOR_OWN_SIGNAL: Duration = Duration::from_millis(200);
 
 /// For so long an answer of the node is looked for without a sleep.
 const LONGEST_LOOK: Duration = Duration::from_micros(250);
@@ -166,6 +172,16 @@ impl Daemon {
     /// Runs until the node ends or a signal ends it; the status to exit with.
     pub fn run(mut self, beginning: &Beginning) -> anyhow::Result<u8> {
         beginning.is_over();
+        match self.go_on() {
+            Err(why) if self.signals.take_end() => {
+                error!("{why:#}");
+                Ok(self.end_by_signal(Instant::now()))
+            }
+            status => status,
+        }
+    }
+
+    fn go_on(&mut self) -> anyhow::Result<u8> {
         let mut events = Events::with_capacity(256);
         self.core.begin(Instant::now());
         loop {
@@ -178,7 +194,7 @@ impl Daemon {
                 self.wake(event);
             }
             let goes_on = !self.node.is_readable() || self.hear();
-            if let Some(status) = self.is_over(goes_on)? {
+            if let Some(status) = self.is_over(goes_on) {
                 return Ok(status);
             }
             self.work(Instant::now());
@@ -186,33 +202,48 @@ impl Daemon {
     }
 
     /// The status to exit with, where the node ended, a signal came, or the node's file is none to go on with.
-    fn is_over(&mut self, goes_on: bool) -> anyhow::Result<Option<u8>> {
-        let ending = if goes_on { None } else { Some(self.node.end(PATIENCE_AT_END)?) };
-        // a signal to all processes of the agent ends its node, too
-        if self.signals.take_end() {
-            self.core.notify.stopping();
-            self.node.end(PATIENCE_AT_END)?;
-            // what it did meanwhile is told to those who asked for it
-            self.hear();
-            // the others wait for this word alone
-            self.core.say_goodbye(Instant::now());
-            self.core.leases.iter_mut().for_each(Leases::end);
-            info!("ended by a signal");
-            return Ok(Some(0));
-        }
-        if let Some(status) = ending {
-            self.core.say_goodbye(Instant::now());
-            return Ok(Some(ended(status)));
-        }
-        if self.guard.is_gone() {
+    fn is_over(&mut self, goes_on: bool) -> Option<u8> {
+        let is_asked = self.signals.take_end();
+        if self.guard.is_gone() && goes_on && !is_asked {
             error!("{}: it was removed, or another file has its name", self.core.config.file.display());
             self.core.unusable = Some(FILE_GONE);
         }
-        if self.core.unusable.is_some() {
-            self.node.end(PATIENCE_AT_END)?;
-            self.core.say_goodbye(Instant::now());
+        if goes_on && !is_asked && self.core.unusable.is_none() {
+            return None;
         }
-        Ok(self.core.unusable)
+        if is_asked {
+            self.core.notify.stopping();
+        }
+        let until = Instant::now() + PATIENCE_AT_END;
+        let status = self.end_node();
+        if is_asked || self.is_asked_with(status) {
+            return Some(self.end_by_signal(until));
+        }
+        self.core.say_goodbye(Instant::now());
+        self.core.unusable.filter(|_| goes_on).or_else(|| Some(status.map_or(1, ended)))
+    }
+
+    /// Ends the node; how it ended. None where it couldn't be ended, which the log is told.
+    fn end_node(&mut self) -> Option<ExitStatus> {
+        self.node.end(PATIENCE_AT_END).map_err(|why| error!("the node can't be ended: {why}")).ok()
+    }
+
+    /// Whether a signal is for the agent, too, whose node ended so: one to all processes may come to the node first.
+    fn is_asked_with(&self, node: Option<ExitStatus>) -> bool {
+        let is_by_signal = node.and_then(|status| status.signal()).map_or(false, |signal| ENDING.contains(&signal));
+        self.signals.take_end() || (is_by_signal && self.signals.end_within(PATIENCE_FOR_OWN_SIGNAL))
+    }
+
+    /// The rest of an end by a signal, whose status is 0 whatever became of the node.
+    fn end_by_signal(&mut self, until: Instant) -> u8 {
+        // what it did meanwhile is told to those who asked for it
+        self.hear();
+        // the others wait for this word alone
+        self.core.say_goodbye(Instant::now());
+        let left = until.saturating_duration_since(Instant::now()).max(LEAST_PATIENCE);
+        self.core.leases.iter_mut().for_each(|leases| leases.end(left));
+        info!("ended by a signal");
+        0
     }
 
     /// Waits until something comes or is to be done. An answer of the node comes soon, so for a moment it is looked for without a sleep.

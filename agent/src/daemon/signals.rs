@@ -7,6 +7,11 @@ use signal_hook::{flag, low_level::pipe};
 use std::io::{self, Read};
 use std::sync::atomic::{AtomicBool, Ordering};
 use std::sync::Arc;
+use std::thread;
+use std::time::{Duration, Instant};
+
+/// The signals that end the agent.
+pub const ENDING: [i32; 2] = [SIGTERM, SIGINT];
 
 /// Signals that come before the loop begins: those that end the agent end it at once, for a name server or a file system may have it wait without an end, and
 /// the others are passed over.
@@ -15,7 +20,7 @@ pub struct Beginning(Arc<AtomicBool>);
 impl Beginning {
     pub fn register() -> io::Result<Beginning> {
         let is_so = Arc::new(AtomicBool::new(true));
-        for signal in [SIGTERM, SIGINT] {
+        for signal in ENDING {
             flag::register_conditional_shutdown(signal, 0, Arc::clone(&is_so))?;
         }
         flag::register(SIGHUP, Arc::new(AtomicBool::new(false)))?;
@@ -57,6 +62,18 @@ impl Signals {
 
     pub fn take_end(&self) -> bool {
         self.end.swap(false, Ordering::SeqCst)
+    }
+
+    /// Whether one that ends the agent comes within so long.
+    pub fn end_within(&self, time: Duration) -> bool {
+        let until = Instant::now() + time;
+        loop {
+            let (is_over, is_there) = (Instant::now() >= until, self.take_end());
+            if is_there || is_over {
+                return is_there;
+            }
+            thread::sleep(Duration::from_millis(5));
+        }
     }
 
     pub fn take_reload(&self) -> bool {

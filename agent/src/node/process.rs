@@ -143,7 +143,7 @@ impl NodeProcess {
             return Ok(status);
         }
         self.child.kill()?;
-        let hangs = || io::Error::new(ErrorKind::TimedOut, "the node can't be killed: it waits for its disk");
+        let hangs = || io::Error::new(ErrorKind::TimedOut, "it was killed and isn't gone: does it wait for its disk?");
         self.wait(PATIENCE_BEHIND_KILL)?.ok_or_else(hangs)
     }
 
