@@ -159,7 +159,7 @@ impl Metrics {
             fired: maker.counters("fired", "Timers that fired.", "timer")?,
             dropped: maker.counters("dropped", "Datagrams that were dropped, by reason.", "reason")?,
             forwarded: maker.counters("forwarded", "Submissions between agents, by what came of them.", "event")?,
-            farewells: maker.counters("farewells", "What agents said that their nodes end: taken, taken of one that began from a copy of its file, or refused as recorded.", "event")?,
+            farewells: maker.counters("farewells", "What agents said that their nodes end: taken, taken of one that began from a copy of its file, or refused as recorded; and agents whose port was refused: doubted, and found to be killed.", "event")?,
             relayed: maker.counters("relayed", "Datagrams to or of machines that aren't reached by themselves: sent through another one, carried on for others, taken.", "event")?,
             through: maker.gauge("peers_through", "Other machines that are reached through a third one alone.")?,
             jobs: maker.counters("jobs", "Jobs, by what happened to them.", "event")?,
@@ -211,7 +211,7 @@ impl Metrics {
             (&self.refused, &REFUSALS),
             (&self.dropped, &["NoRoom", "NotSent", "Forged", "Empty", "Version", "Kernel", "Down", "Stranger", "Obsolete", "Draining", "Unmet", "Relay"]),
             (&self.forwarded, &["taken", "again"]),
-            (&self.farewells, &["taken", "copy", "drained", "refused"]),
+            (&self.farewells, &["taken", "copy", "drained", "refused", "doubted", "killed"]),
             (&self.jobs, &["kept", "gone", "taken", "dropped", "failed", "aside"]),
             (&self.durable, &["group", "put", "done"]),
         ];

@@ -2,10 +2,12 @@
 #![allow(unsafe_code)]
 
 use rustix::process::{Pid, RawPid};
+use socket2::SockAddr;
 use std::io;
 use std::mem::{size_of, size_of_val, MaybeUninit};
+use std::net::SocketAddr;
 use std::os::unix::io::AsRawFd;
-use std::slice;
+use std::{ptr, slice};
 
 /// A process is of no more groups than the kernel has room for (NGROUPS_MAX).
 const MAX_GROUPS: usize = 65_536;
@@ -77,6 +79,59 @@ fn option_of<T>(socket: &impl AsRawFd, option: libc::c_int, into: &mut [T]) -> i
     // SAFETY: the kernel writes no more than `size` bytes into `into`; it is called for numbers alone, of which any bytes are some
     done(unsafe { libc::getsockopt(socket.as_raw_fd(), libc::SOL_SOCKET, option, into.as_mut_ptr().cast(), &mut size) })?;
     Ok(size as usize / size_of::<T>())
+}
+
+/// Has the system keep what the network answers to datagrams of a socket.
+pub fn hear_of_refusals(socket: &impl AsRawFd, is_ipv6: bool) -> io::Result<()> {
+    let set = |level, option| {
+        let on: libc::c_int = 1;
+        // SAFETY: the kernel reads the one number that it is given
+        done(unsafe { libc::setsockopt(socket.as_raw_fd(), level, option, (&on as *const libc::c_int).cast(), size_of_val(&on) as libc::socklen_t) })
+    };
+    // a socket of IPv6 reaches IPv4 addresses, too
+    set(libc::SOL_IP, libc::IP_RECVERR)?;
+    if is_ipv6 { set(libc::SOL_IPV6, libc::IPV6_RECVERR) } else { Ok(()) }
+}
+
+/// The next answer of the network to a datagram of a socket: where that was sent, and the number of the error; 0 where the network didn't say it. An error
+/// where there is none.
+pub fn next_error(socket: &impl AsRawFd) -> io::Result<(Option<SocketAddr>, i32)> {
+    let mut control = [0_u64; 64];
+    // SAFETY: zeros are a `msghdr`, whose pointers may be null where their sizes are zero; the kernel writes no more than the sizes say into the address and the
+    // control bytes, which both outlive the call. The address is as long as the kernel says, and one of the internet has any bytes
+    let (number, address) = unsafe {
+        SockAddr::init(|address, length| {
+            let mut message = MaybeUninit::<libc::msghdr>::zeroed().assume_init();
+            (message.msg_name, message.msg_namelen) = (address.cast(), *length);
+            (message.msg_control, message.msg_controllen) = (control.as_mut_ptr().cast(), size_of_val(&control));
+            if libc::recvmsg(socket.as_raw_fd(), &mut message, libc::MSG_ERRQUEUE | libc::MSG_DONTWAIT) < 0 {
+                return Err(io::Error::last_os_error());
+            }
+            *length = message.msg_namelen;
+            Ok(number_of(&message))
+        })?
+    };
+    Ok((address.as_socket(), number))
+}
+
+/// The number of the error that the network answered, by the control bytes of a message that the kernel wrote.
+///
+/// # Safety
+///
+/// The message has what the kernel wrote into it.
+unsafe fn number_of(message: &libc::msghdr) -> i32 {
+    let mut at = libc::CMSG_FIRSTHDR(message);
+    while let Some(head) = at.as_ref() {
+        let is_error = matches!((head.cmsg_level, head.cmsg_type), (libc::SOL_IP, libc::IP_RECVERR) | (libc::SOL_IPV6, libc::IPV6_RECVERR));
+        if is_error && head.cmsg_len >= libc::CMSG_LEN(size_of::<libc::sock_extended_err>() as u32) as usize {
+            let error: libc::sock_extended_err = ptr::read_unaligned(libc::CMSG_DATA(head).cast());
+            if [libc::SO_EE_ORIGIN_ICMP, libc::SO_EE_ORIGIN_ICMP6].contains(&error.ee_origin) {
+                return error.ee_errno as i32;
+            }
+        }
+        at = libc::CMSG_NXTHDR(message, at);
+    }
+    0
 }
 
 fn done(status: i32) -> io::Result<()> {

@@ -107,7 +107,7 @@ impl<P: Ports> Core<P> {
         }
         for node in self.view.lost_in(&group) {
             let heard = self.peers.silence(node, now).unwrap_or_default().as_secs_f64();
-            let why = if self.peers.has_left(node) { ", and said that it ends" } else { "" };
+            let why = self.peers.why_left(node);
             warn!("node {node} is no member any more: it was heard {heard:.1} s ago last{why}");
         }
         let made = self.view.enter(group, now);

@@ -17,7 +17,7 @@ use crate::forward::{About, Inbox, Introductions, Key, Keys, Ledger, Outbox, Own
 use crate::http::Pages;
 use crate::lease::LeasePort;
 use crate::metrics::Metrics;
-use crate::net::{Backlog, Cipher, Network, Pace, Peers};
+use crate::net::{Backlog, Cipher, Network, Pace, Peers, Refusals};
 use crate::node::{Answer, Exchange};
 use crate::notify::Notify;
 use crate::resolver::Names;
@@ -86,6 +86,8 @@ pub(super) struct Core<P: Ports> {
     pub(super) backlog: Backlog<Waiting>,
     pub(super) pace: Pace,
     pub(super) peers: Peers,
+    /// Whose machines refuse what is sent to them.
+    pub(super) refusals: Refusals,
     pub(super) resolver: P::Names,
     pub(super) clients: Clients<P::Door>,
     /// The group whose members may ask for what changes the machine for all: its name and number.
@@ -136,6 +138,7 @@ impl<P: Ports> Core<P> {
             leases: Leases::of(&config, now),
             holding: Holding::new(round_trip),
             clock: Clock::new(config.round_trip_ms, now),
+            refusals: Refusals::new(nodes, round_trip),
             peers: Peers::new(config.id, &config.nodes, is_ipv6, round_trip),
             link,
             cipher,

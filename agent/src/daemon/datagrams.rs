@@ -97,6 +97,9 @@ impl<P: Ports> Core<P> {
 
     /// A datagram of a node's agent came that only a machine of the cluster can have sent, as far as that is known.
     pub(super) fn came_from(&mut self, node: Option<u8>, from: Origin, now: Instant) {
+        if let Some(node) = node {
+            self.refusals.heard(node, now);
+        }
         if let Some(node) = node.filter(|_| from.through.is_none()) {
             self.peers.ways.heard(node, now);
         }
@@ -343,6 +346,7 @@ impl<P: Ports> Core<P> {
         }
         for node in before.into_iter().filter(|node| !others.contains(node)) {
             info!("node {node}: its machine was taken away");
+            self.refusals.leave(node);
             if self.view.group.members.contains(&node) {
                 self.lose(node, now);
             }

@@ -299,7 +299,8 @@ impl<P: Ports> Core<P> {
             return self.metrics.farewells.with_label_values(&["refused"]).inc();
         }
         self.metrics.farewells.with_label_values(&[if is_copy { "copy" } else { "taken" }]).inc();
-        self.peers.leave(from, now);
+        self.peers.leave(from, false, now);
+        self.refusals.leave(from);
         self.drained.remove(&from);
         if is_copy {
             warn!("node {from} ends: its file was put back from a copy, or made with numbers that are too low");

@@ -16,6 +16,7 @@ mod looks;
 mod losses;
 mod opening;
 mod pages;
+mod refusals;
 mod relaying;
 mod requests;
 mod signals;
@@ -315,6 +316,8 @@ impl<P: Ports> Core<P> {
             return self.open(now);
         }
         self.receive(now);
+        self.hear_refusals(now);
+        self.ask_unasked(now);
         self.send_on(now);
         self.tell_numbers(now);
         self.announce(now);
@@ -363,7 +366,7 @@ impl<P: Ports> Core<P> {
         let wait = |next: Option<Instant>| next.map_or(Duration::MAX, |next| next.saturating_duration_since(now));
         let of_clients = wait(self.clients.next_beat()).min(wait(self.hand.next_due()));
         let leases = self.leases.as_ref().map_or(Duration::MAX, |leases| leases.sleep(now));
-        let leases = leases.min(self.announcing.sleep(now)).min(self.looking.sleep(now)).min(self.notify.sleep(now));
+        let leases = leases.min(self.refusals.sleep(now)).min(self.unasked_in(now)).min(self.announcing.sleep(now)).min(self.looking.sleep(now)).min(self.notify.sleep(now));
         let clock = self.holding.left(now).unwrap_or_else(|| self.clock.sleep(now));
         clock.min(until).min(self.pace.sleep(now)).min(majority).min(of_clients).min(leases)
     }

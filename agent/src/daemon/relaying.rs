@@ -75,6 +75,7 @@ impl<P: Ports> Core<P> {
         match self.opened(relayed.inner.to_vec()) {
             Some((clear, was_encrypted)) if was_encrypted == sender.is_some() && sender.map_or(true, |sender| sender == relayed.from) && !is_relayed(&clear) => {
                 self.metrics.relayed.with_label_values(&["taken"]).inc();
+                self.refusals.heard(relayed.from, now);
                 self.peers.ways.heard_through(relayed.from, relayed.by, relayed.is_deaf, now);
                 self.take_clear(clear, Origin { was_encrypted, through: Some(relayed.by), ..from }, now);
             }

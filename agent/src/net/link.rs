@@ -1,6 +1,8 @@
 //! The UDP socket of an agent.
 
 use super::kernel;
+use crate::system_calls::{hear_of_refusals, next_error};
+use log::debug;
 use mio::net::UdpSocket;
 use mio::{Interest, Registry, Token};
 use socket2::SockRef;
@@ -18,6 +20,9 @@ const ROOM: usize = 4 * 1024 * 1024;
 /// So many errors at a time are passed over.
 const MAX_ERRORS: usize = 16;
 
+/// A datagram is sent again so often where that fails: what is said may be what the network answered to earlier ones.
+const MAX_LATE: usize = 2;
+
 /// The network, as far as it is asked for datagrams.
 pub trait Network {
     /// Whether datagrams may be waiting.
@@ -25,6 +30,9 @@ pub trait Network {
 
     /// The next datagram that came, if any, and from where.
     fn receive<'a>(&mut self, bytes: &'a mut [u8; MAX_DATAGRAM]) -> Option<(&'a [u8], SocketAddr)>;
+
+    /// The next address where something was refused that was sent there, since nobody has that port, as the network says; None where it said no more.
+    fn refused(&mut self) -> Option<SocketAddr>;
 
     /// Sends a datagram. One that doesn't leave is the same as one that is lost.
     fn send(&self, bytes: &[u8], to: SocketAddr) -> io::Result<()>;
@@ -44,8 +52,9 @@ pub trait Network {
 
 pub struct Link {
     socket: UdpSocket,
-    /// Whether datagrams may be waiting.
+    /// Whether datagrams may be waiting, and answers of the network to those that were sent.
     is_readable: bool,
+    has_errors: bool,
 }
 
 impl Link {
@@ -56,7 +65,10 @@ impl Link {
             match with_room(address) {
                 Ok(mut socket) => {
                     registry.register(&mut socket, token, Interest::READABLE)?;
-                    return Ok(Link { socket, is_readable: true });
+                    if let Err(why) = hear_of_refusals(&socket, address.is_ipv6()) {
+                        debug!("the system doesn't tell what is refused: {why}");
+                    }
+                    return Ok(Link { socket, is_readable: true, has_errors: true });
                 }
                 Err(error) => last = error,
             }
@@ -70,7 +82,7 @@ impl Link {
     }
 
     pub fn wake(&mut self) {
-        self.is_readable = true;
+        (self.is_readable, self.has_errors) = (true, true);
     }
 }
 
@@ -93,8 +105,30 @@ impl Network for Link {
         None
     }
 
+    fn refused(&mut self) -> Option<SocketAddr> {
+        let tries = if self.has_errors { MAX_ERRORS } else { 0 };
+        for _ in 0..tries {
+            match next_error(&self.socket) {
+                Ok((Some(at), libc::ECONNREFUSED)) => return Some(at),
+                Ok(_) => {}
+                Err(_) => {
+                    self.has_errors = false;
+                    break;
+                }
+            }
+        }
+        None
+    }
+
     fn send(&self, bytes: &[u8], to: SocketAddr) -> io::Result<()> {
-        self.socket.send_to(bytes, to).map(drop)
+        let mut sent = self.socket.send_to(bytes, to);
+        for _ in 0..MAX_LATE {
+            match &sent {
+                Err(why) if why.kind() != ErrorKind::WouldBlock => sent = self.socket.send_to(bytes, to),
+                _ => break,
+            }
+        }
+        sent.map(drop)
     }
 
     fn is_loopback(&self) -> bool {
@@ -131,4 +165,50 @@ fn has_shrunk(socket: SockRef<'_>) -> io::Result<bool> {
     let before = socket.recv_buffer_size()?;
     socket.set_recv_buffer_size(ROOM)?;
     Ok(socket.recv_buffer_size()? < before)
+}
+
+#[cfg(test)]
+mod tests {
+    use super::*;
+    use mio::Poll;
+    use std::net::UdpSocket as Peer;
+    use std::time::{Duration, Instant};
+
+    fn all_refused(link: &mut Link) -> Vec<SocketAddr> {
+        link.wake();
+        std::iter::from_fn(|| link.refused()).collect()
+    }
+
+    #[test]
+    fn what_is_refused_is_told_and_keeps_nothing_else_from_leaving() {
+        // a socket of IPv6 reaches IPv4, too; where there is IPv6 at all
+        for (own, others) in [("127.0.0.1:0", "127.0.0.1"), ("[::1]:0", "[::1]"), ("[::]:0", "[::ffff:127.0.0.1]")] {
+            let poll = Poll::new().unwrap();
+            let mut link = match Link::bind(own, poll.registry(), Token(0)) {
+                Ok(link) => link,
+                Err(_) if own != "127.0.0.1:0" => continue,
+                Err(why) => panic!("{why}"),
+            };
+            let bind = || Peer::bind(if others == "[::1]" { "[::1]:0" } else { "127.0.0.1:0" }).unwrap();
+            let (there, gone) = (bind(), bind());
+            let at = |peer: &Peer| format!("{others}:{}", peer.local_addr().unwrap().port()).parse::<SocketAddr>().unwrap();
+            let (to_there, to_gone) = (at(&there), at(&gone));
+            link.send(b"one", to_gone).unwrap();
+            assert!(all_refused(&mut link).is_empty(), "somebody has that port");
+            drop(gone);
+            for _ in 0..3 {
+                link.send(b"two", to_gone).unwrap();
+                link.send(b"three", to_there).unwrap();
+            }
+            let (begin, mut refused) = (Instant::now(), Vec::new());
+            while refused.len() < 3 && begin.elapsed() < Duration::from_secs(20) {
+                refused.extend(all_refused(&mut link));
+            }
+            assert_eq!(refused, [to_gone; 3], "{own}");
+            there.set_read_timeout(Some(Duration::from_secs(20))).unwrap();
+            let mut bytes = [0; 16];
+            assert!((0..3).all(|_| there.recv(&mut bytes).unwrap() == 5));
+            assert!(link.receive(&mut [0; MAX_DATAGRAM]).is_none() && all_refused(&mut link).is_empty());
+        }
+    }
 }

@@ -6,6 +6,7 @@ mod kernel;
 mod link;
 mod pace;
 mod peers;
+mod refusals;
 mod ways;
 
 pub use backlog::Backlog;
@@ -13,4 +14,5 @@ pub use cipher::{is_encrypted, Cipher, LONGER};
 pub use link::{Link, Network, MAX_DATAGRAM};
 pub use pace::{GroupBytes, Leaves, Pace};
 pub use peers::{News, Peer, Peers};
+pub use refusals::{Refusals, Step};
 pub use ways::{Sending, Ways};

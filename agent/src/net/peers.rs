@@ -38,8 +38,9 @@ pub struct Peer {
     /// When it was first asked something that it didn't answer, though it was heard before and since; and when an operator was last told so.
     unanswered: Option<Instant>,
     deaf: Option<Instant>,
-    /// When its agent said that it ends.
+    /// When its agent said that it ends, or was found to be killed, and which of them.
     left: Option<Instant>,
+    is_killed: bool,
     /// Since when all that came in its name was too old, and when an operator was last told so.
     stale: Option<Instant>,
     told_stale: Option<Instant>,
@@ -79,6 +80,7 @@ impl Peer {
             unanswered: None,
             deaf: None,
             left: None,
+            is_killed: false,
             stale: None,
             told_stale: None,
             was_found: None,
@@ -231,14 +233,29 @@ impl Peers {
         }
     }
 
-    /// A node's agent says that it ends.
-    pub fn leave(&mut self, node: u8, now: Instant) {
+    /// The one to whom what is for it is sent at this address.
+    pub fn reached_at(&self, at: SocketAddr) -> Option<u8> {
+        let is_it = |own: SocketAddr| own.ip() == at.ip() && own.port() == at.port();
+        self.others().find(|node| self.address(*node).map_or(false, is_it))
+    }
+
+    /// A node's agent says that it ends, or was killed.
+    pub fn leave(&mut self, node: u8, is_killed: bool, now: Instant) {
         if let Some(peer) = self.peers.get_mut(usize::from(node)) {
-            peer.left = Some(now);
+            (peer.left, peer.is_killed) = (Some(now), is_killed);
         }
     }
 
-    /// Whether it said so since it was heard last.
+    /// Why a node is no member any more, as the log is told, where that is known.
+    pub fn why_left(&self, node: u8) -> &'static str {
+        match self.peers.get(usize::from(node)) {
+            Some(peer) if self.has_left(node) && peer.is_killed => ", and its agent was killed",
+            Some(_) if self.has_left(node) => ", and said that it ends",
+            _ => "",
+        }
+    }
+
+    /// Whether it did so since it was heard last.
     pub fn has_left(&self, node: u8) -> bool {
         self.peers.get(usize::from(node)).map_or(false, |peer| peer.left.is_some() && peer.left >= peer.heard)
     }

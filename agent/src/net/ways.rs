@@ -98,6 +98,11 @@ impl Ways {
         }
     }
 
+    /// When a peer was last sent something at its own address.
+    pub fn sent(&self, node: u8) -> Option<Instant> {
+        self.ways.get(usize::from(node)).and_then(|way| way.sent)
+    }
+
     /// Whether a peer doesn't answer by itself.
     fn is_silent(&self, node: u8, now: Instant) -> bool {
         self.ways.get(usize::from(node)).map_or(true, |way| {

@@ -20,6 +20,7 @@ use std::time::{Duration, Instant};
 pub(super) struct Cable {
     pub(super) came: VecDeque<(Vec<u8>, SocketAddr)>,
     pub(super) sent: RefCell<Vec<(Vec<u8>, SocketAddr)>>,
+    pub(super) refused: VecDeque<SocketAddr>,
 }
 
 impl Network for Cable {
@@ -31,6 +32,10 @@ impl Network for Cable {
         let (datagram, from) = self.came.pop_front()?;
         bytes[..datagram.len()].copy_from_slice(&datagram);
         Some((&bytes[..datagram.len()], from))
+    }
+
+    fn refused(&mut self) -> Option<SocketAddr> {
+        self.refused.pop_front()
     }
 
     fn send(&self, bytes: &[u8], to: SocketAddr) -> io::Result<()> {

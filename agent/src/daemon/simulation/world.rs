@@ -83,6 +83,8 @@ enum Event {
     Reads { at: usize, life: u64 },
     Says { at: usize, life: u64, count: usize },
     Datagram { from: usize, to: usize, bytes: Vec<u8> },
+    /// The network says at a machine that another one's port is nobody's.
+    Refused { at: usize, by: usize },
     Enters { at: usize, life: u64, epoch: u64, group: Group },
     Regroup,
     Act(usize),
@@ -215,6 +217,14 @@ impl World {
                 if let Some(core) = &mut self.machines[to].core {
                     core.link.came.push_back((bytes, address(from)));
                     self.turn(to);
+                } else if from < MACHINES {
+                    self.put(MS, Event::Refused { at: from, by: to });
+                }
+            }
+            Event::Refused { at, by } => {
+                if let Some(core) = &mut self.machines[at].core {
+                    core.link.refused.push_back(address(by));
+                    self.turn(at);
                 }
             }
             Event::Enters { at, life, epoch, group } => {
@@ -458,6 +468,9 @@ impl World {
         };
         let (from, to) = (self.chance.below(4) as usize, self.chance.below(3) as usize);
         self.put(0, Event::Datagram { from, to, bytes });
+        // what the network says has no seal
+        let (at, by) = (self.chance.below(3) as usize, self.chance.below(3) as usize);
+        self.put(0, Event::Refused { at, by });
         let next = self.chance.below(120) * MS;
         self.put(next, Event::Enemy);
     }
