@@ -196,6 +196,8 @@ BUILT=invite SEED=7 call "$check" long
 expect 'the long part' 0
 has 'the long part: its seed' <(grep soak "$room/log" | sed 's/.* //') 7
 has 'the long part: none without --long, --all or more' <(grep -cE 'hostile.sh .* --long$|store_faults.sh .* --all$|agent/tests/run .*--long 3600 --only$|store_kills.sh .* 10000$' "$room/log") 4
+has 'the long part: its measures' <(grep -E '/measure |/compare |pacing.py ' "$room/log" | sed "s,$program,PROGRAM,") 'agent/tests/measure PROGRAM all' 'agent/tests/compare PROGRAM' \
+    'tests/pacing.py PROGRAM table 3 0 20' 'tests/pacing.py PROGRAM table 3 5 20' 'tests/pacing.py PROGRAM table 3 20 20' 'tests/pacing.py PROGRAM table 5 20 10' 'tests/pacing.py PROGRAM table 16 0 4'
 
 # The words of a call are those of the folder that it comes from.
 BUILT=invite call bash -c 'cd repo/agent && ../check agent ../../mine'

@@ -298,7 +298,7 @@ def table(tried, nodes, loss, seeds):
     lives = [life(tried.bed(nodes, 20, 6, loss=loss / 100, seed=seed)) for seed in range(seeds)]
     for what in lives[0]:
         found = sorted(each[what] if each[what] is not None else 10**6 for each in lives)
-        print(f"pacing.py: {nodes} nodes, {loss} % lost: {what}: {statistics.median(found):.0f} in the median, {found[-1]} at most", flush=True)
+        tried.mark(found[-1] < 10**6, f"{nodes} nodes, {loss} % lost: {what}: {statistics.median(found):.0f} in the median, {found[-1]} at most")
 
 
 SCENES = {"replaced": try_replaced, "dropped": try_dropped, "lead": try_lead, "stalls": try_stalls, "cuts": try_cuts, "storm": try_storm}
@@ -313,8 +313,7 @@ def main():
         tried = Tried(program, folder)
         if sys.argv[2:3] == ["table"]:
             table(tried, *map(int, sys.argv[3:]))
-            return 0
-        for name in sys.argv[2:] or SCENES:
+        for name in [] if sys.argv[2:3] == ["table"] else sys.argv[2:] or SCENES:
             SCENES[name](tried)
     print(f"{tried.passed} passed, {tried.failed} failed")
     return 0 if tried.failed == 0 and tried.passed > 0 else 1
