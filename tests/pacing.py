@@ -13,6 +13,9 @@ HERE = os.path.dirname(os.path.abspath(__file__))
 # how soon three nodes without a coordinator, or without a member, are one group of two, in ms: the round trip as set, the least time of a message, the median and the longest that are allowed
 REPLACED = [(20, 9, 900, 1300), (20, 0.1, 600, 950), (5, 2, 500, 700), (100, 45, 2500, 3500)]
 DROPPED = [(20, 9, 2500, 3200), (20, 0.1, 2300, 3000)]
+# who is stopped for a second every three, the round trip as set, the least time of a message, when that begins, how often it is, and how many groups may be made
+STALLS = [("coordinator", 20, 9, range(3000, 4000, 100), 10, 2), ("coordinator", 20, 9, [3000], 80, 2), ("coordinator", 20, 0.1, range(3000, 3500, 100), 6, 2), ("coordinator", 5, 2, range(3000, 3500, 100), 5, 2),
+          ("coordinator", 1, 0.1, range(3000, 3300, 100), 4, 2), ("member", 20, 9, [3000], 80, 0), ("member", 20, 9, range(3100, 3500, 100), 10, 0)]
 # for how many round trips a coordinator may list a node that is in another group; links that are dead meanwhile, from L, which led, M, its member, and T, the third
 LISTED = 250
 CUTS = [("from a coordinator to a member nothing comes", ["LM"]), ("from a member to its coordinator nothing comes", ["ML"]), ("between them nothing comes, and the third starts anew", ["LM", "ML"]), ("from and to a member nothing comes", ["LM", "ML", "MT", "TM"])]
@@ -207,23 +210,27 @@ def try_lead(tried):
         tried.mark(max(backs) <= 40 * unit, f"round trip {2 * way} of {unit} ms: one that comes back is taken in after {sorted(backs)} ms, {40 * unit} allowed")
 
 
+def made_in_stalls(tried, who, unit, way, begin, stalls):
+    """How many groups are made where the coordinator, or a member, is stopped for a second every three, from so long behind the first group on."""
+    bed = tried.bed(3, unit, way, seed=begin)
+    bed.start()
+    bed.run(bed.now + 60_000, lambda: bed.is_one([0, 1, 2]))
+    bed.run(bed.now + begin)
+    groups = len(bed.groups)
+    for _ in range(stalls):
+        first = bed.node[0].group
+        lead = int(first[1]) if first and first[0] == "Normal" else 2
+        bed.stop(lead if who == "coordinator" else (lead + 1) % 3, 1000)
+        bed.run(bed.now + 3000)
+    bed.end()
+    return len(bed.groups) - groups
+
+
 def try_stalls(tried):
-    """The coordinator, or a member, is stopped for a second every three."""
-    for who, most in (("coordinator", 2), ("member", 0)):
-        for seed in range(3):
-            bed = tried.bed(3, 20, 9, seed=seed)
-            bed.start()
-            bed.run(bed.now + 60_000, lambda: bed.is_one([0, 1, 2]))
-            bed.run(bed.now + 3000)
-            groups = len(bed.groups)
-            for _ in range(80):
-                first = bed.node[0].group
-                lead = int(first[1]) if first and first[0] == "Normal" else 2
-                bed.stop(lead if who == "coordinator" else (lead + 1) % 3, 1000)
-                bed.run(bed.now + 3000)
-            made = len(bed.groups) - groups
-            tried.mark(made <= most, f"a {who} that is stopped for 1 s of 3, 240 s: {made} groups made, {most} allowed")
-            bed.end()
+    """The coordinator, or a member, is stopped: what the first stall teaches is enough for those behind it, whenever it comes."""
+    for who, unit, way, begins, stalls, most in STALLS:
+        made = [made_in_stalls(tried, who, unit, way, begin, stalls) for begin in begins]
+        tried.mark(max(made) <= most, f"round trip {2 * way} of {unit} ms: a {who} that is stopped for 1 s of 3, {3 * stalls} s: {made} groups made, {most} allowed")
 
 
 def lists_a_stranger(bed):

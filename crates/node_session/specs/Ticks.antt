@@ -14,7 +14,7 @@ use Rattle.node_timers.specs.Retransmission.{Waits, has_come, sent_again}
 abbrev pub SetsDeadline : NodeSnapshot → Policy → Policy → Type 0
 SetsDeadline s old new = ((d : Deadline) → Runs old s d → ⊥) → (wait : Wait) → wait_of s ≡ Some wait
     → (d : Deadline) × (new.deadline ≡ Some d) × Sets old wait s.group d
-    × (new.asked ≡ asked_at wait old) × (new.slowest ≡ slowest_at wait old) × (new.soon ≡ soon_left old.soon wait)
+    × (new.asked ≡ asked_at wait s.group old) × (new.slowest ≡ slowest_at wait old) × (new.soon ≡ soon_left old.soon wait)
     × (new.prompted ≡ prompted_left old.soon old.prompted wait) × (new.random ≡ random_at wait old)
 
 -- all that is said of a tick that answered this

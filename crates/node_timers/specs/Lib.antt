@@ -1,5 +1,6 @@
 pub mod Jitter
 pub mod Timers
+pub mod Questions
 pub mod Snapshots
 pub mod Policy
 pub mod Laws

@@ -1,6 +1,6 @@
 -- What a policy keeps, and what it fires.
-use Rattle.std.specs.Prelude.{ℕ, ◌≡◌, ◌≢◌, ◌⊎◌, ◌+◌, ◌-◌, ◌/◌, ◌≤◌, ◌<◌, ◌^◌, max, min, Bool, true, false, not, ◌&&◌, ◌||◌, ◌==◌, nat_le}
-use Rattle.std.specs.Prelude.{nat_lt, if◌then◌else◌, List, slice_index, slice_set, replicate, Option, Some, None, is_some}
+use Rattle.std.specs.Prelude.{ℕ, ◌≡◌, ◌≢◌, ◌⊎◌, ◌+◌, ◌-◌, ◌*◌, ◌/◌, ◌≤◌, ◌<◌, ◌^◌, max, min, Bool, true, false, not, ◌&&◌, ◌||◌, ◌==◌}
+use Rattle.std.specs.Prelude.{nat_le, nat_lt, if◌then◌else◌, List, slice_index, slice_set, replicate, Option, Some, None, is_some}
 use Rattle.std.specs.List.{list_any}
 use Rattle.std.specs.Option.{unwrap_or}
 use Rattle.group_task.specs.Group.{Group}
@@ -16,8 +16,11 @@ use Rattle.node_timers.specs.declared.deadline.Deadline.{Deadline}
 use Rattle.node_timers.specs.declared.snapshot.NodeSnapshot.{NodeSnapshot}
 use Rattle.rand_pcg.specs.Lcg.{Lcg}
 use Rattle.node_timers.specs.Jitter.{behind_word, drawn, seeded}
-use Rattle.node_timers.specs.Timers.{IsSet, answered, at_once, comes_soon, is_behind_question, is_check_wait, is_late, paced, wait_of}
-use Rattle.node_timers.specs.Timers.{timer_of, first_pause, graced, is_led_by, jitter_of, lasts, lateness, later, longer_pause, put_off}
+use Rattle.node_timers.specs.declared.questions.Questions.{Questions}
+use Rattle.node_timers.specs.Questions.{asked_in, asks_at, forgotten, none_asked}
+use Rattle.node_timers.specs.Timers.{IsSet, answered, at_once, comes_soon, is_accept, is_behind_question, is_check_wait, is_late, paced}
+use Rattle.node_timers.specs.Timers.{wait_of, timer_of, first_pause, graced, is_led_by, jitter_of, lasts, lateness, later, longer_pause}
+use Rattle.node_timers.specs.Timers.{put_off}
 
 -- the policy of a node: the time that was told last, how much of what comes isn't waited for, the deadline that is set, whether its group
 -- is settled
@@ -42,7 +45,7 @@ pub record Policy : Type 0 where
   -- how many checks are to come soon
   pub soon : ℕ
   -- when the node asked others last, and how long the slowest answer took, or this node itself was held up
-  pub asked : Option ℕ
+  pub asked : Questions
   pub slowest : ℕ
   -- how long a round trip was measured to take
   pub round_trip : ℕ
@@ -65,7 +68,7 @@ fresh setting id seed = record {
   pause = 0;
   raise = 0;
   soon = 0;
-  asked = None;
+  asked = none_asked;
   slowest = 0;
   round_trip = setting.unit;
   prompted = false;
@@ -112,6 +115,18 @@ asked_where from p (Some d) = asked_with from p d
 abbrev pub asked_by : ℕ → Policy → Policy
 asked_by from p = asked_where from p p.deadline
 
+-- two nodes that invite each other would wait in vain: the lesser one's election is over at once
+abbrev pub invited_with : ℕ → Policy → Deadline → Policy
+invited_with from p d = if is_accept d.wait && nat_lt p.id from then record p { deadline = Some (at_once d) } else p
+
+abbrev pub invited_where : ℕ → Policy → Option Deadline → Policy
+invited_where from p None = p
+invited_where from p (Some d) = invited_with from p d
+
+-- this node invites the policy's one
+abbrev pub invited_by : ℕ → Policy → Policy
+invited_by from p = invited_where from p p.deadline
+
 abbrev pub answered_deadline : TimerSettings → Bool → Option Deadline → Option Deadline
 answered_deadline s found None = None
 answered_deadline s found (Some d) = Some (answered s found d)
@@ -123,6 +138,10 @@ all_answered s p = record p { deadline = answered_deadline p.setting (is_some s.
 -- an answer took so long, or the node itself was held up for so long, and others may be, too
 abbrev pub slowest_late : ℕ → Policy → ℕ
 slowest_late late p = max p.slowest (min late p.setting.slowest_most)
+
+-- this node was held up, so late for what was over: since when is not known, and twice as long is reckoned with
+abbrev pub slowest_held : ℕ → Policy → ℕ
+slowest_held late p = slowest_late (2 * late) p
 
 -- how long a round trip is taken to be once an answer took so long: as long as the longest of the last ones, each of which counts an eighth
 -- less with the next; no longer than is set, and a quarter of that at least
@@ -138,12 +157,16 @@ answer_since None p = p
 answer_since (Some asked) p = answer_took (unwrap_or p.told 0 - asked) p
 
 abbrev pub answer_came : Policy → Policy
-answer_came p = answer_since p.asked p
+answer_came p = answer_since p.asked.last p
+
+-- a node says whether this one is a member of that group, which may be one that it left: it takes as long as since it was asked in that
+abbrev pub here_came : Group → Policy → Policy
+here_came group p = answer_since (asked_in group p.asked) p
 
 -- when the node asked last, and how slow answers are reckoned to be, once the deadline of this wait is set: what was slow counts less with
 -- each question
-abbrev pub asked_at : Wait → Policy → Option ℕ
-asked_at wait p = if is_behind_question wait then p.told else p.asked
+abbrev pub asked_at : Wait → Group → Policy → Questions
+asked_at wait group p = asks_at wait group p.told p.asked
 
 abbrev pub slowest_at : Wait → Policy → ℕ
 slowest_at wait p = if is_behind_question wait then p.slowest - (p.slowest / 128 + 1) else p.slowest
@@ -158,7 +181,7 @@ gives_up p = record p { soon = 2; prompted = true }
 
 -- what the node asks from now on wasn't asked at a time that was told
 abbrev pub without_asked : Policy → Policy
-without_asked p = record p { asked = None }
+without_asked p = record p { asked = forgotten p.asked }
 
 -- by what the lengths of this wait are reckoned
 abbrev pub paced_at : Wait → Policy → TimerSettings
@@ -260,7 +283,7 @@ pub record MovesDeadline (s : NodeSnapshot) (old new : Policy) : Type 0 where
   pub runs_on : (d : Deadline) → Runs old s d → d.waited < lasts old.setting old.raise s.merge_wait d
       → (new.deadline ≡ Some d) × (new.slowest ≡ old.slowest)
   -- how long it has been over the node itself was held up
-  pub held_up : (d : Deadline) → IsOver old s d → new.slowest ≡ slowest_late (lateness old.setting old.raise s.merge_wait d) old
+  pub held_up : (d : Deadline) → IsOver old s d → new.slowest ≡ slowest_held (lateness old.setting old.raise s.merge_wait d) old
   pub asked : (d : Deadline) → Runs old s d → new.asked ≡ old.asked
   -- nothing is drawn
   pub random : (d : Deadline) → Runs old s d → new.random ≡ old.random

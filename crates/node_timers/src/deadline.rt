@@ -1,5 +1,5 @@
 ghost use Rattle.std.specs.Prelude.{◌≡◌, ◌↔◌, ◌≤◌, ◌<◌, ◌-◌, ◌+◌, ◌*◌, ◌^◌, min, IsTrue};
-ghost use Rattle.node_timers.specs.Timers.{answered, at_once, graced, is_check_wait, is_late, is_led_by, joined, lasts, lateness, later, put_off, times, turns_of};
+ghost use Rattle.node_timers.specs.Timers.{answered, at_once, graced, is_accept, is_check_wait, is_late, is_led_by, joined, lasts, lateness, later, put_off, times, turns_of};
 
 use crate::timer_settings::TimerSettings;
 use crate::wait::Wait;
@@ -97,6 +97,13 @@ impl Deadline {
         ensures { result ≡ is_check_wait self.now.wait }
     {
         matches!(self.wait, Wait::Check)
+    }
+
+    /// Whether a node that invited others waits for them.
+    pub fn is_of_accept(&self) -> bool
+        ensures { result ≡ is_accept self.now.wait }
+    {
+        matches!(self.wait, Wait::Accept)
     }
 
     /// Whether a member waits to ask this node, its coordinator.

@@ -15,6 +15,7 @@
 mod deadline;
 mod hearing;
 mod laws;
+mod questions;
 mod repeat;
 mod retransmission;
 mod snapshot;
@@ -24,6 +25,7 @@ mod wait;
 
 pub use deadline::Deadline;
 pub use laws::{falls_back, fires_once, put_off_once, scales, sent_again_seldom};
+pub use questions::{Question, Questions};
 pub use retransmission::{MOST_AT_ONCE, Retransmission};
 pub use snapshot::NodeSnapshot;
 pub use timer_policy::TimerPolicy;

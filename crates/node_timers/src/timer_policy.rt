@@ -6,9 +6,10 @@ ghost use Rattle.node_timers.specs.Jitter.{behind_word, drawn};
 ghost use Rattle.node_timers.specs.declared.deadline.Deadline.{Deadline};
 ghost use Rattle.node_timers.specs.declared.wait.Wait.{Wait};
 ghost use Rattle.node_timers.specs.Timers.{comes_soon, jitter_of, least_at, least_of, patience, prompted_left, raise_of, soon_left, wait_of};
-ghost use Rattle.node_timers.specs.Policy.{aged, all_answered, answer_came, answer_took, slowest_at, slowest_late, asked_at, asked_by, fresh, gives_up, heard_from, in_new_group, is_silent, jitter_at, paced_at, random_at, has_silent, event_at, looked_at, may_dispatch, passed, rests, since, spent, trip_with, without_asked, work_left, Runs, HasCome, IsDue, IsWorkDue, MayFire, Counts, Dispatches, MovesDeadline, Sets};
+ghost use Rattle.node_timers.specs.Policy.{aged, all_answered, answer_came, answer_since, answer_took, here_came, slowest_at, slowest_held, slowest_late, asked_at, asked_by, fresh, gives_up, heard_from, in_new_group, invited_by, is_silent, jitter_at, paced_at, random_at, has_silent, event_at, looked_at, may_dispatch, passed, rests, since, spent, trip_with, without_asked, work_left, Runs, HasCome, IsDue, IsWorkDue, MayFire, Counts, Dispatches, MovesDeadline, Sets};
 
 use crate::deadline::Deadline;
+use crate::questions::Questions;
 use crate::snapshot::NodeSnapshot;
 use crate::timer_settings::TimerSettings;
 use crate::wait::Wait;
@@ -43,7 +44,7 @@ pub struct TimerPolicy {
     // how many checks are to come soon: behind a recovery that gives up a silent member
     soon: u8,
     // when the node asked others last, and how long the slowest answer took, or this node itself was held up
-    asked: Option<u64>,
+    asked: Questions,
     slowest: u32,
     // how long a round trip was measured to take
     round_trip: u16,
@@ -101,7 +102,7 @@ impl TimerPolicy {
             pause: 0,
             raise: 0,
             soon: 0,
-            asked: None,
+            asked: Questions::new(),
             slowest: 0,
             round_trip: setting.unit,
             prompted: false,
@@ -141,15 +142,33 @@ impl TimerPolicy {
 
     /// An answer came to what the node asked, and so it is known how long that took.
     pub fn answer_came(&mut self)
-        // Promise: Others are waited for as long as the slowest answer took, or as the node itself was held up, up to 1 s, and a coordinator's answer
-        // three times as long, and 250 ms at least. That counts a 128th less with each question. A round trip is taken to be as long as the longest
-        // of the last answers took, each of which counts an eighth less with the next: no longer than is set, and a quarter of that at least.
+        // Promise: Others are waited for as long as the slowest answer took, or twice as long as the node itself was late, up to 1 s, and a coordinator's
+        // answer three times as long, and 250 ms at least. That counts a 128th less with each question. A round trip is as long as the longest
+        // of the last answers took, each of which counts an eighth less with the next: no longer than set, and a quarter of that at least.
         // Also: TimerPolicy::delivered, TimerPolicy::tick, TimerPolicy::took.
-        // Refuses: slow_answer_forgotten, own_hold_up_forgotten, late_where_it_came_at_once, slow_answers_for_ever, slow_answer_waited_for_once,
-        // fast_network_waited_for_as_set.
+        // Refuses: slow_answer_forgotten, own_hold_up_forgotten, own_hold_up_counts_once, late_where_it_came_at_once, slow_answers_for_ever,
+        // slow_answer_waited_for_once, fast_network_waited_for_as_set.
         ensures { self.new ≡ answer_came self.old }
     {
-        let Some(asked) = self.asked else {
+        let questions = self.asked;
+        self.took_since(questions.last);
+    }
+
+    /// A node says whether this one is a member of that group. It may be one that the node left since: a coordinator that was held up says so then.
+    pub fn here_came(&mut self, group: GroupNo)
+        // Promise: A coordinator's answer takes as long as since it was asked in its group, also where the node left that and asked in another.
+        // Also: Questions::asked_in, Questions::asks.
+        // Refuses: answer_to_another_question, question_of_a_left_group_forgotten.
+        ensures { self.new ≡ here_came group self.old }
+    {
+        let questions = self.asked;
+        self.took_since(questions.asked_in(group));
+    }
+
+    fn took_since(&mut self, asked: Option<u64>)
+        ensures { self.new ≡ answer_since asked self.old }
+    {
+        let Some(asked) = asked else {
             return;
         };
         let told = self.told.unwrap_or(0);
@@ -186,11 +205,26 @@ impl TimerPolicy {
         }
     }
 
+    /// This node invites the policy's one. Two that invite each other would wait in vain: the lesser one's election is over at once, and the greater
+    /// one's invitation, which is sent again, finds it Normal.
+    pub fn invited(&mut self, from: NodeId)
+        // Promise: Where a greater node invites one in an election, that is over at once.
+        // Refuses: lesser_election_goes_on.
+        ensures { self.new ≡ invited_by from self.old }
+    {
+        let Some(deadline) = self.deadline else {
+            return;
+        };
+        if deadline.is_of_accept() && from.number() > self.id.number() {
+            self.deadline = Some(deadline.at_once());
+        }
+    }
+
     /// The transport gave a node up, and this one asks or leaves: when, the policy isn't told, and so no answer is one to what it asked before.
     pub fn lost(&mut self)
         ensures { self.new ≡ without_asked self.old }
     {
-        self.asked = None;
+        self.asked = self.asked.forgotten();
     }
 
     /// The node is in another group than before: the jobs that it keeps are due at once, and no check was made in it.
@@ -269,7 +303,7 @@ impl TimerPolicy {
         // every_merge_comes_soon.
         ensures set { ((d : Deadline) → Runs self.old snapshot.now d → ⊥) → (wait : Wait) → wait_of snapshot.now ≡ Some wait
             → (d : Deadline) × (self.new.deadline ≡ Some d) × Sets self.old wait snapshot.now.group d
-            × (self.new.asked ≡ asked_at wait self.old) × (self.new.slowest ≡ slowest_at wait self.old) × (self.new.soon ≡ soon_left self.old.soon wait)
+            × (self.new.asked ≡ asked_at wait snapshot.now.group self.old) × (self.new.slowest ≡ slowest_at wait self.old) × (self.new.soon ≡ soon_left self.old.soon wait)
             × (self.new.prompted ≡ prompted_left self.old.soon self.old.prompted wait) × (self.new.random ≡ random_at wait self.old) }
         ensures recovers { result ≡ Some on.Recover → (self.new.soon ≡ 2) × (self.new.prompted ≡ true) }
         ensures stays { result ≢ Some on.Recover → (d : Deadline) → Runs self.old snapshot.now d → (self.new.soon ≡ self.old.soon) × (self.new.prompted ≡ self.old.prompted) }
@@ -300,11 +334,8 @@ impl TimerPolicy {
         };
         let merge_wait = snapshot.merge_wait;
         if deadline.has_come(&self.setting, self.raise, merge_wait) {
-            let slowest = self.slowest_with(deadline.lateness(
-                &self.setting,
-                self.raise,
-                merge_wait,
-            ));
+            let late = deadline.lateness(&self.setting, self.raise, merge_wait);
+            let slowest = self.slowest_held(late);
             if deadline.is_late(&self.setting, self.raise, merge_wait) {
                 self.deadline = Some(deadline.graced(&self.setting, self.raise, merge_wait));
                 self.slowest = slowest;
@@ -404,6 +435,14 @@ impl TimerPolicy {
         self.slowest.max(late)
     }
 
+    /// The same where this node itself was held up, so late for what was over: for twice as long, since it isn't known when that began.
+    fn slowest_held(&self, late: u64) -> u32
+        ensures { result ≡ slowest_held late self.now }
+    {
+        let late = late.min(u64::from(self.setting.slowest_most));
+        self.slowest_with(2 * late)
+    }
+
     /// So much more was waited for.
     fn age(&mut self, waited: u64)
         ensures { self.new ≡ aged waited self.old }
@@ -477,14 +516,14 @@ impl TimerPolicy {
           random = random_at wait self.old;
           deadline = self.new.deadline;
           soon = soon_left self.old.soon wait;
-          asked = asked_at wait self.old;
+          asked = asked_at wait group self.old;
           slowest = slowest_at wait self.old;
           prompted = prompted_left self.old.soon self.old.prompted wait;
         } }
     {
         let soon = self.comes_soon(wait).is_some();
         let length = self.length(wait);
-        self.count(wait);
+        self.count(wait, group);
         self.deadline = Some(Deadline {
             wait,
             group,
@@ -525,10 +564,10 @@ impl TimerPolicy {
     }
 
     /// The deadline of this wait is set.
-    fn count(&mut self, wait: Wait)
+    fn count(&mut self, wait: Wait, group: GroupNo)
         ensures { self.new ≡ record self.old {
           soon = soon_left self.old.soon wait;
-          asked = asked_at wait self.old;
+          asked = asked_at wait group self.old;
           slowest = slowest_at wait self.old;
           prompted = prompted_left self.old.soon self.old.prompted wait;
         } }
@@ -538,8 +577,8 @@ impl TimerPolicy {
             Wait::Merge => self.prompted = self.prompted && self.soon > 0,
             _ => {}
         }
+        self.asked = self.asked.asks(wait, group, self.told);
         if wait.is_behind_question() {
-            self.asked = self.told;
             self.slowest = self.slowest.saturating_sub(self.slowest / 128 + 1);
         }
     }
