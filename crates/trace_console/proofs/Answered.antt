@@ -9,7 +9,7 @@ use Rattle.trace_check.specs.declared.trace.Verdict.{Verdict}
 use Rattle.trace_check.specs.declared.trace.Verdict.TheVariants.{Run, NotARun}
 use Rattle.trace_check.specs.Claims.{Claim}
 use Rattle.trace_check.specs.Followed.{before}
-use Rattle.trace_check.specs.Orders.{history, state_of, taken, IsComplete, IsLegal}
+use Rattle.trace_check.specs.Orders.{history, state_of, taken}
 use Rattle.trace_check.specs.Verdicts.{AreTaken, DecidesRun, IsVerdict}
 use Rattle.trace_check.proofs.PublicLaws.{before_more, may_take}
 use Rattle.trace_console.specs.declared.answers.FalseAnswer.{FalseAnswer}
