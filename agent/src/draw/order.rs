@@ -138,6 +138,15 @@ mod tests {
     }
 
     #[test]
+    fn the_order_is_followed_behind_the_first_turn_that_is_stuck() {
+        let histories = [history(&[ASKS, ASKS, ASKS]), history(&[ASKED, ASKED]), history(&[ASKED, ASKED])];
+        let recorded = [(0, None), (1, Some(0)), (1, Some(0)), (2, Some(0)), (0, None), (2, Some(0)), (0, None)];
+        // node 1 is stuck at its second entry; the turns that can be taken, the least node first
+        let turns = [(0, 0), (0, 1), (0, 2), (1, 0), (2, 0), (2, 1)];
+        assert_eq!(drawn(&histories, &recorded, &turns), (vec![0, 1, 2, 0, 2, 0], 6, vec![None, Some(0), None, None, None, None]));
+    }
+
+    #[test]
     fn what_is_not_recorded_comes_behind() {
         let histories = [history(&[ASKS, ASKS]), history(&[ASKED, ASKED])];
         let turns = [(0, 0), (0, 1), (1, 0), (1, 1)];

@@ -1,5 +1,6 @@
 -- How a command over a file ends, by what was printed.
 use Rattle.std.proofs.Common.{◌≡◌, ◌⊎◌, ⊎_elim, inl, inr, ℕ, List, map, Option, Some, None, Result, Ok, Err, IfOk, string_bytes, refl}
+use Rattle.std.proofs.Common.{subst}
 use Rattle.console_text.specs.Ends.{Printout, Prints, status_of}
 use Rattle.console_text.specs.declared.ends.ExitKind.{ExitKind}
 use Rattle.node_timers.specs.Timers.{measured}
@@ -30,11 +31,12 @@ pub records_end : {E : Type 0} (stage : Stage) (names : List (List ℕ)) (old ne
 records_end stage names old new files ending (Ok code) named prints is = inr (files, ending, named, prints, is)
 records_end stage names old new files ending (Err e) named prints is = tt
 
-pub coming_ends : {E : Type 0} (input rest before behind : Option (List ℕ)) (ending : ExitKind) (result : Result ℕ E)
-    → JudgesPrefixes input rest before behind ending
-    → IfOk result (λ (code : ℕ). code ≡ status_of ending) → IfOk result (JudgesFor input rest before behind)
-coming_ends input rest before behind ending (Ok code) judges is = (ending, judges, is)
-coming_ends input rest before behind ending (Err e) judges is = tt
+pub coming_ends : {E : Type 0} (input given rest before behind : Option (List ℕ)) (ending : ExitKind) (result : Result ℕ E) → given ≡ input
+    → JudgesPrefixes given rest before behind ending
+    → IfOk result (λ (code : ℕ). code ≡ status_of ending) → IfOk result (JudgesFor input before behind)
+coming_ends input given rest before behind ending (Ok code) same judges is =
+    (ending, rest, subst (λ (known : Option (List ℕ)). JudgesPrefixes known rest before behind ending) same judges, is)
+coming_ends input given rest before behind ending (Err e) same judges is = tt
 
 -- where nothing was done, less is said of that
 pub untouched_so : (A B Broken : Type 0) (To : ServingEnd → Type 0) (ended : Status) → (A → B) → ServesSo A Broken To ended

@@ -71,8 +71,9 @@ LeasesFor place round_trip sealing input rest before behind code =
     × LeaseServesSo ((rest ≡ input) × (behind ≡ before)) (LeaseServesTo keys terms input rest before behind) status)
 
 -- a run was judged as it came
-abbrev pub JudgesFor : Option (List ℕ) → Option (List ℕ) → Option (List ℕ) → Option (List ℕ) → ℕ → Type 0
-JudgesFor input rest before behind code = (ending : ExitKind) × JudgesPrefixes input rest before behind ending × (code ≡ status_of ending)
+abbrev pub JudgesFor : Option (List ℕ) → Option (List ℕ) → Option (List ℕ) → ℕ → Type 0
+JudgesFor input before behind code = (ending : ExitKind) × (rest : Option (List ℕ)) × JudgesPrefixes input rest before behind ending
+    × (code ≡ status_of ending)
 
 -- By what is asked for. Of a file that is made nothing is printed: its jobs can't be read, or the status is that of how it was made.
 abbrev pub Obeys : Invocation → Option (List ℕ) → Option (List ℕ) → Option (List ℕ) → Option (List ℕ) → ℕ → Type 0
@@ -87,4 +88,4 @@ Obeys (invocation.Look path shown) input rest before behind code = (rest ≡ inp
 Obeys (invocation.Salvage path) input rest before behind code = (rest ≡ input) × EndsByFile IsSalvagePrintout before behind code
 Obeys (invocation.Trace stage paths) input rest before behind code = (rest ≡ input)
     × EndsByRecords stage (map string_bytes paths.items) before behind code
-Obeys invocation.Judge input rest before behind code = JudgesFor input rest before behind code
+Obeys invocation.Judge input rest before behind code = JudgesFor input before behind code

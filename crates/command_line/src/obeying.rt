@@ -141,7 +141,7 @@ fn judge_coming<R: Read, W: Write, E: Write>(
     output: &mut Sink<W>,
     errors: &mut E,
 ) -> io::Result<u8>
-    ensures { IfOk result (JudgesFor (R.remaining input.old) (R.remaining input.new) (W.contents output.old.writer) (W.contents output.new.writer)) }
+    ensures { IfOk result (JudgesFor (R.remaining input.old) (W.contents output.old.writer) (W.contents output.new.writer)) }
 {
     let mut source = Source::new(input);
     let ending = trace_console::judge_prefixes(alloc, &mut source, output);

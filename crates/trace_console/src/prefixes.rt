@@ -38,7 +38,7 @@ pub fn judge_prefixes<R: Read, W: Write>(
     // Promise: At each line of `judge` that asks, the verdict on all entries that came before it is printed, as `trace --ongoing` prints that
     // on their trace, and nothing else is; each line is taken once, in its order, whatever pieces the input comes in.
     // Also: take_bytes, take_line, tell, verdict_on, take_piece, append_all.
-    // Refuses: prefix_verdict_of_the_whole, last_piece_judged_alone, prefix_judged_as_over, beginning_of_a_line_lost.
+    // Refuses: prefix_verdict_of_the_whole, last_piece_judged_alone, prefix_judged_as_over, end_of_a_line_lost.
     // Promise: A line that is no trace of as many nodes as the first ends `judge`, answered as `trace` answers it, and nothing behind it is
     // taken; at the end of its input the status is 0 exactly where no verdict was `NotARun`.
     // Also: take_piece, ending_of.
