@@ -14,8 +14,9 @@ HERE = os.path.dirname(os.path.abspath(__file__))
 REPLACED = [(20, 9, 900, 1300), (20, 0.1, 600, 950), (5, 2, 500, 700), (100, 45, 2500, 3500)]
 DROPPED = [(20, 9, 2500, 3200), (20, 0.1, 2300, 3000)]
 # who is stopped for a second every three, the round trip as set, the least time of a message, when that begins, how often it is, and how many groups may be made
-STALLS = [("coordinator", 20, 9, range(3000, 4000, 100), 10, 2), ("coordinator", 20, 9, [3000], 80, 2), ("coordinator", 20, 0.1, range(3000, 3500, 100), 6, 2), ("coordinator", 5, 2, range(3000, 3500, 100), 5, 2),
-          ("coordinator", 1, 0.1, range(3000, 3300, 100), 4, 2), ("member", 20, 9, [3000], 80, 0), ("member", 20, 9, range(3100, 3500, 100), 10, 0)]
+STALLS = [("coordinator", 20, 9, range(3000, 4000, 100), 10, 2), ("coordinator", 20, 9, [3000], 80, 2), ("coordinator", 20, 0.1, range(3000, 3500, 100), 6, 2),
+          ("coordinator", 5, 2, range(3000, 3500, 100), 5, 2), ("coordinator", 1, 0.1, range(3000, 3200, 100), 3, 2),
+          ("member", 20, 9, [3000], 80, 0), ("member", 20, 9, [3200, 3400], 10, 0)]
 # for how many round trips a coordinator may list a node that is in another group; links that are dead meanwhile, from L, which led, M, its member, and T, the third
 LISTED = 250
 CUTS = [("from a coordinator to a member nothing comes", ["LM"]), ("from a member to its coordinator nothing comes", ["ML"]), ("between them nothing comes, and the third starts anew", ["LM", "ML"]), ("from and to a member nothing comes", ["LM", "ML", "MT", "TM"])]
