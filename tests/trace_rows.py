@@ -391,6 +391,10 @@ TOLD = [
     (r'{"do":"none","sent":[],"told":{"group":"Down"},"told":{"group":"Down","group":"Normal 0 0:1 0"}}', "Run 0\n"),
     (r'{"told":{"group":"Normal 0 0:1 0"},"do":"none","sent":[],"told":{"group":"Down"}}', "NotARun 0 0\n"),
     # a field of another type is no answer
+    (r'{"do":"none","sent":[],"told":7}', "NotARun 0 0\n"),
+    (r'{"do":"none","sent":[],"told":null}', "NotARun 0 0\n"),
+    (r'{"do":"none","sent":[],"told":["group"]}', "NotARun 0 0\n"),
+    (r'{"do":"none","sent":[],"told":"Normal 0 0:1 0"}', "NotARun 0 0\n"),
     (r'{"do":"none","sent":[],"told":{"group":null}}', "NotARun 0 0\n"),
     (r'{"do":"none","sent":[],"told":{"group":["Normal 0 0:1 0"]}}', "NotARun 0 0\n"),
     (r'{"do":"none","sent":[],"told":{"group":"Normal 0 0:1 0 "}}', "NotARun 0 0\n"),

@@ -1,12 +1,12 @@
 -- What nodes told, beside what they would have told.
 use Rattle.std.specs.Prelude.{ℕ, ◌≡◌, ◌<◌, ◌+◌, ◌&&◌, Bool, true, false, List, [], ◌∷◌, ◌++◌, length, reverse, codes, Option, Some, None}
-use Rattle.std.specs.Prelude.{IfSome, slice_get, Result, Ok, Err}
+use Rattle.std.specs.Prelude.{IfSome, is_some, slice_get, Result, Ok, Err}
 use Rattle.std.specs.Str.{bytes_eq}
 use Rattle.console_text.specs.Ends.{Printout}
 use Rattle.console_text.specs.declared.ends.ExitKind.{ExitKind}
 use Rattle.console_text.specs.declared.ends.ExitKind.TheVariants.{Done, Refused, NoMemory, Unread, Unwritten}
 use Rattle.serde_json.specs.Data.{Data}
-use Rattle.serde_json.specs.Find.{as_str, get}
+use Rattle.serde_json.specs.Find.{as_object, as_str, get}
 use Rattle.histories.specs.NodeState.{NodeState}
 use Rattle.trace_check.specs.declared.trace.Verdict.{Verdict}
 use Rattle.trace_check.specs.declared.trace.Verdict.TheVariants.{Run, NotARun}
@@ -36,10 +36,11 @@ abbrev pub says : Option Data → List ℕ → Bool
 says None text = true
 says (Some field) text = is_text (as_str field) text
 
--- each field that is there has the text of what the node tells; finished: whether the entry says that a job was
+-- it is an object, and each field that is there has the text of what the node tells; finished: whether the entry says that a job was
 abbrev pub is_so : Data → Bool → NodeState → NodeState → Bool
 is_so told finished old new =
-    says (get (codes "group") told) (group_answer new.state)
+    is_some (as_object told)
+    && says (get (codes "group") told) (group_answer new.state)
     && says (get (codes "took") told) (took_answer old.state new.state)
     && says (get (codes "dropped") told) (dropped_answer finished old.state new.state)
     && says (get (codes "gone") told) (gone_answer old.durable new.durable)

@@ -150,7 +150,8 @@ fn are_so(
     )?;
     let gone = gone_so(alloc, told.get("gone"), old, new)?;
     Ok(
-        says(told.get("group"), &group)
+        told.is_object()
+            && says(told.get("group"), &group)
             && took
             && dropped
             && gone
