@@ -365,6 +365,8 @@ def said_majority(bed, turns=3):
     agents.one_group()
     for turn in range(turns):
         time.sleep(1 + 0.3 * (turn % 7))
+        # a busy machine may have cost a group
+        agents.one_group()
         out = agents.status(0)["coordinator"]
         rest = [i for i in range(3) if i != out]
         with agents.connect(out) as link:
