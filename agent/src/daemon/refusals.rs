@@ -1,6 +1,7 @@
 //! Agents that were killed while their machines live: these refuse what is sent to them, and the others go on without the node as if it had said that it ends.
 
 use super::core::{Core, Ports};
+use crate::forward::{Datagram, What};
 use crate::net::{Network, Step};
 use log::warn;
 use std::time::{Duration, Instant};
@@ -11,6 +12,9 @@ const ASKS_AGAIN: u32 = 24;
 const LONGEST_ROUND_TRIP: Duration = Duration::from_millis(25);
 const LATE: Duration = Duration::from_millis(50);
 
+/// One whose port is refused is asked through so many others, too.
+const MOST_ASKED_THROUGH: usize = 8;
+
 impl<P: Ports> Core<P> {
     /// Takes what the network said of datagrams that were sent, and asks those or gives those up of whom it says that nobody has their port. What it says has no
     /// seal: so nobody is given up by it who answers.
@@ -20,12 +24,26 @@ impl<P: Ports> Core<P> {
             if let Some(node) = node {
                 self.metrics.farewells.with_label_values(&["doubted"]).inc();
                 self.say_hello(node, None, now);
+                self.ask_through_others(node, now);
             }
         }
         for step in self.refusals.steps(now) {
             match step {
                 Step::Ask(node) => self.say_hello(node, None, now),
                 Step::GiveUp(node) => self.give_up_killed(node, now),
+            }
+        }
+    }
+
+    /// Has other members carry a question on: by an answer that comes so the peer is there, and who is refused as well knows it now.
+    fn ask_through_others(&mut self, node: u8, now: Instant) {
+        let is_other = |other: &u8| ![node, self.config.id].contains(other);
+        let others: Vec<u8> = self.view.group.members.iter().copied().filter(is_other).take(MOST_ASKED_THROUGH).collect();
+        let what = What::Hello { about: Some(self.introductions.about().clone()), news: None };
+        let question = Datagram { from: self.config.id, to: node, token: self.outbox.token(), what }.encode(&self.seal);
+        for through in others {
+            if let Some(question) = self.cipher.encrypt(&question) {
+                self.send_through(through, node, false, &question, now);
             }
         }
     }
