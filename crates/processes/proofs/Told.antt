@@ -70,7 +70,7 @@ accepted_is_told one cluster are n node at x y before job accepted asks =
     let text : text_of n nodes y ≡ jobs_by (is_down y.at.state.state.phase) y.at.state ++ ok_line (y.at.count + 1) [] =
     ap (λ (a : Asked). answer n nodes (next y.at.count a) y.at.state y.at.waits a y.came) asks.asked in
     let either = accepted_is_kept one cluster are n node at x y before job accepted
-        (ap (λ (s : NodeState). is_down s.state.phase) same ∙ asks.up) in
+    (ap (λ (s : NodeState). is_down s.state.phase) same ∙ asks.up) in
     elim either [
       | inl kept ↦ inl (subst (λ (t : List ℕ). HasPiece t (pending_line job)) (sym text)
           (piece_in_front (jobs_by (is_down y.at.state.state.phase) y.at.state) (ok_line (y.at.count + 1) []) (pending_line job)
