@@ -45,7 +45,7 @@ impl Chance {
             let at = self.below(bytes.len() as u64 + 1) as usize;
             let end = at + self.below((bytes.len() - at) as u64 + 1) as usize;
             match self.below(6) {
-                0 | 1 if at < bytes.len() => bytes[at] = self.next() as u8,
+                0 | 1 if at < bytes.len() => bytes[at] = bytes[at].wrapping_add(1 + self.below(255) as u8),
                 2 if at < bytes.len() => bytes[at] ^= 1 << self.below(8),
                 3 => drop(bytes.splice(at..at, self.bytes(8))),
                 4 => drop(bytes.drain(at..end.min(at + 16))),

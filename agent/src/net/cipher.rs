@@ -51,6 +51,16 @@ impl Cipher {
         Ok(Cipher { own, roots, heard: HashMap::new() })
     }
 
+    /// The same by what is given in place of what was drawn, so that what travels is the same in each run.
+    #[cfg(test)]
+    pub(crate) fn drawn_as(mut self, number: u64) -> Cipher {
+        if let (Some(own), Some(root)) = (&mut self.own, self.roots.first()) {
+            own.drawn = u128::from(number).to_be_bytes();
+            own.key = key_of(root, &own.drawn).unwrap();
+        }
+        self
+    }
+
     /// Whether what is sent is encrypted.
     pub fn encrypts(&self) -> bool {
         self.own.is_some()

@@ -79,7 +79,7 @@ impl Machine {
             resolver: NoNames,
             http: None,
             seal: seal_of(&config).unwrap(),
-            cipher: cipher_of(&config).unwrap(),
+            cipher: cipher_of(&config).unwrap().drawn_as(life),
             config,
             metrics: metrics.clone(),
             notify: Notify::of_environment().unwrap(),

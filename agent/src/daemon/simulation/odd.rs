@@ -71,7 +71,7 @@ impl Odd {
         let seal = key.map_or_else(Seal::default, |key| Seal::read(key, "simulated", 3).unwrap());
         let mut right = right_datagrams(&seal);
         if let Some(key) = key {
-            let mut cipher = Cipher::begin(&crate::forward::read_keys(key).unwrap(), "simulated", 3, 1).unwrap();
+            let mut cipher = Cipher::begin(&crate::forward::read_keys(key).unwrap(), "simulated", 3, 1).unwrap().drawn_as(seed);
             right = right.iter().map(|clear| cipher.encrypt(clear).unwrap()).collect();
         }
         Odd { chance: Chance::of(seed), machine, now, right }
