@@ -26,6 +26,7 @@ mod node;
 mod node_file;
 mod notify;
 mod own_session;
+mod piped;
 mod protocol;
 mod record;
 mod resolver;

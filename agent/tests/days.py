@@ -1,8 +1,8 @@
-"""`dumgerokctl judge --follow` over hours that pass in minutes: nodes under a clock of this script, as tests/pacing.py has them, with jobs, kills and cuts. What it forgets changes no verdict."""
+"""`dumgerokctl judge --follow` over hours that pass in minutes: nodes under a clock of this script, as tests/node/pacing.py has them, with jobs, kills and cuts. What it forgets changes no verdict."""
 import concurrent.futures, os, random, re, subprocess, sys, time
 
 HERE = os.path.dirname(os.path.abspath(__file__))
-sys.path.append(os.path.join(HERE, "../../tests"))
+sys.path.append(os.path.join(HERE, "../../tests/node"))
 import pacing
 from followed import follow, number
 from records import CLOSES
@@ -178,7 +178,6 @@ def alarm_of(bed, copied):
             return "nothing was forgotten: %s" % (process.communicate() if process.poll() is not None else "",)
         copied.go_on()
         before = number(copied.metrics, "entries")
-        # what was told is compared three seconds later
         until(lambda: process.poll() is not None or number(copied.metrics, "entries") > before, 20)
         until(lambda: process.poll() is not None, 8)
         return " ".join(process.communicate()) if process.poll() is not None else None

@@ -109,8 +109,9 @@ def followed(bed):
     time.sleep(2)
     check("a cluster that is as it should be is followed without an alarm", [each.poll() for each in (right, *others.values())] == [None] * 3,
           [each.communicate() for each in (right, *others.values()) if each.poll() is not None])
+    agents.until(lambda: (number(metrics, "entries") or 0) > 100)
     entries = number(metrics, "entries")
-    check("and the monitor is told", entries > 100 and number(metrics, "alarm") == 0 and number(metrics, "absent_nodes") == 0, open(metrics).read())
+    check("and the monitor is told", number(metrics, "alarm") == 0 and number(metrics, "absent_nodes") == 0, open(metrics).read())
     for what, mirror in mirrors.items():
         mirror.wanted = what
     with concurrent.futures.ThreadPoolExecutor() as pool:
@@ -127,6 +128,6 @@ def followed(bed):
         check("%s: an alarm, and status 1" % what, others[what].returncode == 1 and said, (others[what].returncode, out, errors[-500:]))
         check("%s: it names the node, the file and the line" % what, said and (int(said[1]), said[2], int(said[3])) == (node, os.path.join(mirror.folder, name), ends[0]), (out, mirror.spoiled, ends[:2]))
         bed.tally.timed("%s: within %d s" % (what, late), took < late, took)
-    check("and the one that is as it should be goes on", right.poll() is None and number(metrics, "entries") > entries)
+    check("and the one that is as it should be goes on", agents.until(lambda: number(metrics, "entries") > entries) >= 0 and right.poll() is None)
     right.kill()
     right.communicate()

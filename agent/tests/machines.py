@@ -149,7 +149,7 @@ def fourth(bed, agents, load, apart):
     tally.timed("a machine that the others don't name changes nothing", agents.is_one_group([0, 1, 2]) and groups_made(agents, range(3)) == before, agents.groups())
     agents.until(lambda: all(logged(agents, i, "node 3: a machine at 3 in its `nodes` alone") for i in range(3)))
     tally.check("each of them says so once", all(len(logged(agents, i, "in its `nodes` alone")) == 1 for i in range(3)))
-    tally.check("what comes of it is counted", metric(agents, 0, 'dropped_total{reason="Unnamed"}') > 0)
+    tally.check("what comes of it is counted", agents.until(lambda: metric(agents, 0, 'dropped_total{reason="Unnamed"}') > 0) >= 0)
     tell(agents, 0, {0, 1, 2, 3})
     time.sleep(apart)
     waited(bed, load, "lists that differ")

@@ -237,7 +237,7 @@ def told_of_the_network(bed):
     agents.until(lambda: said(lead, "node %d isn't reached by itself: what is said to it goes through node %d" % (one, other)))
     agents.relay.one_way.clear()
     agents.until(lambda: said(lead, "node %d is reached by itself again" % one))
-    check("a way that is cut in one direction is told, and once it is mended", not said(other, "by itself"), said(other, "by itself"))
+    timed("a way that is cut in one direction is told, and once it is mended", not said(other, "by itself"), said(other, "by itself"))
     # without a third machine nothing goes round it
     agents.kill(other)
     agents.one_group([lead, one])

@@ -9,7 +9,7 @@ PAGE = os.path.join(TOP, "docs/OPERATING.md")
 
 # Commands beside the blocks that are run, and which script runs them.
 ELSEWHERE = [
-    (r"\./invite (show|--unproved)|\./invite$", "tests/launcher.sh"),
+    (r"\./invite (show|--unproved)|\./invite$", "tests/repository/launcher.sh"),
     (r"rt( version)?$", ".ci/run"),
     (r"apt-get install cargo ", "check"),
     (r"agent/build", "agent/tests/run"),

@@ -58,7 +58,9 @@ def relayed(bed):
     for name, key in (("clear", None), ("sealed", bed.key("ab"))):
         agents, check, timed = bed.agents("relayed-" + name, key=key), bed.tally.check, bed.tally.timed
         keeper, lead, other = given_up(agents)
-        check("%s: nobody is reached through another one" % name, [through(agents, i, j) for i in range(3) for j in range(3)] == [None] * 9)
+        # whoever was there before another one may speak to it through the third at first
+        check("%s: nobody is reached through another one" % name, agents.until(lambda: [through(agents, i, j) for i in range(3) for j in range(3)] == [None] * 9) >= 0)
+        before = carried(agents)
         agents.relay.cuts.add(frozenset((keeper, other)))
         workers = Workers(agents)
         groups = agents.groups()
@@ -67,7 +69,7 @@ def relayed(bed):
         # in another group another machine may have their queue
         timed("%s: in the group in which it was cut" % name, groups == agents.groups(), (groups, agents.groups()))
         timed("%s: jobs between two that can't reach each other are done soon" % name, took < SOON * bed.round_trip / 1000, took)
-        told(bed, agents, name, (keeper, lead, other))
+        told(bed, agents, name, (keeper, lead, other), before)
         whole(bed, agents, name, (keeper, lead, other))
         if key:
             kept = [datagram for _, datagram in list(agents.relay.kept)]
@@ -78,17 +80,22 @@ def relayed(bed):
         judged(bed, agents, "%s: what another one carried on" % name)
 
 
-def told(bed, agents, name, machines):
+def carried(agents):
+    return [metric(agents, i, 'relayed_total{event="carried"}') for i in range(3)]
+
+
+def told(bed, agents, name, machines, before):
     """Who is reached through whom stands in `members`, in the metrics and in what dumgerokctl prints."""
     keeper, lead, other = machines
     agents.ask(keeper, do="submit", queue=0, text="more")
-    ways = agents.until(lambda: through(agents, keeper, other) == lead) >= 0
-    bed.tally.check("%s: members tells through whom one is reached" % name, ways and through(agents, keeper, lead) is None, agents.ask(keeper, do="members"))
-    bed.tally.check("%s: so does a metric" % name, agents.until(lambda: metric(agents, keeper, "peers_through") == 1) >= 0 and metric(agents, lead, "peers_through") == 0)
-    shown = agents.ctl(keeper, "members").stdout
-    bed.tally.check("%s: dumgerokctl shows it" % name, "through node %d" % lead in shown, shown)
-    carried = [metric(agents, i, 'relayed_total{event="carried"}') for i in range(3)]
-    bed.tally.check("%s: the third one alone carried it on" % name, [i for i in range(3) if carried[i]] == [lead], carried)
+    ways = agents.until(lambda: through(agents, keeper, other) == lead and through(agents, keeper, lead) is None)
+    bed.tally.check("%s: members tells through whom one is reached" % name, ways >= 0)
+    numbers = agents.until(lambda: (metric(agents, keeper, "peers_through"), metric(agents, lead, "peers_through")) == (1, 0))
+    bed.tally.check("%s: so does a metric" % name, numbers >= 0)
+    shown = agents.until(lambda: "through node %d" % lead in agents.ctl(keeper, "members").stdout)
+    bed.tally.check("%s: dumgerokctl shows it" % name, shown >= 0)
+    counts = [after - count for after, count in zip(carried(agents), before)]
+    bed.tally.check("%s: the third one alone carried it on" % name, [i for i in range(3) if counts[i]] == [lead], counts)
 
 
 def whole(bed, agents, name, machines):

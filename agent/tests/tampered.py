@@ -1,5 +1,5 @@
 """Records in which one line of an answer was altered, dropped or forged: what a node told its services. None of them is a run, and the line is named."""
-import random, re, time
+import json, random, re, subprocess, time
 
 from cluster import judged
 from records import CLOSES
@@ -104,12 +104,39 @@ def under_load(agents):
     return load.kept
 
 
+def filled(histories):
+    """The histories with all that can be told of each entry, where the trace leaves out what it knows to be nothing: jobs that came or went, ids, another group."""
+    for history in histories:
+        group, is_sure = None, True
+        for entry in history:
+            told, does = entry.get("told", {}), entry["do"]
+            group = told.get("group", group)
+            # a job that was finished unseen stands before the kill; all is sure again behind the entry that tells what the file keeps
+            is_sure = is_sure and does != "crash"
+            if is_sure and does != "recover" and not (does == "finish" and not told):
+                entry["told"] = {"group": group, "took": "", "dropped": "", "gone": "", "id": "", **told}
+            is_sure = is_sure or "kept" in told
+    return histories
+
+
+def said_all(bed, agents, files):
+    """What an entry doesn't tell changed nothing: told all the same, it is a run."""
+    trace = json.loads(agents.ctl(0, "judge", "--trace", *files).stdout)
+    entries = [entry for history in trace["histories"] for entry in history]
+    told = sum("told" in entry for entry in entries)
+    text = json.dumps(dict(nodes=trace["nodes"], histories=filled(trace["histories"])))
+    done = subprocess.run([bed.program, "trace"], input=text, capture_output=True, text=True)
+    bed.tally.check("of an entry all is told that changed", is_run(done), short(done))
+    bed.tally.note("of %d entries %d tell something; where each does %d" % (len(entries), told, sum("told" in entry for entry in entries)))
+
+
 def tampered(bed):
     """Each way at each node's record."""
     chance, agents = random.Random(bed.seed), bed.agents("tampered", slots=2048)
     bed.tally.note("tampered: %d jobs" % under_load(agents))
     judged(bed, agents, "answers of three agents")
     texts = {path: text + "start\n" for path, text in records(agents).items()}
+    said_all(bed, agents, list(texts))
     for name, pattern, new in WAYS:
         tried, taken, far = 0, [], []
         for path, text in texts.items():

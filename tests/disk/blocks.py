@@ -16,7 +16,7 @@ class Missing(Exception):
     """Something isn't there that it takes."""
 
 
-def run(*words, **options):
+def system(*words, **options):
     done = subprocess.run(words, stdout=subprocess.PIPE, stderr=subprocess.PIPE, **options)
     if done.returncode:
         raise Missing(f"{' '.join(words)}: {done.stderr.decode().strip()}")
@@ -30,14 +30,14 @@ def made(path, kind, least=0):
         raise Missing(f"there is no {words[0]}")
     with open(path, "wb") as file:
         file.truncate(max(size, least) << 20)
-    run(*words, path)
+    system(*words, path)
 
 
 @contextlib.contextmanager
 def mounted(what, folder, options="loop"):
     """The file system of a file, or of a device, in a folder."""
     os.makedirs(folder, exist_ok=True)
-    run("mount", *(["-o", options] if options else []), what, folder)
+    system("mount", *(["-o", options] if options else []), what, folder)
     try:
         yield folder
     finally:
@@ -46,17 +46,17 @@ def mounted(what, folder, options="loop"):
                 break
             time.sleep(0.05)
         else:
-            run("umount", "-l", folder)
+            system("umount", "-l", folder)
 
 
 @contextlib.contextmanager
 def looped(path):
     """A loop device over a file."""
-    name = run("losetup", "-f", "--show", path)
+    name = system("losetup", "-f", "--show", path)
     try:
         yield name
     finally:
-        run("losetup", "-d", name)
+        system("losetup", "-d", name)
         time.sleep(0.3)
 
 

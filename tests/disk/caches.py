@@ -7,9 +7,12 @@ The file lies on ext4, xfs or btrfs over a device that notes what reaches it, or
 one write of a record's gate, so the node ends; it is started again, at once, or while another process has the file mapped, or behind a start of its guest, and
 acknowledges two jobs more. Then the power is lost: of the host, where there are two. All that was acknowledged has to be there, with no id given again, by a
 model of docs/FORMATS.md. Root is needed, with loop devices and /dev/fuse; what can't be tried is left out, and a line says so. The last line counts the checks."""
-import contextlib, mmap, os, random, re, subprocess, sys, tempfile
+import contextlib, mmap, os, random, re, sys, tempfile
 
-sys.path.insert(0, os.path.join(os.path.dirname(os.path.abspath(__file__)), ".."))
+HERE = os.path.dirname(os.path.abspath(__file__))
+sys.path += [os.path.join(HERE, ".."), os.path.join(HERE, "../files")]
+from common import program
+from common.tally import Tally
 from blocks import Device, Missing, SYSTEMS, looped, made, mounted
 from file_model import File, Refused
 
@@ -18,25 +21,22 @@ PAYLOAD = bytes.fromhex("deadbeefcafebabe1122334455667788")
 OF_THE_GATE = 2
 
 
-class Scene:
-    def __init__(self, program, room, chance):
-        self.program, self.room, self.chance, self.passed, self.problems = program, room, chance, 0, []
+class Scene(Tally):
+    def __init__(self, invite, room, chance):
+        super().__init__()
+        self.program, self.room, self.chance = invite, room, chance
 
     def path(self, name):
         return os.path.join(self.room, name)
 
-    def check(self, name, holds, said=""):
-        self.passed += bool(holds)
-        self.problems += [] if holds else [f"{name}: {said}"]
-
     def node(self, file, lines):
         """The ids that are acknowledged, and the status."""
-        ran = subprocess.run([self.program, "node", file, "0", "1"], input="".join(f"{line}\n" for line in lines), capture_output=True, text=True, timeout=300)
+        ran = program.run(self.program, ["node", file, "0", "1"], lines)
         return [int(one) for one in re.findall(r"(?m)^ok \d+ id (\d+)$", ran.stdout)], ran.returncode
 
     def fails_once(self, device, file):
         """Two jobs, and one more at whose gate the device fails."""
-        subprocess.run([self.program, "format", file, "16", "0", "1", "5"], check=True)
+        program.made(self.program, file, 16, 0, 1, 5)
         acknowledged, _ = self.node(file, ["recover", "submit 0 61", "submit 0 62"])
         seen = []
 
@@ -50,13 +50,13 @@ class Scene:
         return acknowledged + more, status
 
     def judge(self, name, file, acknowledged, status, failed):
-        self.check(name, failed == 1 and status == 3, f"the device failed {failed} times, and the node ended with {status}")
+        self.check(failed == 1 and status == 3, name, f"the device failed {failed} times, and the node ended with {status}")
         try:
             with open(file, "rb") as found:
                 state = File(found.read()).mounted()
         except (Refused, OSError) as why:
-            return self.check(name, False, f"its file is refused: {why}")
-        self.check(name, len(acknowledged) == 4 and set(acknowledged) <= set(state.jobs) and state.next > max(acknowledged), f"acknowledged {acknowledged}, there are {sorted(state.jobs)}, the next id is {state.next}")
+            return self.check(False, name, f"its file is refused: {why}")
+        self.check(len(acknowledged) == 4 and set(acknowledged) <= set(state.jobs) and state.next > max(acknowledged), name, f"acknowledged {acknowledged}, there are {sorted(state.jobs)}, the next id is {state.next}")
 
 
 def one_cache(scene, kind, is_mapped):
@@ -99,8 +99,8 @@ def two_caches(scene, is_begun_anew):
 
 
 def main():
-    with tempfile.TemporaryDirectory(dir="/dev/shm" if os.access("/dev/shm", os.W_OK) else None) as room:
-        scene = Scene(os.path.abspath(sys.argv[1]), room, random.Random(3))
+    with tempfile.TemporaryDirectory(dir=program.MEMORY) as room:
+        scene = Scene(program.named(), room, random.Random(3))
         tries = [(f"{kind}, mapped: {is_mapped}", one_cache, kind, is_mapped) for kind in SYSTEMS for is_mapped in (False, True)]
         tries += [(f"a guest, begun anew: {is_begun_anew}", two_caches, is_begun_anew) for is_begun_anew in (False, True)]
         for name, tried, *words in tries:
@@ -108,10 +108,7 @@ def main():
                 tried(scene, *words)
             except (Missing, OSError) as why:
                 print(f"caches.py: {name}: not tried: {why}")
-    for problem in scene.problems:
-        print(f"caches.py: {problem}")
-    print(f"{scene.passed} passed, {len(scene.problems)} failed")
-    return 1 if scene.problems else 0
+    return scene.close()
 
 
 if __name__ == "__main__":

@@ -7,10 +7,13 @@ The file is made on ext4, xfs or btrfs, then others take all the room, and the n
 on a write (btrfs, a reflink, a snapshot, a quota) the node ends with status 8 and no other, and goes on once there is room. Each time all that was acknowledged
 has to be there, and no id is given again, by a model of docs/FORMATS.md. Root is needed, with loop devices; what can't be tried is left out, and a line says so. The
 last line counts the checks."""
-import os, re, shutil, subprocess, sys, tempfile
+import os, re, sys, tempfile
 
-sys.path.insert(0, os.path.join(os.path.dirname(os.path.abspath(__file__)), ".."))
-from blocks import Missing, made, mounted, run
+HERE = os.path.dirname(os.path.abspath(__file__))
+sys.path += [os.path.join(HERE, ".."), os.path.join(HERE, "../files")]
+from blocks import Missing, made, mounted, system
+from common import program
+from common.tally import Tally
 from file_model import File, Refused
 
 NO_ROOM = 8
@@ -22,20 +25,20 @@ def nothing(_folder):
 
 
 def not_copied(folder):
-    run("chattr", "+C", folder)
+    system("chattr", "+C", folder)
 
 
 def reflinked(folder):
-    run("cp", "--reflink=always", os.path.join(folder, "node"), os.path.join(folder, "copy"))
+    system("cp", "--reflink=always", os.path.join(folder, "node"), os.path.join(folder, "copy"))
 
 
 def snapshot(folder):
-    run("btrfs", "subvolume", "snapshot", folder, os.path.join(folder, "snap"))
+    system("btrfs", "subvolume", "snapshot", folder, os.path.join(folder, "snap"))
 
 
 def limited(folder):
-    run("btrfs", "quota", "enable", folder)
-    run("btrfs", "qgroup", "limit", "8M", folder)
+    system("btrfs", "quota", "enable", folder)
+    system("btrfs", "qgroup", "limit", "8M", folder)
 
 
 # The file system, options of its mount, the stride, what is done before the file is made and behind it, and whether a write takes room.
@@ -68,13 +71,13 @@ def empty(folder):
 
 
 class Node:
-    def __init__(self, program, file):
-        self.program, self.file, self.acknowledged, self.last = program, file, [], None
+    def __init__(self, invite, file):
+        self.program, self.file, self.acknowledged, self.last = invite, file, [], None
 
     def rounds(self, most):
         """So many processes, until one ends other than well: its status and what it says."""
         for _ in range(most):
-            ran = subprocess.run([self.program, "node", self.file, "0", "1"], input="".join(f"{line}\n" for line in ROUND), capture_output=True, text=True, timeout=300)
+            ran = program.run(self.program, ["node", self.file, "0", "1"], ROUND)
             self.acknowledged += [int(one) for one in re.findall(r"(?m)^ok \d+ id (\d+)$", ran.stdout)]
             self.last = ran.returncode, ran.stderr.strip()
             if ran.returncode:
@@ -92,15 +95,15 @@ class Node:
         return missing or again or not state.next > max(self.acknowledged)
 
 
-def tried(program, room, scene, statuses):
+def tried(invite, room, scene, statuses):
     """Four checks; how the node ended, where a write takes room, is added."""
     kind, options, stride, before, behind, takes_room = scene
     image = os.path.join(room, "image")
     made(image, kind, 200 if behind is limited else 0)
     with mounted(image, os.path.join(room, "disk"), "loop" + options) as folder:
         before(folder)
-        node = Node(program, os.path.join(folder, "node"))
-        run(program, "format", node.file, "1024", "0", "1", "5", "--stride", str(stride))
+        node = Node(invite, os.path.join(folder, "node"))
+        program.made(invite, node.file, 1024, 0, 1, 5, "--stride", stride)
         node.rounds(1)
         behind(folder)
         fill(folder)
@@ -110,32 +113,26 @@ def tried(program, room, scene, statuses):
         yield not node.lost(), f"lost: {node.lost()}"
         empty(folder)
         if behind is limited:
-            run("btrfs", "quota", "disable", folder)
+            system("btrfs", "quota", "disable", folder)
         status, said = node.rounds(1)
         yield status == 0, f"with room again it ends with {status}: {said}"
         yield not node.lost(), f"lost behind that: {node.lost()}"
 
 
 def main():
-    passed, problems, statuses = 0, [], []
-    program = os.path.abspath(sys.argv[1])
-    with tempfile.TemporaryDirectory(dir="/dev/shm" if os.access("/dev/shm", os.W_OK) else None) as room:
+    invite, tally, statuses = program.named(), Tally(), []
+    with tempfile.TemporaryDirectory(dir=program.MEMORY) as room:
         for scene in SCENES:
             name = f"{scene[0]}{scene[1]}, stride {scene[2]}, {scene[3].__name__}, {scene[4].__name__}"
             try:
-                for holds, said in tried(program, room, scene, statuses):
-                    passed += bool(holds)
-                    problems += [] if holds else [f"{name}: {said}"]
+                for holds, said in tried(invite, room, scene, statuses):
+                    tally.check(holds, name, said)
             except (Missing, OSError) as why:
                 print(f"full.py: {name}: not tried: {why}")
     if statuses:
         print(f"full.py: {statuses.count(NO_ROOM)} of {len(statuses)} nodes whose writes take room found none")
-        passed += NO_ROOM in statuses
-        problems += [] if NO_ROOM in statuses else ["no node was without room for a write"]
-    for problem in problems:
-        print(f"full.py: {problem}")
-    print(f"{passed} passed, {len(problems)} failed")
-    return 1 if problems else 0
+        tally.check(NO_ROOM in statuses, "no node was without room for a write")
+    return tally.close()
 
 
 if __name__ == "__main__":

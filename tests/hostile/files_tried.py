@@ -102,7 +102,7 @@ def is_sound(data):
     return sealed == sorted(sealed, reverse=True)
 
 
-def feed(lines):
+def lined(lines):
     return "".join(line + "\n" for line in lines).encode()
 
 
@@ -125,7 +125,7 @@ def made(tried, path, history):
     slots = (SECTORS - 8) // 4
     model, answers = Model(0, 0, {}, slots), ["ok", "ok"]
     answers += [model.apply(line) for line in history]
-    tried.expect(["store", path], feed([f"format {slots}", "mount", *history, "list"]), 0, (feed(answers) + model.listed().encode()), "the file is made")
+    tried.expect(["store", path], lined([f"format {slots}", "mount", *history, "list"]), 0, (lined(answers) + model.listed().encode()), "the file is made")
     data = read(path)
     tried.mark("" if found_in(data)[0].listed() == model.listed() else "the layout finds something else", history)
     return data, model
@@ -153,7 +153,7 @@ def one_store(tried, path, data, before, at, name, note):
         tried.count("refused")
         words = ["mount", "list", "raise"]
         text = f"refused {refused}\nrefused Broken\nrefused Broken\n"
-        if tried.expect(["store", path], feed(words), 0, text.encode(), note):
+        if tried.expect(["store", path], lined(words), 0, text.encode(), note):
             tried.mark("" if read(path) == data else "a refused mounting wrote to the file", note)
         return
     tried.count("mounted")
@@ -174,13 +174,13 @@ def one_store(tried, path, data, before, at, name, note):
         # A sealed slot behind the end: sealing the next one may join what was there. Only the first answers are foreseen.
         tried.count("not sound")
         text = "ok\n" + found_in(data)[0].listed()
-        status, out, trouble = tried.run(["store", path], feed(["mount", "list", *COMMANDS, "list"]))
+        status, out, trouble = tried.run(["store", path], lined(["mount", "list", *COMMANDS, "list"]))
         tried.mark(trouble or ("" if status == 0 and out.startswith(text.encode()) else f"it prints {out!r}"), note)
-    elif not tried.expect(["store", path], feed(["mount", "list", *COMMANDS, "list"]), 0, (text + model.listed()).encode(), note):
+    elif not tried.expect(["store", path], lined(["mount", "list", *COMMANDS, "list"]), 0, (text + model.listed()).encode(), note):
         return
     again, refused = found_in(read(path))
     text = f"refused {refused}\nrefused Broken\n" if refused else "ok\n" + again.listed()
-    tried.expect(["store", path], feed(["mount", "list"]), 0, text.encode(), (note, "mounted again"))
+    tried.expect(["store", path], lined(["mount", "list"]), 0, text.encode(), (note, "mounted again"))
     if sound:
         tried.mark("" if again and again.listed() == model.listed() else "what was acknowledged isn't there", note)
 
@@ -207,7 +207,7 @@ def try_lengths(tried, folder):
         write(path, cut)
         model, refused = found_in(cut)
         text = f"refused {refused}\nrefused Broken\n" if refused else "ok\n" + model.listed()
-        tried.expect(["store", path], feed(["mount", "list"]), 0, text.encode(), ("length", length))
+        tried.expect(["store", path], lined(["mount", "list"]), 0, text.encode(), ("length", length))
 
 
 def skipped_in(data, count):
@@ -224,7 +224,7 @@ def expect_node(tried, words, data, model, refused, own, note):
         model.apply("raise")
         said = f"invite: {words[1]}: group number {own}:{number} may have been given before: it is skipped\n".encode()
     lines, is_up = node_text(model, refused, own)
-    if not tried.expect(words, feed(["recover", "jobs", "submit 0 61"]), 0, feed(lines), note):
+    if not tried.expect(words, lined(["recover", "jobs", "submit 0 61"]), 0, lined(lines), note):
         return False
     return tried.mark("" if tried.error == said else f"standard error {tried.error!r} in place of {said!r}", note) and is_up
 
@@ -252,7 +252,7 @@ def try_nodes(tried, folder):
     path, own = os.path.join(folder, "node"), 1
     words = ["node", path, str(own), "3", "--cluster", "orders"]
     tried.expect(["format", path, "6", str(own), "3", "40", "--cluster", "orders"], b"", 0, b"", "format")
-    fed = feed(["recover", "submit 0 61", "submit 1 62", "finish 1 40", "recover", "submit 2 -"])
+    fed = lined(["recover", "submit 0 61", "submit 1 62", "finish 1 40", "recover", "submit 2 -"])
     status, out, trouble = tried.run(words, fed)
     tried.mark(trouble or ("" if status == 0 and out.count(b"\nok ") == 6 and b"1:42" in out else f"it answers {out!r}"), "the node's file")
     data = read(path)
@@ -280,7 +280,7 @@ def one_node(tried, path, data, before, own, at, fill):
     model, refused = found_in(data)
     if not refused and not is_sound(data):
         tried.count("not sound")
-        status, out, trouble = tried.run(["node", path, str(own), "3"], feed(["recover", "jobs"]))
+        status, out, trouble = tried.run(["node", path, str(own), "3"], lined(["recover", "jobs"]))
         tried.mark(trouble or ("" if status == 0 else f"status {status}"), ("node", at, fill))
         return
     if model and model.count < before.count:
@@ -328,12 +328,12 @@ def try_crashes(tried, folder, library):
         commands = lines if kind == "store" else [as_commands(line) for line in lines]
         # the mounting is the first line of a store, and a part of a node's first recovery
         words = ["store", path] if kind == "store" else ["node", path, "0", "3"]
-        fed = feed(["mount", *lines] if kind == "store" else lines)
+        fed = lined(["mount", *lines] if kind == "store" else lines)
         begin = lambda: os.path.exists(path) and os.remove(path) or tried.run(["format", path, "4", "0", "3"], b"")
         ends, states, model = [], [], Model(0, 0, {}, 4)
         for k in range(len(lines) + 1):
             begin()
-            tried.run(words, feed(["mount", *lines[:k]] if kind == "store" else lines[:k]), shim.environment(library, noted))
+            tried.run(words, lined(["mount", *lines[:k]] if kind == "store" else lines[:k]), shim.environment(library, noted))
             ends.append(len(shim.read_noted(noted)[0]))
             if k:
                 model.apply(commands[k - 1])

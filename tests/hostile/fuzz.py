@@ -10,7 +10,9 @@ import itertools, os, random, re, resource, sys, tempfile, time
 from concurrent.futures import ProcessPoolExecutor
 
 sys.dont_write_bytecode = True
-sys.path.insert(0, os.path.dirname(os.path.abspath(__file__)))
+sys.path.append(os.path.join(os.path.dirname(os.path.abspath(__file__)), ".."))
+from common.program import named
+from common.tally import Tally
 import grammar, recorded, shim, tables, traces, turns, wire
 from files_tried import Model
 from inputs import SESSIONS, STORES, WORDS, Inputs
@@ -307,7 +309,7 @@ class Seen:
 def one_refusal(fuzz):
     """One of the commands that read their whole input, with one allocation refused by chance, behind those of the command line."""
     chance, tried = fuzz.chance, fuzz.tried
-    words, fed, _ = chance.choice((one_piece, one_schedule, one_schedule, one_trace, one_store, one_record, one_picture))(fuzz)
+    words, fed, _ = chance.choice((one_piece, one_schedule, one_schedule, one_trace, one_store, one_record))(fuzz)
     begin = lambda: os.path.exists(words[-1]) and os.remove(words[-1]) if words[0] == "store" else None
     begin()
     status, whole, trouble = tried.run(words, fed, shim.environment(fuzz.library, fuzz.noted))
@@ -398,11 +400,11 @@ def fuzzed(program, seconds, seed, names):
         fuzz = Fuzz(program, seed, names, folder)
         fuzz.until(end)
     fuzz.print_counts()
-    return fuzz.tried.close()
+    return fuzz.tried.told()
 
 
 def main():
-    program, seconds, seed, *words = sys.argv[1:]
+    program, (seconds, seed, *words), tally = named(), sys.argv[2:], Tally()
     names = [word for word in words if word != "--each"] or list(COMMANDS)
     groups = [[name] for name in names] if "--each" in words else [names]
     if len(groups) == 1:
@@ -410,9 +412,9 @@ def main():
     else:
         with ProcessPoolExecutor(len(groups)) as pool:
             counted = [one.result() for one in [pool.submit(fuzzed, program, float(seconds), int(seed), group) for group in groups]]
-    passed, failed = map(sum, zip(*counted))
-    print(f"{passed} passed, {failed} failed")
-    return failed > 0
+    for passed, failed in counted:
+        tally.add(passed, failed)
+    return tally.close()
 
 
 if __name__ == "__main__":

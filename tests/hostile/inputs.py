@@ -1,12 +1,11 @@
 """Inputs by chance: a corpus of vectors, schedules, sessions, traces and plans, what comes of spoiling it, and what random clusters did."""
-import os
 import grammar, rows
+from common import schedules
 from node_model import Cluster
 from spelling import HAS_PRIORITIES
 from traces_tried import VALUES
 from vectors import MESSAGES, OTHERS, stream_to
 
-TOP = os.path.join(os.path.dirname(os.path.abspath(__file__)), "..", "..")
 WORDS = [b"0", b"1", b"2", b"3", b"7", b"15", b"16", b"63", b"64", b"127", b"128", b"255", b"256", b"00", b"-1", b"-", b"", b"a5", b"ff", b"f", b"4", b"5", b"4096",
          b"18446744073709551615", b"18446744073709551616", b"a5" * 400, b"a5" * 401, b"6869"]
 SESSIONS = ["recover;check;deliver 010101000000;deliver 01020100000101;merge;deliver 010601000009000000000000000002;accept;deliver 010801000009000000000000000002;submit 1 6869;submit 0 -;state;jobs;coord",
@@ -15,14 +14,9 @@ SESSIONS = ["recover;check;deliver 010101000000;deliver 01020100000101;merge;del
 STORES = ["format 4;mount;raise;put 1 6869;put 2 -;done 0;compact;put 3 61;list;mount;list", "raise;format 5;mount;put 0 61;put 0 62;put 0 63;put 0 64;done 1;done 1;raise;raise;mount;list;format 4;list;mount;list"]
 
 
-def texts_of(name):
-    """The texts of a folder at the top of the repository."""
-    folder, texts = os.path.join(TOP, name), []
-    for one in sorted(os.listdir(folder)) if os.path.isdir(folder) else []:
-        if one.endswith(".txt"):
-            with open(os.path.join(folder, one), "rb") as file:
-                texts.append(file.read())
-    return texts
+def texts_of(folder):
+    """What the program reads of the schedules, or plans."""
+    return [schedules.acts(path).encode() for path in schedules.all_of(folder)]
 
 
 class Inputs:

@@ -2,7 +2,7 @@
 status 1. In `sim` a refused growth of a disk's record is a fault of that act's device. What a store or a node had answered is in its file."""
 import os, re, resource, tempfile
 import rows, shim, tables
-from files_tried import Model, as_commands, feed, found_in, node_text, read
+from files_tried import Model, lined, found_in, node_text, read
 
 
 class Refusing:
@@ -80,7 +80,7 @@ def try_store(refusing, folder):
         tried.run(["store", path], b"format 4\n")
 
     for before, lines in ((formatted, STORE), (anew, ["format 4", *STORE])):
-        for at, status, out, trouble, whole in refusing.every(["store", path], feed(lines), before):
+        for at, status, out, trouble, whole in refusing.every(["store", path], lined(lines), before):
             if refusing.is_over(status, out, trouble, ("store", at)):
                 continue
             right = (status, out) in ((0, whole), (1, b"no memory\n"))
@@ -119,7 +119,7 @@ def try_node(refusing, folder):
         tried.run(["format", path, "4", "0", "3"], b"")
 
     for name, run in (("node", tried.run), ("node, line by line", tried.talk)):
-        for at, status, out, trouble, whole in refusing.every(["node", path, "0", "3"], feed(NODE), anew, run):
+        for at, status, out, trouble, whole in refusing.every(["node", path, "0", "3"], lined(NODE), anew, run):
             if refusing.is_over(status, out, trouble, (name, at)):
                 continue
             out, whole = timeless(out), timeless(whole)
@@ -148,7 +148,7 @@ def try_node(refusing, folder):
                 problem = "an id is lost"
             tried.mark(problem, (name, "allocation", at))
             lines, _ = node_text(found, refused, 0)
-            tried.expect(["node", path, "0", "3"], feed(["recover", "jobs", "submit 0 61"]), 0, feed(lines), ("node begun again", at))
+            tried.expect(["node", path, "0", "3"], lined(["recover", "jobs", "submit 0 61"]), 0, lined(lines), ("node begun again", at))
 
 
 def try_format(refusing, folder):

@@ -1,6 +1,7 @@
 """Runs the program, and counts what was tried. Whatever it is fed, it ends by itself, with a status that the texts allow, without a signal
 and where it ends badly with one line on standard error that says why. What is wrong with a trace, and that a run is unfinished, is printed alone."""
-import os, re, subprocess, sys, time
+import os, re, subprocess, time
+from common.tally import Tally
 
 # So many seconds of a processor a run may take. On a machine that is busy with other things it ends later, and it may wait for nothing for PATIENCE.
 SECONDS, PATIENCE = 20, 300
@@ -34,27 +35,22 @@ def ends(child, fed, seconds):
                 raise
 
 
-class Tried:
+class Tried(Tally):
     """What was tried: how many runs, and how many of them were wrong. The first of a kind are shown."""
 
+    shown = 20
+
     def __init__(self, program, name, is_long=False):
+        super().__init__()
         self.program, self.name, self.is_long = os.path.abspath(program), name, is_long
-        self.passed = self.failed = 0
         self.error = b""
         self.counts = {}
 
     def count(self, what, by=1):
         self.counts[what] = self.counts.get(what, 0) + by
 
-    def mark(self, problem, case):
-        """Counts a check; a problem that isn't empty is shown with its case."""
-        if not problem:
-            self.passed += 1
-            return True
-        self.failed += 1
-        if self.failed <= 20:
-            print(f"FAILED {self.name}: {problem}: {str(case)[:600]}")
-        return False
+    def mark(self, problem, *case):
+        return super().mark(problem, self.name, *case)
 
     def run(self, words, fed, env=None, seconds=SECONDS, limit=None):
         """The status, the output and the trouble there was with how it ended."""
@@ -109,7 +105,8 @@ class Tried:
             trouble = f"it prints {out[-300:]!r} in place of {text[-300:]!r}"
         return self.mark(trouble, (note, words, fed if len(fed) < 400 else fed[:200] + b"..."))
 
-    def close(self):
+    def told(self):
+        """Prints how many runs there were, and counts them."""
         more = "".join(f", {count} {what}" for what, count in sorted(self.counts.items()))
         print(f"{self.name}: {self.passed + self.failed} runs, {self.failed} wrong{more}", flush=True)
         return self.passed, self.failed

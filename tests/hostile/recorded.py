@@ -6,7 +6,7 @@ import sys
 import traces
 from node_model import Search
 
-sys.path.append(os.path.join(os.path.dirname(os.path.abspath(__file__)), ".."))
+sys.path.append(os.path.join(os.path.dirname(os.path.abspath(__file__)), "../traces"))
 import thread_order
 
 OPEN = "?"
@@ -17,16 +17,18 @@ def compact(nodes, histories, **others):
 
 
 def histories_of(nodes, acts, printed):
-    """The entries of each node, of the acts that came to one. What `sim` doesn't tell of a recovery is left open."""
-    histories, sent = [[] for _ in range(nodes)], []
+    """The entries of each node, of the acts that came to one, and their order. What `sim` doesn't tell of a recovery is left open."""
+    histories, sent, order = [[] for _ in range(nodes)], [], []
     for act, answer in zip(acts, printed):
         words, said = act.split(" "), answer.split(" ")[1:]
         own = node_of(words, said, sent)
         new = [word.split(":")[1] for word in said if ":" in word]
         if own is not None and own < nodes:
-            histories[own].append({**entry_of(words, said[0], sent), "sent": new})
+            entry = entry_of(words, said[0], sent)
+            histories[own].append({**entry, "sent": new})
+            order += [str(own), words[1] if entry["do"] == "deliver" else "-"]
         sent += new
-    return histories
+    return histories, " ".join(order)
 
 
 def node_of(words, said, sent):
@@ -61,16 +63,16 @@ def opened(histories):
 
 def recorded_text(nodes, acts, printed):
     """What is printed where no disk failed."""
-    histories = histories_of(nodes, acts, printed)
-    return compact(nodes, [[{**entry, "kept": False} if entry["do"] == "recover" else entry for entry in history] for history in histories])
+    histories, order = histories_of(nodes, acts, printed)
+    return compact(nodes, [[{**entry, "kept": False} if entry["do"] == "recover" else entry for entry in history] for history in histories], order=order)
 
 
 def problem_in_recorded(out, nodes, acts, printed):
     """What is wrong with a recorded run in which disks failed."""
     found = json.loads(out)
-    if out != compact(found["nodes"], found["histories"]):
-        return "it isn't written as a compact text in the order of the keys"
-    wanted = histories_of(nodes, acts, printed)
+    wanted, order = histories_of(nodes, acts, printed)
+    if out != compact(found["nodes"], found["histories"], order=order):
+        return "it isn't written as a compact text in the order of the keys, with the order of the acts"
     if opened(found["histories"]) != wanted:
         return next((f"node {n}, entry {k} is {a} in place of {b}" for n in range(nodes) for k, (a, b) in enumerate(zip(opened(found["histories"])[n], wanted[n])) if a != b), "it has other entries")
     return no_run(out)

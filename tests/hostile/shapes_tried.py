@@ -3,8 +3,8 @@ text that is no run must print was worked out by hand; a run's order is that of 
 import os, random, resource, sys
 from program import SECONDS
 
-sys.path.insert(0, os.path.dirname(os.path.dirname(os.path.abspath(__file__))))
-from trace_growth import Cluster, backlog, drain, elections, last_first, once
+sys.path.append(os.path.join(os.path.dirname(os.path.abspath(__file__)), "../traces"))
+from trace_growth import Cluster, backlog, drain, elections, last_first, once, outwards, redispatch
 
 SIZE = 1_000_000
 MOST = 1.0
@@ -110,11 +110,6 @@ def shuffled(jobs):
     return jobs
 
 
-def from_the_middle(jobs):
-    half = len(jobs) // 2
-    return [one for pair in zip(reversed(jobs[:half]), jobs[half:]) for one in pair]
-
-
 def sent_by_priority(entries):
     """Jobs of all priorities come to another node, the greatest first."""
     cluster = Cluster(2)
@@ -138,8 +133,9 @@ def broken(entries):
 RUNS = {
     "jobs finished oldest first": (in_order(list), 18_000),
     "jobs finished newest first": (in_order(lambda jobs: jobs[::-1]), 18_000),
-    "jobs finished from the middle": (in_order(from_the_middle), 18_000),
+    "jobs finished from the middle": (in_order(outwards), 18_000),
     "jobs finished in any order": (in_order(shuffled), 18_000),
+    "jobs taken in hand again and again": (redispatch, 20_000),
     "a backlog": (backlog, 16_000),
     "a job over elections": (elections, 15_000),
     "jobs sent by priority": (sent_by_priority, 9_000),
@@ -172,8 +168,8 @@ def judged(tried, name, data, printed):
     tried.mark(trouble, name)
 
 
-# These may take more than a second: each dispatch looks at all pending jobs, and a job in the middle moves half of the others.
-LONGEST = {"dispatches of many jobs", "a dispatch after each job", "jobs finished from the middle"}
+# These may take more than a second: each dispatch looks at all pending jobs.
+LONGEST = {"dispatches of many jobs", "a dispatch after each job"}
 
 
 def try_shapes(tried):

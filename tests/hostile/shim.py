@@ -1,21 +1,15 @@
 """The library that is loaded before the C library: tests/shim/hostile.c."""
-import os, shutil, subprocess
-
-HERE = os.path.dirname(os.path.abspath(__file__))
+import os, shutil
+from common.program import library
 
 
 def built(folder):
     """The library, or None where there is no C compiler."""
-    compiler = shutil.which("cc")
-    if compiler is None:
-        return None
-    library = os.path.join(folder, "hostile.so")
-    subprocess.run([compiler, "-shared", "-fPIC", "-O1", "-o", library, os.path.join(HERE, "..", "shim", "hostile.c"), "-ldl"], check=True)
-    return library
+    return library("hostile", folder) if shutil.which("cc") else None
 
 
-def environment(library, noted, **what):
-    return {**os.environ, "LD_PRELOAD": library, "NOTED": noted, **{name: str(value) for name, value in what.items()}}
+def environment(loaded, noted, **what):
+    return {**os.environ, "LD_PRELOAD": loaded, "NOTED": noted, **{name: str(value) for name, value in what.items()}}
 
 
 def read_noted(path):

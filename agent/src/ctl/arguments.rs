@@ -3,6 +3,7 @@
 use super::lead::{Leads, Locks, OnChanges, Owns};
 use super::values::{key, node, places, priority, queue, seconds, slots, tries, Stride};
 use crate::draw::Form;
+use crate::queue_range;
 use clap::{Args, Parser, Subcommand, ValueEnum};
 use clap_complete::Shell;
 use std::ffi::OsString;
@@ -44,8 +45,7 @@ pub enum Command {
     /// The jobs that this node keeps, and those that it works on
     #[command(after_help = "Example: dumgerokctl jobs --queue 0 --limit 10")]
     Jobs {
-        /// Those of this queue alone, 0 to 15
-        #[arg(long, value_parser = queue)]
+        #[arg(long, value_parser = queue, help = concat!("Those of this queue alone, ", queue_range!()))]
         queue: Option<u8>,
         /// Leaves so many out
         #[arg(long, value_name = "N", default_value_t = 0)]
@@ -68,8 +68,7 @@ pub enum Command {
     /// Has a job kept, at any machine, and prints the node that keeps it and its id
     #[command(after_help = "Examples: dumgerokctl submit 0 'echo hello'\n          printf 'a secret' | dumgerokctl submit 0 - --priority 9")]
     Submit {
-        /// The job's queue, 0 to 15: of n members the one at place QUEUE mod n works on it
-        #[arg(value_parser = queue)]
+        #[arg(value_parser = queue, help = concat!("The job's queue, ", queue_range!(), ": of n members the one at place QUEUE mod n works on it"))]
         queue: u8,
         /// The job's payload, at most 400 bytes; - reads it from standard input, where no list of processes shows it
         text: String,
@@ -94,8 +93,8 @@ pub enum Command {
     /// to others until it is finished.
     #[command(after_help = "Example: dumgerokctl take --queue 0,3 --timeout 60 --grace 5 --tries 5 -- sh")]
     Take {
-        /// Those of these queues alone, 0 to 15; it may be given several times
         #[arg(long, value_name = "QUEUE", value_parser = queue, use_value_delimiter = true)]
+        #[arg(help = concat!("Those of these queues alone, ", queue_range!(), "; it may be given several times"))]
         queue: Vec<u8>,
         /// Ends after one job
         #[arg(long)]
@@ -132,8 +131,7 @@ pub enum Command {
     /// Has jobs that were put aside at this machine given again, and prints how many they are
     #[command(after_help = "Example: dumgerokctl kick --queue 3")]
     Kick {
-        /// Those of this queue alone, 0 to 15
-        #[arg(long, value_parser = queue, conflicts_with = "origin")]
+        #[arg(long, value_parser = queue, conflicts_with = "origin", help = concat!("Those of this queue alone, ", queue_range!()))]
         queue: Option<u8>,
         /// This job alone: the node that keeps it
         #[arg(value_parser = node, requires = "id")]
@@ -237,6 +235,8 @@ pub enum Command {
         salvage: bool,
     },
     /// Has the records of all nodes judged: whether a cluster can have done what stands there
+    ///
+    /// The trace of them stands in $TMPDIR, else /tmp, meanwhile, and takes up to five times their room.
     ///
     /// With --follow they are judged again as they grow, with the parts that come, until an entry can't have been: then that is said, and the status is 1.
     /// Entries that repeat are forgotten.

@@ -4,9 +4,8 @@
 use super::commands::print;
 use super::program::{culprit, told_otherwise, unread};
 use super::Failure;
-use crate::judge::{Following, Reached, RecordError, Turn};
+use crate::judge::{Following, RecordError};
 use crate::say::say;
-use std::cell::Cell;
 use std::collections::HashMap;
 use std::io::{self, Write};
 use std::path::{Path, PathBuf};
@@ -16,10 +15,6 @@ use std::time::{Duration, Instant, SystemTime};
 
 /// Records are looked at again after so long at least.
 const PAUSE: Duration = Duration::from_millis(200);
-
-/// What was told is compared again after so many times as long as that took, and after so long at least.
-const RESTS: u32 = 4;
-const LEAST_REST: Duration = Duration::from_secs(3);
 
 const MEGABYTE: usize = 1_000_000;
 
@@ -41,10 +36,6 @@ struct Known {
     /// How long the last judgement took, and when it was.
     took: Duration,
     judged: Option<SystemTime>,
-    /// From when on what was told is compared again: that takes as long as a judgement, and an alarm isn't to wait for it.
-    compares_from: Option<Instant>,
-    /// Whether there is something told that wasn't compared yet.
-    is_behind: bool,
     is_alarmed: bool,
 }
 
@@ -71,17 +62,14 @@ impl Follower<'_> {
                 read => read.map_err(unread)?,
             };
             let is_begun = following.absent().is_empty();
-            if is_begun && (is_new || known.is_behind || !known.waits.is_empty()) {
+            if is_begun && (is_new || !known.waits.is_empty()) {
                 let begun = Instant::now();
-                let (culprit, untrue) = match self.judged(&following, &mut known)? {
-                    None => self.untrue(&mut following, &mut known)?.map_or((None, None), |(node, entry, why)| (Some((node, entry)), Some(why))),
-                    culprit => (culprit, None),
-                };
+                let culprit = self.judged(&mut following, &mut known)?;
                 (known.took, known.judged) = (begun.elapsed(), Some(SystemTime::now()));
                 known.is_alarmed = culprit.is_some();
                 self.tell(&following, &known)?;
                 if let Some((node, entry)) = culprit {
-                    return self.alarmed(&following, node, entry, untrue);
+                    return self.alarmed(&following, node, entry);
                 }
             } else if known.judged.is_none() {
                 self.tell(&following, &known)?;
@@ -95,8 +83,9 @@ impl Follower<'_> {
         }
     }
 
-    /// The node and the entry that can't have been, if any: by the program, or since its message stands in no record for too long.
-    fn judged(&self, following: &Following, known: &mut Known) -> Result<Option<(usize, usize)>, Failure> {
+    /// The node and the entry that can't have been, if any: by the program, or since its message stands in no record for too long. Where there is none, what nothing rests
+    /// on any more is forgotten.
+    fn judged(&self, following: &mut Following, known: &mut Known) -> Result<Option<(usize, usize)>, Failure> {
         let (verdict, _) = self.asked(following, &["trace", "--ongoing"], Stdio::null())?;
         if let Some(culprit) = culprit(&verdict) {
             return Ok(Some(culprit));
@@ -110,28 +99,10 @@ impl Follower<'_> {
         let waiting = following.entries().into_iter().zip(&taken).enumerate().filter(|(_, (entries, taken))| *taken < entries);
         let firsts = waiting.map(|(node, (_, taken))| (node, following.number(node, *taken)));
         let longest = known.waited(firsts, !following.is_waiting(), self.patience.max(following.least_patience()));
+        if longest.is_none() {
+            following.forget(&taken);
+        }
         Ok(longest.map(|(node, _)| (node, taken[node])))
-    }
-
-    /// The first entry at which its node told otherwise than it stands, where it is time to look. Where there is none, what nothing rests on any more is forgotten.
-    fn untrue(&self, following: &mut Following, known: &mut Known) -> Result<Option<(usize, usize, String)>, Failure> {
-        let begun = Instant::now();
-        known.is_behind = !following.has_more() && known.compares_from.map_or(false, |from| begun < from);
-        if known.is_behind {
-            return Ok(None);
-        }
-        let named = |why: io::Error| Failure::Usage(format!("{}: {why}", self.program.display()));
-        let taken: Vec<Cell<usize>> = following.entries().iter().map(|_| Cell::new(0)).collect();
-        let differs = |reached: &mut [Reached], turn: &Turn| {
-            taken.get(turn.node).into_iter().for_each(|count| count.set(count.get() + 1));
-            following.differs(reached, turn)
-        };
-        let found = told_otherwise(self.program, taken.len(), following.writer(), differs).map_err(named)?;
-        known.compares_from = Some(Instant::now() + LEAST_REST.max(RESTS * begun.elapsed()));
-        if found.is_none() {
-            following.forget(&taken.into_iter().map(Cell::into_inner).collect::<Vec<_>>());
-        }
-        Ok(found)
     }
 
     /// What the program prints of the entries so far, and says on standard error.
@@ -155,15 +126,14 @@ impl Follower<'_> {
         Err(Failure::Program { status: 1, why: None })
     }
 
-    fn alarmed(&self, following: &Following, node: usize, entry: usize, untrue: Option<String>) -> Result<(), Failure> {
+    fn alarmed(&self, following: &Following, node: usize, entry: usize) -> Result<(), Failure> {
         let place = following.place(node, entry).map_or_else(String::new, |(path, line)| format!(", which ends in {}, line {line}", path.display()));
         print(&format!("alarm: look first at node {node}, entry {}{place}\n", following.number(node, entry)))?;
-        if let Some(why) = untrue {
-            return Err(Failure::NotDone(why));
-        }
         // and why, on standard error
         let (_, why) = self.asked(following, &["trace"], Stdio::piped())?;
         say(numbered(&why, |node, entry| following.number(node, entry)));
+        let (turns, _) = self.asked(following, &["trace", "--turns"], Stdio::null())?;
+        told_otherwise(turns.lines(), node, entry, || following.told(node, entry)).into_iter().for_each(|why| say(format_args!("dumgerokctl: {why}")));
         Err(Failure::Program { status: 1, why: None })
     }
 

@@ -2,6 +2,7 @@
 //! for all; here it is said which line, and why.
 
 use crate::node::Payload;
+use crate::protocol::LAST_QUEUE;
 
 /// Two slots are left free, so that the end of a job always fits.
 const SPARE: u32 = 2;
@@ -39,8 +40,8 @@ fn id_of(line: &str) -> Result<u64, String> {
         _ => return Err("it isn't `job ID QUEUE HEX [PRIORITY]`".to_string()),
     };
     let is_up_to = |word: &str, most: u64| word.parse().map_or(false, |number: u64| number <= most);
-    if !is_up_to(queue, 15) {
-        return Err(format!("{queue:?} is no queue, 0 to 15"));
+    if !is_up_to(queue, LAST_QUEUE.into()) {
+        return Err(format!("{queue:?} is no queue, 0 to {LAST_QUEUE}"));
     }
     if !is_up_to(priority, 255) {
         return Err(format!("{priority:?} is no priority, 0 to 255"));

@@ -5,13 +5,13 @@ use super::commands::print;
 use super::Failure;
 use crate::config::Config;
 use crate::draw::{draw, DrawError, Form};
-use crate::judge::{self, Reached, RecordError, Turn, Why};
+use crate::judge::{self, RecordError, Why};
 use crate::say::say;
 use std::collections::HashMap;
 use std::fs;
 use std::io::{self, BufRead, BufReader, Read, Write};
 use std::path::{Path, PathBuf};
-use std::process::{ChildStdin, Command, ExitStatus, Output, Stdio};
+use std::process::{Child, Command, ExitStatus, Output, Stdio};
 
 pub fn read(path: &Path) -> Result<Config, Failure> {
     Config::read(path).map_err(|why| Failure::Usage(format!("{}: {why}", path.display())))
@@ -51,24 +51,27 @@ pub fn judge(files: &[PathBuf], program: &Path, why: bool) -> Result<(), Failure
     let named = |why| Failure::Usage(format!("{}: {why}", program.display()));
     let done = judged(program, &[], &trace, if why { Stdio::piped() } else { Stdio::inherit() }).map_err(named)?;
     let verdict = String::from_utf8_lossy(&done.stdout);
-    if done.status.success() {
-        let differs = |reached: &mut [Reached], turn: &Turn| trace.differs(reached, turn);
-        let untrue = told_otherwise(program, trace.nodes(), |input| trace.write(input), differs).map_err(named)?;
-        if let Some((node, entry, why)) = untrue {
-            print(&format!("NotARun {node} {entry}\n"))?;
-            let place = trace.place(node, entry).map_or_else(String::new, |(path, line)| format!("{}, line {line}", path.display()));
-            return Err(Failure::NotDone(format!("in the answer that ends in {place}, node {node}: {why}")));
-        }
-    }
     print(&verdict)?;
     if why {
+        // of a run nothing more is asked
         let mut text = Vec::new();
-        trace.write(&mut text).map_err(named)?;
+        if !done.status.success() {
+            trace.write(&mut text).map_err(named)?;
+        }
         let place = |node, entry| trace.place(node, entry).map_or_else(String::new, |(path, line)| format!(" ({}, line {line})", path.display()));
         print(&why_of(program, &text, &done, place)?)?;
     }
-    if let Some((path, line)) = culprit(&verdict).and_then(|(node, entry)| trace.place(node, entry)) {
-        say(format_args!("dumgerokctl: that entry ends in {}, line {line}", path.display()));
+    if let Some((node, entry)) = culprit(&verdict) {
+        let place = trace.place(node, entry).map_or_else(String::new, |(path, line)| format!("ends in {}, line {line}", path.display()));
+        // they may be far more than is to be held
+        let mut turning = given(program, &["--turns"], &trace, Stdio::null()).map_err(named)?;
+        let turns = turning.stdout.take().into_iter().flat_map(|out| BufReader::new(out).lines()).map_while(Result::ok);
+        let told = told_otherwise(turns, node, entry, || trace.told(node, entry));
+        turning.wait().map_err(named)?;
+        match told {
+            Some(why) => say(format_args!("dumgerokctl: in the answer that {place}, {why}")),
+            None => say(format_args!("dumgerokctl: that entry {place}")),
+        }
     }
     if done.status.code() == Some(1) && judged_ongoing(program, &trace).map_err(named)? {
         say("dumgerokctl: each entry that is left waits for a message that no record has: did one lose its end, as by a loss of power?");
@@ -76,29 +79,15 @@ pub fn judge(files: &[PathBuf], program: &Path, why: bool) -> Result<(), Failure
     Failure::of_status(done.status)
 }
 
-/// The first entry of a trace, if any, at which its node told otherwise than it stands: the node, the entry, and what was told.
-pub fn told_otherwise(
-    program: &Path,
-    nodes: usize,
-    write: impl FnOnce(&mut io::BufWriter<ChildStdin>) -> io::Result<()> + Send,
-    differs: impl Fn(&mut [Reached], &Turn) -> Option<String>,
-) -> io::Result<Option<(usize, usize, String)>> {
-    let mut child = Command::new(program).args(["trace", "--turns"]).stdin(Stdio::piped()).stdout(Stdio::piped()).stderr(Stdio::null()).spawn()?;
-    let (input, output) = (child.stdin.take(), child.stdout.take());
-    let found = std::thread::scope(|scope| {
-        // where it doesn't read to the end its status says why
-        scope.spawn(move || input.map(|input| write(&mut io::BufWriter::new(input))));
-        let mut reached = vec![Reached::default(); nodes];
-        let lines = output.into_iter().flat_map(|output| BufReader::new(output).lines());
-        let turns = lines.filter_map(|line| line.map(|line| Turn::read(&line)).transpose());
-        let mut untrue = turns.filter_map(|turn| turn.map(|turn| differs(&mut reached, &turn).map(|why| (turn.node, turn.entry as usize, why))).transpose());
-        let first = untrue.next().transpose();
-        // it is read to its end
-        untrue.for_each(drop);
-        first
-    });
-    child.wait()?;
-    found
+/// What a node told of an entry that isn't true, beside how it stands behind it by the program's turns; none where they don't have it, as where its node stops there.
+pub fn told_otherwise<T: AsRef<str>>(mut turns: impl Iterator<Item = T>, node: usize, entry: usize, told: impl FnOnce() -> String) -> Option<String> {
+    let begin = format!("turn {node} {entry} ");
+    let stand = turns.find_map(|line| line.as_ref().strip_prefix(&begin).map(str::to_string))?;
+    let stand = match stand.split(' ').collect::<Vec<_>>().as_slice() {
+        [phase, group, coordinator, members, hand] => format!("{phase} {coordinator} {group} {members}, with {hand} jobs in hand"),
+        words => words.join(" "),
+    };
+    Some(format!("node {node} told {}, and stands as {stand}", told()))
 }
 
 /// Whether a trace may be that of a run that goes on.
@@ -108,12 +97,17 @@ fn judged_ongoing(program: &Path, trace: &judge::Trace) -> io::Result<bool> {
 
 /// What the program prints of a trace, and how it ends.
 fn judged(program: &Path, options: &[&str], trace: &judge::Trace, errors: Stdio) -> io::Result<Output> {
+    given(program, options, trace, errors)?.wait_with_output()
+}
+
+/// The program, which was given a trace.
+fn given(program: &Path, options: &[&str], trace: &judge::Trace, errors: Stdio) -> io::Result<Child> {
     let mut child = Command::new(program).arg("trace").args(options).stdin(Stdio::piped()).stdout(Stdio::piped()).stderr(errors).spawn()?;
     if let Some(input) = child.stdin.take() {
         // where it doesn't read to the end its status says why
         let _unread = trace.write(&mut io::BufWriter::new(input));
     }
-    child.wait_with_output()
+    Ok(child)
 }
 
 /// The node and the entry that a verdict names: `NotARun NODE INDEX`.
@@ -179,4 +173,18 @@ pub fn drawn(file: Option<&Path>, form: Form, program: &Path) -> Result<(String,
         DrawError::Program(why) => Failure::Usage(format!("{}: {why}", program.display())),
         why => Failure::NotDone(why.to_string()),
     })
+}
+
+#[cfg(test)]
+mod tests {
+    use super::*;
+
+    #[test]
+    fn what_was_told_is_said_beside_how_the_node_stands() {
+        let turns = "possible\nturn 1 5 Down\nturn 0 5 Normal 1:2 1 0,1 3\nturn 0 55 Election 0:1 0 - 0\n";
+        let said = |node, entry| told_otherwise(turns.lines(), node, entry, || r#"{"took":""}"#.to_string());
+        assert_eq!(said(0, 5).unwrap(), r#"node 0 told {"took":""}, and stands as Normal 1 1:2 0,1, with 3 jobs in hand"#);
+        assert_eq!(said(1, 5).unwrap(), r#"node 1 told {"took":""}, and stands as Down"#);
+        assert_eq!([said(0, 6), said(2, 5)], [None, None]);
+    }
 }

@@ -1,5 +1,6 @@
 //! Numbers of the command line: where one isn't right it is said which are.
 
+use crate::protocol::LAST_QUEUE;
 use clap::ValueEnum;
 use std::str::FromStr;
 use std::time::Duration;
@@ -12,7 +13,7 @@ fn number<T: FromStr + PartialOrd>(word: &str, (least, most): (T, T), what: &str
 }
 
 pub fn queue(word: &str) -> Result<u8, String> {
-    number(word, (0, 15), "a queue is a number from 0 to 15")
+    number(word, (0, LAST_QUEUE), &format!("a queue is a number from 0 to {LAST_QUEUE}"))
 }
 
 pub fn priority(word: &str) -> Result<u8, String> {

@@ -17,7 +17,7 @@ const PAUSE: Duration = Duration::from_secs(2);
 /// The jobs that the node keeps, by queue, when it was last asked for the page.
 #[derive(Default)]
 pub(super) struct PendingJobs {
-    by_queue: [usize; 16],
+    by_queue: [usize; QUEUES as usize],
     asked: Option<Instant>,
 }
 
@@ -96,7 +96,7 @@ impl<P: Ports> Core<P> {
 
     /// The node said which jobs it keeps.
     pub(super) fn count_jobs(&mut self, lines: &[Line]) {
-        self.pending_jobs.by_queue = [0; 16];
+        self.pending_jobs.by_queue.fill(0);
         for line in lines {
             if let Line::Pending(job) = line {
                 if let Some(count) = self.pending_jobs.by_queue.get_mut(usize::from(job.queue)) {

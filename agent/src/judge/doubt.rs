@@ -5,9 +5,8 @@
 use std::collections::{BTreeMap, BTreeSet};
 use std::ops::Range;
 
-/// The places of a message's kind, sender and body, in its digits.
+/// The places of a message's kind and body, in its digits.
 const KIND: Range<usize> = 2..4;
-const SENDER: Range<usize> = 4..6;
 const BODY: usize = 12;
 /// A group is spelled by so many digits, an id by so many.
 const GROUP: usize = 18;
@@ -54,8 +53,8 @@ impl Seen {
 
     /// A Work that this node sends is of a job that it keeps.
     fn name_sent(&mut self, digits: &str) {
-        if let Some(work) = work_of(digits) {
-            self.name(Some(work.id), Some(work.words));
+        if let Some((id, words)) = work_of(digits) {
+            self.name(Some(id), Some(words));
         }
     }
 
@@ -64,15 +63,8 @@ impl Seen {
     }
 }
 
-/// A job that a Work brings: its sender keeps it.
-pub struct SentWork {
-    pub sender: u8,
-    pub id: u64,
-    pub words: Words,
-}
-
-/// The job of a message; none where it is no Work.
-pub fn work_of(digits: &str) -> Option<SentWork> {
+/// The job of a Work, by its id at its sender; none of another message.
+fn work_of(digits: &str) -> Option<(u64, Words)> {
     let is_urgent = match digits.get(KIND)? {
         "09" => false,
         "0b" => true,
@@ -84,8 +76,7 @@ pub fn work_of(digits: &str) -> Option<SentWork> {
     let (priority, rest) = if is_urgent { split(rest, 2)? } else { ("00", rest) };
     let (length, rest) = split(rest, 4)?;
     let payload = rest.get(..2 * usize::try_from(number(length)?).ok()?)?;
-    let words = plain(&format!("{} {payload} {}", number(queue)?, number(priority)?));
-    Some(SentWork { sender: u8::try_from(number(digits.get(SENDER)?)?).ok()?, id: number(id)?, words })
+    Some((number(id)?, plain(&format!("{} {payload} {}", number(queue)?, number(priority)?))))
 }
 
 /// The first `count` digits, and those behind them.

@@ -1,13 +1,12 @@
 //! Records that grow: what their agents append is read as it comes. The entries are kept, and not the records; and of the entries those that are still needed.
 
 use super::growing::Growing;
-use super::history::{Detail, History, Place};
+use super::history::{History, Place};
 use super::message::Begin;
 use super::records::{in_order, Head};
 use super::remote::{is_agent, Remote};
 use super::source::{first_line, Files, Source};
-use super::told::{Reached, Turn};
-use super::{write_histories, RecordError};
+use super::{told_in, write_histories, RecordError};
 use std::io::{self, Write};
 use std::path::{Path, PathBuf};
 use std::sync::Arc;
@@ -91,7 +90,7 @@ impl Following {
     fn begin_all(&mut self) {
         if self.absent().is_empty() {
             let begins: Arc<[Begin]> = self.records.iter().map(|record| record.as_ref().and_then(|record| record.begin).unwrap_or_default()).collect();
-            self.histories = (0..).zip(&self.records).map(|(own, _)| History::new(own, Arc::clone(&begins), Detail::Entries)).collect();
+            self.histories = (0..).zip(&self.records).map(|(own, _)| History::new(own, Arc::clone(&begins))).collect();
         }
     }
 
@@ -100,9 +99,9 @@ impl Following {
         self.records.iter().flatten().filter(|record| record.begin.is_none()).map(|record| record.node).collect()
     }
 
-    /// What a node told otherwise than this turn says that it stands.
-    pub fn differs(&self, reached: &mut [Reached], turn: &Turn) -> Option<String> {
-        self.histories.get(turn.node)?.said().differs(reached.get_mut(turn.node)?, turn)
+    /// What was told of an entry, as it says it.
+    pub fn told(&self, node: usize, entry: usize) -> String {
+        told_in(self.histories.get(node).map_or("", History::entries), entry)
     }
 
     /// How many entries each node has.
@@ -136,7 +135,7 @@ impl Following {
         self.histories.iter().map(History::bytes).sum()
     }
 
-    /// Of the entries that were taken and compared, so many of each node, those are forgotten on which nothing rests that may come.
+    /// Of the entries that were taken, so many of each node, those are forgotten on which nothing rests that may come.
     pub fn forget(&mut self, taken: &[usize]) {
         self.histories.iter_mut().zip(taken).for_each(|(history, taken)| history.forget(*taken));
     }
@@ -206,7 +205,8 @@ mod tests {
         assert!(!following.read().unwrap());
         append(&paths[1], " 2\n");
         assert!(following.read().unwrap());
-        assert_eq!(trace(&following), serde_json::json!({"histories": [[], [{"do": "check", "sent": ["010101000000"]}], []], "nodes": 3}));
+        let told = serde_json::json!({"dropped": "", "group": "Normal 1 1:1 1"});
+        assert_eq!(trace(&following), serde_json::json!({"histories": [[], [{"do": "check", "sent": ["010101000000"], "told": told}], []], "nodes": 3}));
         assert_eq!(following.place(1, 0), Some((&paths[1], 10)));
         // the next part is found beside it
         let next = folder.join("1.2");

@@ -5,60 +5,36 @@ mod follow;
 mod growing;
 mod history;
 mod message;
+mod notes;
 mod order;
+mod part;
 mod records;
 mod remote;
 mod source;
+mod store;
 mod told;
+mod trace;
 mod why;
 
 pub use follow::Following;
 pub use records::{read, NodeRecord, RecordError};
-pub use told::{Reached, Turn};
+pub use trace::Trace;
 pub use why::Why;
 
-use history::{Detail, History, Place};
 use message::Begin;
+use serde::de::IgnoredAny;
+use serde_json::{Deserializer, Value};
 use std::io::{self, Write};
-use std::path::PathBuf;
-use std::sync::Arc;
-use told::Told;
 
-/// The trace of a cluster: the text of each node's history, and the order of all turns where one is found.
-pub struct Trace {
-    histories: Vec<String>,
-    order: Option<String>,
-    /// Of each node its files, and where each of its entries stands in them.
-    places: Vec<(Vec<PathBuf>, Vec<Place>)>,
-    told: Vec<Told>,
-}
-
-impl Trace {
-    /// The file and the line of an entry, from 1: there what it says was over.
-    pub fn place(&self, node: usize, entry: usize) -> Option<(&PathBuf, u32)> {
-        let (paths, places) = self.places.get(node)?;
-        let (part, line) = places.get(entry)?;
-        Some((paths.get(*part as usize)?, *line))
+/// What was told of an entry, of those that stand in a text with commas between them.
+fn told_in(mut entries: &str, entry: usize) -> String {
+    for _ in 0..entry {
+        let mut values = Deserializer::from_str(entries).into_iter::<IgnoredAny>();
+        values.next();
+        entries = entries.get(values.byte_offset() + 1..).unwrap_or_default();
     }
-
-    /// What a node told otherwise than this turn says that it stands. The turns of a node are asked in their order.
-    pub fn differs(&self, reached: &mut [Reached], turn: &Turn) -> Option<String> {
-        self.told.get(turn.node)?.differs(reached.get_mut(turn.node)?, turn)
-    }
-
-    pub fn nodes(&self) -> usize {
-        self.histories.len()
-    }
-
-    /// Writes it as JSON, without a copy of it.
-    pub fn write(&self, out: &mut impl Write) -> io::Result<()> {
-        write_histories(out, self.histories.iter().map(String::as_str))?;
-        if let Some(order) = &self.order {
-            write!(out, ",\"order\":\"{order}\"")?;
-        }
-        write!(out, "}}")?;
-        out.flush()
-    }
+    let entry = Deserializer::from_str(entries).into_iter::<Value>().next();
+    entry.and_then(Result::ok).map_or_else(String::new, |entry| entry["told"].to_string())
 }
 
 /// Writes the beginning of a trace: all but its order and its end.
@@ -71,36 +47,25 @@ fn write_histories<'a>(out: &mut impl Write, histories: impl ExactSizeIterator<I
     write!(out, "],\"nodes\":{nodes}")
 }
 
-/// The trace of the records of all nodes, in their order. Each record is let go of once its history is made: it is about as large.
-/// With times each entry says when it was, which no judgement needs.
+/// The trace of the records of all nodes, in their order. With times each entry says when it was, which no judgement needs.
 pub fn trace_of(records: Vec<NodeRecord>, has_times: bool) -> Result<Trace, RecordError> {
-    let begins: Arc<[Begin]> = records.iter().map(begin_of).collect::<Result<Vec<Begin>, _>>()?.into();
-    let (mut histories, mut turns, mut places, mut told) = (Vec::new(), Vec::new(), Vec::new(), Vec::new());
-    for (own, record) in (0..).zip(records) {
-        let history = History::of(own, &record, &begins, if has_times { Detail::Times } else { Detail::Order });
-        let history = history.map_err(|why| why.in_one_of(&record.paths))?;
-        places.push((record.paths, history.places().to_vec()));
-        let (entries, its_turns, its_words) = history.into_parts();
-        histories.push(entries);
-        turns.push(its_turns);
-        told.push(its_words);
-    }
-    Ok(Trace { histories, order: order::of(&turns), places, told })
+    let begins = records.iter().map(begin_of).collect::<Result<Vec<Begin>, _>>()?;
+    Trace::of(records, &begins.into(), has_times)
 }
 
 /// What the file of a node kept when its record began: a trace begins with count 1 and id 0.
 fn begin_of(record: &NodeRecord) -> Result<Begin, RecordError> {
-    if !record.is_there {
+    if !record.is_there() {
         return Ok(Begin::default());
     }
     let fault = |what| RecordError::NoBegin { node: record.node, what };
-    if record.lines().next().map_or(false, |first| !first.starts_with("start")) {
+    if record.found().find_map(|found| found.begins) == Some(false) {
         return Err(fault("the node ran already"));
     }
-    if record.lines().any(|line| line == "off") {
+    if record.found().any(|found| found.is_ended) {
         return Err(RecordError::Ended { node: record.node });
     }
-    match record.lines().find(|line| line.starts_with("keeps ")) {
+    match record.found().find_map(|found| found.keeps.as_deref()) {
         Some(keeps) => kept_at(record.node, keeps),
         None => Err(fault("it has no start of the node")),
     }
@@ -130,9 +95,7 @@ mod tests {
 
     fn said(lines: &str) -> String {
         let record = NodeRecord::of_text(0, lines);
-        let mut empty = NodeRecord::of_text(1, "");
-        empty.is_there = false;
-        trace_of(vec![record, empty], false).map_or_else(|why| why.to_string(), |trace| written(&trace)["nodes"].to_string())
+        trace_of(vec![record, NodeRecord::of_nothing(1)], false).map_or_else(|why| why.to_string(), |trace| written(&trace)["nodes"].to_string())
     }
 
     #[test]
@@ -145,6 +108,34 @@ mod tests {
         };
         assert_eq!(at(true), [9, 9, 12, 12].map(|ms| Some(1764000000000 + ms)));
         assert_eq!(at(false), [None; 4]);
+    }
+
+    #[test]
+    fn what_an_entry_tells_is_found_among_the_others() {
+        let lines = "start\n> recover\ngroup Normal 0 0:101 0\nkeeps 101 5 0\nok 1\n> check\nok 2\n> check\nok 3\n> submit 3 6869\ntake 0 5 3 6869\nok 4 id 5\n> finish 0 5\ngone 5\nok 5\n";
+        let trace = trace_of(vec![NodeRecord::of_text(0, lines)], true).unwrap();
+        let told = [0, 1, 2, 3, 4].map(|entry| trace.told(0, entry));
+        assert_eq!(told, [r#"{"dropped":"","group":"Normal 0 0:1 0"}"#, "null", r#"{"id":"0","took":"0 0 3 6869;"}"#, r#"{"gone":"0;"}"#, ""]);
+        assert_eq!(trace.told(1, 0), "");
+    }
+
+    #[test]
+    fn what_is_stored_piece_by_piece_is_one_trace() {
+        let jobs = 3000;
+        let begin = |node: usize| format!("start 1764000000000\n> recover\ngroup Normal {node} {node}:101 {node}\nkeeps 101 5 0\nok 1\n");
+        let turn = |node: usize, job: u64| format!("> submit 3 6869\ntake {node} {job} 3 6869\nok {} id {job}\n> tick {job}\nok {}\n", 2 * job - 8, 2 * job - 7);
+        let record = |node: usize| NodeRecord::of_text(node, &(begin(node) + &(5..5 + jobs).map(|job| turn(node, job)).collect::<String>()));
+        let trace = trace_of(vec![record(0), record(1)], true).unwrap();
+        let value = written(&trace);
+        let entry = |node: usize, job: u64| serde_json::json!({"at": 1764000000005 + job, "do": "submit", "payload": "6869", "queue": 3, "sent": [], "told": {"id": job.to_string(), "took": format!("{node} {job} 3 6869;")}});
+        for (node, job) in [(0, 1), (0, 1500), (1, 1), (1, 2999)] {
+            let place = job as usize;
+            assert_eq!(value["histories"][node][place], entry(node, job));
+            assert_eq!((trace.told(node, place), trace.place(node, place).unwrap().1), (entry(node, job)["told"].to_string(), 9 + 5 * job as u32));
+        }
+        assert_eq!((value["histories"][1].as_array().unwrap().len(), trace.place(1, 3000), trace.told(1, 3000)), (3000, None, String::new()));
+        let order: String = (0..6000).map(|turn| format!("{} - ", turn % 2)).collect();
+        assert_eq!(value["order"], order.trim_end());
     }
 
     #[test]
@@ -167,7 +158,6 @@ mod tests {
         let (mut chance, mut taken) = (Chance::of(16), 0);
         for _ in 0..TURNS {
             taken += usize::from(said(&chance.odd_text(&[&right], 300)) == "2");
-            Turn::read(&chance.odd_text(&["turn 0 5 Election 0:1 0 0 9", "turn 0 3 Down"], 40));
         }
         assert!(taken > 50, "{taken}");
     }

@@ -1,14 +1,15 @@
 //! Record files, put together.
 
 use super::history::Place;
-use std::collections::BTreeSet;
+use super::part::{Found, Part};
+use std::env;
 use std::fs::File;
-use std::io::{self, Read};
+use std::io;
 use std::path::{Path, PathBuf};
 use thiserror::Error;
 
 /// So many nodes a cluster has at most.
-const MAX_NODES: usize = 128;
+pub const MAX_NODES: usize = 128;
 
 #[derive(Debug, Error)]
 pub enum RecordError {
@@ -38,6 +39,8 @@ pub enum RecordError {
     Unserved { host: String },
     #[error("{}: it was deleted before it was read", path.display())]
     Deleted { path: PathBuf },
+    #[error("{folder}: {0}", folder = env::temp_dir().display())]
+    Unstored(#[from] io::Error),
     #[error("no run: in {}, line {}, node {node} told {why}", path.display(), place.1)]
     Untrue { node: usize, place: Place, path: PathBuf, why: String },
 }
@@ -58,55 +61,41 @@ impl RecordError {
 /// All that was recorded of one node; of a place that nobody heard of there is nothing.
 pub struct NodeRecord {
     pub node: usize,
-    /// Whether there is a file of it.
-    pub is_there: bool,
-    /// Its files.
-    pub paths: Vec<PathBuf>,
-    /// What stands in its files behind their first lines. They are kept as they are, without a copy of each line: records may be larger than half of the memory.
-    parts: Vec<Text>,
+    /// Its files. What stands in them is read from there: records may be larger than the memory.
+    parts: Vec<Part>,
 }
 
 impl NodeRecord {
-    fn new(node: usize) -> NodeRecord {
-        NodeRecord { node, is_there: false, paths: Vec::new(), parts: Vec::new() }
+    /// Whether there is a file of it.
+    pub fn is_there(&self) -> bool {
+        !self.parts.is_empty()
     }
 
-    pub fn lines(&self) -> impl Iterator<Item = &str> + Clone {
-        self.parts.iter().flat_map(Text::lines)
+    /// The names of its files.
+    pub fn paths(&self) -> Vec<PathBuf> {
+        self.parts.iter().map(|part| part.path.clone()).collect()
     }
 
-    /// The lines, each with where it stands.
-    pub fn placed_lines(&self) -> impl Iterator<Item = (Place, &str)> {
-        (0..).zip(&self.parts).flat_map(|(part, text)| (2..).zip(text.lines()).map(move |(line, words)| ((part, line), words)))
+    /// What has to be known of the lines of its files, in their order.
+    pub fn found(&self) -> impl Iterator<Item = &Found> {
+        self.parts.iter().map(|part| &part.found)
+    }
+
+    /// Gives on the lines, each with where it stands.
+    pub fn read(&self, mut heard: impl FnMut(Place, &str) -> Result<(), RecordError>) -> Result<(), RecordError> {
+        (0..).zip(&self.parts).try_for_each(|(number, part)| part.read(|line, words| heard((number, line), words)))
     }
 
     #[cfg(test)]
     pub fn of_text(node: usize, text: &str) -> NodeRecord {
-        let whole = Text { text: text.to_string(), begin: 0, end: text.len() };
-        NodeRecord { node, is_there: true, paths: Vec::new(), parts: vec![whole] }
+        let whole = format!("# dumgerok record 1 node {node} of {} part 1 cluster c\n{text}", node + 1);
+        NodeRecord { node, parts: vec![Part::of_bytes(whole.as_bytes()).unwrap()] }
     }
-}
 
-/// The lines of a file that count: those between two places of its text.
-struct Text {
-    text: String,
-    begin: usize,
-    end: usize,
-}
-
-impl Text {
-    fn lines(&self) -> std::str::Lines<'_> {
-        self.text[self.begin..self.end].lines()
+    #[cfg(test)]
+    pub fn of_nothing(node: usize) -> NodeRecord {
+        NodeRecord { node, parts: Vec::new() }
     }
-}
-
-/// Where a message has its sender, in hex digits.
-const SENDER: std::ops::Range<usize> = 4..6;
-
-/// The node that said what was brought by a line.
-fn sender_of(line: &str) -> Option<usize> {
-    let digits = line.strip_prefix("> deliver ")?.get(SENDER)?;
-    usize::from_str_radix(digits, 16).ok()
 }
 
 /// What the first line of a file says.
@@ -128,24 +117,6 @@ impl Head {
             }
             _ => None,
         }
-    }
-}
-
-struct Part {
-    head: Head,
-    path: PathBuf,
-    text: Text,
-}
-
-impl Part {
-    fn of(path: &Path, bytes: Vec<u8>) -> Result<Part, RecordError> {
-        let text = String::from_utf8(bytes).unwrap_or_else(|why| String::from_utf8_lossy(why.as_bytes()).into_owned());
-        // a last line without a line feed was cut off where the agent was killed
-        let end = text.rfind('\n').unwrap_or(0);
-        let end_of_head = text[..end].find('\n').unwrap_or(end);
-        let begin = (end_of_head + 1).min(end);
-        let head = Head::read(&text[..end_of_head]).ok_or_else(|| RecordError::NoRecord(path.to_path_buf()))?;
-        Ok(Part { head, path: path.to_path_buf(), text: Text { text, begin, end } })
     }
 }
 
@@ -172,39 +143,22 @@ pub fn in_order<T>(mut files: Vec<T>, head_of: fn(&T) -> &Head) -> Result<Vec<Ve
     Ok(all)
 }
 
-/// A file up to where it ends now.
-fn opened(path: &Path) -> io::Result<io::Take<File>> {
-    let file = File::open(path)?;
-    let length = file.metadata()?.len();
-    Ok(file.take(length))
+/// A file, and where it ends now.
+fn opened(path: &Path) -> Result<(&Path, File, u64), RecordError> {
+    let file = File::open(path).and_then(|file| Ok((file.metadata()?.len(), file)));
+    let (length, file) = file.map_err(|why| RecordError::Unreadable { path: path.to_path_buf(), why })?;
+    Ok((path, file, length))
 }
 
-/// Reads the files of all nodes of a cluster, in any order. Where their agents go on writing all are read up to where they end at the beginning.
+/// Looks through the files of all nodes of a cluster, in any order. Where their agents go on writing all are read up to where they end at the beginning.
 pub fn read(paths: &[PathBuf]) -> Result<Vec<NodeRecord>, RecordError> {
-    let unreadable = |path: &PathBuf| {
-        let path = path.clone();
-        |why| RecordError::Unreadable { path, why }
-    };
-    let files = paths.iter().map(|path| opened(path).map_err(unreadable(path))).collect::<Result<Vec<_>, _>>()?;
-    let part = |(path, mut file): (&PathBuf, io::Take<File>)| {
-        let mut bytes = Vec::with_capacity(usize::try_from(file.limit()).unwrap_or(0));
-        file.read_to_end(&mut bytes).map_err(unreadable(path))?;
-        Part::of(path, bytes)
-    };
-    let parts = paths.iter().zip(files).map(part).collect::<Result<Vec<_>, _>>()?;
-    let mut records: Vec<NodeRecord> = Vec::new();
-    for (node, parts) in in_order(parts, |part| &part.head)?.into_iter().enumerate() {
-        let mut record = NodeRecord { is_there: !parts.is_empty(), ..NodeRecord::new(node) };
-        for Part { path, text, .. } in parts {
-            record.paths.push(path);
-            record.parts.push(text);
-        }
-        records.push(record);
-    }
+    let files = paths.iter().map(|path| opened(path)).collect::<Result<Vec<_>, _>>()?;
+    let parts = files.into_iter().map(|(path, file, length)| Part::of(path, file, length)).collect::<Result<Vec<_>, _>>()?;
+    let records: Vec<NodeRecord> = in_order(parts, |part| &part.head)?.into_iter().enumerate().map(|(node, parts)| NodeRecord { node, parts }).collect();
     let nodes = records.len();
     // a place that nobody heard had no machine, or one that did nothing that the others saw
-    let heard: BTreeSet<usize> = records.iter().flat_map(NodeRecord::lines).filter_map(sender_of).collect();
-    match records.iter().find(|record| !record.is_there && heard.contains(&record.node)) {
+    let is_heard = |node: usize| records.iter().flat_map(NodeRecord::found).any(|found| found.senders.contains(&node));
+    match records.iter().find(|record| !record.is_there() && is_heard(record.node)) {
         Some(missing) => Err(RecordError::Missing { nodes, missing: missing.node }),
         None => Ok(records),
     }
@@ -213,24 +167,7 @@ pub fn read(paths: &[PathBuf]) -> Result<Vec<NodeRecord>, RecordError> {
 #[cfg(test)]
 mod tests {
     use super::*;
-    use crate::chance::{Chance, TURNS};
     use std::fs;
-
-    #[test]
-    fn heads_that_no_agent_writes() {
-        let path = std::env::temp_dir().join(format!("dumgerok-head-{}", std::process::id()));
-        for (head, is_read) in [
-            ("node 1 of 2 part 1", true),
-            ("node 0 of 99999999999 part 1", false),
-            ("node 2 of 2 part 1", false),
-            ("node 0 of 0 part 1", false),
-            ("node -1 of 2 part 1", false),
-            ("node 0 of 2 part 18446744073709551616", false),
-        ] {
-            let text = format!("# dumgerok record 1 {head} cluster c\nstart\n");
-            assert_eq!(Part::of(&path, text.into_bytes()).is_ok(), is_read, "{head}");
-        }
-    }
 
     #[test]
     fn files_that_are_no_records_of_one_cluster() {
@@ -257,19 +194,5 @@ mod tests {
         assert_eq!(said(&[&heard]), "the records are of 2 places, and none is of node 1, which others heard");
         assert_eq!(said(&[&first, &foreign]), "these are records of two clusters, \"a b\" and \"a\"");
         fs::remove_dir_all(&folder).unwrap();
-    }
-
-    #[test]
-    fn whatever_a_file_holds_is_read_or_refused() {
-        let mut chance = Chance::of(17);
-        for _ in 0..TURNS {
-            let odd = chance.odd(&["# dumgerok record 1 node 1 of 2 part 1 cluster c d\nstart\n> tick 1\nok"], 200);
-            if let Ok(part) = Part::of(Path::new("record.1"), odd) {
-                let Head { node, nodes, part: number, cluster } = &part.head;
-                let said = format!("# dumgerok record 1 node {node} of {nodes} part {number} cluster {cluster}");
-                assert_eq!(Head::read(&said), Some(part.head.clone()));
-                assert!(*nodes <= MAX_NODES && part.text.lines().count() <= part.text.text.len());
-            }
-        }
     }
 }

@@ -64,7 +64,7 @@ fn sender_of(message: &str) -> usize {
 impl Entry {
     fn of(value: &Value) -> Entry {
         let name = value["do"].as_str().unwrap_or_default().to_string();
-        let is_other = |key: &str| !["do", "msg", "sent", "at"].contains(&key);
+        let is_other = |key: &str| !["do", "msg", "sent", "at", "told"].contains(&key);
         let members = value.as_object().into_iter().flatten().filter(|(key, _)| is_other(key));
         let fields = members.map(|(key, value)| format!("{key} {}", value.as_str().map_or_else(|| value.to_string(), str::to_string))).collect();
         let brought = if name == "deliver" { digits(&value["msg"]) } else { None };

@@ -3,13 +3,13 @@
 use super::LeaseLine;
 use crate::boot_time::BootTime;
 use crate::config::Config;
-use crate::own_session;
+use crate::{own_session, piped};
 use log::warn;
 use mio::unix::pipe;
 use mio::{Interest, Registry, Token};
 use std::collections::VecDeque;
 use std::io::{self, ErrorKind, Read, Write};
-use std::process::{Child, Command, ExitStatus, Stdio};
+use std::process::{Child, Command, ExitStatus};
 use std::thread;
 use std::time::{Duration, Instant};
 
@@ -102,16 +102,7 @@ fn is_hung(unanswered: &VecDeque<Instant>, patience: Duration, now: Instant) -> 
 impl LeaseProcess {
     /// Starts it; its output wakes `output`, its input, once it was full, `input`.
     pub fn start(config: &Config, voters: u8, registry: &Registry, input: Token, output: Token) -> io::Result<LeaseProcess> {
-        if let Some(why) = own_session::why_not(config.program.as_os_str()) {
-            return Err(io::Error::new(ErrorKind::NotFound, why));
-        }
-        let mut child = lease_command(config, voters).stdin(Stdio::piped()).stdout(Stdio::piped()).spawn()?;
-        let pipes = child.stdin.take().zip(child.stdout.take());
-        let (stdin, stdout) = pipes.ok_or_else(|| io::Error::new(ErrorKind::Other, "it has no pipes"))?;
-        let (to, mut from) = (pipe::Sender::from(stdin), pipe::Receiver::from(stdout));
-        to.set_nonblocking(true)?;
-        from.set_nonblocking(true)?;
-        registry.register(&mut from, output, Interest::READABLE)?;
+        let (child, to, from) = piped::start(config.program.as_os_str(), &mut lease_command(config, voters), registry, output)?;
         Ok(LeaseProcess {
             child,
             input: Some(to),

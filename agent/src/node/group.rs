@@ -5,9 +5,7 @@ use std::fmt;
 use std::str::FromStr;
 
 use super::line::LineError;
-
-/// How many queues of jobs there are.
-pub const QUEUES: u8 = 16;
+use crate::protocol::QUEUES;
 
 #[derive(Clone, Copy, Debug, Default, PartialEq, Eq, Serialize)]
 pub enum Phase {

@@ -3,12 +3,12 @@
 use super::answer::Answer;
 use super::exchange::{digits_of, Exchange};
 use crate::config::Config;
-use crate::own_session;
+use crate::{own_session, piped};
 use log::error;
 use mio::unix::pipe;
 use mio::{Interest, Registry, Token};
 use std::io::{self, ErrorKind, Read, Write};
-use std::process::{Child, Command, ExitStatus, Stdio};
+use std::process::{Child, Command, ExitStatus};
 use std::thread;
 use std::time::{Duration, Instant};
 
@@ -46,20 +46,11 @@ fn node_command(config: &Config) -> Command {
 impl NodeProcess {
     /// Starts the node, under a key in this life; its output wakes `output`, its input, once it was full, `input`.
     pub fn start(config: &Config, life: u64, registry: &Registry, input: Token, output: Token) -> io::Result<NodeProcess> {
-        if let Some(why) = own_session::why_not(config.program.as_os_str()) {
-            return Err(io::Error::new(ErrorKind::NotFound, why));
-        }
         let mut command = node_command(config);
         if config.key.is_some() {
             command.arg("--life").arg(digits_of(life));
         }
-        let mut child = command.stdin(Stdio::piped()).stdout(Stdio::piped()).spawn()?;
-        let pipes = child.stdin.take().zip(child.stdout.take());
-        let (stdin, stdout) = pipes.ok_or_else(|| io::Error::new(ErrorKind::Other, "the node has no pipes"))?;
-        let (to, mut from) = (pipe::Sender::from(stdin), pipe::Receiver::from(stdout));
-        to.set_nonblocking(true)?;
-        from.set_nonblocking(true)?;
-        registry.register(&mut from, output, Interest::READABLE)?;
+        let (child, to, from) = piped::start(config.program.as_os_str(), &mut command, registry, output)?;
         Ok(NodeProcess {
             child,
             input: Some(to),

@@ -6,7 +6,7 @@ mod wanted;
 
 pub use reply::Reply;
 pub use request::{key_of, named, payload_of, text_of, Envelope, Request, RequestError, Tag};
-pub use wanted::{Wanted, QUEUES};
+pub use wanted::{Wanted, LAST_QUEUE, QUEUES};
 
 /// The version of these lines. A request may name it; one that names another is refused.
 pub const VERSION: u64 = 1;

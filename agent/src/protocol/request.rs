@@ -1,6 +1,6 @@
 //! Requests.
 
-use super::{QUEUES, VERSION};
+use super::{LAST_QUEUE, VERSION};
 use crate::forward::Key;
 use crate::lease::is_name;
 use crate::node::{Payload, PayloadError};
@@ -109,7 +109,7 @@ pub enum RequestError {
     Version,
     #[error("{0}")]
     Unreadable(String),
-    #[error("a queue is a number from 0 to {}", QUEUES - 1)]
+    #[error("a queue is a number from 0 to {LAST_QUEUE}")]
     Queue,
     #[error("a priority is a number from 0 to 255")]
     Priority,
@@ -180,7 +180,7 @@ impl Envelope {
 
     fn request_of(object: Map<String, Value>) -> Result<Request, RequestError> {
         for (field, range, error) in [
-            ("queue", 0..=u64::from(QUEUES - 1), RequestError::Queue),
+            ("queue", 0..=u64::from(LAST_QUEUE), RequestError::Queue),
             ("priority", 0..=255, RequestError::Priority),
             ("every_ms", 100..=60_000, RequestError::Interval),
             ("after_ms", 0..=MAX_AFTER_MS, RequestError::Interval),
@@ -312,7 +312,7 @@ mod tests {
             match request {
                 Ok(Request::Submit { queue, text, hex, .. }) => {
                     let payload = payload_of(text, hex);
-                    assert!(queue < QUEUES && payload.map_or(true, |payload| payload.hex().len() <= 800));
+                    assert!(queue <= LAST_QUEUE && payload.map_or(true, |payload| payload.hex().len() <= 800));
                     taken += 1;
                 }
                 Ok(_) => taken += 1,

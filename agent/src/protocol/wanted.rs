@@ -2,14 +2,29 @@
 
 use super::RequestError;
 
-/// The queues are numbers from 0 to 15.
+/// How many queues of jobs there are: as many as the proved program has, which gives each line of a group by them.
 pub const QUEUES: u8 = 16;
 
+/// The greatest number of a queue; the least is 0.
+pub const LAST_QUEUE: u8 = QUEUES - 1;
+
+/// The queues in words, for texts that are fixed when this is compiled.
+#[macro_export]
+macro_rules! queue_range {
+    () => {
+        "0 to 15"
+    };
+}
+
+/// The queues of a request, a bit for each.
+
 #[derive(Clone, Copy, Debug, PartialEq, Eq)]
-pub struct Wanted(u16);
+pub struct Wanted(u64);
+
+const _: () = assert!(QUEUES as u32 <= u64::BITS);
 
 impl Wanted {
-    pub const ALL: Wanted = Wanted(u16::MAX);
+    pub const ALL: Wanted = Wanted(u64::MAX);
 
     /// Those of a request, which names one, or some, or none for all.
     pub fn read(queue: Option<u8>, queues: Option<&[u8]>) -> Result<Wanted, RequestError> {
@@ -22,7 +37,7 @@ impl Wanted {
     }
 
     pub fn of(queues: &[u8]) -> Wanted {
-        Wanted(queues.iter().fold(0, |all, queue| all | 1u16.checked_shl((*queue).into()).unwrap_or(0)))
+        Wanted(queues.iter().fold(0, |all, queue| all | 1u64.checked_shl((*queue).into()).unwrap_or(0)))
     }
 
     pub fn has(self, queue: u8) -> bool {
@@ -33,6 +48,11 @@ impl Wanted {
 #[cfg(test)]
 mod tests {
     use super::*;
+
+    #[test]
+    fn the_range_in_words_is_that_of_the_queues() {
+        assert_eq!(queue_range!(), format!("0 to {LAST_QUEUE}"));
+    }
 
     #[test]
     fn a_request_names_one_queue_or_some_or_all() {

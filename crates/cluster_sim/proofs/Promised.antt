@@ -6,11 +6,11 @@ use Rattle.runs.specs.declared.outcome.Outcome.{Outcome}
 use Rattle.runs.specs.World.{World}
 use Rattle.runs.specs.Reporting.{Moment, moment_of}
 use Rattle.runs.specs.Growth.{acts_in}
-use Rattle.runs.specs.Headline.{Headline}
+use Rattle.runs.specs.Headline.{IsPromised}
 use Rattle.cluster_sim.specs.Cluster.{ClusterView, Reports, GoesOn, HasRun}
 use Rattle.runs.proofs.PublicLaws.{left_keeps, step_length}
 
-pub promised : (c : ClusterView) (w : World) → Reports c w → Headline (length c.world.nodes) c.world.slots (acts_in c.report) c.report
+pub promised : (c : ClusterView) (w : World) → Reports c w → IsPromised (length c.world.nodes) c.world.slots (acts_in c.report) c.report
 promised c w reports = left_keeps (length c.world.nodes) c.world.slots w c.report reports.left
 
 -- ---- one act after another

@@ -10,7 +10,7 @@ ghost use Rattle.runs.specs.declared.outcome.Outcome.TheVariants as outcomes;
 ghost use Rattle.runs.specs.declared.outcome.ActRefusal.TheVariants.{Node as OfNode};
 ghost use Rattle.runs.specs.Growth.{acts_in};
 ghost use Rattle.cluster_sim.specs.Names.{node_named};
-ghost use Rattle.runs.specs.Headline.{Headline};
+ghost use Rattle.runs.specs.Headline.{IsPromised};
 ghost use Rattle.runs.specs.Reporting.{report_of};
 ghost use Rattle.cluster_sim.specs.declared.report.Moment.{Moment as KeptMoment};
 ghost use Rattle.runs.specs.World.{World as RunWorld, start};
@@ -147,7 +147,7 @@ impl Cluster {
         // Promise: The same of the report of the acts so far, at any time; nodes, disks and network are what a run left of which it
         // is the report.
         // Also: run.
-        ensures keeps { Headline (length self.now.world.nodes) self.now.world.slots (acts_in self.now.report) self.now.report }
+        ensures keeps { IsPromised (length self.now.world.nodes) self.now.world.slots (acts_in self.now.report) self.now.report }
     {
         &self.report
     }
@@ -229,7 +229,7 @@ pub fn run(
     // of so many slots, has this report, and the headline holds of it, with no premise.
     // Also: acts.
     // Refuses: run_of_smaller_disks, run_without_acts, empty_report.
-    ensures keeps { IfOk result (λ ran. Headline nodes slots acts.items (report_in ran.0 ran.1.network.sent)) }
+    ensures keeps { IfOk result (λ ran. IsPromised nodes slots acts.items (report_in ran.0 ran.1.network.sent)) }
     // One moment for each act.
     ensures acts { IfOk result (λ ran. map (λ (m : KeptMoment). m.act) ran.0.moments.items ≡ acts.items) }
 {

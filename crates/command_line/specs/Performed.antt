@@ -39,7 +39,7 @@ IsWhyOf (Store path) = IsSessionWhy
 IsWhyOf (Trace stage) = IsVerdictTold
 IsWhyOf Record = IsWhy schedule_flaw
 IsWhyOf (Threads kind) = IsWhy plans_flaw
-IsWhyOf Turns = IsTold
+IsWhyOf Turns = IsVerdictTold
 IsWhyOf Contradiction = IsTold
 
 -- what standard error says of the requests of a store belongs to what was printed

@@ -144,6 +144,11 @@ const CLUSTER: Argument = Argument {
     help: "The name of the cluster, which the key is bound to",
 };
 
+const FORMAT_CLUSTER: Argument = Argument {
+    help: "The name of the cluster that it is made for: a node of another one doesn't take it",
+    ..NODE_CLUSTER
+};
+
 const LIFE: Argument = Argument {
     name: "life",
     kind: ArgumentKind::Beside("HEX", "key"),
@@ -151,15 +156,9 @@ const LIFE: Argument = Argument {
 };
 
 const NODE_CLUSTER: Argument = Argument {
-    name: "cluster",
     kind: ArgumentKind::Called("NAME"),
     help: "The name of the cluster, which the key is bound to: a file that was made for another one isn't taken",
-};
-
-const FORMAT_CLUSTER: Argument = Argument {
-    name: "cluster",
-    kind: ArgumentKind::Called("NAME"),
-    help: "The name of the cluster that it is made for: a node of another one doesn't take it",
+    ..CLUSTER
 };
 
 const VERIFY: Argument = Argument {
@@ -233,7 +232,7 @@ const COMMANDS: [Described; 13] = [
     Described {
         name: "sim",
         about: "Reads a schedule, runs it on a simulated cluster, and prints what each act did",
-        more: "The first line is cluster NODES SLOTS, each other one an act, such as check 0, deliver 3, cut 0 1 or crash 2 (docs/SIMULATION.md). After the last act each node is printed.\n\nExit status: 0 the acts were done, or refused; 1 a line can't be read, reading or writing failed, or there was no memory; 2 the command line can't be read, or asks for help.\n\nExample: invite sim < schedules/partition_heals.txt",
+        more: "The first line is cluster NODES SLOTS, each other one an act, such as check 0, deliver 3, cut 0 1 or crash 2 (docs/SIMULATION.md). After the last act each node is printed.\n\nExit status: 0 the acts were done, or refused; 1 a line can't be read, reading or writing failed, or there was no memory; 2 the command line can't be read, or asks for help.\n\nExample: printf 'cluster 2 8\\ncheck 0\\ndeliver 0\\n' | invite sim",
         arguments: &[NAMES, TABLES],
     },
     Described {
@@ -297,13 +296,13 @@ const COMMANDS: [Described; 13] = [
     Described {
         name: "record",
         about: "Reads a schedule, runs it on a simulated cluster, and prints its trace",
-        more: "The trace is what trace reads: the nodes' histories as JSON, in one line, with the order in which their entries came (docs/SIMULATION.md).\n\nExit status: 0 the trace was printed; 1 a line can't be read, reading or writing failed, or there was no memory; 2 the command line can't be read, or asks for help.\n\nExample: invite record < schedules/partition_heals.txt",
+        more: "The trace is what trace reads: the nodes' histories as JSON, in one line, with the order in which their entries came (docs/SIMULATION.md).\n\nExit status: 0 the trace was printed; 1 a line can't be read, reading or writing failed, or there was no memory; 2 the command line can't be read, or asks for help.\n\nExample: printf 'cluster 2 8\\ncheck 0\\ndeliver 0\\n' | invite record",
         arguments: &[],
     },
     Described {
         name: "threads",
         about: "Reads plans, runs them on nodes in threads, and prints the trace of that run",
-        more: "The first line is cluster NODES SLOTS, the second links CAPACITY, each other one a turn of a worker, such as 0 clock check, 1 intake 0 or 0 operator crash (docs/SIMULATION.md). The trace is what trace reads: the nodes and their histories, in one line.\n\nExit status: 0 the trace was printed; 1 a line can't be read, or the run is unfinished, reading or writing failed, or there was no memory; 2 the command line can't be read, or asks for help.\n\nExample: invite threads < plans/question.txt",
+        more: "The first line is cluster NODES SLOTS, the second links CAPACITY, each other one a turn of a worker, such as 0 clock check, 1 intake 0 or 0 operator crash (docs/SIMULATION.md). The trace is what trace reads: the nodes and their histories, in one line.\n\nExit status: 0 the trace was printed; 1 a line can't be read, or the run is unfinished, reading or writing failed, or there was no memory; 2 the command line can't be read, or asks for help.\n\nExample: printf 'cluster 2 8\\nlinks 8\\n0 clock check\\n1 intake 0\\n' | invite threads",
         arguments: &[ORDER],
     },
 ];

@@ -1,7 +1,7 @@
 ghost use Rattle.std.specs.Prelude.{◌≡◌, ◌≢◌, ◌↔◌, ◌⊎◌, ℕ, IfSome, IsTrue, Some, get_or, option_map, string_bytes};
 ghost use Rattle.file_disk.specs.Label.{mark_in, slots_in};
 ghost use Rattle.file_disk.specs.declared.stride.Stride.TheVariants.{Packed, Spaced};
-ghost use Rattle.command_line.specs.Label.{IsByLabel, IsOfVersion, are_one, is_marked, is_own, is_own_marked, is_spelled, judged, label_of, mark_of};
+ghost use Rattle.command_line.specs.Label.{IsByLabel, IsOfVersion, are_one, is_marked, is_own, is_spelled, judged, label_of, mark_of};
 ghost use Rattle.command_line.specs.LeaseLabel.{lease_label};
 
 use crate::lease_label::machine_of;
@@ -93,32 +93,18 @@ pub(crate) fn is_own(
     mark: [u8; MARK],
 ) -> bool
     // Promise: A file is a node's where its label says so: one of version 2 says, too, how many slots the file has, and its cluster.
-    // Also: is_own_marked, judged, mark_of.
+    // Also: judged, mark_of.
     // Refuses: file_of_another_node_served, another_clusters_file_taken, shortened_file_taken.
     ensures { result ≡ is_own label id nodes stride sectors mark }
 {
     let Some(label) = label else {
         return false;
     };
-    label == spelled(id.number(), nodes, stride)
-        || is_own_marked(label, id.number(), nodes, stride, sectors, mark)
-}
-
-/// The same of a label of version 2.
-fn is_own_marked(
-    label: [u8; LABEL],
-    id: u8,
-    nodes: u8,
-    stride: Stride,
-    sectors: u64,
-    mark: [u8; MARK],
-) -> bool
-    ensures { result ≡ is_own_marked label id nodes stride sectors mark }
-{
-    let (its, slots) = (mark_in(label), slots_in(label));
-    label == marked_label(id, nodes, stride, its, slots)
-        && sectors == 8 + 4 * u64::from(slots)
-        && are_one(its, mark)
+    let (id, its, slots) = (id.number(), mark_in(label), slots_in(label));
+    label == spelled(id, nodes, stride)
+        || label == marked_label(id, nodes, stride, its, slots)
+            && sectors == 8 + 4 * u64::from(slots)
+            && are_one(its, mark)
 }
 
 /// Whether this is a label of version 1 of that node, however far apart the sectors lie.

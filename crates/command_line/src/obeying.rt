@@ -461,14 +461,9 @@ fn look<W: Write, E: Write>(
     };
     let ending = store_console::inspect(alloc, shown, &mut file, output);
     let why = Vec::new(alloc);
-    tell_of_file(
-        rt,
-        path,
-        Ended { ending, why },
-        file.fault(),
-        output.fault(),
-        errors,
-    )
+    let ended = Ended { ending, why };
+    tell_owner(rt, path, &ended, errors)?;
+    tell(ended, file.fault(), output.fault(), errors)
 }
 
 /// Reads a file and prints the jobs that can still be read, and answers the exit status. What can't be is said to `errors`.
@@ -486,20 +481,17 @@ fn salvage<W: Write, E: Write>(
         Err(status) => return explain_status(path, status, errors),
     };
     let ended = store_console::salvage(alloc, &mut file, output);
-    tell_of_file(rt, path, ended, file.fault(), output.fault(), errors)
+    tell_owner(rt, path, &ended, errors)?;
+    tell(ended, file.fault(), output.fault(), errors)
 }
 
-/// As `tell`, of a command that read the file of this path: where all that is wrong was printed, `errors` is told whose it is.
-fn tell_of_file<E: Write>(
+/// Where all that is wrong with a file was printed, `errors` is told whose it is.
+fn tell_owner<E: Write>(
     rt: &impl Files<File = File>,
     path: &str,
-    ended: Ended,
-    unread: Option<io::Error>,
-    unwritten: Option<io::Error>,
+    ended: &Ended,
     errors: &mut E,
-) -> io::Result<u8>
-    ensures { IfOk result (λ code. code ≡ status_of ended.ending) }
-{
+) -> io::Result<()> {
     if ended.ending == ExitKind::Refused && ended.why.is_empty() {
         if let Some(owner) = owner_at(rt, path) {
             writeln!(
@@ -508,7 +500,7 @@ fn tell_of_file<E: Write>(
             )?;
         }
     }
-    tell(ended, unread, unwritten, errors)
+    Ok(())
 }
 
 /// Where a command of a node didn't end well, says why to `errors`, in one line. Answers the exit status.

@@ -36,28 +36,15 @@ pub(crate) fn ready_file(
 {
     let mut disk = disk;
     match has_unsealed_number(&mut disk) {
-        Ok(true) => unheard(alloc, id, nodes, disk, setting),
-        Ok(false) => Ok(Readied {
-            disk,
-            skipped: None,
-        }),
-        Err(_) => Err(stopped(disk.why())),
+        Ok(true) => {}
+        Ok(false) => {
+            return Ok(Readied {
+                disk,
+                skipped: None,
+            });
+        }
+        Err(_) => return Err(stopped(disk.why())),
     }
-}
-
-/// The node recovers, and is heard of nowhere.
-#[tactic(auto, using(crate::proofs::Stopped::stopped_unserved))]
-fn unheard(
-    alloc: Global,
-    id: NodeId,
-    nodes: u8,
-    disk: FileDisk,
-    setting: TimerSettings,
-) -> Result<Readied, Status>
-    requires within { id < nodes }
-    requires most { nodes ≤ NODES }
-    ensures { IfErr result IsUnserved }
-{
     let mut session = Session::new(alloc, id, nodes, disk, setting, u64::from(id.number()));
     if let Err(error) = session.feed(b"recover\n") {
         return Err(Status::Failed(io::Error::from(error)));

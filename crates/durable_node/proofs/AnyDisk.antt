@@ -5,7 +5,6 @@ use Rattle.node_core.specs.declared.wanted.Wanted.{Wanted}
 use Rattle.node_core.specs.Core.{Core}
 use Rattle.node_store.specs.declared.fault.StoreFault.{StoreFault}
 use Rattle.node_store.specs.Store.{StoreState, durable_of}
-use Rattle.node_store.specs.Mounting.{IsMountFault, IsReadFault}
 use Rattle.node_store.specs.declared.fault.StoreFault.TheVariants as by_store
 use Rattle.histories.specs.declared.event_outcome.EventOutcome.{EventOutcome}
 use Rattle.histories.specs.declared.event_outcome.EventOutcome.TheVariants as event_outcome
@@ -16,21 +15,14 @@ use Rattle.durable_node.specs.declared.node_disk.NodeDisk.TheVariants.{Bare, Mou
 use Rattle.durable_node.specs.Node.{node_with}
 use Rattle.durable_node.specs.Remounting.{HasRisen, IsUnmounted, Remounted}
 
-read_answered : (fault : StoreFault) → IsReadFault fault → IsUnmounted (fault_for fault)
-read_answered by_store.Device is = tt
-read_answered by_store.NotFormatted is = tt
-read_answered (by_store.Damaged sector) is = tt
-read_answered fault is = absurd is
-
-mount_answered : (fault : StoreFault) → IsMountFault fault → IsUnmounted (fault_for fault)
-mount_answered fault (inl small) = rw small tt
-mount_answered fault (inr (inl memory)) = rw memory refl
-mount_answered fault (inr (inr is)) = read_answered fault is
+mount_answered : (fault : StoreFault) → IsUnmounted (fault_for fault)
+mount_answered by_store.NoMemory = refl
+mount_answered fault = tt
 
 pub unmounted_at : {Disk : Type 0} (id nodes : ℕ) (core : Core) (disk : NodeDisk Disk) (back : Disk) (doubt : Option (Wanted × ℕ))
-    (before : Option ℕ) (fault : StoreFault) → IsMountFault fault
+    (before : Option ℕ) (fault : StoreFault)
     → Remounted (node_with id nodes core disk doubt before) (node_with id nodes core (Bare back) doubt None) (Err (fault_for fault)) None
-unmounted_at id nodes core disk back doubt before fault of_mount = (mount_answered fault of_mount, refl, refl)
+unmounted_at id nodes core disk back doubt before fault = (mount_answered fault, refl, refl)
 
 -- what a raise leaves, by what came of it
 module _ {Disk : Type 0} (id nodes : ℕ) (core core' : Core) (disk : NodeDisk Disk) (mid end : StoreState Disk)

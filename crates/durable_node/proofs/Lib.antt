@@ -13,4 +13,5 @@ mod Opens
 mod AnyDisk
 mod Readings
 mod Compactions
+mod Moves
 pub mod PublicLaws

@@ -1,5 +1,5 @@
 -- How a recovery that mounts its disk ends.
-use Rattle.std.proofs.Common.{◌≡◌, ◌≢◌, ◌+◌, ◌≤◌, ◌⊎◌, inl, inr, ⊎_elim, ℕ, Bool, [], Option, Some, None, option_map, Result, Ok, Err, sym}
+use Rattle.std.proofs.Common.{◌≡◌, ◌≢◌, ◌+◌, ◌≤◌, ◌⊎◌, inr, ⊎_elim, ℕ, Bool, [], Option, Some, None, option_map, Result, Ok, Err, sym}
 use Rattle.std.proofs.Common.{◌∙◌, ap, subst, refl, IsTrue, IsOk, IfOk, IfErr}
 use Rattle.sector_disk.specs.Disk.{Image, DiskState, Counts, IsImage, nothing}
 use Rattle.sector_disk.specs.Run.{Run, Each}
@@ -11,7 +11,6 @@ use Rattle.node_core.specs.declared.event.Event.TheVariants.{Recover}
 use Rattle.node_core.specs.Core.{Core}
 use Rattle.node_core.specs.Start.{down}
 use Rattle.node_store.specs.declared.fault.StoreFault.{StoreFault}
-use Rattle.node_store.specs.Mounting.{IsMountFault, IsReadFault}
 use Rattle.node_store.specs.Store.{StoreState, durable_of, slots_for, stands_for, AllStandFor}
 use Rattle.node_store.specs.declared.fault.StoreFault.TheVariants as by_store
 use Rattle.histories.specs.NodeState.{NodeState, settled}
@@ -32,7 +31,6 @@ use Rattle.durable_node.specs.declared.node_disk.NodeDisk.TheVariants.{Bare, Mou
 use Rattle.durable_node.specs.Node.{Node, shown_doubt, disk_in, mounted_in, node_with, IsLeft, Stands}
 use Rattle.durable_node.specs.Stepping.{Does, IsSilent, IsUnmountable, Steps, Stuck}
 use Rattle.durable_node.specs.Remounting.{HasRisen, IsMountedBy, IsKeptIn, raise_by}
-use Rattle.durable_node.specs.declared.fault.NodeFault.TheVariants as node
 use Rattle.durable_node.proofs.Mounts.{left_quiet, settles, left_cut, left_done}
 use Rattle.durable_node.proofs.Settling.{settled_so}
 use Rattle.durable_node.proofs.Parts.{does, down_phase, is_some, stands_at, stands_down}
@@ -49,12 +47,11 @@ module _ {Disk : Type 0} (disks : Disk → DiskState) (id nodes : ℕ) (core : C
   -- the device failed in the mounting
   pub mount_fails : (failed done : Type 0) → Counts (disks was) (disks back) failed done
       → (IsTrue (disks was).honest → Run nothing (disks was) (disks back))
-      → (shown_fault : NodeFault) (result : Result StepReport NodeFault)
-      → IfOk result (λ came. (came.event_outcome ≡ event_outcome.MountFailed) × (shown_fault ≡ node.Device)) → IfOk result IsSilent
+      → (result : Result StepReport NodeFault) → IfOk result (λ came. came.event_outcome ≡ event_outcome.MountFailed) → IfOk result IsSilent
       → IfOk result (λ came. came.tried ≡ None)
       → IfOk result (Steps disks old_node new_node Recover)
-  mount_fails failed done counts run shown_fault (Err fault) end silent tried = tt
-  mount_fails failed done counts run shown_fault (Ok came) end silent tried = λ now s at stands mounting. rw end.0 (
+  mount_fails failed done counts run (Err fault) end silent tried = tt
+  mount_fails failed done counts run (Ok came) end silent tried = λ now s at stands mounting. rw end (
     does refl (down_phase id s.state (sym stands.state ∙ fallen)) tt (tried_none Recover came.tried tried) silent.1 silent.0 refl,
     stands_down disks new_node s back id fallen refl (left_quiet (disks was) (disks back) s counts.sectors counts.honest run
         (stands.disk was there)) stands.state stands.doubt,
@@ -76,28 +73,21 @@ module _ {Disk : Type 0} (disks : Disk → DiskState) (id nodes : ℕ) (core : C
     same = rw fallen;
   }
 
-  by_read : (fault : StoreFault) → IsReadFault fault → Mounts fault → fault_for fault ≢ node.Device
+  by_fault : (fault : StoreFault) → Mounts fault → (fault ≡ by_store.NoMemory → back ≡ was) → fault ≢ by_store.Device
       → Stuck disks old_node new_node Recover (fault_for fault)
-  by_read by_store.Device is mounts other = absurd (other refl)
-  by_read by_store.NotFormatted is mounts other = unmountable by_store.NotFormatted mounts (λ e. cc) (λ e. cc)
-  by_read (by_store.Damaged sector) is mounts other = unmountable (by_store.Damaged sector) mounts (λ e. cc) (λ e. cc)
-  by_read fault is mounts other = absurd is
-
-  by_fault : (fault : StoreFault) → IsMountFault fault → Mounts fault → (fault ≡ by_store.NoMemory → back ≡ was)
-      → fault_for fault ≢ node.Device → Stuck disks old_node new_node Recover (fault_for fault)
-  by_fault fault (inl small) mounts untouched other = rw small (unmountable fault mounts (λ e. cc) (λ e. cc))
-  by_fault fault (inr (inl memory)) mounts untouched other = rw memory (refl, rw (fallen, there, untouched memory), rw fallen refl)
-  by_fault fault (inr (inr is)) mounts untouched other = by_read fault is mounts other
+  by_fault by_store.Device mounts untouched other = absurd (other refl)
+  by_fault by_store.NoMemory mounts untouched other = (refl, rw (fallen, there, untouched refl), rw fallen refl)
+  by_fault by_store.NotFormatted mounts untouched other = unmountable by_store.NotFormatted mounts (λ e. cc) (λ e. cc)
+  by_fault (by_store.Damaged sector) mounts untouched other = unmountable (by_store.Damaged sector) mounts (λ e. cc) (λ e. cc)
+  by_fault by_store.TooSmall mounts untouched other = unmountable by_store.TooSmall mounts (λ e. cc) (λ e. cc)
 
   -- the disk isn't mounted
-  pub stuck : (fault : StoreFault) → IsMountFault fault → Mounts fault
+  pub stuck : (fault : StoreFault) → Mounts fault
       → ((fault ≡ by_store.TooSmall) ⊎ (fault ≡ by_store.NoMemory) → back ≡ was)
-      → (shown_fault : NodeFault) → shown_fault ≡ fault_for fault → (result : Result StepReport NodeFault)
-      → IfErr result (λ why. (why ≡ shown_fault) × (shown_fault ≢ node.Device))
+      → (result : Result StepReport NodeFault) → IfErr result (λ why. (why ≡ fault_for fault) × (fault ≢ by_store.Device))
       → IfErr result (Stuck disks old_node new_node Recover)
-  stuck fault is mounts untouched shown_fault of_fault (Ok came) err = tt
-  stuck fault is mounts untouched shown_fault of_fault (Err why) err =
-      rw (err.0, of_fault) (by_fault fault is mounts (λ e. untouched (inr e)) (rw of_fault at err.1))
+  stuck fault mounts untouched (Ok came) err = tt
+  stuck fault mounts untouched (Err why) err = rw err.0 (by_fault fault mounts (λ e. untouched (inr e)) err.1)
 
 -- what was mounted is still shown after the raise
 mounted_as : {Disk : Type 0} (d : Durable) (count : ℕ) (store : StoreState Disk) → durable_of store ≡ record d { counter = count }

@@ -7,13 +7,12 @@ use Rattle.job_model.specs.declared.node_command.NodeCommand.{NodeCommand as Com
 use Rattle.job_model.specs.Durable.{Durable}
 use Rattle.job_model.specs.Fold.{after_wanted}
 use Rattle.job_journal.specs.Journal.{IsSound, RisesByOne}
-use Rattle.node_core.specs.declared.fault.Refusal.{Refusal}
 use Rattle.node_core.specs.NodeStep.{CantTake, IsSpent, IsFull}
 use Rattle.node_store.specs.Store.{StoreState, durable_of, stands_for, AllStandFor, InStore}
 use Rattle.histories.specs.Possible.{FitsSlots}
+use Rattle.histories.specs.declared.event_outcome.EventOutcome.{EventOutcome}
+use Rattle.histories.specs.declared.event_outcome.EventOutcome.TheVariants.{Refused}
 use Rattle.durable_node.specs.Area.{AllEndIn, area_of, area_after, records_at}
-use Rattle.durable_node.specs.declared.fault.NodeFault.{NodeFault}
-use Rattle.durable_node.specs.Faults.{shown}
 
 -- A store that a call may be made of: no device failed under it, and its disk is sound.
 pub record IsReady {Disk : Type 0} (disks : Disk → DiskState) (store : StoreState Disk) : Type 0 where
@@ -64,9 +63,7 @@ pub record IsCut {Disk : Type 0} (old new : StoreState Disk) (wants : Option Com
   pub wanted : IsSome wants
   pub kept : durable_of new ≡ durable_of old
 
--- the store can't take the command, and this is how it is answered
-pub record CantCarry (slots : ℕ) (d : Durable) (wants : Option Command) (fault : NodeFault) : Type 0 where
-  pub why : Refusal
-  pub is_shown : fault ≡ shown why
-  pub cant : CantTake d wants why
-  pub of_slots : FitsSlots slots d wants why
+-- the store can't take the command, and this came of the event
+abbrev pub CantCarry : ℕ → Durable → Option Command → EventOutcome → Type 0
+CantCarry slots d wants (Refused why) = CantTake d wants why × FitsSlots slots d wants why
+CantCarry slots d wants came = ⊥

@@ -3,6 +3,8 @@ use Rattle.std.specs.Prelude.{Option, Some, None, Result, Ok, Err}
 use Rattle.node_core.specs.declared.fault.CoreFault.TheVariants as core
 use Rattle.node_core.specs.declared.fault.Refusal.{Refusal}
 use Rattle.node_core.specs.declared.fault.Refusal.TheVariants.{Core, Full, Exhausted, AreaExhausted}
+use Rattle.job_journal.specs.declared.fault.JournalFault.{JournalFault}
+use Rattle.job_journal.specs.declared.fault.JournalFault.TheVariants as journal
 use Rattle.node_store.specs.declared.fault.StoreFault.{StoreFault}
 use Rattle.node_store.specs.declared.fault.StoreFault.TheVariants as store
 use Rattle.durable_node.specs.declared.fault.NodeFault.{NodeFault}
@@ -19,17 +21,20 @@ shown Full = node.Full
 shown Exhausted = node.Exhausted
 shown AreaExhausted = node.Exhausted
 
--- a fault of the store, as it is answered: a node that is up has no broken store, and asks for no job that isn't pending
+-- why a disk isn't mounted, as it is answered
 abbrev pub fault_for : StoreFault → NodeFault
 fault_for store.Device = node.Device
-fault_for store.Broken = node.Device
-fault_for store.Exhausted = node.Exhausted
 fault_for store.NotFormatted = node.NotFormatted
 fault_for (store.Damaged sector) = node.Damaged sector
-fault_for store.Full = node.Full
-fault_for store.NoSuchJob = node.Core core.UnknownJob
 fault_for store.NoMemory = node.Core core.NoMemory
 fault_for store.TooSmall = node.TooSmall
+
+-- what came of an event whose command the store didn't take: a node that is up has no broken store, and asks for no job that isn't pending
+abbrev pub outcome_for : JournalFault → EventOutcome
+outcome_for journal.Full = Refused Full
+outcome_for journal.Exhausted = Refused Exhausted
+outcome_for journal.AreaExhausted = Refused AreaExhausted
+outcome_for fault = Faulted
 
 -- why an event wasn't done, by what came of it: it was refused, or the device failed
 abbrev pub fault_of : EventOutcome → Option NodeFault

@@ -11,6 +11,8 @@ use Rattle.node_core.specs.declared.fault.Refusal.{Refusal}
 use Rattle.node_core.specs.declared.fault.Refusal.TheVariants.{Core, Full, Exhausted, AreaExhausted}
 use Rattle.node_core.specs.Refusals.{refusal_of}
 use Rattle.node_core.specs.Wants.{wants_of}
+use Rattle.histories.specs.declared.event_outcome.EventOutcome.{EventOutcome}
+use Rattle.histories.specs.declared.event_outcome.EventOutcome.TheVariants.{Refused, Faulted}
 use Rattle.durable_node.specs.declared.fault.NodeFault.{NodeFault}
 use Rattle.durable_node.specs.declared.fault.NodeFault.TheVariants as node
 use Rattle.durable_node.specs.declared.step_report.StepReport.{StepReport}
@@ -35,6 +37,11 @@ disk_refusal d area (Some (Put work)) =
     if nat_le (2 ^ 64 - 1) d.next then Some Exhausted
     else (if nat_lt area.slots (length d.pending + 3) then Some Full else area_refusal area)
 disk_refusal d area (Some (Done id)) = area_refusal area
+
+-- what came of an event by its command: it was refused for this reason, or else done or met by a device that failed
+abbrev pub CarriesAs : {A : Type 0} → Option Refusal → Result A EventOutcome → Type 0
+CarriesAs (Some why) result = result ≡ Err (Refused why)
+CarriesAs None result = IsOk result ⊎ IsErrOf result Faulted
 
 -- a call that was given a command answers why it was refused, or else does it or meets a device that fails
 abbrev pub AnswersTo : {A : Type 0} → Option Refusal → Result A NodeFault → Type 0

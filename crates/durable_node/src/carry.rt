@@ -6,31 +6,33 @@ ghost use Rattle.job_journal.specs.Journal.{IsSound};
 ghost use Rattle.node_core.specs.Planned.{lent_by};
 ghost use Rattle.node_store.specs.Calls.{Appends, Tries};
 ghost use Rattle.node_store.specs.Store.{append_refusal, durable_of};
-ghost use Rattle.durable_node.specs.Faults.{fault_for};
+ghost use Rattle.durable_node.specs.Faults.{outcome_for};
 ghost use Rattle.durable_node.specs.Carrying.{Carried, CantCarry, IsCut, IsReady, KeepsSound, Writes};
 ghost use Rattle.durable_node.specs.Node.{area_of};
-ghost use Rattle.durable_node.specs.Refusing.{AnswersTo, disk_refusal};
+ghost use Rattle.durable_node.specs.Refusing.{CarriesAs, disk_refusal};
 
-use crate::fault::{NodeFault, node_fault};
+use histories::{EventOutcome, Refusal};
+use job_journal::JournalFault;
 use job_model::Work;
 use node_core::WantedRef;
-use node_store::{NodeStore, StoreFault};
+use node_store::NodeStore;
 use sector_disk::SectorDisk;
 
-/// Carries out the command that a plan wants, and gives its answer. Most plans want none.
+/// Carries out the command that a plan wants, and gives its answer. Most plans want none. Where it isn't done, this is what came of
+/// the event: `Refused` where the disk can't take the command, and else `Faulted`.
 #[inline(always)]
 #[tactic(auto, using(crate::proofs::AreaLaws::put_area, crate::proofs::AreaLaws::done_area, crate::proofs::AreaLaws::raise_area))]
 pub(crate) fn carry<D: SectorDisk>(
     store: &mut NodeStore<D>,
     wants: &WantedRef<'_>,
-) -> Result<Option<u64>, NodeFault>
+) -> Result<Option<u64>, EventOutcome>
     requires ready { IsReady D.state store.old }
     requires pending { (id : ℕ) → lent_by wants.now ≡ Some (Done id) → is_pending (durable_of store.old).pending id ≡ true }
-    ensures answers { AnswersTo (disk_refusal (durable_of store.old) (area_of store.old) (lent_by wants.now)) result }
+    ensures answers { CarriesAs (disk_refusal (durable_of store.old) (area_of store.old) (lent_by wants.now)) result }
     ensures ok { IfOk result (Carried store.old store.new (lent_by wants.now)) }
-    ensures failed { IsErrOf result NodeFault.Device → IsCut store.old store.new (lent_by wants.now) }
-    ensures refused { IfErr result (λ fault. fault ≢ NodeFault.Device → (store.new ≡ store.old) × CantCarry store.old.journal.slots (durable_of store.old) (lent_by wants.now) fault) }
-    ensures store { KeepsSound D.state store.old store.new (IsErrOf result NodeFault.Device) }
+    ensures failed { IsErrOf result EventOutcome.Faulted → IsCut store.old store.new (lent_by wants.now) }
+    ensures refused { IfErr result (λ came. came ≢ EventOutcome.Faulted → (store.new ≡ store.old) × CantCarry store.old.journal.slots (durable_of store.old) (lent_by wants.now) came) }
+    ensures store { KeepsSound D.state store.old store.new (IsErrOf result EventOutcome.Faulted) }
     ensures disk { Writes D.state store.old store.new (lent_by wants.now) (IsOk result) }
 {
     match wants {
@@ -43,7 +45,7 @@ pub(crate) fn carry<D: SectorDisk>(
 
 /// Makes a job pending. It stands apart, since the job that it hands on takes over 400 bytes.
 #[inline(never)]
-fn put<D: SectorDisk>(store: &mut NodeStore<D>, work: &Work) -> Result<u64, StoreFault>
+fn put<D: SectorDisk>(store: &mut NodeStore<D>, work: &Work) -> Result<u64, JournalFault>
     requires sound { IsSound store.old.journal.slots (D.state store.old.disk) }
     ensures fits { (durable_of store.old).next < 2 ^ 64 }
     ensures tries { Tries D.state (append_refusal store.old (command.Put work.now)) store.old store.new result }
@@ -53,13 +55,16 @@ fn put<D: SectorDisk>(store: &mut NodeStore<D>, work: &Work) -> Result<u64, Stor
     store.put(*work)
 }
 
-/// What the store answers, as the node answers it.
-fn node_answer(answer: Result<u64, StoreFault>) -> Result<Option<u64>, NodeFault>
+/// What the store answers, as what came of the event where it isn't done.
+fn node_answer(answer: Result<u64, JournalFault>) -> Result<Option<u64>, EventOutcome>
     ensures ok { IfOk answer (λ number. result ≡ Ok (Some number)) }
-    ensures err { IfErr answer (λ fault. result ≡ Err (fault_for fault)) }
+    ensures err { IfErr answer (λ fault. result ≡ Err (outcome_for fault)) }
 {
     match answer {
         Ok(number) => Ok(Some(number)),
-        Err(fault) => Err(node_fault(fault)),
+        Err(JournalFault::Full) => Err(EventOutcome::Refused(Refusal::Full)),
+        Err(JournalFault::Exhausted) => Err(EventOutcome::Refused(Refusal::Exhausted)),
+        Err(JournalFault::AreaExhausted) => Err(EventOutcome::Refused(Refusal::AreaExhausted)),
+        Err(_) => Err(EventOutcome::Faulted),
     }
 }

@@ -12,9 +12,10 @@ ghost use Rattle.durable_node.specs.Refusing.{AnswersTo, compaction_refusal};
 ghost use Rattle.durable_node.specs.Stepping.{CountsOf};
 
 use crate::advance::is_down;
-use crate::fault::{NodeFault, node_fault};
+use crate::fault::NodeFault;
 use crate::node_disk::NodeDisk;
 use crate::setting::NodeSetting;
+use job_journal::JournalFault;
 use node_core::{CoreFault, NodeCore, Wanted};
 use node_store::NodeStore;
 use sector_disk::SectorDisk;
@@ -65,12 +66,10 @@ fn rewrite<D: SectorDisk>(
 {
     match store.compact() {
         Ok(()) => Ok(()),
-        Err(fault) => {
-            let fault = node_fault(fault);
-            if fault.is_device() {
-                *core = NodeCore::down(setting.alloc, setting.id, setting.nodes);
-            }
-            Err(fault)
+        Err(JournalFault::Device) => {
+            *core = NodeCore::down(setting.alloc, setting.id, setting.nodes);
+            Err(NodeFault::Device)
         }
+        Err(_) => Err(NodeFault::Exhausted),
     }
 }

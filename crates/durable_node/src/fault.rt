@@ -1,9 +1,5 @@
 // What a call of a node is refused with.
-ghost use Rattle.std.specs.Prelude.{◌≡◌, ◌↔◌, IsTrue};
-ghost use Rattle.durable_node.specs.Faults.{fault_for};
-
 use node_core::CoreFault;
-use node_store::StoreFault;
 use thiserror::Error;
 
 #[derive(Clone, Copy, Debug, PartialEq, Eq, Error)]
@@ -31,29 +27,4 @@ pub enum NodeFault {
     /// The disk has too few sectors.
     #[error("the disk has too few sectors")]
     TooSmall,
-}
-
-/// A fault of the store, as a node answers it.
-pub(crate) fn node_fault(fault: StoreFault) -> NodeFault
-    ensures { result ≡ fault_for fault }
-{
-    match fault {
-        StoreFault::Device | StoreFault::Broken => NodeFault::Device,
-        StoreFault::Exhausted => NodeFault::Exhausted,
-        StoreFault::NotFormatted => NodeFault::NotFormatted,
-        StoreFault::Damaged(sector) => NodeFault::Damaged(sector),
-        StoreFault::Full => NodeFault::Full,
-        StoreFault::NoSuchJob => NodeFault::Core(CoreFault::UnknownJob),
-        StoreFault::NoMemory => NodeFault::Core(CoreFault::NoMemory),
-        StoreFault::TooSmall => NodeFault::TooSmall,
-    }
-}
-
-impl NodeFault {
-    /// Whether the device failed, so that the node is Down.
-    pub fn is_device(&self) -> bool
-        ensures { IsTrue result ↔ (self.now ≡ NodeFault.Device) }
-    {
-        matches!(self, NodeFault::Device)
-    }
 }

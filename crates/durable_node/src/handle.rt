@@ -1,13 +1,12 @@
-ghost use Rattle.std.specs.Prelude.{◌≡◌, ◌↔◌, ℕ, IsTrue, IsOk, IfOk, IsErrOf, Some, []};
+ghost use Rattle.std.specs.Prelude.{◌≡◌, IsOk, IfOk, IsErrOf, Some, []};
 ghost use Rattle.node_core.specs.Core.{IsPlanned};
 ghost use Rattle.node_core.specs.Most.{most_of};
-ghost use Rattle.node_core.specs.NodeStep.{IsSpent};
 ghost use Rattle.node_core.specs.Planned.{lent_by};
 ghost use Rattle.node_core.specs.Refusals.{refusal_of};
 ghost use Rattle.node_core.specs.Wants.{wants_of};
 ghost use Rattle.node_store.specs.Store.{durable_of};
 ghost use Rattle.durable_node.specs.Area.{LeavesArea};
-ghost use Rattle.durable_node.specs.Carrying.{CantCarry, KeepsSound, Writes};
+ghost use Rattle.durable_node.specs.Carrying.{KeepsSound, Writes};
 ghost use Rattle.durable_node.specs.Faults.{answered};
 ghost use Rattle.durable_node.specs.Node.{IsCoreOf, IsOver, area_of, shown_doubt};
 ghost use Rattle.durable_node.specs.Refusing.{AnswersEvent, disk_refusal};
@@ -61,15 +60,14 @@ pub(crate) fn handle<D: SectorDisk>(
     let tried = attempt_in(&wants);
     let answer = match carry(store, &wants) {
         Ok(answer) => answer,
-        Err(fault) => {
-            if !fault.is_device() {
-                let event_outcome = EventOutcome::Refused(refusal(store, &wants, fault));
-                return Ok(StepReport::silent(setting.alloc, event_outcome, None));
+        Err(event_outcome) => match event_outcome {
+            EventOutcome::Faulted => {
+                put_in_doubt(store, &wants, doubt);
+                *core = NodeCore::down(setting.alloc, setting.id, setting.nodes);
+                return Ok(StepReport::silent(setting.alloc, event_outcome, tried));
             }
-            put_in_doubt(store, &wants, doubt);
-            *core = NodeCore::down(setting.alloc, setting.id, setting.nodes);
-            return Ok(StepReport::silent(setting.alloc, EventOutcome::Faulted, tried));
-        }
+            _ => return Ok(StepReport::silent(setting.alloc, event_outcome, None)),
+        },
     };
     let sent = core.commit_step(plan, answer.unwrap_or(0));
     Ok(StepReport {
@@ -110,28 +108,6 @@ fn planned_delivery(
     ensures { IsPlanned core.old core.new table.now.pending (Event.Deliver message.now) result }
 {
     core.plan_delivery(message, table, room)
-}
-
-/// Why the disk can't take a command, by how it is answered.
-fn refusal<D: SectorDisk>(store: &NodeStore<D>, wants: &WantedRef<'_>, fault: NodeFault) -> Refusal
-    ensures { (slots : ℕ) (cant : CantCarry slots (durable_of store.now) (lent_by wants.now) fault) → result ≡ cant.why }
-{
-    match fault {
-        NodeFault::Full => Refusal::Full,
-        _ if is_spent(store, wants) => Refusal::Exhausted,
-        _ => Refusal::AreaExhausted,
-    }
-}
-
-/// Whether the numbers that a command takes are used up.
-fn is_spent<D: SectorDisk>(store: &NodeStore<D>, wants: &WantedRef<'_>) -> bool
-    ensures { IsTrue result ↔ IsSpent (durable_of store.now) (lent_by wants.now) }
-{
-    match wants {
-        WantedRef::Raise => store.counter() == u64::MAX,
-        WantedRef::Put(_) => store.table().next() == u64::MAX,
-        WantedRef::None | WantedRef::Done(_) => false,
-    }
 }
 
 /// Notes what is in doubt if the device fails in the command: the command with the count, or the next id, from before it. It

@@ -28,12 +28,7 @@ pub(crate) fn ignore<D: SectorDisk>(
         Ok(()) => EventOutcome::Done,
         Err(fault) => EventOutcome::Refused(Refusal::Core(fault)),
     };
-    StepReport {
-        event_outcome,
-        tried: None,
-        answer: None,
-        sent: Vec::new(alloc),
-    }
+    StepReport::silent(alloc, event_outcome, None)
 }
 
 /// Plans the event, over the jobs of the disk if it is mounted, and drops the plan.

@@ -7,8 +7,9 @@
 //! ```
 //! let mut node = DurableNode::down(alloc, id, nodes, disk);
 //! let came = node.recover()?;                                     // mounts the disk; alone in a new group now, unless came.fault() says why not
-//! let seen = node.seen()?;
-//! let came = node.step(&Event::Timer(Timer::Check))?;             // plans the event, writes and syncs its command, commits it
+//! let event = Event::Timer(Timer::Check);
+//! let seen = node.seen_before(&event)?;                           // the jobs in hand alone that the event may drop
+//! let came = node.step(&event)?;                                  // plans the event, writes and syncs its command, commits it
 //! send_all(&came.sent);                                           // only now are there messages
 //! let changes = node.changes_since(&seen)?;                       // what is told of its group anew, the jobs taken and those dropped
 //! node.reuse(came.sent);                                          // the next step's messages are written into the same memory
@@ -21,6 +22,7 @@ mod changes;
 mod compacting;
 mod fault;
 mod group_view;
+mod hand_move;
 mod handle;
 mod ignore;
 mod memory;

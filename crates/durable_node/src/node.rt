@@ -9,7 +9,8 @@ ghost use Rattle.node_core.specs.Wait.{IsMergeWait};
 ghost use Rattle.node_store.specs.Store.{slots_for};
 ghost use Rattle.durable_node.specs.Area.{Area};
 ghost use Rattle.durable_node.specs.Calls.{IsCall};
-ghost use Rattle.durable_node.specs.Changes.{AreChanges, seen_of};
+ghost use Rattle.durable_node.specs.Changes.{AreChangesSince, IsSeenBefore, seen_of};
+ghost use Rattle.durable_node.specs.declared.hand_move.HandMove.{HandMove};
 ghost use Rattle.durable_node.specs.Compacting.{Compacts, StaysKept, IsMovedNode, IsMovedInto, IsFallenNode};
 ghost use Rattle.durable_node.specs.Faults.{answered};
 ghost use Rattle.durable_node.specs.Reading.{ReadsDisk};
@@ -21,6 +22,7 @@ use crate::advance::{advance, is_down};
 use crate::changes::{Changes, Seen};
 use crate::compacting::compact;
 use crate::fault::NodeFault;
+use crate::hand_move::HandMove;
 use crate::node_disk::NodeDisk;
 use crate::setting::NodeSetting;
 use crate::step_report::StepReport;
@@ -137,20 +139,33 @@ impl<D: SectorDisk> DurableNode<D> {
         self.core.vector()
     }
 
-    /// Sees the node as it is now: [`DurableNode::changes_since`] says later what changed.
+    /// Sees the node as it is now: [`DurableNode::changes_since`] says later what changed, whatever happened meanwhile.
     pub fn seen(&self) -> Result<Seen, AllocError>
-        ensures { IfOk result (λ seen. seen ≡ seen_of self.now.state) }
+        ensures { IfOk result (λ seen. seen ≡ seen_of HandMove.Turns self.now.state) }
     {
-        Seen::of(self.setting.alloc, self.core.vector())
+        Seen::of(self.setting.alloc, self.core.vector(), HandMove::Turns)
+    }
+
+    /// Sees the node before one event. Where that drops no job, no job that is in hand is looked at, neither now nor when it is asked what
+    /// changed.
+    pub fn seen_before(&self, event: &Event) -> Result<Seen, AllocError>
+        // Promise: What an event is foreseen to do to the jobs in hand is what it does at any node, whatever comes of it: it leaves them, it adds
+        // others behind them, of which none was in hand where so foreseen, or it drops all of them, or it may do anything.
+        // Refuses: dropped_hand_foreseen_as_kept, failed_command_foreseen_as_kept.
+        ensures { IfOk result (IsSeenBefore event.now self.now.state) }
+    {
+        let hand_move = HandMove::of(event);
+        Seen::of(self.setting.alloc, self.core.vector(), hand_move)
     }
 
     /// What has changed at the node since it was seen: what is told of its group, the jobs that it took, and those that it dropped.
     pub fn changes_since(&self, seen: &Seen) -> Result<Changes<'_>, AllocError>
-        // Promise: What changed since a node was seen is the difference: its group, where another phase or, unless it is Down,
-        // another coordinator, number or members are told; the jobs in hand that weren't; and those that aren't any more.
+        // Promise: What changed since a node was seen is the difference, where its hand moved as was foreseen: its group, where another phase or,
+        // unless it is Down, another coordinator, number or members are told; the jobs in hand that weren't; and those that aren't any more.
         // Also: DurableNode::seen.
-        // Refuses: group_number_not_compared, takes_what_was_held, drops_what_is_held, hand_seen_without_ids, compared_with_itself.
-        ensures { IfOk result (AreChanges seen.now self.now.state) }
+        // Refuses: group_number_not_compared, takes_what_was_held, drops_what_is_held, hand_seen_without_ids, compared_with_itself,
+        // gained_jobs_counted_late, fallen_hand_told_as_kept.
+        ensures { IfOk result (AreChangesSince seen.now self.now.state) }
     {
         seen.changes(self.setting.alloc, self.core.vector())
     }

@@ -6,19 +6,19 @@ ghost use Rattle.node_store.specs.Store.{durable_of};
 ghost use Rattle.histories.specs.EventOutcomes.{attempt_of};
 ghost use Rattle.durable_node.specs.Calls.{IsCall};
 ghost use Rattle.durable_node.specs.Carrying.{KeepsSound, Writes};
-ghost use Rattle.durable_node.specs.Faults.{answered};
+ghost use Rattle.durable_node.specs.Faults.{answered, fault_for};
 ghost use Rattle.durable_node.specs.Node.{IsCoreOf, IsNode, IsOver, node_with};
 ghost use Rattle.durable_node.specs.Remounting.{HasRisen, IsKeptIn, raise_by};
 ghost use Rattle.durable_node.specs.Stepping.{IsSilent};
 
 use crate::carry::carry;
-use crate::fault::{NodeFault, node_fault};
+use crate::fault::NodeFault;
 use crate::node_disk::NodeDisk;
 use crate::setting::NodeSetting;
 use crate::step_report::StepReport;
 use histories::{CommandKind, EventOutcome};
-use node_core::{NodeCore, Wanted, WantedRef};
-use node_store::NodeStore;
+use node_core::{CoreFault, NodeCore, Wanted, WantedRef};
+use node_store::{NodeStore, StoreFault};
 use sector_disk::SectorDisk;
 use std::alloc::Global;
 
@@ -40,7 +40,7 @@ pub(crate) fn remount<D: SectorDisk + Drop>(
         Err(refused) => {
             *disk = NodeDisk::Bare(refused.disk);
             *mounted = None;
-            return unmounted(setting.alloc, node_fault(refused.fault));
+            return unmounted(setting.alloc, refused.fault);
         }
     };
     *mounted = Some(store.counter());
@@ -51,22 +51,20 @@ pub(crate) fn remount<D: SectorDisk + Drop>(
 }
 
 /// What came of a disk that can't be mounted.
-fn unmounted(alloc: Global, fault: NodeFault) -> Result<StepReport, NodeFault>
-    ensures answered { answered result ≡ Err fault }
-    ensures stuck { IfErr result (λ why. (why ≡ fault) × (fault ≢ NodeFault.Device)) }
-    ensures what { IfOk result (λ came. (came.event_outcome ≡ EventOutcome.MountFailed) × (fault ≡ NodeFault.Device)) }
+fn unmounted(alloc: Global, fault: StoreFault) -> Result<StepReport, NodeFault>
+    ensures answered { answered result ≡ Err (fault_for fault) }
+    ensures stuck { IfErr result (λ why. (why ≡ fault_for fault) × (fault ≢ StoreFault.Device)) }
+    ensures what { IfOk result (λ came. came.event_outcome ≡ EventOutcome.MountFailed) }
     ensures quiet { IfOk result IsSilent }
     ensures tried { IfOk result (λ came. came.tried ≡ None) }
 {
-    if !fault.is_device() {
-        return Err(fault);
+    match fault {
+        StoreFault::Device => Ok(StepReport::silent(alloc, EventOutcome::MountFailed, None)),
+        StoreFault::NotFormatted => Err(NodeFault::NotFormatted),
+        StoreFault::Damaged(sector) => Err(NodeFault::Damaged(sector)),
+        StoreFault::NoMemory => Err(NodeFault::Core(CoreFault::NoMemory)),
+        StoreFault::TooSmall => Err(NodeFault::TooSmall),
     }
-    Ok(StepReport {
-        event_outcome: EventOutcome::MountFailed,
-        tried: None,
-        answer: None,
-        sent: Vec::new(alloc),
-    })
 }
 
 /// Whether the command in doubt is in what was mounted: the count or the next id went on, or the job is gone.
@@ -108,20 +106,11 @@ fn rise<D: SectorDisk>(
                 sent: Vec::new(setting.alloc),
             }
         }
-        Err(NodeFault::Device) => {
+        Err(EventOutcome::Faulted) => {
             *doubt = Some((Wanted::Raise, count));
-            StepReport {
-                event_outcome: EventOutcome::RaiseFailed(kept),
-                tried: Some(CommandKind::Raise),
-                answer: None,
-                sent: Vec::new(setting.alloc),
-            }
+            let event_outcome = EventOutcome::RaiseFailed(kept);
+            StepReport::silent(setting.alloc, event_outcome, Some(CommandKind::Raise))
         }
-        Err(_) => StepReport {
-            event_outcome: EventOutcome::RaiseRefused(kept),
-            tried: None,
-            answer: None,
-            sent: Vec::new(setting.alloc),
-        },
+        Err(_) => StepReport::silent(setting.alloc, EventOutcome::RaiseRefused(kept), None),
     }
 }

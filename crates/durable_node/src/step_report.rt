@@ -2,7 +2,7 @@
 ghost use Rattle.std.specs.Prelude.{◌≡◌, option_map};
 ghost use Rattle.histories.specs.EventOutcomes.{attempt_of};
 ghost use Rattle.node_core.specs.Planned.{lent_by};
-ghost use Rattle.durable_node.specs.Faults.{fault_of, shown};
+ghost use Rattle.durable_node.specs.Faults.{fault_of};
 ghost use Rattle.durable_node.specs.Stepping.{IsSilent};
 
 use crate::fault::NodeFault;
@@ -50,23 +50,14 @@ impl StepReport {
         ensures { result ≡ fault_of self.now.event_outcome }
     {
         match self.event_outcome {
-            EventOutcome::Refused(why) => Some(shown(why)),
+            EventOutcome::Refused(Refusal::Core(fault)) => Some(NodeFault::Core(fault)),
+            EventOutcome::Refused(Refusal::Full) => Some(NodeFault::Full),
+            EventOutcome::Refused(Refusal::Exhausted | Refusal::AreaExhausted)
+            | EventOutcome::RaiseRefused(_) => Some(NodeFault::Exhausted),
             EventOutcome::Faulted | EventOutcome::MountFailed | EventOutcome::RaiseFailed(_) =>
                 Some(NodeFault::Device),
-            EventOutcome::RaiseRefused(_) => Some(NodeFault::Exhausted),
             EventOutcome::Done | EventOutcome::Recovered(_) => None,
         }
-    }
-}
-
-/// Why an event is refused, as a caller is answered.
-pub(crate) fn shown(why: Refusal) -> NodeFault
-    ensures { result ≡ shown why }
-{
-    match why {
-        Refusal::Core(fault) => NodeFault::Core(fault),
-        Refusal::Full => NodeFault::Full,
-        Refusal::Exhausted | Refusal::AreaExhausted => NodeFault::Exhausted,
     }
 }
 

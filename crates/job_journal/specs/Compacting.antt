@@ -15,7 +15,7 @@ use Rattle.job_journal.specs.Appending.{is_last, appended, record_for}
 use Rattle.job_journal.specs.Areas.{first_of}
 use Rattle.job_journal.specs.Mounted.{JournalState}
 use Rattle.job_journal.specs.declared.fault.JournalFault.{JournalFault}
-use Rattle.job_journal.specs.declared.fault.JournalFault.TheVariants.{Broken, Exhausted}
+use Rattle.job_journal.specs.declared.fault.JournalFault.TheVariants.{Broken, AreaExhausted}
 
 -- the records that stand for these jobs: their next id, and each job in order of id
 abbrev pub records_for : Jobs → List Record
@@ -30,7 +30,7 @@ records_written slots used jobs command =
 abbrev pub compaction_refusal : JournalState → Option JournalFault
 compaction_refusal journal =
     if journal.broken then Some Broken
-    else (if is_last journal.area.value then Some Exhausted else None)
+    else (if is_last journal.area.value then Some AreaExhausted else None)
 
 -- the journal after a compaction: the same jobs, in the other area
 abbrev pub compacted : JournalState → JournalState

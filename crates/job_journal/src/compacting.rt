@@ -23,8 +23,8 @@ use sector_disk::SectorDisk;
 impl JobJournal {
     /// Writes the pending jobs into the other area and makes it the present one: `2 * slots` device calls, four for
     /// each pending job and four more, and four or six for the area cell. No job changes, and it takes no memory.
-    /// Refused in the order `Broken`, `Exhausted` (the area cell), `Device`; after `Device` the journal is broken
-    /// until it is mounted again.
+    /// Refused in the order `Broken`, `AreaExhausted`, `Device`; after `Device` the journal is broken until it is
+    /// mounted again.
     pub fn compact<D: SectorDisk>(&mut self, disk: &mut D) -> Result<(), JournalFault>
         requires on_disk { sectors_for self.old.slots ≤ (D.state disk.old).sectors }
 
@@ -32,8 +32,8 @@ impl JobJournal {
             (IsErrOf result JournalFault.Device) (IsErrOf result JournalFault.Device → ⊥) }
 
         // Which answer comes when, and what it leaves.
-        // Promise: It is refused in the order Broken, Exhausted, and these change neither disk nor journal; else it answers Ok or
-        // Device.
+        // Promise: It is refused in the order Broken, AreaExhausted, and these change neither disk nor journal; else it answers Ok
+        // or Device.
         // Also: faults, JobJournal::refuse_compaction.
         // Refuses: compaction_does_nothing.
         ensures answers { Answers (compaction_refusal self.old) result }
@@ -113,15 +113,15 @@ impl JobJournal {
         Ok(())
     }
 
-    /// Why a compaction would be refused before the device is called.
-    pub fn refuse_compaction(&self) -> Option<JournalFault>
+    // Why a compaction is refused before the device is called.
+    fn refuse_compaction(&self) -> Option<JournalFault>
         ensures value { result ≡ compaction_refusal self.now }
         ensures kept { IsJournal self.now }
     {
         if self.broken {
             Some(JournalFault::Broken)
         } else if self.area.value() == u64::MAX {
-            Some(JournalFault::Exhausted)
+            Some(JournalFault::AreaExhausted)
         } else {
             None
         }

@@ -3,5 +3,7 @@ mod Packing
 mod Padding
 mod Places
 mod Rows
+mod Gapped
+mod Halves
 mod RecordBytes
 mod RecordSectors

@@ -7,7 +7,7 @@ use Rattle.job_model.specs.declared.job.Job.{Job}
 use Rattle.job_model.specs.Fold.{without_job}
 use Rattle.job_model.specs.Order.{IdsRise, IsInOrder}
 
-IdsRise-lower : (low high limit : ℕ) (jobs : List Job) → low ≤ high → IdsRise high limit jobs → IdsRise low limit jobs
+pub IdsRise-lower : (low high limit : ℕ) (jobs : List Job) → low ≤ high → IdsRise high limit jobs → IdsRise low limit jobs
 IdsRise-lower low high limit [] le r = tt
 IdsRise-lower low high limit (job ∷ jobs) le r = (omega (arith, r.0), r.1, r.2)
 

@@ -12,6 +12,9 @@ use Rattle.job_model.specs.declared.payload.TheConstants.{PAYLOAD_CAPACITY}
 use Rattle.job_model.specs.declared.job_list.PackedJob.{PackedJob}
 use Rattle.job_model.specs.JobLists.{payload_in, kept_in, HasPayload}
 use Rattle.job_model.specs.declared.kept_job.KeptJob.{KeptJob}
+use Rattle.job_model.specs.declared.gap.Gap.{Gap}
+use Rattle.job_model.specs.Gaps.{beside, IsWithin}
+use Rattle.job_model.proofs.Gapped.{beside_more}
 
 pub chosen : {A : Type 0} (b : Bool) (x y z : A) → z ≡ if b then x else y → b ≡ true → z ≡ x
 chosen b x y z is ok = is ∙ ap (λ c. if c then x else y) ok
@@ -185,15 +188,38 @@ repacked_as before after new rows items i n s d all p within is len start =
     (repacked_more before after rows items i d all p within))
 
 -- the jobs of a list, with one more behind them
-pub pushed : (p payload bytes : List ℕ) (rows more : List PackedJob) (row : PackedJob) (first : ℕ)
-    → All (HasPayload (length p)) (drop first rows) → first ≤ length rows
+pub pushed : (p payload bytes : List ℕ) (rows more : List PackedJob) (row : PackedJob) (gap : Gap)
+    → All (HasPayload (length p)) (beside gap rows) → IsWithin gap (length rows)
     → more ≡ rows ++ row ∷ [] → bytes ≡ p ++ payload → row.start ≡ length p → row.len ≡ length payload
-    → map (kept_in bytes) (drop first more) ≡ map (kept_in p) (drop first rows) ++ kept_with row payload ∷ []
-pushed p payload bytes rows more row first all within is long start len =
-    ap (λ rs. map (kept_in bytes) (drop first rs)) is
-    ∙ ap (λ rs. map (kept_in bytes) rs) (drop-append-le first rows (row ∷ []) within)
-    ∙ ap (λ (zs : List ℕ). map (kept_in zs) (drop first rows ++ row ∷ [])) long
-    ∙ rows_more p payload (drop first rows) row all start len
+    → map (kept_in bytes) (beside gap more) ≡ map (kept_in p) (beside gap rows) ++ kept_with row payload ∷ []
+pushed p payload bytes rows more row gap all within is long start len =
+    ap (λ rs. map (kept_in bytes) (beside gap rs)) is
+    ∙ ap (λ rs. map (kept_in bytes) rs) (beside_more gap rows row within)
+    ∙ ap (λ (zs : List ℕ). map (kept_in zs) (beside gap rows ++ row ∷ [])) long
+    ∙ rows_more p payload (beside gap rows) row all start len
+
+pub pushed_read : (p payload bytes : List ℕ) (rows more : List PackedJob) (row : PackedJob) (gap : Gap)
+    → All (HasPayload (length p)) (beside gap rows) → IsWithin gap (length rows)
+    → more ≡ rows ++ row ∷ [] → bytes ≡ p ++ payload → row.start ≡ length p → row.len ≡ length payload → length payload ≤ PAYLOAD_CAPACITY
+    → All (HasPayload (length bytes)) (beside gap more)
+pushed_read p payload bytes rows more row gap all within is long start len few =
+    subst (λ (zs : List ℕ). All (HasPayload (length zs)) (beside gap more)) (sym long)
+    (subst (λ rs. All (HasPayload (length (p ++ payload))) (beside gap rs)) (sym is)
+    (subst (λ rs. All (HasPayload (length (p ++ payload))) rs) (sym (beside_more gap rows row within))
+    (all_more p payload (beside gap rows) row all start len few)))
+
+pub pushed_within : (rows more : List PackedJob) (row : PackedJob) (gap : Gap) → IsWithin gap (length rows) → more ≡ rows ++ row ∷ []
+    → IsWithin gap (length more)
+pushed_within rows more row gap within is = record {
+  order = within.order;
+  behind = omega (arith, within.behind, ap (λ (rs : List PackedJob). length rs) is, length-append rows (row ∷ []));
+}
+
+pub pushed_count : (rows more : List PackedJob) (row : PackedJob) (gap : Gap) → IsWithin gap (length rows) → more ≡ rows ++ row ∷ []
+    → length (beside gap more) ≡ length (beside gap rows) + 1
+pushed_count rows more row gap within is =
+    ap (λ rs. length (beside gap rs)) is ∙ ap (λ (rs : List PackedJob). length rs) (beside_more gap rows row within)
+    ∙ length-append (beside gap rows) (row ∷ [])
 
 -- a list without the element in a place, by a function
 pub removed : {X Y : Type 0} (f : X → Y) (xs left : List X) (place : ℕ) → left ≡ take place xs ++ drop (place + 1) xs

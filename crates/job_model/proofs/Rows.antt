@@ -28,7 +28,7 @@ some_row = record { id = 0; start = 0; len = 0; queue = 0; priority = 0; origin 
 jobs_map : (p : List ℕ) (rows : List PackedJob) → jobs_in p rows ≡ map (job_in p) rows
 jobs_map p rows = map-map job_of (kept_in p) rows
 
-jobs_long : (p : List ℕ) (rows : List PackedJob) → length (jobs_in p rows) ≡ length rows
+pub jobs_long : (p : List ℕ) (rows : List PackedJob) → length (jobs_in p rows) ≡ length rows
 jobs_long p rows = ap (λ (jobs : List Job). length jobs) (jobs_map p rows) ∙ length-map rows (job_in p)
 
 job_at : (p : List ℕ) (rows : List PackedJob) (k : ℕ) (d : PackedJob) (e : Job) → k < length rows

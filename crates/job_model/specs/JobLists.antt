@@ -5,6 +5,7 @@ use Rattle.job_model.specs.declared.payload.TheConstants.{PAYLOAD_CAPACITY}
 use Rattle.job_model.specs.declared.job_list.PackedJob.{PackedJob}
 use Rattle.job_model.specs.declared.kept_job.KeptJob.{KeptJob}
 use Rattle.job_model.specs.declared.job_list.JobList.TheInside.{Inside}
+use Rattle.job_model.specs.Gaps.{beside, IsWithin}
 
 -- what contracts see of a list of jobs: the jobs, and for how many there is room
 pub record JobRoom : Type 0 where
@@ -47,9 +48,9 @@ pub record HasPlaces (room for_rows for_bytes used : ℕ) : Type 0 where
 -- Each job has its payload. There are places for twice as many jobs as there is room for, and for three times as many payloads, of
 -- which one part is free: that is where they are put together again.
 pub record IsTidy (a : Inside) : Type 0 where
-  pub within : a.first ≤ length a.rows.items
-  pub read : All (HasPayload (length a.payloads.items)) (drop a.first a.rows.items)
-  pub few : length (drop a.first a.rows.items) ≤ a.room
+  pub within : IsWithin a.gap (length a.rows.items)
+  pub read : All (HasPayload (length a.payloads.items)) (beside a.gap a.rows.items)
+  pub few : length (beside a.gap a.rows.items) ≤ a.room
   pub rows : 2 * a.room ≤ vec_capacity a.rows
   pub bytes : 3 * (PAYLOAD_CAPACITY * a.room) ≤ vec_capacity a.payloads
   pub spare : vec_len a.payloads + PAYLOAD_CAPACITY * a.room ≤ vec_capacity a.payloads

@@ -4,6 +4,7 @@ pub mod Fold
 pub mod Order
 pub mod Answer
 pub mod Table
+pub mod Gaps
 pub mod JobLists
 pub mod Records
 pub mod NewJobs

@@ -1,14 +1,17 @@
 //! Jobs in rows of 24 bytes, with their payloads in one list beside: a `Job` takes over 400 bytes, whatever its payload.
 
-ghost use Rattle.std.specs.Prelude.{◌≡◌, ◌+◌, ◌*◌, ◌<◌, ◌≤◌, [], ◌∷◌, ◌++◌, length, take, drop, map, slice_get, filter, not, ◌==◌, ◌&&◌, All, OnOk, OnErr, IfOk, IsTrue, ◌↔◌, ℕ, List, vec_len, vec_capacity};
+ghost use Rattle.std.specs.Prelude.{◌≡◌, ◌+◌, ◌*◌, ◌^◌, ◌<◌, ◌≤◌, [], ◌∷◌, ◌++◌, length, take, drop, map, slice_get, filter, not, ◌==◌, ◌&&◌, All, OnOk, OnErr, IfOk, IfSome, IsTrue, ◌↔◌, ℕ, List, vec_len, vec_capacity};
 ghost use Rattle.std.specs.Iterator.{YieldsFirst, item_count};
 ghost use Rattle.job_model.specs.Order.{IsInOrder};
 ghost use Rattle.job_model.specs.Table.{IsPlaceOf};
+ghost use Rattle.job_model.specs.Gaps.{beside, IsWithin};
 ghost use Rattle.job_model.specs.JobLists.{kept_in, jobs_in, jobs_of, HasPayload, HasPlaces};
+ghost use Rattle.job_model.specs.declared.gap.Gap.{Gap};
 ghost use Rattle.job_model.specs.declared.job_list.PackedJob.{PackedJob};
 ghost use Rattle.job_model.specs.declared.kept_job.KeptJob.{KeptJob};
 ghost use Rattle.job_model.specs.declared.payload.TheConstants.{PAYLOAD_CAPACITY};
 
+use crate::gap::{Gap, close, cut, item_at, sides, take_out};
 use crate::job_ref::JobRef;
 use crate::kept_job::KeptJob;
 use crate::payload::PAYLOAD_CAPACITY;
@@ -18,7 +21,7 @@ use std::alloc::{AllocError, Global};
 use std::marker::Model;
 use std::mem::size_of;
 
-// So many free rows before the jobs are left as they are.
+// So many free rows among the jobs are left as they are.
 const LEFT_FREE: usize = 8;
 
 /// A job as it is kept: its payload has so many bytes, and begins at this place of all payloads.
@@ -37,25 +40,27 @@ const _: () = prove!(size_of::<PackedJob>() == 24);
 
 /// Jobs in the order in which they were put in, each with the number of the node that keeps it.
 ///
-/// A job is taken out at the front as fast as at the end. What it leaves is used again once as much is free as the jobs take, so each
-/// job pays for at most one move. No call but [`JobList::with_room`] and [`JobList::reserve`] takes memory.
+/// A job beside the last one that was taken out, or at the end, is taken out without a move of the others. What it leaves is used again
+/// once as much is free as the jobs take, so each job pays for at most one move then. No call but [`JobList::with_room`] and
+/// [`JobList::reserve`] takes memory.
 #[derive(Debug, Drop)]
 pub struct JobList {
-    // The jobs stand in these rows from `first` on; those before it are taken out.
+    // The jobs stand in these rows beside the gap.
     rows: Vec<PackedJob>,
-    first: usize,
+    gap: Gap,
     // Also the payloads of jobs that are taken out.
     payloads: Vec<u8>,
     room: usize,
 }
 
 impl Model for JobList {
-    ghost use Rattle.std.specs.Prelude.{drop, map};
+    ghost use Rattle.std.specs.Prelude.{map};
+    ghost use Rattle.job_model.specs.Gaps.{beside};
     ghost use Rattle.job_model.specs.JobLists.{JobRoom, IsTidy, kept_in};
 
     ghost Value = { JobRoom };
 
-    ghost view = { λ a. record { jobs = map (kept_in a.payloads.items) (drop a.first a.rows.items); room = a.room } };
+    ghost view = { λ a. record { jobs = map (kept_in a.payloads.items) (beside a.gap a.rows.items); room = a.room } };
 
     ghost invariant = { IsTidy };
 }
@@ -67,7 +72,7 @@ impl JobList {
     {
         JobList {
             rows: Vec::new(alloc),
-            first: 0,
+            gap: Gap::none(),
             payloads: Vec::new(alloc),
             room: 0,
         }
@@ -87,7 +92,7 @@ impl JobList {
     pub fn len(&self) -> usize
         ensures { result ≡ length self.now.jobs }
     {
-        self.rows.len() - self.first
+        self.rows.len() - self.gap.width()
     }
 
     /// For how many jobs there is room.
@@ -148,8 +153,8 @@ impl JobList {
         // JobList::clear, JobList::set, JobList::fit, JobList::get, JobList::iter.
         // Refuses: payload_of_the_first_job, half_a_payload_kept, room_for_half_of_the_jobs, room_for_more_forgotten,
         // first_job_taken_out, job_of_every_node_taken_out, one_job_stays_in_the_list, no_list_of_seven_taken_over,
-        // list_fitted_to_one_job, lent_at_half_its_place, last_jobs_not_lent, rows_taken_out_counted, room_is_the_number_of_jobs,
-        // room_from_the_start.
+        // list_fitted_to_one_job, lent_at_half_its_place, last_jobs_not_lent, jobs_before_the_gap_not_lent, rows_taken_out_counted,
+        // gap_one_place_too_narrow, items_before_the_gap_not_moved, room_is_the_number_of_jobs, room_from_the_start.
         ensures { self.new ≡ record self.old { jobs = self.old.jobs ++ (record { origin = origin; job = record { id = id; work = work.now } }) ∷ [] } }
     {
         self.put(
@@ -167,12 +172,7 @@ impl JobList {
         requires fits { length payload.now ≤ PAYLOAD_CAPACITY }
         ensures { self.new ≡ record self.old { jobs = self.old.jobs ++ (record { origin = origin; job = record { id = id; work = record { queue = queue; priority = priority; payload = payload.now } } }) ∷ [] } }
     {
-        make_place(
-            &mut self.rows,
-            &mut self.first,
-            &mut self.payloads,
-            self.room,
-        );
+        make_place(&mut self.rows, &mut self.gap, &mut self.payloads, self.room);
         self.rows.push_reserved(PackedJob {
             id,
             start: self.payloads.len(),
@@ -184,12 +184,12 @@ impl JobList {
         let _ = self.payloads.extend_from_slice(payload);
     }
 
-    /// Takes the job in this place out: the rows before it or those behind it move, whichever are fewer.
+    /// Takes the job in this place out: the rows between it and the last place of which one was taken out move, or those behind it.
     pub fn remove(&mut self, place: usize)
         requires { place < length self.old.jobs }
         ensures { self.new ≡ record self.old { jobs = take place self.old.jobs ++ drop (place + 1) self.old.jobs } }
     {
-        take_out(&mut self.rows, &mut self.first, place);
+        take_out(&mut self.rows, &mut self.gap, place);
     }
 
     /// Takes all jobs out. The room stays.
@@ -197,7 +197,7 @@ impl JobList {
         ensures { self.new ≡ record self.old { jobs = [] } }
     {
         self.rows.clear();
-        self.first = 0;
+        self.gap = Gap::none();
         self.payloads.clear();
     }
 
@@ -205,8 +205,7 @@ impl JobList {
     pub fn remove_all(&mut self, origin: u8, id: u64)
         ensures { self.new ≡ record self.old { jobs = filter (λ (kept : KeptJob). not (kept.origin == origin && kept.job.id == id)) self.old.jobs } }
     {
-        drop_front(&mut self.rows, self.first);
-        self.first = 0;
+        close(&mut self.rows, &mut self.gap);
         remove_rows(&mut self.rows, origin, id);
     }
 
@@ -232,7 +231,7 @@ impl JobList {
     pub fn fit(&mut self)
         ensures { self.new ≡ record { jobs = self.old.jobs; room = length self.old.jobs } }
     {
-        tidy(&mut self.rows, &mut self.first, &mut self.payloads);
+        tidy(&mut self.rows, &mut self.gap, &mut self.payloads);
         self.room = self.rows.len();
         self.rows.shrink_to(2 * self.room);
         self.payloads.shrink_to(3 * PAYLOAD_CAPACITY * self.room);
@@ -243,7 +242,8 @@ impl JobList {
     pub fn get(&self, place: usize) -> Option<KeptJob<'_>>
         ensures { result ≡ slice_get self.now.jobs place }
     {
-        let row = self.rows[self.first..].get(place)?;
+        let (before, behind) = sides(&self.rows, self.gap);
+        let row = item_at(before, behind, place)?;
         Some(lend(row, &self.payloads))
     }
 
@@ -252,8 +252,10 @@ impl JobList {
     pub fn iter(&self) -> KeptIter<'_>
         ensures { result ≡ self.now.jobs }
     {
+        let (rows, behind) = sides(&self.rows, self.gap);
         KeptIter {
-            rows: &self.rows[self.first..],
+            rows,
+            behind,
             payloads: &self.payloads,
         }
     }
@@ -262,14 +264,16 @@ impl JobList {
     pub(crate) fn place_of(&self, id: u64) -> Option<usize>
         ensures { (next : ℕ) → IsInOrder (jobs_of self.now.jobs) next → IsPlaceOf (jobs_of self.now.jobs) id result }
     {
-        place_of(&self.rows[self.first..], id)
+        let (before, behind) = sides(&self.rows, self.gap);
+        place_beside(before, behind, id)
     }
 
     // Whether this id is above those of the jobs, in a list whose ids rise.
     pub(crate) fn is_above(&self, id: u64) -> bool
         ensures { (next : ℕ) → IsInOrder (jobs_of self.now.jobs) next → IsTrue result ↔ IsInOrder (jobs_of self.now.jobs) id }
     {
-        is_above(&self.rows[self.first..], id)
+        let (before, behind) = sides(&self.rows, self.gap);
+        is_above_beside(before, behind, id)
     }
 }
 
@@ -290,46 +294,46 @@ fn lend<'a>(row: &PackedJob, payloads: &'a [u8]) -> KeptJob<'a>
     }
 }
 
-// Sees to it that there is a place for one job more. Where there is none, or many rows before the jobs are free, all that is kept of
-// jobs that are taken out is given up.
-fn make_place(rows: &mut Vec<PackedJob>, first: &mut usize, payloads: &mut Vec<u8>, room: usize)
-    requires within { first.old ≤ length rows.old.items }
-    requires read { All (HasPayload (length payloads.old.items)) (drop first.old rows.old.items) }
-    requires few { length (drop first.old rows.old.items) < room }
+// Sees to it that there is a place for one job more. Where there is none, or many rows in the gap are free, all that is kept of jobs that
+// are taken out is given up.
+fn make_place(rows: &mut Vec<PackedJob>, gap: &mut Gap, payloads: &mut Vec<u8>, room: usize)
+    requires within { IsWithin gap.old (length rows.old.items) }
+    requires read { All (HasPayload (length payloads.old.items)) (beside gap.old rows.old.items) }
+    requires few { length (beside gap.old rows.old.items) < room }
     requires places { HasPlaces room (vec_capacity rows.old) (vec_capacity payloads.old) (vec_len payloads.old) }
-    ensures jobs { map (kept_in payloads.new.items) (drop first.new rows.new.items) ≡ map (kept_in payloads.old.items) (drop first.old rows.old.items) }
-    ensures within { first.new ≤ length rows.new.items }
-    ensures read { All (HasPayload (length payloads.new.items)) (drop first.new rows.new.items) }
+    ensures jobs { map (kept_in payloads.new.items) (beside gap.new rows.new.items) ≡ map (kept_in payloads.old.items) (beside gap.old rows.old.items) }
+    ensures within { IsWithin gap.new (length rows.new.items) }
+    ensures read { All (HasPayload (length payloads.new.items)) (beside gap.new rows.new.items) }
     ensures place { vec_len rows.new < vec_capacity rows.new }
     ensures left { vec_len payloads.new + PAYLOAD_CAPACITY + PAYLOAD_CAPACITY * room ≤ vec_capacity payloads.new }
     ensures capacity { (vec_capacity rows.new ≡ vec_capacity rows.old) × (vec_capacity payloads.old ≤ vec_capacity payloads.new) }
 {
-    let jobs = rows.len() - *first;
+    let free = gap.width();
+    let jobs = rows.len() - free;
     let left = payloads.capacity() - payloads.len() - PAYLOAD_CAPACITY * room;
     let is_place = rows.len() < rows.capacity() && PAYLOAD_CAPACITY <= left;
-    if is_place && 0 < jobs && *first <= jobs.max(LEFT_FREE) {
+    if is_place && 0 < jobs && free <= jobs.max(LEFT_FREE) {
         return;
     }
-    tidy(rows, first, payloads);
+    tidy(rows, gap, payloads);
 }
 
 // Gives up all that is kept of jobs that are taken out.
-fn tidy(rows: &mut Vec<PackedJob>, first: &mut usize, payloads: &mut Vec<u8>)
-    requires within { first.old ≤ length rows.old.items }
-    requires read { All (HasPayload (length payloads.old.items)) (drop first.old rows.old.items) }
-    requires spare { vec_len payloads.old + PAYLOAD_CAPACITY * length (drop first.old rows.old.items) ≤ vec_capacity payloads.old }
-    ensures jobs { map (kept_in payloads.new.items) rows.new.items ≡ map (kept_in payloads.old.items) (drop first.old rows.old.items) }
-    ensures first { first.new ≡ 0 }
-    ensures rows { length rows.new.items ≡ length (drop first.old rows.old.items) }
+fn tidy(rows: &mut Vec<PackedJob>, gap: &mut Gap, payloads: &mut Vec<u8>)
+    requires within { IsWithin gap.old (length rows.old.items) }
+    requires read { All (HasPayload (length payloads.old.items)) (beside gap.old rows.old.items) }
+    requires spare { vec_len payloads.old + PAYLOAD_CAPACITY * length (beside gap.old rows.old.items) ≤ vec_capacity payloads.old }
+    ensures jobs { map (kept_in payloads.new.items) rows.new.items ≡ map (kept_in payloads.old.items) (beside gap.old rows.old.items) }
+    ensures gap { gap.new ≡ record { before = 0; behind = 0; moved = 0 } }
+    ensures rows { length rows.new.items ≡ length (beside gap.old rows.old.items) }
     ensures read { All (HasPayload (length payloads.new.items)) rows.new.items }
     ensures few { vec_len payloads.new ≤ PAYLOAD_CAPACITY * length rows.new.items }
     ensures capacity { (vec_capacity rows.new ≡ vec_capacity rows.old) × (vec_capacity payloads.old ≤ vec_capacity payloads.new) }
 {
-    drop_front(rows, *first);
-    *first = 0;
+    close(rows, gap);
     let old = payloads.len();
     repack(rows, payloads);
-    drop_front(payloads, old);
+    cut(payloads, 0, old);
 }
 
 // Puts the payloads of the rows together once more behind all payloads, in the room that is there. Each row then says where its payload
@@ -352,17 +356,6 @@ fn repack(rows: &mut Vec<PackedJob>, payloads: &mut Vec<u8>)
     }
 }
 
-// The items behind the first ones move to the front, and those are given up.
-fn drop_front<T: Copy>(items: &mut Vec<T>, count: usize)
-    requires { count ≤ length items.old.items }
-    ensures items { items.new.items ≡ drop count items.old.items }
-    ensures capacity { vec_capacity items.new ≡ vec_capacity items.old }
-{
-    let left = items.len() - count;
-    items.as_mut_slice().copy_within(count.., 0);
-    items.truncate(left);
-}
-
 // Takes all rows of this id out that this node keeps.
 fn remove_rows(rows: &mut Vec<PackedJob>, origin: u8, id: u64)
     ensures rows { rows.new.items ≡ filter (λ (row : PackedJob). not (row.origin == origin && row.id == id)) rows.old.items }
@@ -372,25 +365,29 @@ fn remove_rows(rows: &mut Vec<PackedJob>, origin: u8, id: u64)
     rows.retain(|row| !(row.origin == origin && row.id == id));
 }
 
-// Takes the row in this place out: the rows before it or those behind it move, whichever are fewer.
-fn take_out(rows: &mut Vec<PackedJob>, first: &mut usize, place: usize)
-    requires { first.old + place < length rows.old.items }
-    ensures rows { drop first.new rows.new.items ≡ take place (drop first.old rows.old.items) ++ drop (place + 1) (drop first.old rows.old.items) }
-    ensures within { first.new ≤ length rows.new.items }
-    ensures capacity { vec_capacity rows.new ≡ vec_capacity rows.old }
+// Where the row of this id is, among rows whose ids rise, of which these are before a gap, and those behind it.
+fn place_beside(before: &[PackedJob], behind: &[PackedJob], id: u64) -> Option<usize>
+    requires { length before.now + length behind.now < 2 ^ 64 }
+    ensures { (payloads : List ℕ) (next : ℕ) → IsInOrder (jobs_in payloads (before.now ++ behind.now)) next → IsPlaceOf (jobs_in payloads (before.now ++ behind.now)) id result }
 {
-    if place < (rows.len() - *first) / 2 {
-        let (from, to) = (*first, *first + 1);
-        rows.as_mut_slice().copy_within(from..from + place, to);
-        *first = to;
+    if is_above(before, id) {
+        Some(before.len() + place_of(behind, id)?)
     } else {
-        rows.remove(*first + place);
+        place_of(before, id)
     }
+}
+
+// Whether this id is above those of the rows, which rise, of which these are before a gap, and those behind it.
+fn is_above_beside(before: &[PackedJob], behind: &[PackedJob], id: u64) -> bool
+    ensures { (payloads : List ℕ) (next : ℕ) → IsInOrder (jobs_in payloads (before.now ++ behind.now)) next → IsTrue result ↔ IsInOrder (jobs_in payloads (before.now ++ behind.now)) id }
+{
+    is_above(before, id) && is_above(behind, id)
 }
 
 // Where the row of this id is, among rows whose ids rise.
 fn place_of(rows: &[PackedJob], id: u64) -> Option<usize>
-    ensures { (payloads : List ℕ) (next : ℕ) → IsInOrder (jobs_in payloads rows.now) next → IsPlaceOf (jobs_in payloads rows.now) id result }
+    ensures within { IfSome result (λ at. at < length rows.now) }
+    ensures place { (payloads : List ℕ) (next : ℕ) → IsInOrder (jobs_in payloads rows.now) next → IsPlaceOf (jobs_in payloads rows.now) id result }
 {
     let place = rows.partition_point(|row| row.id < id);
     if place < rows.len() && rows[place].id == id {
@@ -414,19 +411,21 @@ fn is_above(rows: &[PackedJob], id: u64) -> bool
 #[derive(Debug, Drop)]
 pub struct KeptIter<'a> {
     rows: &'a [PackedJob],
+    // those that come then
+    behind: &'a [PackedJob],
     payloads: &'a [u8],
 }
 
 impl<'a> Model for KeptIter<'a> {
-    ghost use Rattle.std.specs.Prelude.{List, All, length, map};
+    ghost use Rattle.std.specs.Prelude.{◌++◌, List, All, length, map};
     ghost use Rattle.job_model.specs.JobLists.{kept_in, HasPayload};
     ghost use Rattle.job_model.specs.declared.kept_job.KeptJob.{KeptJob};
 
     ghost Value = { List KeptJob };
 
-    ghost view = { λ a. map (kept_in a.payloads.now) a.rows.now };
+    ghost view = { λ a. map (kept_in a.payloads.now) (a.rows.now ++ a.behind.now) };
 
-    ghost invariant = { λ a. All (HasPayload (length a.payloads.now)) a.rows.now };
+    ghost invariant = { λ a. All (HasPayload (length a.payloads.now)) (a.rows.now ++ a.behind.now) };
 }
 
 impl<'a> Iterator for KeptIter<'a> {
@@ -438,6 +437,10 @@ impl<'a> Iterator for KeptIter<'a> {
 
     #[inline]
     fn next(&mut self) -> Option<KeptJob<'a>> {
+        if self.rows.is_empty() {
+            self.rows = self.behind;
+            self.behind = &[];
+        }
         let (row, rest) = self.rows.split_first()?;
         self.rows = rest;
         Some(lend(row, self.payloads))

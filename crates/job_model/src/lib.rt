@@ -11,6 +11,7 @@
 #![tactic(auto)]
 
 mod command;
+mod gap;
 mod job;
 mod job_list;
 mod job_ref;

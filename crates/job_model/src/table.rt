@@ -131,7 +131,8 @@ impl JobTable {
         // Promise: Applying a command is one step of the fold of commands, beside any count of groups; its answer is the id; the
         // room stays; no memory is taken.
         // Also: JobTable::put.
-        // Refuses: put_dropped, another_id_given, another_job_done, done_dropped, later_jobs_done_too, id_given_again.
+        // Refuses: put_dropped, another_id_given, another_job_done, done_dropped, later_jobs_done_too, id_given_again,
+        // place_counted_from_the_gap.
         ensures answer { (counter : ℕ) → result ≡ answer_of (durable_of counter self.old) (command_of command) }
         ensures step { (counter : ℕ) → durable_of counter self.new ≡ after_command (durable_of counter self.old) (command_of command) }
         ensures room { self.new.room ≡ self.old.room }
@@ -152,7 +153,8 @@ impl JobTable {
         // Promise: After a compaction the table begins anew with the next id that was written, and takes the kept jobs over, in
         // order of id and under their ids.
         // Also: JobTable::can_keep, JobTable::keep.
-        // Refuses: jobs_outlive_restart, restart_keeps_ids, kept_past_next, kept_twice, kept_job_dropped.
+        // Refuses: jobs_outlive_restart, restart_keeps_ids, kept_past_next, kept_twice, kept_job_dropped,
+        // jobs_behind_the_gap_not_compared.
         ensures { self.new ≡ record { next = next; pending = []; room = self.old.room } }
     {
         self.jobs.clear();

@@ -8,6 +8,13 @@ use crate::fault::LeaseFault;
 use crate::file::{Begun, LeaseFile};
 use sector_disk::SectorDisk;
 
+/// A call that writes to the disk, and the number that it is given.
+#[derive(Clone, Copy, Debug)]
+pub enum FileCall {
+    Reserve(u64),
+    Begin(u64),
+}
+
 /// A process begins on what a stop between two calls left of a file's disk.
 pub fn begin_after<D: SectorDisk, E: SectorDisk + Drop>(
     file: &LeaseFile<D>,
@@ -17,7 +24,7 @@ pub fn begin_after<D: SectorDisk, E: SectorDisk + Drop>(
     requires on_disk { 8 ≤ (E.state left).sectors }
     // Promise: Whatever a stop leaves of a file's disk, between two calls or within one, the next process has a greater number, its floor is
     // at or above each bound that a process was told before, and it is told of the greatest time for which one kept grants.
-    // Also: begin_after_reserve, begin_after_begin.
+    // Also: begin_after_stop.
     // Refuses: floor_of_the_block_before.
     ensures above { IsTrue (D.state file.now.disk).honest → IsFalse file.now.broken → IsTrue (E.state left).honest
         → IsImage (D.state file.now.disk) (E.state left).contents
@@ -27,10 +34,10 @@ pub fn begin_after<D: SectorDisk, E: SectorDisk + Drop>(
     begin_on(left, keeps)
 }
 
-/// A process begins on what a stop within a reservation left of a file's disk.
-pub fn begin_after_reserve<D: SectorDisk, E: SectorDisk + Drop>(
+/// A process begins on what a stop within a call left of a file's disk.
+pub fn begin_after_stop<D: SectorDisk, E: SectorDisk + Drop>(
     file: &mut LeaseFile<D>,
-    epoch: u64,
+    call: FileCall,
     left: E,
     keeps: u64,
 ) -> Result<Begun, LeaseFault>
@@ -39,24 +46,16 @@ pub fn begin_after_reserve<D: SectorDisk, E: SectorDisk + Drop>(
         → (D.state file.new.disk).left_since (D.state file.old.disk).moment (E.state left).contents
         → IfOk result (IsAbove (kept_of file.old)) }
 {
-    let _ = file.reserve(epoch);
-    begin_on(left, keeps)
-}
-
-/// A process begins on what a stop within the beginning of another one left of a file's disk.
-pub fn begin_after_begin<D: SectorDisk, E: SectorDisk + Drop>(
-    file: &mut LeaseFile<D>,
-    kept: u64,
-    left: E,
-    keeps: u64,
-) -> Result<Begun, LeaseFault>
-    requires on_disk { 8 ≤ (E.state left).sectors }
-    ensures above { IsTrue (D.state file.old.disk).honest → IsFalse file.old.broken → IsTrue (E.state left).honest
-        → (D.state file.new.disk).left_since (D.state file.old.disk).moment (E.state left).contents
-        → IfOk result (IsAbove (kept_of file.old)) }
-{
-    let _ = file.begin(kept);
-    begin_on(left, keeps)
+    match call {
+        FileCall::Reserve(epoch) => {
+            let _ = file.reserve(epoch);
+            begin_on(left, keeps)
+        }
+        FileCall::Begin(kept) => {
+            let _ = file.begin(kept);
+            begin_on(left, keeps)
+        }
+    }
 }
 
 // A process begins on a disk.

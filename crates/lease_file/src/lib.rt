@@ -20,5 +20,5 @@ mod mounting;
 pub use fault::LeaseFault;
 pub use file::{Begun, LeaseFile};
 pub use formatting::format;
-pub use laws::{begin_after, begin_after_begin, begin_after_reserve};
+pub use laws::{FileCall, begin_after, begin_after_stop};
 pub use mounting::{MountFault, SECTORS};

@@ -96,10 +96,7 @@ fn sync_disk<D: SectorDisk>(disk: &mut D) -> Result<(), LeaseFault>
     ensures only_reads { OnlyReads (D.state disk.old) (D.state disk.new) (IsErrOf result LeaseFault.Device) }
     ensures no_other { IsOk result ⊎ IsErrOf result LeaseFault.Device }
 {
-    if disk.sync().is_err() {
-        return Err(LeaseFault::Device);
-    }
-    Ok(())
+    disk.sync().map_err(|_| LeaseFault::Device)
 }
 
 // Reads the cell at a sector of a disk that is synced.

@@ -30,8 +30,8 @@ impl LeaseMachine {
         // for a name that somebody here asks for, or where no number is left, or where nothing is kept of the name and each name that is
         // kept is in use; then nothing changes. How the machine votes doesn't change.
         // Refuses: client_numbered_as_the_last, name_claimed_twice, claimed_without_room, kept_name_claimed_as_full.
-        ensures claimed { IsOk result → IsBegun self.old.terms self.old.process (self.old.claims + 1) user (claim_at self.new name.now) }
-        ensures counts { IsOk result → self.new.claims ≡ self.old.claims + 1 }
+        ensures claimed { IsOk result → (self.new.claims ≡ self.old.claims + 1)
+            × IsBegun self.old.terms self.old.process (self.old.claims + 1) user (claim_at self.new name.now) }
         ensures taken { result ≡ Err ClaimRefusal.Claimed → is_some (claim_at self.old name.now) ≡ true }
         ensures free { (result ≡ Err ClaimRefusal.Claimed → ⊥) → is_some (claim_at self.old name.now) ≡ false }
         ensures exhausted { result ≡ Err ClaimRefusal.Exhausted → self.old.claims ≡ 2 ^ 64 - 1 }

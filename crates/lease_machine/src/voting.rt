@@ -1,7 +1,6 @@
-ghost use Rattle.std.specs.Prelude.{◌≡◌, ◌<◌, ◌≤◌, ◌^◌, ℕ, List, Some, None, true, false};
+ghost use Rattle.std.specs.Prelude.{◌≡◌, ◌<◌, ◌≤◌, ◌^◌, ℕ, List, Some, true, false};
 ghost use Rattle.lease_runs.specs.Code.{CanGrant, IsStep, ask_of, client_of};
 ghost use Rattle.lease_runs.specs.Voter.{grants, raises, releases};
-ghost use Rattle.lease_machine.specs.Names.{entry_of};
 ghost use Rattle.lease_machine.specs.Machine.{AllStay, GoesOn, HasNoRoom, OthersSame, OthersStay, claim_at, voter_at};
 
 use crate::entries::place_of;
@@ -38,40 +37,24 @@ impl LeaseMachine {
         ensures goes_on { GoesOn self.old self.new }
     {
         let Some(place) = place_of(&self.names, name) else {
-            return self.vote_anew(now, name, client, epoch);
+            let mut voter = self.unknown();
+            if !voter.ask(now, client, epoch) {
+                return Vote::Refused;
+            }
+            let entry = NameEntry {
+                name: *name,
+                voter,
+                claim: None,
+            };
+            if self.add(now, entry) {
+                return Vote::Granted;
+            }
+            return Vote::Full;
         };
         if self.names[place].voter.ask(now, client, epoch) {
             Vote::Granted
         } else {
             Vote::Refused
-        }
-    }
-
-    /// The same for a name of which nothing is kept.
-    fn vote_anew(&mut self, now: u64, name: &LeaseName, client: ClientId, epoch: u64) -> Vote
-        requires fits { now < 2 ^ 63 }
-        requires new { entry_of name.now self.old.names.items ≡ None }
-        ensures granted { result ≡ Vote.Granted → (number sent : ℕ) → IsStep (voter_at self.old name.now) (voter_at self.new name.now) now (grants (ask_of client number epoch sent)) }
-        ensures refused { result ≡ Vote.Refused → AllStay self.old self.new × (CanGrant (voter_at self.old name.now) now client epoch → ⊥) }
-        ensures full { result ≡ Vote.Full → (self.new ≡ self.old) × HasNoRoom now name.now self.old × CanGrant (voter_at self.old name.now) now client epoch }
-        ensures room { result ≡ Vote.Granted → HasNoRoom now name.now self.old → ⊥ }
-        ensures others { OthersStay now name.now self.old self.new }
-        ensures claim { claim_at self.new name.now ≡ claim_at self.old name.now }
-        ensures goes_on { GoesOn self.old self.new }
-    {
-        let mut voter = self.unknown();
-        if !voter.ask(now, client, epoch) {
-            return Vote::Refused;
-        }
-        let entry = NameEntry {
-            name: *name,
-            voter,
-            claim: None,
-        };
-        if self.add(now, entry) {
-            Vote::Granted
-        } else {
-            Vote::Full
         }
     }
 

@@ -101,8 +101,7 @@ impl Held {
     ) -> Result<Held, AllocError>
         requires member { run.node < run.nodes }
         requires most { run.nodes ≤ NODES }
-        requires least_slots { 4 ≤ run.slots }
-        requires most_slots { run.slots ≤ 4096 }
+        requires slots { (4 ≤ run.slots) × (run.slots ≤ 4096) }
         requires links { vec_len puts + 1 ≡ run.nodes }
         requires intake { (i d : ℕ) → i < length plans.intake → IsPolled run (slice_index_or plans.intake i d) }
         requires takes { vec_len takes + 1 ≡ run.nodes }

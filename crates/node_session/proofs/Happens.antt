@@ -1,6 +1,6 @@
 -- What comes of an event, over any disk.
 use Rattle.std.proofs.Common.{◌≡◌, ◌⊎◌, inl, inr, ℕ, ◌+◌, ◌-◌, ◌^◌, ◌<◌, ◌++◌, Bool, true, false, List, [], refl, sym, ap, ◌∙◌, subst}
-use Rattle.std.proofs.Common.{append-nil, append_assoc, arith, Option, Some, None, Result, Ok, Err}
+use Rattle.std.proofs.Common.{append-nil, append_assoc, arith, map, Option, Some, None, Result, Ok, Err}
 use Rattle.std.specs.Prelude.{◌≢◌, All, IfOk, IfErr, IsTrue, IsSome}
 use Rattle.std.proofs.lemmas.List.Elements.{All-nil}
 use Rattle.sector_disk.specs.Disk.{DiskState}
@@ -27,9 +27,13 @@ use Rattle.histories.specs.EventOutcomes.{what_of}
 use Rattle.histories.specs.declared.event_outcome.EventOutcome.{EventOutcome}
 use Rattle.histories.specs.declared.event_outcome.EventOutcome.TheVariants as event_outcome
 use Rattle.histories.specs.After.{after, sent_at}
-use Rattle.histories.specs.Possible.{IsOfSlots}
+use Rattle.histories.specs.Possible.{IsOfSlots, IsPossible}
 use Rattle.durable_node.specs.Compacting.{CompactionAnswers, RestAnswers}
-use Rattle.durable_node.specs.Changes.{AreChanges, Sight, dropped_since, seen_of, taken_since, told_anew, view_of}
+use Rattle.durable_node.specs.Changes.{AreChanges, AreChangesSince, Foresees, IsMove, IsSeenBefore, Sight, dropped_since, held_by, seen_of}
+use Rattle.durable_node.specs.Changes.{taken_since, told_anew, view_of}
+use Rattle.durable_node.specs.declared.hand_move.HandMove.{HandMove}
+use Rattle.durable_node.specs.declared.hand_move.HandMove.TheVariants as hand
+use Rattle.durable_node.proofs.PublicLaws.{at_rest}
 use Rattle.durable_node.specs.declared.changes.Changes.{Changes}
 use Rattle.durable_node.specs.declared.group_view.GroupView.{GroupView}
 use Rattle.node_core.specs.declared.in_hand.InHand.{InHand}
@@ -39,7 +43,8 @@ use Rattle.node_core.specs.declared.fault.CoreFault.TheVariants.{NoMemory}
 use Rattle.durable_node.specs.Remounting.{Remounted}
 use Rattle.node_session.specs.declared.call_outcome.CallOutcome.{CallOutcome}
 use Rattle.node_session.specs.declared.call_outcome.CallOutcome.TheVariants as end
-use Rattle.node_session.specs.Turns.{Turn, Goes, Unmounted, Begins, MayComeOf, MayCompact, IsGoing, IsOfCompaction, after_turn, cause}
+use Rattle.node_session.specs.Turns.{Turn, Goes, Unmounted, Begins, MayBegin, MayComeOf, MayCompact, IsGoing, IsOfCompaction, after_begun}
+use Rattle.node_session.specs.Turns.{after_turn, begun, cause}
 use Rattle.node_session.specs.Turns.{compaction_end, end_at, end_of, ended_by, sent_by, sent_in}
 use Rattle.node_timers.specs.Retransmission.{Waits, waits_behind}
 use Rattle.node_session.specs.Changes.{changes, gone_news, is_finish, news}
@@ -230,9 +235,40 @@ three_texts a b c d x y z first second third =
     third ∙ (ap (λ (t : List ℕ). t ++ z) second ∙ (append_assoc b y z
     ∙ (ap (λ (t : List ℕ). t ++ (y ++ z)) first ∙ append_assoc a x (y ++ z))))
 
+-- what changed at the node, as it is written
+changed_so : (finished : Bool) (old new : State) (came : Changes) (sent changed : List ℕ) → AreChanges old new came
+    → changed ≡ sent ++ news finished came.group came.taken.items came.dropped.items → changed ≡ sent ++ changes finished old new
+changed_so finished old new came sent changed are said =
+    said ∙ (ap (λ (g : Option GroupView). sent ++ news finished g came.taken.items came.dropped.items) are.group
+    ∙ (ap (λ (t : List InHand). sent ++ news finished (told_anew (view_of old) (view_of new)) t came.dropped.items) are.taken
+    ∙ ap (λ (d : List (ℕ × ℕ)). sent ++ news finished (told_anew (view_of old) (view_of new)) (taken_since (map held_by old.hand) new.hand)
+    d)
+    are.dropped))
+
+-- the hand moved as was foreseen of the event
+begun_so : (self nodes : ℕ) (s : NodeState) (mounted : Durable) (what : HistoryEvent) (move : HandMove) → s.state ≡ down_state self
+    → Foresees on.Recover move → MayBegin what → IsPossible self nodes (begun self mounted) what
+    → IsMove move s.state.hand (after_begun self nodes s mounted what).state.hand
+begun_so self nodes s mounted (Recovered kept) move fallen sees may possible =
+    subst (λ (v : State). IsMove move v.hand (after self nodes (begun self mounted) (Recovered kept)).state.hand) (sym fallen)
+    (sees.moved self nodes (begun self mounted) (Recovered kept) refl possible)
+begun_so self nodes s mounted (RaiseFailed kept) move fallen sees may possible =
+    subst (λ (v : State). IsMove move v.hand (after self nodes (begun self mounted) (RaiseFailed kept)).state.hand) (sym fallen)
+    (sees.moved self nodes (begun self mounted) (RaiseFailed kept) refl possible)
+begun_so self nodes s mounted (RaiseRefused kept) move fallen sees may possible = at_rest move s.state.hand
+begun_so self nodes s mounted what move fallen sees may possible = absurd may
+
+moved_so : (self nodes slots : ℕ) (s : NodeState) (event : Event) (turn : Turn) (move : HandMove)
+    → (is_down s.state.phase ≡ true → s.state ≡ down_state self) → Foresees event move → MayComeOf self nodes event slots s turn
+    → IsMove move s.state.hand (after_turn self nodes s turn).state.hand
+moved_so self nodes slots s event (Goes what) move fallen sees may = sees.moved self nodes s what may.0 may.1
+moved_so self nodes slots s event (Unmounted fault) move fallen sees may = at_rest move s.state.hand
+moved_so self nodes slots s event (Begins mounted what) move fallen sees may =
+    begun_so self nodes s mounted what move (fallen may.1) (subst (λ (e : Event). Foresees e move) may.0 sees) may.2 may.3
+
 -- as the code does it
 pub event_turns : {Disk : Type 0} (disks : Disk → DiskState) (old : Progress Disk) (node' : Node Disk) (event : Event)
-    (reply : Result StepReport NodeFault) (waits : Waits) (sent changed text : List ℕ)
+    (reply : Result StepReport NodeFault) (seen : Sight) (came : Changes) (waits : Waits) (sent changed text : List ℕ)
     → node'.id ≡ old.node.id → node'.nodes ≡ old.node.nodes → IfOk reply (Steps disks old.node node' event)
     → IfErr reply (Stuck disks old.node node' event) → reply ≢ Err (node.Core NoMemory)
     → (is_down old.node.state.phase ≡ true → event ≡ on.Recover → Remounted old.node node' (answered reply) node'.mounted)
@@ -241,11 +277,13 @@ pub event_turns : {Disk : Type 0} (disks : Disk → DiskState) (old : Progress D
     → All IsMessage (sent_by (answered reply))
     → waits ≡ waits_behind (Some event) (sent_by (answered reply)) node'.state old.waits
     → sent ≡ old.text ++ send_lines (sent_by (answered reply))
-    → changed ≡ sent ++ changes (is_finish (Some event)) old.node.state node'.state
+    → IsSeenBefore event old.node.state seen → AreChangesSince seen node'.state came
+    → changed ≡ sent ++ news (is_finish (Some event)) came.group came.taken.items came.dropped.items
     → text ≡ changed ++ gone_news (Some event) (ended_by (answered reply))
     → Turns disks old (record old { node = node'; text = text; waits = waits }) (λ i n. MayComeOf i n event) (ended_by (answered reply))
-event_turns {Disk} disks old node' event reply waits sent changed text id nodes steps stuck memory mounting fallen counts says fits waited
-    first second third = record {
+event_turns {Disk} disks old node' event reply seen came waits sent changed text id nodes steps stuck memory mounting fallen counts says
+    fits
+    waited first sees are second third = record {
       node = same_node disks old.node node' (answered reply) id nodes counts;
       same = refl;
       turned = λ was s is stands. (let h = happens disks old.node node' event reply was s steps stuck memory mounting fallen is stands
@@ -253,9 +291,16 @@ event_turns {Disk} disks old node' event reply waits sent changed text id nodes 
           let self = old.node.id in
           let count = old.node.nodes in
           let t = after_turn self count s h.turn in
+          let moved : IsMove seen.move old.node.state.hand node'.state.hand
+          = subst (λ (v : State). IsMove seen.move v.hand node'.state.hand) (sym stands.state)
+          (subst (λ (v : State). IsMove seen.move s.state.hand v.hand) (sym h.stands.state)
+          (moved_so self count (slots_for (disks was).sectors) s event h.turn seen.move
+          (λ down. sym stands.state ∙ fallen (ap (λ (v : State). is_down v.phase) stands.state ∙ down)) sees.foresees h.may)) in
           let all : text ≡ old.text ++ call_text (Some event) (sent_by (answered reply)) old.node.state node'.state
           (ended_by (answered reply))
-          = three_texts old.text sent changed text _ _ _ first second third in
+          = three_texts old.text sent changed text _ _ _ first
+          (changed_so (is_finish (Some event)) old.node.state node'.state came sent changed (are.are old.node.state sees.is moved) second)
+          third in
           record {
             turn = h.turn;
             may = h.may;
@@ -283,17 +328,6 @@ event_turns {Disk} disks old node' event reply waits sent changed text id nodes 
           });
     }
 
--- by what was seen of the node before
-changed_so : (finished : Bool) (seen : Sight) (old new : State) (came : Changes) (sent changed : List ℕ) → seen ≡ seen_of old
-    → AreChanges seen new came
-    → changed ≡ sent ++ news finished came.group came.taken.items came.dropped.items → changed ≡ sent ++ changes finished old new
-changed_so finished seen old new came sent changed sees are said =
-    said ∙ (ap (λ (g : Option GroupView). sent ++ news finished g came.taken.items came.dropped.items) are.group
-    ∙ (ap (λ (t : List InHand). sent ++ news finished (told_anew seen.group (view_of new)) t came.dropped.items) are.taken
-    ∙ (ap (λ (d : List (ℕ × ℕ)). sent ++ news finished (told_anew seen.group (view_of new)) (taken_since seen.held new.hand) d) are.dropped
-    ∙ ap (λ (v : Sight). sent ++ news finished (told_anew v.group (view_of new)) (taken_since v.held new.hand)
-    (dropped_since v.held new.hand)) sees)))
-
 pub turn_so : {Disk : Type 0} (disks : Disk → DiskState) (old here : Progress Disk) (node' : Node Disk) (event : Event)
     (reply : Result StepReport NodeFault) (ended : CallOutcome) (finished : Bool) (seen : Sight) (came : Changes) (behind : State)
     (given : List Envelope) (waits : Waits) (sent changed text : List ℕ) → here ≡ old → node'.id ≡ here.node.id
@@ -302,7 +336,7 @@ pub turn_so : {Disk : Type 0} (disks : Disk → DiskState) (old here : Progress 
     → (is_down here.node.state.phase ≡ true → event ≡ on.Recover → Remounted here.node node' (answered reply) node'.mounted)
     → (is_down here.node.state.phase ≡ true → here.node.state ≡ down_state here.node.id)
     → CountsOf disks here.node.disk node'.disk (answered reply) → StepSays disks here.node event reply node'
-    → seen ≡ seen_of here.node.state → AreChanges seen node'.state came → finished ≡ is_finish (Some event)
+    → IsSeenBefore event here.node.state seen → AreChangesSince seen node'.state came → finished ≡ is_finish (Some event)
     → ended ≡ ended_by (answered reply)
     → given ≡ sent_by (answered reply) → All IsMessage given → behind ≡ node'.state
     → waits ≡ waits_behind (Some event) given behind here.waits
@@ -315,13 +349,12 @@ turn_so {Disk} disks old here node' event reply ended finished seen came behind 
     ended) is
     (subst (λ (e : CallOutcome). Turns disks here (record here { node = node'; text = text; waits = waits }) (λ i n. MayComeOf i n event) e)
     (sym ends_so)
-    (event_turns disks here node' event reply waits sent changed text id nodes steps stuck memory mounting fallen counts says
+    (event_turns disks here node' event reply seen came waits sent changed text id nodes steps stuck memory mounting fallen counts says
     (subst (All IsMessage) given_so fits)
     (waited ∙ (ap (λ (ms : List Envelope). waits_behind (Some event) ms behind here.waits) given_so
     ∙ ap (λ (v : State). waits_behind (Some event) (sent_by (answered reply)) v here.waits) then))
-    (first ∙ ap (λ (ms : List Envelope). here.text ++ send_lines ms) given_so)
-    (changed_so (is_finish (Some event)) seen here.node.state node'.state came sent changed sees are
-    (second ∙ ap (λ (b : Bool). sent ++ news b came.group came.taken.items came.dropped.items) finish))
+    (first ∙ ap (λ (ms : List Envelope). here.text ++ send_lines ms) given_so) sees are
+    (second ∙ ap (λ (b : Bool). sent ++ news b came.group came.taken.items came.dropped.items) finish)
     (third ∙ ap (λ (e : CallOutcome). changed ++ gone_news (Some event) e) ends_so)))
 
 -- ---- a compaction
@@ -402,7 +435,7 @@ compaction_turns {Disk} disks old node' result waits text id nodes says waited s
 pub compaction_so : {Disk : Type 0} (disks : Disk → DiskState) (old here : Progress Disk) (node' : Node Disk)
     (result : Result Unit NodeFault) (ended : CallOutcome) (seen : Sight) (came : Changes) (behind : State) (waits : Waits) (text : List ℕ)
     → here ≡ old → node'.id ≡ here.node.id → node'.nodes ≡ here.node.nodes → CompactionSays disks here.node result node'
-    → seen ≡ seen_of here.node.state → AreChanges seen node'.state came → ended ≡ compaction_end result
+    → seen ≡ seen_of hand.Turns here.node.state → AreChangesSince seen node'.state came → ended ≡ compaction_end result
     → behind ≡ node'.state → waits ≡ waits_behind None [] behind here.waits
     → text ≡ here.text ++ news false came.group came.taken.items came.dropped.items
     → Turns disks old (record here { node = node'; text = text; waits = waits }) MayCompact ended
@@ -410,4 +443,5 @@ compaction_so {Disk} disks old here node' result ended seen came behind waits te
     subst (λ (p : Progress Disk). Turns disks p (record here { node = node'; text = text; waits = waits }) MayCompact ended) is
     (subst (λ (e : CallOutcome). Turns disks here (record here { node = node'; text = text; waits = waits }) MayCompact e) (sym ends_so)
     (compaction_turns disks here node' result waits text id nodes says (waited ∙ ap (λ (v : State). waits_behind None [] v here.waits) then)
-    (changed_so false seen here.node.state node'.state came here.text text sees are said)))
+    (changed_so false here.node.state node'.state came here.text text
+    ((subst (λ (x : Sight). AreChangesSince x node'.state came) sees are).are here.node.state refl tt) said)))

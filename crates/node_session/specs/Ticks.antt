@@ -5,17 +5,10 @@ use Rattle.node_core.specs.declared.event.Event.TheVariants as on
 use Rattle.node_timers.specs.declared.wait.Wait.{Wait}
 use Rattle.node_timers.specs.declared.deadline.Deadline.{Deadline}
 use Rattle.node_timers.specs.declared.snapshot.NodeSnapshot.{NodeSnapshot}
-use Rattle.node_timers.specs.Timers.{prompted_left, soon_left, wait_of}
-use Rattle.node_timers.specs.Policy.{Policy, Counts, Dispatches, HasCome, IsDue, IsWorkDue, MayFire, MovesDeadline, Runs, Sets, asked_at}
-use Rattle.node_timers.specs.Policy.{event_at, passed, random_at, slowest_at}
+use Rattle.node_timers.specs.Timers.{wait_of}
+use Rattle.node_timers.specs.Policy.{Policy, Counts, Dispatches, HasCome, IsDue, IsWorkDue, MayFire, MovesDeadline, Prompts, SetsDeadline}
+use Rattle.node_timers.specs.Policy.{Runs, event_at, passed}
 use Rattle.node_timers.specs.Retransmission.{Waits, has_come, sent_again}
-
--- a deadline is set, where none ran
-abbrev pub SetsDeadline : NodeSnapshot → Policy → Policy → Type 0
-SetsDeadline s old new = ((d : Deadline) → Runs old s d → ⊥) → (wait : Wait) → wait_of s ≡ Some wait
-    → (d : Deadline) × (new.deadline ≡ Some d) × Sets old wait s.group d
-    × (new.asked ≡ asked_at wait s.group old) × (new.slowest ≡ slowest_at wait old) × (new.soon ≡ soon_left old.soon wait)
-    × (new.prompted ≡ prompted_left old.soon old.prompted wait) × (new.random ≡ random_at wait old)
 
 -- all that is said of a tick that answered this
 pub record Ticks (s : NodeSnapshot) (old : Policy) (fired : Option Event) (new : Policy) : Type 0 where
@@ -26,8 +19,7 @@ pub record Ticks (s : NodeSnapshot) (old : Policy) (fired : Option Event) (new :
   pub down : wait_of s ≡ None → (fired ≡ None) × (new ≡ old)
   pub moves : MovesDeadline s old new
   pub sets : SetsDeadline s old new
-  pub recovers : fired ≡ Some on.Recover → (new.soon ≡ 2) × (new.prompted ≡ true)
-  pub stays : fired ≢ Some on.Recover → (d : Deadline) → Runs old s d → (new.soon ≡ old.soon) × (new.prompted ≡ old.prompted)
+  pub prompts : Prompts fired s old new
   pub checks : Counts fired old new
   pub dispatches : Dispatches fired s old new
   pub kept : new ≡ record old {

@@ -471,7 +471,7 @@ impl<D: SectorDisk + Drop> Session<D> {
         ensures timers { self.new.timers ≡ self.old.timers }
         ensures turn { IfOk result (λ ended. Turns D.state self.old self.new (λ id nodes. MayComeOf id nodes event.now) ended) }
     {
-        let seen = self.node.seen()?;
+        let seen = self.node.seen_before(event)?;
         self.node.is_fallen();
         let reply = self.node.step(event);
         if ran_out(&reply) {

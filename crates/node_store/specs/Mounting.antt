@@ -1,5 +1,5 @@
 -- What a mounting answers of a store.
-use Rattle.std.specs.Prelude.{◌≡◌, ◌⊎◌, ℕ, Option, Some, None, Result, Ok, Err}
+use Rattle.std.specs.Prelude.{◌≡◌, ◌≢◌, ◌⊎◌, ℕ, Option, Some, None, Result, Ok, Err}
 use Rattle.sector_disk.specs.Disk.{Image}
 use Rattle.safe_cell.specs.Cell.{cell_at}
 use Rattle.job_journal.specs.Journal.{cell_damage, replay_in}
@@ -10,19 +10,7 @@ use Rattle.node_store.specs.declared.mounting.MountFault.{MountFault}
 
 -- a fault of the device, or of what it reads
 abbrev pub IsReadFault : StoreFault → Type 0
-IsReadFault StoreFault.Device = Unit {0}
-IsReadFault StoreFault.Broken = ⊥
-IsReadFault StoreFault.Exhausted = ⊥
-IsReadFault StoreFault.NotFormatted = Unit {0}
-IsReadFault (StoreFault.Damaged sector) = Unit {0}
-IsReadFault StoreFault.Full = ⊥
-IsReadFault StoreFault.NoSuchJob = ⊥
-IsReadFault StoreFault.NoMemory = ⊥
-IsReadFault StoreFault.TooSmall = ⊥
-
--- the faults that a mounting answers
-abbrev pub IsMountFault : StoreFault → Type 0
-IsMountFault fault = (fault ≡ StoreFault.TooSmall) ⊎ (fault ≡ StoreFault.NoMemory) ⊎ IsReadFault fault
+IsReadFault fault = (fault ≢ StoreFault.TooSmall) × (fault ≢ StoreFault.NoMemory)
 
 -- by the first damaged body of the counter, and its value
 abbrev pub counter_fault : Option ℕ → Option ℕ → Option StoreFault

@@ -1,10 +1,9 @@
 -- What a disk with a counter and a journal stands for, and what a mounted store knows of it.
 use Rattle.std.specs.Prelude.{◌≡◌, ◌⊎◌, ◌<◌, ◌≤◌, ℕ, ◌-◌, ◌/◌, ◌^◌, ◌==◌, min, Bool, List, IsTrue, IsFalse, Option, Some, None}
-use Rattle.std.specs.Prelude.{if◌then◌else◌, Result}
+use Rattle.std.specs.Prelude.{if◌then◌else◌}
 use Rattle.disk_layout.specs.Layout.{sectors_for}
 use Rattle.disk_layout.specs.declared.layout.TheConstants.{MOST_SLOTS}
 use Rattle.sector_disk.specs.Disk.{Image, DiskState, IsImage, AllSynced, sector_at}
-use Rattle.safe_cell.specs.Answered.{AnswersOr}
 use Rattle.safe_cell.specs.Cell.{cell_at}
 use Rattle.safe_cell.specs.Mounted.{CellState, IsCellAt, AllStand}
 use Rattle.job_model.specs.Answer.{answer_of}
@@ -14,13 +13,13 @@ use Rattle.job_model.specs.Fold.{after_command}
 use Rattle.job_model.specs.declared.command.Command.{Command as Change}
 use Rattle.job_model.specs.declared.record.Record.{Record}
 use Rattle.job_journal.specs.declared.fault.JournalFault.{JournalFault}
+use Rattle.job_journal.specs.declared.fault.JournalFault.TheVariants.{Broken, Exhausted}
 use Rattle.job_journal.specs.Areas.{EndsIn}
 use Rattle.job_journal.specs.Jobs.{Jobs, jobs_of, kept}
 use Rattle.job_journal.specs.Journal.{jobs_in, IsFormatted, IsSound, RisesByOne}
 use Rattle.job_journal.specs.Mounted.{JournalState, AllHold}
 use Rattle.job_journal.specs.Appending.{refusal}
 use Rattle.job_journal.specs.Compacting as Journal
-use Rattle.node_store.specs.declared.fault.StoreFault.{StoreFault}
 
 -- how many slots an area of a disk has
 abbrev pub slots_for : ℕ → ℕ
@@ -80,36 +79,17 @@ BeforeOrAfter store command image =
 abbrev pub StaysAs : {Disk : Type 0} → StoreState Disk → Image → Type 0
 StaysAs store image = stands_for store.journal.slots image ≡ Some (durable_of store)
 
--- a fault of the journal as one of the store
-abbrev pub fault_of : JournalFault → StoreFault
-fault_of JournalFault.Device = StoreFault.Device
-fault_of JournalFault.Broken = StoreFault.Broken
-fault_of JournalFault.Exhausted = StoreFault.Exhausted
-fault_of (JournalFault.Damaged sector) = StoreFault.Damaged sector
-fault_of JournalFault.Full = StoreFault.Full
-fault_of JournalFault.NoSuchJob = StoreFault.NoSuchJob
-fault_of JournalFault.NoMemory = StoreFault.NoMemory
-
-abbrev pub refused_by : Option JournalFault → Option StoreFault
-refused_by None = None
-refused_by (Some fault) = Some (fault_of fault)
-
 -- why a change of the jobs is refused before the device is called
-abbrev pub append_refusal : {Disk : Type 0} → StoreState Disk → Change → Option StoreFault
-append_refusal store command = refused_by (refusal (record store.journal { broken = store.broken }) command)
+abbrev pub append_refusal : {Disk : Type 0} → StoreState Disk → Change → Option JournalFault
+append_refusal store command = refusal (record store.journal { broken = store.broken }) command
 
 -- why a compaction is
-abbrev pub compaction_refusal : {Disk : Type 0} → StoreState Disk → Option StoreFault
-compaction_refusal store = refused_by (Journal.compaction_refusal (record store.journal { broken = store.broken }))
+abbrev pub compaction_refusal : {Disk : Type 0} → StoreState Disk → Option JournalFault
+compaction_refusal store = Journal.compaction_refusal (record store.journal { broken = store.broken })
 
 -- why a raise is
-abbrev pub raise_refusal : {Disk : Type 0} → StoreState Disk → Option StoreFault
-raise_refusal store = if store.broken then Some StoreFault.Broken
-    else (if store.counter.value == 2 ^ 64 - 1 then Some StoreFault.Exhausted else None)
-
--- a call answers its refusal, or else what it does or `Device`
-abbrev pub Answers : {A : Type 0} → Option StoreFault → Result A StoreFault → Type 0
-Answers refusal result = AnswersOr StoreFault.Device refusal result
+abbrev pub raise_refusal : {Disk : Type 0} → StoreState Disk → Option JournalFault
+raise_refusal store = if store.broken then Some Broken else (if store.counter.value == 2 ^ 64 - 1 then Some Exhausted else None)
 
 -- what a change has done once it answers
 abbrev pub Changed : {Disk : Type 0} → StoreState Disk → StoreState Disk → Command → ℕ → Type 0

@@ -20,7 +20,7 @@ use Rattle.node_timers.specs.declared.questions.Questions.{Questions}
 use Rattle.node_timers.specs.Questions.{asked_in, asks_at, forgotten, none_asked}
 use Rattle.node_timers.specs.Timers.{IsSet, answered, at_once, comes_soon, is_accept, is_behind_question, is_check_wait, is_late, paced}
 use Rattle.node_timers.specs.Timers.{wait_of, timer_of, first_pause, graced, is_led_by, jitter_of, lasts, lateness, later, longer_pause}
-use Rattle.node_timers.specs.Timers.{put_off}
+use Rattle.node_timers.specs.Timers.{prompted_left, put_off, soon_left}
 
 -- the policy of a node: the time that was told last, how much of what comes isn't waited for, the deadline that is set, whether its group
 -- is settled
@@ -287,6 +287,18 @@ pub record MovesDeadline (s : NodeSnapshot) (old new : Policy) : Type 0 where
   pub asked : (d : Deadline) → Runs old s d → new.asked ≡ old.asked
   -- nothing is drawn
   pub random : (d : Deadline) → Runs old s d → new.random ≡ old.random
+
+-- a deadline is set, where none ran
+abbrev pub SetsDeadline : NodeSnapshot → Policy → Policy → Type 0
+SetsDeadline s old new = ((d : Deadline) → Runs old s d → ⊥) → (wait : Wait) → wait_of s ≡ Some wait
+    → (d : Deadline) × (new.deadline ≡ Some d) × Sets old wait s.group d
+    × (new.asked ≡ asked_at wait s.group old) × (new.slowest ≡ slowest_at wait old) × (new.soon ≡ soon_left old.soon wait)
+    × (new.prompted ≡ prompted_left old.soon old.prompted wait) × (new.random ≡ random_at wait old)
+
+-- behind a recovery two checks come soon, and the node is prompted; nothing else changes that while a deadline runs
+pub record Prompts (fired : Option Event) (s : NodeSnapshot) (old new : Policy) : Type 0 where
+  pub recovers : fired ≡ Some on.Recover → (new.soon ≡ 2) × (new.prompted ≡ true)
+  pub stays : fired ≢ Some on.Recover → (d : Deadline) → Runs old s d → (new.soon ≡ old.soon) × (new.prompted ≡ old.prompted)
 
 -- each check is counted, and settles the group; nothing else does
 pub record Counts (fired : Option Event) (old new : Policy) : Type 0 where

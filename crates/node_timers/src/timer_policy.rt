@@ -6,7 +6,7 @@ ghost use Rattle.node_timers.specs.Jitter.{behind_word, drawn};
 ghost use Rattle.node_timers.specs.declared.deadline.Deadline.{Deadline};
 ghost use Rattle.node_timers.specs.declared.wait.Wait.{Wait};
 ghost use Rattle.node_timers.specs.Timers.{comes_soon, jitter_of, least_at, least_of, patience, prompted_left, raise_of, soon_left, wait_of};
-ghost use Rattle.node_timers.specs.Policy.{aged, all_answered, answer_came, answer_since, answer_took, here_came, slowest_at, slowest_held, slowest_late, asked_at, asked_by, fresh, gives_up, heard_from, in_new_group, invited_by, is_silent, jitter_at, paced_at, random_at, has_silent, event_at, looked_at, may_dispatch, passed, rests, since, spent, trip_with, without_asked, work_left, Runs, HasCome, IsDue, IsWorkDue, MayFire, Counts, Dispatches, MovesDeadline, Sets};
+ghost use Rattle.node_timers.specs.Policy.{aged, all_answered, answer_came, answer_since, answer_took, here_came, slowest_at, slowest_held, slowest_late, asked_at, asked_by, fresh, gives_up, heard_from, in_new_group, invited_by, is_silent, jitter_at, paced_at, random_at, has_silent, event_at, looked_at, may_dispatch, passed, rests, since, spent, trip_with, without_asked, work_left, Runs, HasCome, IsDue, IsWorkDue, MayFire, Counts, Dispatches, MovesDeadline, Sets, Prompts, SetsDeadline};
 
 use crate::deadline::Deadline;
 use crate::questions::Questions;
@@ -298,15 +298,11 @@ impl TimerPolicy {
         // recovery that gives up a silent member the next check comes at once, and the one behind it two round trips later; each
         // check that was set soon is counted, and nothing else is. The merge behind these, and behind a check to which another one's prompted the
         // node, comes two round trips later, and waits for nobody's turn.
-        // Also: recovers, stays, TimerPolicy::gave_up.
+        // Also: prompts, TimerPolicy::gave_up.
         // Refuses: jitter_left_out, generator_stands_still, jitter_above_its_bound, raise_of_others_not_waited_for, no_check_comes_soon, every_check_comes_soon, prompted_merge_waits_for_its_turn,
         // every_merge_comes_soon.
-        ensures set { ((d : Deadline) → Runs self.old snapshot.now d → ⊥) → (wait : Wait) → wait_of snapshot.now ≡ Some wait
-            → (d : Deadline) × (self.new.deadline ≡ Some d) × Sets self.old wait snapshot.now.group d
-            × (self.new.asked ≡ asked_at wait snapshot.now.group self.old) × (self.new.slowest ≡ slowest_at wait self.old) × (self.new.soon ≡ soon_left self.old.soon wait)
-            × (self.new.prompted ≡ prompted_left self.old.soon self.old.prompted wait) × (self.new.random ≡ random_at wait self.old) }
-        ensures recovers { result ≡ Some on.Recover → (self.new.soon ≡ 2) × (self.new.prompted ≡ true) }
-        ensures stays { result ≢ Some on.Recover → (d : Deadline) → Runs self.old snapshot.now d → (self.new.soon ≡ self.old.soon) × (self.new.prompted ≡ self.old.prompted) }
+        ensures set { SetsDeadline snapshot.now self.old self.new }
+        ensures prompts { Prompts result snapshot.now self.old self.new }
         // Promise: Each check is counted and settles the group; behind a dispatch work rests anew, the longer the longer it did; where the oldest job is
         // another one than was seen, it begins to; nothing else changes.
         // Also: dispatches, kept.

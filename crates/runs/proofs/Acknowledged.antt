@@ -140,21 +140,21 @@ pub mine : (n : ℕ) (w : Mounting) (ws : List (ℕ × Mounting)) → IsAmong (n
 mine n w ws i = among_mine (λ (x : ℕ × Mounting). x.0) (λ (x : ℕ × Mounting). x.1) n (n, w) ws refl i
 
 pub raises_are_kept : RaisesAreKept
-raises_are_kept nodes slots acts r h n w i lt k count at later =
+raises_are_kept nodes after r h n w i lt k count at later =
     let kept = h.kept n lt in
     rw (mounted_state _ _ kept w (mine n w r.mounted i))
     (raise_kept formatted kept.counts _ k w.before count (Some count) (acknowledged_counts _ _ kept k count _ at refl) at later
     (kept.answered k _ count at refl))
 
 pub jobs_are_kept : JobsAreKept
-jobs_are_kept nodes slots acts r h n w i lt k id work at later free =
+jobs_are_kept nodes after r h n w i lt k id work at later free =
     let kept = h.kept n lt in
     rw (mounted_state _ _ kept w (mine n w r.mounted i))
     (job_kept id work formatted kept.counts _ k w.before (Some id) (acknowledged_counts _ _ kept k id _ at refl) at later
     (kept.answered k _ id at refl) free)
 
 pub doubts_apart : DoubtsApart
-doubts_apart nodes slots acts r h n lt j k t u before at none later =
+doubts_apart nodes after r h n lt j k t u before at none later =
     elim ((h.kept n lt).last_of_life j t at none) [
       | inl end ↦ absurd (omega (arith, end, before, slice_get_within _ k u later))
       | inr it ↦ (let w = of_mine (λ (x : ℕ × Mounting). x.0) (λ (x : ℕ × Mounting). x.1) n it.1 r.mounted (among_of _ it.0 it.1 it.2) in

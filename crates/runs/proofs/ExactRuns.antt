@@ -45,7 +45,8 @@ use Rattle.runs.proofs.Bringing.{BringsBy}
 use Rattle.runs.specs.ExactRuns.{refusal_at, ComesOfMounting, MayCome, MayCompact, IsExactStep, IsExactRun}
 use Rattle.runs.specs.Reporting.{Moment, Report, moment_of, report_of}
 use Rattle.runs.specs.Growth.{acts_in, IsLeft, IsNext}
-use Rattle.runs.specs.Headline.{Headline, NoAreaExhausted}
+use Rattle.runs.specs.Reported.{IsReported}
+use Rattle.runs.specs.Headline.{NoAreaExhausted}
 use Rattle.runs.specs.Run.{world_at}
 use Rattle.runs.specs.Uses.{NoneIsSpent}
 use Rattle.runs.proofs.Finishing.{loses_none, link_none}
@@ -487,8 +488,8 @@ pub run_of : (slots nodes : ℕ) (acts : List Act) (steps : List Step) → IsSho
 run_of slots nodes acts steps short exact = run_from slots nodes 1 acts steps (start nodes) exact (length_openings 0 nodes)
     (opens_few nodes) (omega (arith, short))
 
--- that of a headline is one
-pub run_in : (nodes slots : ℕ) (acts : List Act) (r : Report) (h : Headline nodes slots acts r)
+-- that of a report is one
+pub run_in : (nodes slots : ℕ) (acts : List Act) (r : Report) (h : IsReported nodes slots acts r)
     → IsRunOf nodes slots (start nodes) acts h.steps
 run_in nodes slots acts r h = run_of slots nodes acts h.steps h.short h.is_run
 

@@ -1,10 +1,7 @@
 -- A job is done only after an owner of its queue finished it, which the report shows.
 use Rattle.std.proofs.Common.{◌≡◌, ◌≢◌, ℕ, zero, suc, ◌<◌, ◌≤◌, List, [], ◌∷◌, length, map, take, slice_get, refl, sym, ◌∙◌, ap, subst, inl}
-use Rattle.std.proofs.Common.{inr, arith, rules, Option, Some, Contains}
-use Rattle.std.specs.Prelude.{option_map}
-use Rattle.std.proofs.lemmas.Option.{slice_get-map, slice_get_within}
-use Rattle.runs.specs.declared.outcome.Outcome.TheVariants as outcome
-use Rattle.runs.specs.declared.outcome.ActRefusal.{ActRefusal}
+use Rattle.std.proofs.Common.{inr, arith, rules, Some, Contains}
+use Rattle.std.proofs.lemmas.Option.{slice_get_within}
 use Rattle.std.proofs.lemmas.List.{append-nil, length-take}
 use Rattle.job_model.specs.declared.work.Work.{Work}
 use Rattle.job_model.specs.declared.node_command.NodeCommand.TheVariants.{Raise, Put, Done}
@@ -20,7 +17,6 @@ use Rattle.histories.specs.Moments.{IsMoment}
 use Rattle.histories.specs.declared.attempt.Attempt.{Attempt}
 use Rattle.histories.proofs.PublicLaws.{OwnedAt, pending_was_put, work_is_job}
 use Rattle.schedule.specs.declared.act.Act.{Act}
-use Rattle.schedule.specs.declared.act.Act.TheVariants as act
 use Rattle.std.specs.List.{range_with_len}
 use Rattle.runs.specs.World.{start}
 use Rattle.runs.specs.Step.{Step}
@@ -28,15 +24,15 @@ use Rattle.runs.specs.Run.{world_at, history_in, histories_of}
 use Rattle.runs.specs.Acts.{IsRunOf}
 use Rattle.runs.specs.declared.attempt_at.AttemptAt.{AttemptAt}
 use Rattle.runs.specs.Reporting.{Moment, Report, own_commands, first_report, report_of}
-use Rattle.runs.specs.Headline.{IsFinished, IsShown}
-use Rattle.runs.specs.Uses.{first_moments, report_within, DoneWasFinished}
+use Rattle.runs.specs.Headline.{IsFinished, IsShown, first_moments}
+use Rattle.runs.specs.Uses.{DoneWasFinished}
 use Rattle.runs.proofs.Elements.{among, contains}
 use Rattle.runs.proofs.Exact.{all_acts_run}
 use Rattle.runs.proofs.Ended.{EndedIn, done_ended}
 use Rattle.runs.proofs.Keeping.{AllStates}
 use Rattle.runs.proofs.Runs.{node_of, how_many, opened, runs_are_bundles}
 use Rattle.runs.proofs.RunBooks.{state_moment}
-use Rattle.runs.proofs.Reported.{acts_are_reported, acts_reported, state_there}
+use Rattle.runs.proofs.Reported.{state_there}
 use Rattle.runs.proofs.Acknowledged.{among_at, among_of}
 use Rattle.runs.proofs.Moments.{acts_front, front_report}
 use Rattle.runs.proofs.Reports.{commands_reported, moments_are, moments_from, opening_is}
@@ -72,6 +68,22 @@ get_front (suc k) j [] x at = absurd cc
 get_front (suc k) zero (y ∷ xs) x at = at
 get_front (suc k) (suc j) (y ∷ xs) x at = get_front k j xs x at
 
+front_moments : (nodes k : ℕ) (acts : List Act) (steps : List Step)
+    → (report_of nodes (take k acts) steps).moments ≡ take k (report_of nodes acts steps).moments
+front_moments nodes k acts steps =
+    ap (λ (x : Report). x.moments) (front_report nodes k acts steps)
+    ∙ (moments_are nodes (take k acts) (take k steps) ∙ (moments_front k nodes acts steps (start nodes)
+    ∙ ap (λ (ms : List Moment). take k ms) (sym (moments_are nodes acts steps))))
+
+-- what the report of the first acts shows, the first moments show
+front_shows : (nodes k n : ℕ) (acts : List Act) (steps : List Step) (v : State) → IsShown (report_of nodes (take k acts) steps) n v
+    → IsShown (first_moments k (report_of nodes acts steps)) n v
+front_shows nodes k n acts steps v shown = elim shown [
+  | inl first ↦ inl (subst (λ (xs : List State). slice_get xs n ≡ Some v) (opening_is nodes (take k acts) steps
+      ∙ sym (opening_is nodes acts steps)) first)
+  | inr it ↦ inr (it.0, subst (λ (ms : List Moment). Contains ms it.0) (front_moments nodes k acts steps) it.1, it.2, it.3)
+]
+
 -- ---- a job in hand was put
 
 in_hand_put : (nodes slots n : ℕ) (acts : List Act) (steps : List Step) (v : State) (job : InHand)
@@ -106,7 +118,8 @@ opens_owned nodes n s at = (let first : s ≡ opening n = opened nodes 0 n s n (
 -- what is finished in the first acts, the whole report shows
 finished_within : (nodes slots k : ℕ) (acts : List Act) (steps : List Step) (origin id : ℕ) → IsRunOf nodes slots (start nodes) acts steps
     → origin < nodes
-    → EndedIn nodes (start nodes) (take k acts) (take k steps) origin id → IsFinished nodes acts steps k origin id
+    → EndedIn nodes (start nodes) (take k acts) (take k steps) origin id
+    → IsFinished (λ j. report_of nodes (take j acts) steps) (report_of nodes acts steps) k origin id
 finished_within nodes slots k acts steps origin id run within ended =
     let worker : ℕ = ended.0 in
     let place : ℕ = ended.1 in
@@ -134,28 +147,28 @@ finished_within nodes slots k acts steps origin id run within ended =
       was_put.3,
     ) in
     let soon : worker ≢ origin → suc place < k = λ ne. omega (arith, ended.4 ne, few) in
-    let at_front : slice_get (moments_from nodes (start nodes) acts steps) place ≡ Some f.moment =
-    get_front k place (moments_from nodes (start nodes) acts steps) f.moment
-    (subst (λ (ms : List Moment). slice_get ms place ≡ Some f.moment) (moments_front k nodes acts steps (start nodes)) f.at) in
+    let ms : List Moment = moments_from nodes (start nodes) acts steps in
+    let in_front : slice_get (take k ms) place ≡ Some f.moment =
+    subst (λ (xs : List Moment). slice_get xs place ≡ Some f.moment) (moments_front k nodes acts steps (start nodes)) f.at in
+    let at_front : slice_get ms place ≡ Some f.moment = get_front k place ms f.moment in_front in
+    let no_more : length (take k ms) ≤ k = rw (length-take k ms) (omega arith) in
+    let in_time : place < k = omega (arith, slice_get_within (take k ms) place f.moment in_front, no_more) in
+    let shown : IsShown (report_of nodes (take place acts) steps) worker f.was.state =
+    subst (λ (x : Report). IsShown x worker f.was.state) before
+    (report_shows nodes slots worker (take place acts) (take place steps) f.was.state front moment) in
     let told : slice_get (report_of nodes acts steps).moments place ≡ Some f.moment =
     subst (λ (ms : List Moment). slice_get ms place ≡ Some f.moment) (sym (moments_are nodes acts steps)) at_front in
     record {
       worker = worker;
       place = place;
-      at = ap (λ (xs : List Act). slice_get xs place) (sym (acts_reported nodes slots (take k acts) (take k steps) (start nodes)
-          (acts_front k nodes slots acts steps (start nodes) run)))
-          ∙ slice_get-map (λ (m : Moment). m.act) (moments_from nodes (start nodes) (take k acts) (take k steps)) place
-          ∙ ap (λ (o : Option Moment). option_map (λ (m : Moment). m.act) o) f.at ∙ ap Some f.of_act;
       moment = f.moment;
       told = told;
-      not_refused = f.not_refused;
+      of_act = f.of_act;
+      not_refused = search (rules, f.not_refused);
+      in_time = in_time;
       earlier = search (rules, soon);
       state = f.was.state;
-      works = (
-        subst (λ (x : Report). IsShown x worker f.was.state) before
-            (report_shows nodes slots worker (take place acts) (take place steps) f.was.state front moment),
-        f.work.is_normal,
-      );
+      works = (front_shows nodes place worker acts steps f.was.state shown, f.work.is_normal);
       work = f.work.job.work;
       in_hand = contains _ f.was.state.hand
           (subst (λ (j : InHand). IsAmong j f.was.state.hand) (λ i. record {
@@ -170,7 +183,8 @@ finished_within nodes slots k acts steps origin id run within ended =
 
 pub finished_at : (nodes slots : ℕ) (acts : List Act) (steps : List Step) → IsRunOf nodes slots (start nodes) acts steps
     → (k : ℕ) (t : AttemptAt) (id : ℕ) → IsAmong t (report_of nodes (take k acts) steps).commands → t.node < nodes
-    → t.tried.command ≡ Done id → IsFinished nodes acts steps k t.node id
+    → t.tried.command ≡ Done id
+    → IsFinished (λ j. report_of nodes (take j acts) steps) (report_of nodes acts steps) k t.node id
 finished_at nodes slots acts steps run k t id among within done =
     let tried = subst (λ (x : Report). IsAmong t x.commands) (front_report nodes k acts steps) among in
     elim (done_ended (λ o j. ⊥) slots nodes (take k acts) (take k steps) (start nodes) (first_report nodes)
@@ -184,60 +198,26 @@ finished_at nodes slots acts steps run k t id among within done =
 
 -- ---- what a user takes
 
-front_moments : (nodes k : ℕ) (acts : List Act) (steps : List Step)
-    → (report_of nodes (take k acts) steps).moments ≡ take k (report_of nodes acts steps).moments
-front_moments nodes k acts steps =
-    ap (λ (x : Report). x.moments) (front_report nodes k acts steps)
-    ∙ (moments_are nodes (take k acts) (take k steps) ∙ (moments_front k nodes acts steps (start nodes)
-    ∙ ap (λ (ms : List Moment). take k ms) (sym (moments_are nodes acts steps))))
-
--- what the report of the first acts shows, the first moments show
-front_shows : (nodes k n : ℕ) (acts : List Act) (steps : List Step) (v : State) → IsShown (report_of nodes (take k acts) steps) n v
-    → IsShown (first_moments k (report_of nodes acts steps)) n v
-front_shows nodes k n acts steps v shown = elim shown [
-  | inl first ↦ inl (subst (λ (xs : List State). slice_get xs n ≡ Some v) (opening_is nodes (take k acts) steps
-      ∙ sym (opening_is nodes acts steps)) first)
-  | inr it ↦ inr (it.0, subst (λ (ms : List Moment). Contains ms it.0) (front_moments nodes k acts steps) it.1, it.2, it.3)
-]
-
--- an act that is reported has its moment
-moment_at : (ms : List Moment) (place : ℕ) (a : Act) → slice_get (map (λ (m : Moment). m.act) ms) place ≡ Some a
-    → (m : Moment) × (slice_get ms place ≡ Some m) × (m.act ≡ a)
-moment_at [] place a at = absurd cc
-moment_at (m ∷ ms) zero a at = (m, refl, cc at)
-moment_at (m ∷ ms) (suc place) a at = moment_at ms place a at
-
 pub done_was_finished : DoneWasFinished
-done_was_finished nodes slots acts r h k t id i within is =
-    let by = h.finished k t id (contains t (report_within nodes k acts h.steps).commands i) within is in
-    let commands = own_commands t.node (report_within nodes by.place acts h.steps).commands in
-    let job : InHand = record { origin = t.node; id = id; work = by.work } in
-    let few : by.place < k = omega (arith, slice_get_within (take k acts) by.place _ by.at, length-take k acts) in
-    let of_act : slice_get (map (λ (m : Moment). m.act) r.moments) by.place ≡ Some (act.Finish by.worker t.node id) =
-    ap (λ (xs : List Act). slice_get xs by.place) (acts_are_reported nodes slots acts r h).0 ∙ get_front k by.place acts _ by.at in
-    let m = moment_at r.moments by.place (act.Finish by.worker t.node id) of_act in
-    let at : slice_get (report_of nodes acts h.steps).moments by.place ≡ Some m.0 =
-    subst (λ (x : Report). slice_get x.moments by.place ≡ Some m.0) h.reported m.1 in
-    let same : by.moment ≡ m.0 = cc (by.told, at) in
-    let shows : IsShown (first_moments by.place r) by.worker by.state =
-    subst (λ (x : Report). IsShown (first_moments by.place x) by.worker by.state) (sym h.reported)
-    (front_shows nodes by.place by.worker acts h.steps by.state by.works.0) in (
+done_was_finished nodes after r h k t id i within is =
+    let by = h.finished k t id (contains t (after k).commands i) within is in
+    let job : InHand = record { origin = t.node; id = id; work = by.work } in (
       by.worker,
       by.place,
-      m.0,
-      few,
+      by.moment,
+      by.in_time,
       by.earlier,
-      m.1,
-      m.2,
-      subst (λ (x : Moment). (why : ActRefusal) → x.outcome ≢ outcome.Refused why) same by.not_refused,
+      by.told,
+      by.of_act,
+      by.not_refused,
       (
         by.state,
         job,
-        (shows, by.works.1),
+        by.works,
         among job by.state.hand by.in_hand,
         refl,
         refl,
         by.owned,
-        (by.put.0, among by.put.0 commands by.put.1, by.put.2, by.put.3),
+        (by.put.0, among by.put.0 (own_commands t.node (after by.place).commands) by.put.1, by.put.2, by.put.3),
       ),
     )

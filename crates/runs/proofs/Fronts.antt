@@ -6,7 +6,7 @@ use Rattle.runs.specs.Step.{Step, world_after}
 use Rattle.runs.specs.Run.{world_at}
 use Rattle.runs.specs.Acts.{IsStepOf, IsLawful, IsRunOf}
 use Rattle.runs.specs.Reporting.{Moment, Report, moment_of, grown, first_report, report_from}
-use Rattle.runs.specs.Headline.{Headline}
+use Rattle.runs.specs.Reported.{IsReported}
 use Rattle.runs.proofs.ExactRuns.{run_in}
 use Rattle.runs.proofs.Reports.{moments_from, moments_are}
 
@@ -49,8 +49,8 @@ front (suc k) nodes slots (a ∷ acts) (step ∷ steps) w r m run at =
       grows = it.grows;
     }
 
--- the same of a report with a headline
-pub front_of : (nodes slots : ℕ) (acts : List Act) (r : Report) (h : Headline nodes slots acts r) (k : ℕ) (m : Moment)
+-- the same of the report of a run
+pub front_of : (nodes slots : ℕ) (acts : List Act) (r : Report) (h : IsReported nodes slots acts r) (k : ℕ) (m : Moment)
     → slice_get r.moments k ≡ Some m
     → Front nodes slots (start nodes) (first_report nodes) acts h.steps k m
 front_of nodes slots acts r h k m at =

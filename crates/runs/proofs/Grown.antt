@@ -11,7 +11,7 @@ use Rattle.runs.specs.ExactRuns.{IsExactRun, IsExactStep}
 use Rattle.runs.specs.declared.outcome.Outcome.TheVariants.{Refused}
 use Rattle.runs.specs.declared.outcome.ActRefusal.TheVariants.{Node as OfNode}
 use Rattle.runs.specs.Reporting.{Moment, Report, moment_of, report_of, first_report, grown, report_from}
-use Rattle.runs.specs.Headline.{Headline}
+use Rattle.runs.specs.Headline.{IsPromised}
 use Rattle.runs.specs.Growth.{acts_in, IsNext, RunsOpen, RunsGrow, LeftKeeps}
 use Rattle.runs.proofs.ExactRuns.{exact_next, left_run}
 use Rattle.runs.proofs.Headlines.{keeps}
@@ -90,5 +90,5 @@ runs_grow nodes slots w r a step left next few never_area_exhausted =
 
 pub left_keeps : LeftKeeps
 left_keeps nodes slots w r left =
-    subst (λ (x : Report). Headline nodes slots (acts_in r) x) (sym left.reported)
+    subst (λ (x : Report). IsPromised nodes slots (acts_in r) x) (sym left.reported)
     (keeps nodes slots (acts_in r) left.steps left.short left.is_run)

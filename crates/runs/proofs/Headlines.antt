@@ -1,5 +1,5 @@
 -- Every run of a schedule keeps groups and jobs.
-use Rattle.std.proofs.Common.{◌≡◌, ◌≢◌, ℕ, suc, ◌<◌, List, [], take, drop, slice_get, refl, sym, ◌∙◌, ap, subst, inl, inr, arith, rules}
+use Rattle.std.proofs.Common.{◌≡◌, ℕ, suc, ◌<◌, List, [], take, drop, slice_get, refl, sym, ◌∙◌, ap, subst, inl, inr, arith, rules}
 use Rattle.std.proofs.Common.{Option, Some, None, IfSome}
 use Rattle.std.proofs.lemmas.List.{take-append-drop}
 use Rattle.group_task.specs.Group.{Group}
@@ -30,20 +30,20 @@ use Rattle.schedule.specs.declared.act.Act.{Act}
 use Rattle.runs.specs.World.{start, node_in}
 use Rattle.runs.specs.Step.{Step}
 use Rattle.runs.specs.Run.{RunFrom, world_at, history_in, histories_of}
-use Rattle.runs.specs.Given.{AllGiven, IsOnceEach, groups_of}
+use Rattle.runs.specs.Given.{AllGiven, groups_of}
 use Rattle.runs.specs.Acts.{IsRunOf}
 use Rattle.histories.specs.Counts.{IsShort}
 use Rattle.runs.specs.Reporting.{Moment, Report, own_commands, own_mountings, report_of}
 use Rattle.runs.proofs.Finished.{finished_at}
 use Rattle.runs.specs.ExactRuns.{IsExactRun}
-use Rattle.runs.specs.Headline.{Headline, IsFinished, IsShown, IsWorking, NamesGiven, EverySchedule}
+use Rattle.runs.specs.Headline.{IsFinished, IsPromised, IsShown, IsWorking, NamesGiven, EverySchedule}
 use Rattle.runs.proofs.Runs.{history_follows, runs_are_bundles, starts_opened}
 use Rattle.runs.proofs.RunBooks.{state_moment, run_book}
-use Rattle.runs.proofs.Given.{given_before, given_inside, none_twice}
+use Rattle.runs.proofs.Given.{given_before, given_inside}
 use Rattle.runs.proofs.Tagged.{history_few}
 use Rattle.runs.proofs.Reports.{moments_from, opening_is, moments_are, groups_are, commands_reported, mounted_reported}
 use Rattle.runs.proofs.Acknowledged.{among_at, among_of}
-use Rattle.runs.proofs.Elements.{among, contains, once_pairs, some_more}
+use Rattle.runs.proofs.Elements.{among, contains, some_more}
 use Rattle.runs.proofs.Exact.{all_acts_run}
 use Rattle.runs.proofs.ExactRuns.{exact_run, run_of}
 use Rattle.runs.proofs.Picked.{above, own_counts, own_counts_of, rising_places}
@@ -96,11 +96,6 @@ module _ (nodes slots : ℕ) (acts : List Act) (steps : List Step) (is_run : IsR
       let g : Group = slice_index_or gs i d in
       rising_places g.creator gs 0 (giver_rises g (among_of gs i g at_i)) i j g (slice_index_or gs j d) lt at_i
       (slice_get-get_or gs j d within) refl (sym same)
-
-given_once : (nodes slots : ℕ) (acts : List Act) (steps : List Step) → IsRunOf nodes slots (start nodes) acts steps
-    → IsOnceEach (report_of nodes acts steps).groups
-given_once nodes slots acts steps is_run = rw (groups_are nodes slots acts steps is_run)
-    (none_twice nodes steps (all_acts_run nodes slots (start nodes) acts steps is_run))
 
 down_or_given : (P : Group → Type 0) (states : List NodeState) (n : ℕ)
     → ((s : NodeState) → slice_get states n ≡ Some s → StateHolds P s.state) → StateHolds P (node_in states n).state
@@ -201,16 +196,6 @@ book_by r it = record {
   task = λ n s works. task_by it.book n s.group s.task ((it.agrees n s works.0).1 works.1);
 }
 
--- ---- 5
-
-shown_coordinator : (r : Report) (h : HasBook r) (n m : ℕ) (s t : State) → IsShown r n s → IsShown r m t → IsInGroup s.phase
-    → IsInGroup t.phase → s.group ≡ t.group → s.coordinator ≡ t.coordinator
-shown_coordinator r h n m s t a b in_s in_t same = h.coordinator n s a in_s
-    ∙ (ap (λ (g : Group). g.creator) same ∙ sym (h.coordinator m t b in_t))
-
-shown_task : (r : Report) (h : HasBook r) (n m : ℕ) (s t : State) → IsWorking r n s → IsWorking r m t → s.group ≡ t.group → s.task ≡ t.task
-shown_task r h n m s t a b same = (h.task n s a).0 ∙ (ap (λ (g : Group). Some (task_of g (h.members g))) same ∙ sym (h.task m t b).0)
-
 -- ---- jobs
 
 -- a state that is shown in Normal is a moment of the node's history
@@ -249,35 +234,30 @@ worker_of_two nodes acts steps run n m s t of_s of_t same a b in_s in_t queue =
 
 -- each part by its law, which may take fewer premises than the part has
 pub keeps : (nodes slots : ℕ) (acts : List Act) (steps : List Step) → IsShort acts → IsExactRun nodes slots (start nodes) acts steps
-    → Headline nodes slots acts (report_of nodes acts steps)
+    → IsPromised nodes slots acts (report_of nodes acts steps)
 keeps nodes slots acts steps short exact =
     let is_run : IsRunOf nodes slots (start nodes) acts steps = run_of slots nodes acts steps short exact in
     let run : RunFrom nodes (start nodes) steps = all_acts_run nodes slots (start nodes) acts steps is_run in
     let few : IsShort steps = omega (arith, short, as_many nodes slots acts steps (start nodes) is_run) in
     let r : Report = report_of nodes acts steps in
     let the_book : HasBook r = book_by r (its_book nodes acts steps run) in
-    let apart : AllPairs (λ (g h : Group). g ≢ h) r.groups = once_pairs r.groups (given_once nodes slots acts steps is_run) in
     let ended : (k : ℕ) (t : AttemptAt) (id : ℕ) → Contains (report_of nodes (take k acts) steps).commands t → t.node < nodes
-    → t.tried.command ≡ Done id → IsFinished nodes acts steps k t.node id =
+    → t.tried.command ≡ Done id → IsFinished (λ j. report_of nodes (take j acts) steps) r k t.node id =
     λ k t id tried within done. finished_at nodes slots acts steps is_run k t id
     (among t (report_of nodes (take k acts) steps).commands tried) within done in
     record {
-      short = short;
-      steps = steps;
-      is_run = search (rules, exact);
-      reported = search rules;
-      kept = search (rules, kept_by_report nodes slots acts steps is_run few);
-      counted = search (rules, each_counted nodes slots acts steps is_run);
-      rising = search (rules, all_rising nodes slots acts steps is_run);
-      once = search (rules, apart);
-      given = search (rules, moment_given nodes slots acts steps is_run);
-      members = the_book.members;
-      coordinator = search (rules, the_book.coordinator);
-      task = search (rules, the_book.task);
-      one_coordinator = search (rules, shown_coordinator r the_book);
-      one_task = search (rules, shown_task r the_book);
-      one_worker = search (rules, worker_of_two nodes acts steps run);
-      finished = search (rules, ended);
+      run = record { short = short; steps = steps; is_run = search (rules, exact); reported = search rules };
+      keeps = record {
+        kept = search (rules, kept_by_report nodes slots acts steps is_run few);
+        counted = search (rules, each_counted nodes slots acts steps is_run);
+        rising = search (rules, all_rising nodes slots acts steps is_run);
+        given = search (rules, moment_given nodes slots acts steps is_run);
+        members = the_book.members;
+        coordinator = search (rules, the_book.coordinator);
+        task = search (rules, the_book.task);
+        one_worker = search (rules, worker_of_two nodes acts steps run);
+        finished = search (rules, ended);
+      };
     }
 
 pub every_schedule : EverySchedule

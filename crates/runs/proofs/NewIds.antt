@@ -34,7 +34,7 @@ put_passes d (false ∷ cs) (t ∷ ts) (suc k) (suc n) id work a counts at lt is
     put_passes d cs ts k n id work a counts at (omega (arith, lt)) is
 
 pub ids_are_new : IdsAreNew
-ids_are_new nodes slots acts r h n within j k work more i l lt at_j at_k =
+ids_are_new nodes after r h n within j k work more i l lt at_j at_k =
     let kept = h.kept n within in
     let later : l ≡ (stands_after kept.counts (own_commands n r.commands) k).next = kept.answered k _ l at_k refl in
     rw later (put_passes formatted kept.counts (own_commands n r.commands) j k i work (Some i)

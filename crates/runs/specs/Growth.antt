@@ -11,7 +11,7 @@ use Rattle.runs.specs.ExactRuns.{IsExactStep, IsExactRun}
 use Rattle.runs.specs.Acts.{IsStepOf, act_outcome}
 use Rattle.histories.specs.Possible.{IsOfSlots}
 use Rattle.runs.specs.Reporting.{Moment, Report, grown, report_of}
-use Rattle.runs.specs.Headline.{Headline}
+use Rattle.runs.specs.Headline.{IsPromised}
 use Rattle.histories.specs.Counts.{IsShort}
 
 -- the acts so far
@@ -49,4 +49,4 @@ RunsGrow = (nodes slots : ℕ) (w : World) (r : Report) (a : Act) (step : Step) 
 
 -- and what is promised of every schedule holds of its report
 abbrev pub LeftKeeps : Type 0
-LeftKeeps = (nodes slots : ℕ) (w : World) (r : Report) → IsLeft nodes slots w r → Headline nodes slots (acts_in r) r
+LeftKeeps = (nodes slots : ℕ) (w : World) (r : Report) → IsLeft nodes slots w r → IsPromised nodes slots (acts_in r) r

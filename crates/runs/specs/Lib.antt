@@ -7,6 +7,7 @@ pub mod ExactRuns
 pub mod Given
 pub mod Tagged
 pub mod Reporting
+pub mod Reported
 pub mod Headline
 pub mod Growth
 pub mod Events

@@ -11,7 +11,7 @@ ghost use Rattle.runs.specs.Strangers.{NoStrangers};
 ghost use Rattle.runs.specs.Uses.{ActsAreReported, RaisesAreKept, JobsAreKept, DonesAreKept, DoubtsApart};
 ghost use Rattle.runs.specs.Uses.{GivenAtOnePlace, LaterIsGreater, NamedWasGiven};
 ghost use Rattle.runs.specs.Uses.{RefusedChangesNothing, DoneHasItsEffect, DownRefusesCompaction, NoneIsSpent, AnsweredIsAcknowledged, IdsAreNew, LeaderIsCreator, LeaderCountsRise};
-ghost use Rattle.runs.specs.Uses.{OneLeader, OneOwnerEach, MembersAgree, OneWorkerEach, DoneWasFinished};
+ghost use Rattle.runs.specs.Uses.{OneLeader, OneOwnerEach, MembersAgree, OneWorkerEach, DoneWasFinished, OneCoordinator, OneTask};
 
 /// Groups and jobs are kept on every schedule: whatever run its acts have in which no area is used up, each mounting of a node gives what a front of its
 /// commands gives, every acknowledged one included; no group number is given twice or named before it was given; and one
@@ -136,6 +136,12 @@ pub fn number_names_the_leader()
 /// A group's number is a fence: whoever compares numbers for equality takes two leaders of one number for one node, is told
 /// one owner of each queue, and one list of members.
 pub fn number_is_a_fence()
+    // Promise: Two states that are shown in one group, whether their nodes work in it or bring it together, have one coordinator.
+    // Refuses: coordinator_of_working_nodes.
+    ensures coordinator { OneCoordinator }
+    // Promise: Two moments that work in one group have one task.
+    // Refuses: task_of_one_node.
+    ensures task { OneTask }
     // Promise: A group number is a fence: two moments, of any nodes, that lead one group are of one node, working or still bringing
     // the group together.
     // Refuses: coordinator_of_working_nodes.
@@ -152,7 +158,7 @@ pub fn number_is_a_fence()
 /// before, and nothing shows it earlier.
 pub fn numbers_are_new()
     // Promise: No group number stands at two places.
-    // Refuses: once_for_one_node.
+    // Refuses: rising_for_one_node, last_node_not_rising.
     ensures once { GivenAtOnePlace }
     // Promise: Of two groups of one node the later one has the greater count.
     // Refuses: last_node_not_rising.

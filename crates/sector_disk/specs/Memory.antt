@@ -1,7 +1,9 @@
 -- A disk in memory as its contracts see it, and what it says of each moment.
 use Rattle.std.specs.Prelude.{◌⊎◌, ℕ, ◌+◌, ◌-◌, ◌^◌, ◌≤◌, List, [], ◌∷◌, length, get_or, drop, replicate, min, Bool, true, false, not, ◌==◌}
-use Rattle.std.specs.Prelude.{◌||◌, IsFalse, Option, Some, None}
+use Rattle.std.specs.Prelude.{◌||◌, ◌≡◌, IsTrue, IsFalse, IsOk, IsErrOf, Result, Option, Some, None}
 use Rattle.sector_disk.specs.Disk.{Image, DiskState, IsImageOf}
+use Rattle.sector_disk.specs.declared.fault.DiskFault.{DiskFault}
+use Rattle.sector_disk.specs.declared.fault.DiskFault.TheVariants.{Device}
 
 -- A time from one sync to the next: what reads gave at its end, and the sectors that writes took, done or failed.
 pub record Span : Type 0 where
@@ -66,6 +68,19 @@ spent (Some calls) = Some (calls - 1)
 -- the count of failures after one more: it stays at its greatest value
 abbrev pub risen : ℕ → ℕ
 risen failures = min (failures + 1) (2 ^ 64 - 1)
+
+-- One call, and a sync where it passes. Where it is armed, no call passes but those that are left; where nothing is unsynced it takes no
+-- memory, and exactly these pass. One that fails makes sure of nothing.
+pub record IsSync (old new : Memory) (result : Result (Unit {0}) DiskFault) : Type 0 where
+  pub armed : IsOk result → IsTrue (passes old.left)
+  pub idle : ((at : ℕ) → IsFalse (is_unsynced old at)) → IsTrue (passes old.left) → IsOk result
+  pub ok : IsOk result → new ≡ record old {
+    synced = old.contents;
+    unsynced = replicate (length old.unsynced) false;
+    spans = new.spans;
+    left = spent old.left;
+  }
+  pub failed : IsErrOf result Device → new ≡ record old { failures = risen old.failures; left = spent old.left }
 
 -- a disk on which all is synced and no time is recorded
 abbrev pub all_synced : Image → ℕ → Memory

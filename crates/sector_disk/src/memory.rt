@@ -1,7 +1,7 @@
 // A disk in memory that fails and crashes on demand.
 ghost use Rattle.std.specs.Prelude.{◌≡◌, ◌<◌, ◌≤◌, ◌⊎◌, ◌↔◌, ◌∷◌, [], ◌++◌, length, set, get_or, replicate, IsOk, IsTrue, IsFalse, IsErrOf, IfOk, OnErr, Vec, is_ok, false, true, Some, Option, ℕ};
 ghost use Rattle.sector_disk.specs.Disk.{Counts, Touches, AllSynced, IsImage, nothing, sector_at};
-ghost use Rattle.sector_disk.specs.Memory.{Memory, state_of, passes, spent, risen, blank, all_synced, is_unsynced};
+ghost use Rattle.sector_disk.specs.Memory.{Memory, IsSync, state_of, passes, spent, risen, blank, all_synced, is_unsynced};
 ghost use Rattle.sector_disk.specs.Crash.{IsCrashed, torn_at};
 ghost use Rattle.sector_disk.specs.Moments.{laws};
 ghost use Rattle.sector_disk.specs.Undo.{AddsNote, IsNoted, EndsTime, EndsNothing, undone};
@@ -252,24 +252,11 @@ impl SectorDisk for MemDisk {
         ensures touches { IsTrue true → Touches nothing (state_of self.old) (state_of self.new) }
         ensures syncs_all { IsTrue true → IsOk result → AllSynced (state_of self.new) }
 
-        // Where it is armed, no call passes but those that are left.
-        ensures armed { IsOk result → IsTrue (passes self.old.left) }
-        // Where nothing is unsynced it takes no memory, and exactly the calls that are left pass.
-        ensures idle { ((at : ℕ) → IsFalse (is_unsynced self.old at)) → IsTrue (passes self.old.left) → IsOk result }
         // Promise: With calls left a read passes, and a sync where nothing is unsynced; a write or another sync fails only for want
         // of memory.
-        // Also: idle, MemDisk::read, MemDisk::write.
+        // Also: MemDisk::read, MemDisk::write.
         // Refuses: sync_of_a_great_disk_fails.
-        ensures ok { IsOk result → self.new ≡ record self.old {
-          synced = self.old.contents;
-          unsynced = replicate (length self.old.unsynced) false;
-          spans = self.new.spans;
-          left = spent self.old.left;
-        } }
-
-        // A sync that fails makes sure of nothing.
-        ensures failed { IsErrOf result Device
-            → self.new ≡ record self.old { failures = risen self.old.failures; left = spent self.old.left } }
+        ensures sync { IsSync self.old self.new result }
     {
         let passes = spend(&mut self.left);
         if !passes {
@@ -296,20 +283,10 @@ impl SectorDisk for MemDisk {
         ensures touches { IsTrue true → Touches nothing (state_of self.old) (state_of self.new) }
 
         // It is a sync, counted as one.
-        // Promise: A disk in memory makes a sync that may be left at once, and it is one call.
-        // Also: armed, idle, ok, failed.
-        // Refuses: left_sync_uncounted, left_sync_not_made.
         ensures syncs_all { IsTrue true → IsOk result → AllSynced (state_of self.new) }
-        ensures armed { IsOk result → IsTrue (passes self.old.left) }
-        ensures idle { ((at : ℕ) → IsFalse (is_unsynced self.old at)) → IsTrue (passes self.old.left) → IsOk result }
-        ensures ok { IsOk result → self.new ≡ record self.old {
-          synced = self.old.contents;
-          unsynced = replicate (length self.old.unsynced) false;
-          spans = self.new.spans;
-          left = spent self.old.left;
-        } }
-        ensures failed { IsErrOf result Device
-            → self.new ≡ record self.old { failures = risen self.old.failures; left = spent self.old.left } }
+        // Promise: A disk in memory makes a sync that may be left at once, and it is one call.
+        // Refuses: left_sync_uncounted, left_sync_not_made.
+        ensures sync { IsSync self.old self.new result }
     {
         self.sync()
     }

@@ -9,12 +9,12 @@ use Rattle.file_disk.specs.declared.fault.OpenFault.{OpenFault}
 use Rattle.file_disk.specs.declared.fault.OpenFault.TheVariants as fault
 use Rattle.file_disk.specs.declared.stride.Stride.TheVariants.{Packed}
 use Rattle.node_store.specs.Store.{StoreState, slots_for}
-use Rattle.node_store.specs.Mounting.{IsMountFault, IsRefusedWith, disk_of}
+use Rattle.node_store.specs.Mounting.{IsRefusedWith, disk_of}
 use Rattle.node_store.specs.declared.fault.StoreFault.{StoreFault}
 use Rattle.node_store.specs.declared.mounting.MountFault.{MountFault}
 use Rattle.store_console.specs.declared.reply.Reply.{Reply}
 use Rattle.store_console.specs.Barring.{Bars, IsBarBy, barred}
-use Rattle.store_console.specs.Mounting.{IsRefusedOf, IsStoreOf, MountsLabelled, MountsOpened, Takes}
+use Rattle.store_console.specs.Mounting.{IsStoreOf, MountsLabelled, MountsOpened, Takes}
 use Rattle.store_console.specs.Replies.{HasFailed, IsAnswerTo, IsBarredBy, IsFormatted, IsFresh, IsMounted, IsUnmounted, Mounted, Settles}
 
 barred_unmounted_at : (f : OpenFault) → IsUnmounted (barred f)
@@ -74,20 +74,11 @@ failed_formatted answered (inr is) = subst (λ (r : Reply). IsFormatted r) (sym 
 
 -- ---- a mounting
 
-failed_unmounted : (answered : Reply) → HasFailed answered → IsMountFault StoreFault.Device → IsUnmounted answered
-failed_unmounted answered (inl is) may = subst (λ (r : Reply). IsUnmounted r) (sym is) may
-failed_unmounted answered (inr is) may = subst (λ (r : Reply). IsUnmounted r) (sym is.1) tt
-
-answer_unmounted : (f : StoreFault) (answered : Reply) → IsAnswerTo f answered → IsMountFault f → IsUnmounted answered
-answer_unmounted StoreFault.Device answered is may = failed_unmounted answered is may
-answer_unmounted StoreFault.Broken answered is may = subst (λ (r : Reply). IsUnmounted r) (sym is) may
-answer_unmounted StoreFault.Exhausted answered is may = subst (λ (r : Reply). IsUnmounted r) (sym is) may
-answer_unmounted StoreFault.NotFormatted answered is may = subst (λ (r : Reply). IsUnmounted r) (sym is) may
-answer_unmounted (StoreFault.Damaged sector) answered is may = subst (λ (r : Reply). IsUnmounted r) (sym is) may
-answer_unmounted StoreFault.Full answered is may = subst (λ (r : Reply). IsUnmounted r) (sym is) may
-answer_unmounted StoreFault.NoSuchJob answered is may = subst (λ (r : Reply). IsUnmounted r) (sym is) may
-answer_unmounted StoreFault.NoMemory answered is may = absurd is
-answer_unmounted StoreFault.TooSmall answered is may = subst (λ (r : Reply). IsUnmounted r) (sym is) may
+answer_unmounted : (f : StoreFault) (answered : Reply) → IsAnswerTo f answered → IsUnmounted answered
+answer_unmounted StoreFault.Device answered (inl is) = subst (λ (r : Reply). IsUnmounted r) (sym is) tt
+answer_unmounted StoreFault.Device answered (inr is) = subst (λ (r : Reply). IsUnmounted r) (sym is.1) tt
+answer_unmounted StoreFault.NoMemory answered is = absurd is
+answer_unmounted f answered is = subst (λ (r : Reply). IsUnmounted r) (sym is) tt
 
 -- a file whose label doesn't bar it is no node's
 unbarred : (label : Result (Option (List ℕ)) Error) (bar answered : Reply) → IsBarBy label None → IsBarBy label (Some bar) → answered ≡ bar
@@ -117,17 +108,16 @@ pub settles_labelled : (disk : FileState) (label : Result (Option (List ℕ)) Er
     (settled : Result (StoreState FileState) Reply)
     → IsBarBy label None → Settles mounting settled → IfOk mounting (λ store. IsFalse store.broken
     × (store.journal.slots ≡ slots_for disk.sectors))
-    → IfErr mounting (λ refused. IsMountFault refused.fault)
     → Counts (state_of disk) (state_of (disk_of mounting)) (IsRefusedWith StoreFault.Device mounting)
     (IsRefusedWith StoreFault.Device mounting → ⊥)
     → (IsRefusedWith StoreFault.TooSmall mounting ↔ (disk.sectors < 24))
     → MountsLabelled disk label settled
-settles_labelled disk label (Ok store) (Ok same) none is whole may counts small =
+settles_labelled disk label (Ok store) (Ok same) none is whole counts small =
     subst (λ (s : StoreState FileState). IsBarBy label None × IsStoreOf disk s) (sym is) (none, store_of disk store whole counts small)
-settles_labelled disk label (Ok store) (Err answered) none is whole may counts small = absurd is
-settles_labelled disk label (Err refused) (Ok store) none is whole may counts small = absurd is
-settles_labelled disk label (Err refused) (Err answered) none is whole may counts small =
-    inr (none, record { fault = refused.fault; may = may; small = small; answers = is })
+settles_labelled disk label (Ok store) (Err answered) none is whole counts small = absurd is
+settles_labelled disk label (Err refused) (Ok store) none is whole counts small = absurd is
+settles_labelled disk label (Err refused) (Err answered) none is whole counts small =
+    inr (none, record { fault = refused.fault; small = small; answers = is })
 
 fresh_labelled : (disk : FileState) (label : Result (Option (List ℕ)) Error) (store : StoreState FileState)
     → disk ≡ unfailed disk.sectors Packed
@@ -141,7 +131,7 @@ fresh_labelled disk label store fresh is = record {
 refused_labelled : (disk : FileState) (label : Result (Option (List ℕ)) Error) (answered : Reply)
     → MountsLabelled disk label (Err answered) → IsUnmounted answered
 refused_labelled disk label answered (inl is) = bar_unmounted label answered is
-refused_labelled disk label answered (inr is) = answer_unmounted is.1.fault answered is.1.answers is.1.may
+refused_labelled disk label answered (inr is) = answer_unmounted is.1.fault answered is.1.answers
 
 mounts_at : (opened : Result FileState OpenFault) (mounting : Result (StoreState FileState) Reply)
     → IfOk opened (λ disk. disk ≡ unfailed disk.sectors Packed)

@@ -19,9 +19,4 @@ IsSaid before number fault after =
 -- behind the reasons before it: nothing is said where the file could be had, or where the answer says it all
 abbrev pub Explains : List ℕ → ℕ → Reply → List ℕ → Type 0
 Explains before number (reply.Barred fault) after = IsSaid before number fault after
-Explains before number reply.Done after = after ≡ before
-Explains before number (reply.Value n) after = after ≡ before
-Explains before number (reply.Refused fault) after = after ≡ before
-Explains before number reply.Locked after = after ≡ before
-Explains before number reply.Foreign after = after ≡ before
-Explains before number reply.Listed after = after ≡ before
+Explains before number answered after = after ≡ before

@@ -4,7 +4,6 @@ use Rattle.std.specs.declared.io.Error.{Error}
 use Rattle.file_disk.specs.File.{FileState}
 use Rattle.file_disk.specs.declared.fault.OpenFault.{OpenFault}
 use Rattle.node_store.specs.Store.{StoreState, slots_for}
-use Rattle.node_store.specs.Mounting.{IsMountFault}
 use Rattle.node_store.specs.declared.fault.StoreFault.{StoreFault}
 use Rattle.store_console.specs.declared.reply.Reply.{Reply}
 use Rattle.store_console.specs.declared.reply.Reply.TheVariants as reply
@@ -21,7 +20,6 @@ pub record IsStoreOf (disk : FileState) (store : StoreState FileState) : Type 0 
 -- A mounting of this file was refused, and this is what its fault is answered.
 pub record IsRefusedOf (disk : FileState) (answered : Reply) : Type 0 where
   pub fault : StoreFault
-  pub may : IsMountFault fault
   pub small : (fault ≡ StoreFault.TooSmall) ↔ (disk.sectors < 24)
   pub answers : IsAnswerTo fault answered
 

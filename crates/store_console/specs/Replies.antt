@@ -10,7 +10,7 @@ use Rattle.file_disk.specs.File.{FileState}
 use Rattle.file_disk.specs.declared.fault.OpenFault.{OpenFault}
 use Rattle.file_disk.specs.declared.fault.OpenFault.TheVariants as fault
 use Rattle.node_store.specs.Store.{StoreState, durable_of, append_refusal, compaction_refusal, raise_refusal, Changed}
-use Rattle.node_store.specs.Mounting.{IsMountFault}
+use Rattle.job_journal.specs.declared.fault.JournalFault.{JournalFault}
 use Rattle.node_store.specs.declared.fault.StoreFault.{StoreFault}
 use Rattle.node_store.specs.declared.mounting.MountFault.{MountFault}
 use Rattle.std.specs.declared.io.Error.{Error}
@@ -30,7 +30,7 @@ Mounted = Option (StoreState FileState)
 
 -- The device failed, in a call that is counted: then the store shows what it showed before, and is broken.
 pub record Fails (old : StoreState FileState) (answered : Reply) (new : StoreState FileState) : Type 0 where
-  pub answer : answered ≡ reply.Refused StoreFault.Device
+  pub answer : answered ≡ reply.Refused JournalFault.Device
   pub shown : durable_of new ≡ durable_of old
   pub broken : IsTrue new.broken
   pub counted : (old.disk.failures < new.disk.failures) ⊎ (new.disk.failures ≡ 2 ^ 64 - 1)
@@ -40,7 +40,7 @@ abbrev pub Attempted : (StoreState FileState → Type 0) → StoreState FileStat
 Attempted Made old answered new = (Made new × (new.disk.failures ≡ old.disk.failures)) ⊎ Fails old answered new
 
 -- The store stays mounted. Where the change is refused for what the store knows, nothing changes.
-abbrev pub Tries : (StoreState FileState → Type 0) → Option StoreFault → StoreState FileState → Reply → Mounted → Type 0
+abbrev pub Tries : (StoreState FileState → Type 0) → Option JournalFault → StoreState FileState → Reply → Mounted → Type 0
 Tries Made refusal old answered None = ⊥
 Tries Made (Some fault) old answered (Some new) = (answered ≡ reply.Refused fault) × (new ≡ old)
 Tries Made None old answered (Some new) = Attempted Made old answered new
@@ -58,7 +58,8 @@ Compacted old answered new = (answered ≡ reply.Done) × (durable_of new ≡ du
 -- what making the file is answered; nothing is mounted then
 abbrev pub IsFormatted : Reply → Type 0
 IsFormatted reply.Done = Unit {0}
-IsFormatted (reply.Refused fault) = fault ≡ StoreFault.Device
+IsFormatted (reply.Refused fault) = ⊥
+IsFormatted (reply.Unmounted fault) = fault ≡ StoreFault.Device
 IsFormatted (reply.Barred fault) = IsNoLock fault
 IsFormatted reply.Locked = Unit {0}
 IsFormatted reply.Foreign = Unit {0}
@@ -68,7 +69,8 @@ IsFormatted reply.Listed = ⊥
 -- what is answered where no store is mounted
 abbrev pub IsUnmounted : Reply → Type 0
 IsUnmounted reply.Done = ⊥
-IsUnmounted (reply.Refused fault) = IsMountFault fault
+IsUnmounted (reply.Refused fault) = ⊥
+IsUnmounted (reply.Unmounted fault) = Unit {0}
 IsUnmounted (reply.Barred fault) = IsNoLock fault
 IsUnmounted reply.Locked = Unit {0}
 IsUnmounted reply.Foreign = Unit {0}
@@ -89,19 +91,13 @@ IsMounted answered None = IsUnmounted answered
 
 -- the device failed, with the words of the system where there are some
 abbrev pub HasFailed : Reply → Type 0
-HasFailed answered = (answered ≡ reply.Refused StoreFault.Device) ⊎ ((error : Error) × (answered ≡ reply.Barred (fault.Device error)))
+HasFailed answered = (answered ≡ reply.Unmounted StoreFault.Device) ⊎ ((error : Error) × (answered ≡ reply.Barred (fault.Device error)))
 
 -- this is what the fault of a mounting is answered
 abbrev pub IsAnswerTo : StoreFault → Reply → Type 0
 IsAnswerTo StoreFault.Device answered = HasFailed answered
-IsAnswerTo StoreFault.Broken answered = answered ≡ reply.Refused StoreFault.Broken
-IsAnswerTo StoreFault.Exhausted answered = answered ≡ reply.Refused StoreFault.Exhausted
-IsAnswerTo StoreFault.NotFormatted answered = answered ≡ reply.Refused StoreFault.NotFormatted
-IsAnswerTo (StoreFault.Damaged sector) answered = answered ≡ reply.Refused (StoreFault.Damaged sector)
-IsAnswerTo StoreFault.Full answered = answered ≡ reply.Refused StoreFault.Full
-IsAnswerTo StoreFault.NoSuchJob answered = answered ≡ reply.Refused StoreFault.NoSuchJob
 IsAnswerTo StoreFault.NoMemory answered = ⊥
-IsAnswerTo StoreFault.TooSmall answered = answered ≡ reply.Refused StoreFault.TooSmall
+IsAnswerTo fault answered = answered ≡ reply.Unmounted fault
 
 -- a store that was mounted is had as it is, and a mounting that was refused is answered by its fault
 abbrev pub Settles : Result (StoreState FileState) (MountFault FileState) → Result (StoreState FileState) Reply → Type 0
@@ -136,13 +132,13 @@ IsBarredBy (Err (fault.Device error)) answered = answered ≡ reply.Barred (faul
 -- ---- a request
 
 -- a number, or why there is none
-abbrev pub valued : Result ℕ StoreFault → Reply
+abbrev pub valued : Result ℕ JournalFault → Reply
 valued (Ok n) = reply.Value n
 valued (Err fault) = reply.Refused fault
 
 -- where nothing is mounted
 abbrev pub IsBroken : Reply → Mounted → Type 0
-IsBroken answered new = (answered ≡ reply.Refused StoreFault.Broken) × (new ≡ None)
+IsBroken answered new = (answered ≡ reply.Refused JournalFault.Broken) × (new ≡ None)
 
 -- what a request is answered, and what is mounted then
 abbrev pub Replies : Mounted → Request → Reply → Mounted → Type 0
@@ -163,28 +159,37 @@ Replies (Some old) request.List answered new = (answered ≡ reply.Listed) × (n
 
 -- Once the device has failed, what was mounted is given up and nothing is mounted: reads may give what the device doesn't hold.
 abbrev pub RepliesOver : Bool → Mounted → Request → Reply → Mounted → Type 0
-RepliesOver true old request.Mount answered new = (answered ≡ reply.Refused StoreFault.Device) × (new ≡ None)
+RepliesOver true old request.Mount answered new = (answered ≡ reply.Unmounted StoreFault.Device) × (new ≡ None)
 RepliesOver failed old request answered new = Replies old request answered new
 
 -- Whether the device has failed, behind a request and its reply: since the file was last made anew.
 abbrev pub fails_after : Bool → Request → Reply → Bool
 fails_after failed (request.Format slots) reply.Done = false
-fails_after failed request (reply.Refused StoreFault.Device) = true
+fails_after failed request (reply.Refused JournalFault.Device) = true
+fails_after failed request (reply.Unmounted StoreFault.Device) = true
 fails_after failed request (reply.Barred (fault.Device error)) = true
 fails_after failed request answered = failed
 
 -- ---- as text
 
-abbrev pub fault_text : StoreFault → List ℕ
-fault_text StoreFault.Device = codes "Device"
-fault_text StoreFault.Broken = codes "Broken"
-fault_text StoreFault.Exhausted = codes "Exhausted"
-fault_text StoreFault.NotFormatted = codes "NotFormatted"
-fault_text (StoreFault.Damaged sector) = codes "Damaged " ++ decimal sector
-fault_text StoreFault.Full = codes "Full"
-fault_text StoreFault.NoSuchJob = codes "NoSuchJob"
-fault_text StoreFault.NoMemory = codes "NoMemory"
-fault_text StoreFault.TooSmall = codes "TooSmall"
+-- why a change is refused: no number is left, be it a counter's, an id or an area's
+abbrev pub fault_text : JournalFault → List ℕ
+fault_text JournalFault.Device = codes "Device"
+fault_text JournalFault.Broken = codes "Broken"
+fault_text JournalFault.Exhausted = codes "Exhausted"
+fault_text JournalFault.AreaExhausted = codes "Exhausted"
+fault_text (JournalFault.Damaged sector) = codes "Damaged " ++ decimal sector
+fault_text JournalFault.Full = codes "Full"
+fault_text JournalFault.NoSuchJob = codes "NoSuchJob"
+fault_text JournalFault.NoMemory = codes "NoMemory"
+
+-- why no store is made or mounted
+abbrev pub mount_text : StoreFault → List ℕ
+mount_text StoreFault.Device = codes "Device"
+mount_text StoreFault.NotFormatted = codes "NotFormatted"
+mount_text (StoreFault.Damaged sector) = codes "Damaged " ++ decimal sector
+mount_text StoreFault.NoMemory = codes "NoMemory"
+mount_text StoreFault.TooSmall = codes "TooSmall"
 
 abbrev pub job_text : Job → List ℕ
 job_text job = codes "job " ++ decimal job.id ++ codes " " ++ work_text job.work.queue job.work.payload job.work.priority
@@ -203,6 +208,7 @@ abbrev pub reply_text : Mounted → Reply → List ℕ
 reply_text mounted reply.Done = line (codes "ok")
 reply_text mounted (reply.Value n) = line (codes "ok " ++ decimal n)
 reply_text mounted (reply.Refused fault) = line (codes "refused " ++ fault_text fault)
+reply_text mounted (reply.Unmounted fault) = line (codes "refused " ++ mount_text fault)
 reply_text mounted (reply.Barred fault) = line (codes "refused Device")
 reply_text mounted reply.Locked = line (codes "refused Locked")
 reply_text mounted reply.Foreign = line (codes "refused Foreign")

@@ -10,6 +10,7 @@ use crate::making::make;
 use crate::reply::Reply;
 use crate::request::Request;
 use file_disk::{FileDisk, LABEL, OpenFault};
+use job_journal::JournalFault;
 use job_model::Work;
 use node_store::{MountFault, NodeStore, StoreFault};
 use std::alloc::{AllocError, Global};
@@ -35,7 +36,7 @@ pub fn reply<P: AsPath>(
         }
         Request::Mount if has_failed => {
             *mounted = None;
-            Ok(Reply::Refused(StoreFault::Device))
+            Ok(Reply::Unmounted(StoreFault::Device))
         }
         Request::Mount => mount(rt, alloc, path, mounted),
         Request::Raise => Ok(raise(mounted)),
@@ -130,7 +131,7 @@ fn settled(
         Err(refusal) => match refusal.fault {
             StoreFault::NoMemory => Err(AllocError),
             StoreFault::Device => Ok(Err(failed(refusal.disk.why()))),
-            fault => Ok(Err(Reply::Refused(fault))),
+            fault => Ok(Err(Reply::Unmounted(fault))),
         },
     }
 }
@@ -139,7 +140,7 @@ fn raise(mounted: &mut Option<NodeStore<FileDisk>>) -> Reply
     ensures { Replies mounted.old asked.Raise result mounted.new }
 {
     match mounted {
-        None => Reply::Refused(StoreFault::Broken),
+        None => Reply::Refused(JournalFault::Broken),
         Some(store) => valued(store.raise()),
     }
 }
@@ -148,7 +149,7 @@ fn put(mounted: &mut Option<NodeStore<FileDisk>>, work: Work) -> Reply
     ensures { Replies mounted.old (asked.Put work) result mounted.new }
 {
     match mounted {
-        None => Reply::Refused(StoreFault::Broken),
+        None => Reply::Refused(JournalFault::Broken),
         Some(store) => valued(store.put(work)),
     }
 }
@@ -157,7 +158,7 @@ fn done(mounted: &mut Option<NodeStore<FileDisk>>, id: u64) -> Reply
     ensures { Replies mounted.old (asked.Done id) result mounted.new }
 {
     match mounted {
-        None => Reply::Refused(StoreFault::Broken),
+        None => Reply::Refused(JournalFault::Broken),
         Some(store) => match store.done(id) {
             Ok(_) => Reply::Done,
             Err(fault) => Reply::Refused(fault),
@@ -169,7 +170,7 @@ fn compact(mounted: &mut Option<NodeStore<FileDisk>>) -> Reply
     ensures { Replies mounted.old asked.Compact result mounted.new }
 {
     match mounted {
-        None => Reply::Refused(StoreFault::Broken),
+        None => Reply::Refused(JournalFault::Broken),
         Some(store) => match store.compact() {
             Ok(()) => Reply::Done,
             Err(fault) => Reply::Refused(fault),
@@ -181,13 +182,13 @@ fn list(mounted: &Option<NodeStore<FileDisk>>) -> Reply
     ensures { Replies mounted.now asked.List result mounted.now }
 {
     match mounted {
-        None => Reply::Refused(StoreFault::Broken),
+        None => Reply::Refused(JournalFault::Broken),
         Some(_) => Reply::Listed,
     }
 }
 
 /// A number, or why there is none.
-fn valued(done: Result<u64, StoreFault>) -> Reply
+fn valued(done: Result<u64, JournalFault>) -> Reply
     ensures { result ≡ valued done }
 {
     match done {

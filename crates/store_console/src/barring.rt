@@ -49,6 +49,6 @@ pub fn failed(why: Option<io::Error>) -> Reply
 {
     match why {
         Some(error) => Reply::Barred(OpenFault::Device(error)),
-        None => Reply::Refused(StoreFault::Device),
+        None => Reply::Unmounted(StoreFault::Device),
     }
 }

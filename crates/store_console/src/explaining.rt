@@ -20,12 +20,7 @@ pub fn push_why(
 {
     match reply {
         Reply::Barred(fault) => push_said(alloc, why, number, fault),
-        Reply::Done
-        | Reply::Value(_)
-        | Reply::Refused(_)
-        | Reply::Locked
-        | Reply::Foreign
-        | Reply::Listed => Ok(()),
+        _ => Ok(()),
     }
 }
 

@@ -29,7 +29,7 @@ pub fn make<P: AsPath>(
     ensures { IfOk result IsFormatted }
 {
     let Some(sectors) = slots.checked_mul(4).and_then(|areas| areas.checked_add(8)) else {
-        return Ok(Reply::Refused(StoreFault::Device));
+        return Ok(Reply::Unmounted(StoreFault::Device));
     };
     make_over(rt, alloc, path, sectors, FileDisk::open(rt, path))
 }

@@ -1,4 +1,5 @@
 use file_disk::OpenFault;
+use job_journal::JournalFault;
 use node_store::StoreFault;
 
 /// What a request is answered.
@@ -7,7 +8,10 @@ pub enum Reply {
     Done,
     /// The counter's value after a raise, or the id of a job that was put.
     Value(u64),
-    Refused(StoreFault),
+    /// A change or a list of the store is refused: where nothing is mounted, it is `Broken`.
+    Refused(JournalFault),
+    /// No store is made or mounted.
+    Unmounted(StoreFault),
     /// The file can't be made, opened or read. It is answered as a device that failed, and why is said beside the answers.
     Barred(OpenFault),
     /// Another process has the file open as a disk.

@@ -17,6 +17,7 @@ use console_text::{
     CommandError, Ended, IoTrouble, Output, Source, bad_line, print_explained, read_source,
 };
 use file_disk::{FileDisk, OpenFault};
+use job_journal::JournalFault;
 use line_words::LineFault;
 use node_store::{NodeStore, StoreFault};
 use std::alloc::{AllocError, Global};
@@ -140,7 +141,8 @@ fn fails_after(has_failed: bool, request: &Request, reply: Reply) -> bool
 {
     match (request, reply) {
         (Request::Format(_), Reply::Done) => false,
-        (_, Reply::Refused(StoreFault::Device)) => true,
+        (_, Reply::Refused(JournalFault::Device)) => true,
+        (_, Reply::Unmounted(StoreFault::Device)) => true,
         (_, Reply::Barred(OpenFault::Device(_))) => true,
         _ => has_failed,
     }

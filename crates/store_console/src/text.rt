@@ -3,11 +3,12 @@
 ghost use Rattle.std.specs.Prelude.{◌≡◌, ◌++◌, OnOk, flat_map};
 ghost use Rattle.job_model.specs.Table.{durable_of};
 ghost use Rattle.console_text.specs.Ends.{line};
-ghost use Rattle.store_console.specs.Replies.{fault_text, job_text, list_text, reply_text};
+ghost use Rattle.store_console.specs.Replies.{fault_text, job_text, list_text, mount_text, reply_text};
 
 use crate::reply::Reply;
 use console_text::{push_named_number, push_text, push_work};
 use file_disk::FileDisk;
+use job_journal::JournalFault;
 use job_model::{JobRef, JobTable, PendingJobs};
 use node_store::{NodeStore, StoreFault};
 use std::alloc::AllocError;
@@ -31,6 +32,11 @@ pub fn push_reply(
             push_fault(text, fault)?;
             push_text(text, "\n")
         }
+        Reply::Unmounted(fault) => {
+            push_text(text, "refused ")?;
+            push_mount_fault(text, fault)?;
+            push_text(text, "\n")
+        }
         Reply::Barred(_) => push_text(text, "refused Device\n"),
         Reply::Locked => push_text(text, "refused Locked\n"),
         Reply::Foreign => push_text(text, "refused Foreign\n"),
@@ -41,17 +47,27 @@ pub fn push_reply(
     }
 }
 
-fn push_fault(text: &mut Vec<u8>, fault: StoreFault) -> Result<(), AllocError>
+fn push_fault(text: &mut Vec<u8>, fault: JournalFault) -> Result<(), AllocError>
     ensures { OnOk result (text.new.items ≡ text.old.items ++ fault_text fault) }
 {
     match fault {
+        JournalFault::Device => push_text(text, "Device"),
+        JournalFault::Broken => push_text(text, "Broken"),
+        JournalFault::Exhausted | JournalFault::AreaExhausted => push_text(text, "Exhausted"),
+        JournalFault::Damaged(sector) => push_named_number(text, "Damaged ", sector),
+        JournalFault::Full => push_text(text, "Full"),
+        JournalFault::NoSuchJob => push_text(text, "NoSuchJob"),
+        JournalFault::NoMemory => push_text(text, "NoMemory"),
+    }
+}
+
+fn push_mount_fault(text: &mut Vec<u8>, fault: StoreFault) -> Result<(), AllocError>
+    ensures { OnOk result (text.new.items ≡ text.old.items ++ mount_text fault) }
+{
+    match fault {
         StoreFault::Device => push_text(text, "Device"),
-        StoreFault::Broken => push_text(text, "Broken"),
-        StoreFault::Exhausted => push_text(text, "Exhausted"),
         StoreFault::NotFormatted => push_text(text, "NotFormatted"),
         StoreFault::Damaged(sector) => push_named_number(text, "Damaged ", sector),
-        StoreFault::Full => push_text(text, "Full"),
-        StoreFault::NoSuchJob => push_text(text, "NoSuchJob"),
         StoreFault::NoMemory => push_text(text, "NoMemory"),
         StoreFault::TooSmall => push_text(text, "TooSmall"),
     }

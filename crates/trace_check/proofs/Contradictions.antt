@@ -12,7 +12,7 @@ use Rattle.trace_check.specs.declared.contradiction.TheConstants.{MOST_ENTRIES}
 use Rattle.trace_check.specs.declared.leftover.Leftover.{Leftover}
 use Rattle.trace_check.specs.Claims.{Claim, MayCome, state_after, after_claim, brought_by}
 use Rattle.trace_check.specs.Contradictions.{CantBe, IsContradiction, IsLastOpening, IsOpenedAt, IsStart, IsStopped, LeftoversStop, lone}
-use Rattle.trace_check.specs.Contradictions.{opened}
+use Rattle.trace_check.specs.Twins.{opened}
 use Rattle.trace_check.specs.Kept.{part}
 use Rattle.trace_check.specs.Leftovers.{AddsLeft, AreLeftBelow, HoldsUp}
 use Rattle.trace_check.specs.Orders.{history, claims_of, taken, state_of, MayTake, IsLegal}

@@ -8,6 +8,7 @@ mod Bundles
 mod Turning
 mod Twins
 mod Keyed
+mod Lazily
 mod Searches
 mod Turns
 mod KeptEntries

@@ -1,7 +1,5 @@
 -- Entries of one node that can't be, whatever the other nodes do.
 use Rattle.std.specs.Prelude.{ℕ, ◌≡◌, ◌+◌, ◌-◌, ◌<◌, ◌≤◌, ◌⊎◌, List, [], ◌∷◌, ◌++◌, length, replicate, Some, None, slice_get}
-use Rattle.job_model.specs.Durable.{Durable}
-use Rattle.node_core.specs.Start.{alone}
 use Rattle.histories.specs.Lists.{IsAmong}
 use Rattle.histories.specs.NodeState.{NodeState, opening}
 use Rattle.histories.specs.HistoryEvent.{AreAddressed}
@@ -14,6 +12,7 @@ use Rattle.trace_check.specs.Kept.{part}
 use Rattle.trace_check.specs.Leftovers.{AreLeftovers, CanReplay}
 use Rattle.trace_check.specs.Orders.{history, state_of}
 use Rattle.trace_check.specs.Searches.{twin_after}
+use Rattle.trace_check.specs.Twins.{opened}
 use Rattle.trace_check.specs.Verdicts.{IsRun}
 
 -- an entry of a node can't come, whatever is sent, and each of those before it may come behind those before that
@@ -30,11 +29,7 @@ LeftoversStop = (hs : List (List Claim)) (left : List Leftover) (l : Leftover) �
 
 -- ---- where a node opens
 
--- a node as where it opens: alone in the group of its count, with these jobs, none in hand, and nothing in doubt
-abbrev pub opened : ℕ → Durable → NodeState
-opened self d = record { state = alone self d.counter; durable = d; doubt = None }
-
--- it stands so after so many entries of its history
+-- a node stands as where it opens after so many entries of its history
 abbrev pub IsOpenedAt : List (List Claim) → ℕ → ℕ → Type 0
 IsOpenedAt hs n many = state_of hs n many ≡ opened n (state_of hs n many).durable
 

@@ -4,6 +4,7 @@ pub mod Searches
 pub mod Followed
 pub mod Given
 pub mod Kept
+pub mod Lazily
 pub mod Leftovers
 pub mod LentActions
 pub mod Orders

@@ -11,7 +11,7 @@ use Rattle.node_core.specs.declared.wanted.Wanted.{Wanted}
 use Rattle.node_core.specs.Core.{Core}
 use Rattle.node_core.specs.Planned.{wanted_by}
 use Rattle.node_core.specs.NodeStep.{IsSpent}
-use Rattle.node_core.specs.Start.{down}
+use Rattle.node_core.specs.Start.{alone, down}
 use Rattle.node_core.specs.State.{is_down}
 use Rattle.histories.specs.NodeState.{NodeState, wants_at, settled}
 use Rattle.histories.specs.declared.history_event.HistoryEvent.{HistoryEvent}
@@ -33,6 +33,10 @@ twin core durable doubt = record {
   node =
       record { state = core.state; durable = durable; doubt = doubt };
 }
+
+-- a node as where it opens: alone in the group of its count, with these jobs, none in hand, and nothing in doubt
+abbrev pub opened : ℕ → Durable → NodeState
+opened self d = record { state = alone self d.counter; durable = d; doubt = None }
 
 -- a node that is down has the one state of such nodes; nothing is in doubt at a node that is up, and what is in doubt can be taken
 pub record IsTwin (t : Twin) : Type 0 where

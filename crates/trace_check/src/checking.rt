@@ -5,9 +5,10 @@ ghost use Rattle.trace_check.specs.Leftovers.{AreLeftovers};
 ghost use Rattle.trace_check.specs.Orders.{history};
 ghost use Rattle.trace_check.specs.Verdicts.{AreTaken, IsVerdict, IsOrderOf, DecidesRun};
 
+use crate::lazy_node::LazyNode;
 use crate::leaving::leftovers;
 use crate::leftover::Leftover;
-use crate::node_model::{EntryRoom, NodeModel};
+use crate::node_model::EntryRoom;
 use crate::search::{Judgement, NodeCursor, Search, first_left, turn};
 use crate::sent_messages::SentMessages;
 use crate::trace::{Trace, Verdict};
@@ -87,7 +88,7 @@ pub(crate) fn open<'a>(alloc: Global, trace: &'a Trace) -> Result<Search<'a>, Al
     let nodes = trace.nodes();
     let mut seats = Vec::with_capacity(alloc, usize::from(nodes))?;
     for number in 0..nodes {
-        let node_model = NodeModel::new(alloc, NodeId::numbered(number), nodes)?;
+        let node_model = LazyNode::new(alloc, NodeId::numbered(number), nodes)?;
         seats.push(NodeCursor {
             node_model,
             place: 0,

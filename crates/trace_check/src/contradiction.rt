@@ -68,29 +68,10 @@ fn start(alloc: Global, trace: &Trace, node: NodeId, index: usize) -> Result<usi
     requires there { index < length (history trace.now node) }
     ensures { IfOk result (IsStart trace.now node index) }
 {
-    let opening = last_opening(alloc, trace, node, index)?;
-    if index - opening < MOST_ENTRIES {
-        return Ok(opening);
-    }
-    Ok(index - (MOST_ENTRIES - 1))
-}
-
-/// The last place up to this one at which the node stands as where it opens.
-fn last_opening(
-    alloc: Global,
-    trace: &Trace,
-    node: NodeId,
-    many: usize,
-) -> Result<usize, AllocError>
-    requires within { node < length trace.now }
-    requires before { CanReplay trace.now node many }
-    requires there { many < length (history trace.now node) }
-    ensures { IfOk result (IsLastOpening trace.now node many) }
-{
     let mut node_model = NodeModel::new(alloc, node, trace.nodes())?;
     let mut room = EntryRoom::new();
-    let mut first = 0usize;
-    for place in 0..many {
+    let mut opening = 0;
+    for place in 0..index {
         let Some(kept) = trace.kept(node, place) else {
             unreachable!()
         };
@@ -98,10 +79,13 @@ fn last_opening(
             unreachable!()
         }
         if node_model.is_opened() {
-            first = place + 1;
+            opening = place + 1;
         }
     }
-    Ok(first)
+    if index - opening < MOST_ENTRIES {
+        return Ok(opening);
+    }
+    Ok(index - (MOST_ENTRIES - 1))
 }
 
 /// The entries of a node from one place up to another.

@@ -9,6 +9,7 @@ ghost use Rattle.trace_check.specs.Orders.{history};
 ghost use Rattle.trace_check.specs.Traces.{claim_seen};
 
 use crate::history::EntryView;
+use crate::lazy_node::LazyNode;
 use crate::leftover::{Holdup, Leftover};
 use crate::node_model::{EntryRoom, NodeModel, same};
 use crate::search::{NodeCursor, Search};
@@ -86,7 +87,7 @@ fn renew(
     ensures place { seat.new.place ≡ seat.old.place }
 {
     if is_stopped {
-        seat.node_model = replayed(alloc, trace, node, seat.place)?;
+        seat.node_model = LazyNode::of(replayed(alloc, trace, node, seat.place)?);
     }
     Ok(())
 }
@@ -102,11 +103,11 @@ fn is_for(action: &TraceAction, node: NodeId) -> bool
 }
 
 /// What holds an entry up at a node that stands before it.
-fn holdup_at(node_model: &mut NodeModel, entry: &EntryView<'_>) -> Result<Holdup, AllocError>
+fn holdup_at(node_model: &mut LazyNode, entry: &EntryView<'_>) -> Result<Holdup, AllocError>
     requires { AreAddressed node_model.old.id (brought_by entry.now.action) }
     ensures { IfOk result (HoldsUp node_model.old.id node_model.old.nodes node_model.old.node (claim_seen entry.now)) }
 {
-    let phase = node_model.vector().group_state.phase;
+    let phase = node_model.phase();
     let Some(made) = node_model.sends(entry)? else {
         return Ok(Holdup::Refused(phase));
     };
@@ -129,7 +130,7 @@ pub(crate) fn replayed(
     requires there { many < length (history trace.now node) }
     ensures { IfOk result (λ node_model. node_model ≡ twin_after trace.now node many) }
 {
-    let mut node_model = NodeModel::new(alloc, node, trace.nodes())?;
+    let mut node_model = LazyNode::new(alloc, node, trace.nodes())?;
     let mut room = EntryRoom::new();
     for place in 0..many {
         let Some(kept) = trace.kept(node, place) else {
@@ -139,5 +140,5 @@ pub(crate) fn replayed(
             unreachable!()
         }
     }
-    Ok(node_model)
+    node_model.into_node_model()
 }

@@ -16,6 +16,7 @@ mod following;
 mod history;
 mod kept;
 mod laws;
+mod lazy_node;
 mod leaving;
 mod leftover;
 mod lent_action;

@@ -9,9 +9,8 @@ ghost use Rattle.histories.specs.NodeState.{opening, wants_at};
 ghost use Rattle.histories.specs.declared.history_event.HistoryEvent.TheVariants.{NoOp, Did, Faulted, Crashed, Recovered, MountFailed, RaiseFailed};
 ghost use Rattle.histories.specs.declared.history_event.NoOpKind.TheVariants.{Nothing};
 ghost use Rattle.histories.specs.Possible.{IsForNode, IsPossible};
-ghost use Rattle.trace_check.specs.Contradictions.{opened};
 ghost use Rattle.trace_check.specs.Leftovers.{IsRefused, IsSilent, WouldSend};
-ghost use Rattle.trace_check.specs.Twins.{Judged, Taken, Settled, WantsOf, came};
+ghost use Rattle.trace_check.specs.Twins.{Judged, Settled, Taken, WantsOf, came, opened};
 ghost use Rattle.trace_check.specs.Kept.{EventStands, event_said};
 ghost use Rattle.trace_check.specs.Traces.{claim, claim_seen};
 ghost use Rattle.trace_check.specs.Views.{Stands, claim_kept};
@@ -299,7 +298,7 @@ impl NodeModel {
     /// The messages that an event sends that is handled. None where it isn't taken. A dispatch that is known to have nothing to do
     /// isn't planned, since a plan of it walks over the pending jobs.
     #[tactic(auto, using(crate::proofs::Twins::rests))]
-    fn handled(&mut self, event: &Event) -> Result<Option<Vec<Message>>, AllocError>
+    pub(crate) fn handled(&mut self, event: &Event) -> Result<Option<Vec<Message>>, AllocError>
         ensures id { self.new.id ≡ self.old.id }
         ensures nodes { self.new.nodes ≡ self.old.nodes }
         ensures made { IfOk result (λ made. MatchOption made (IsPossible self.old.id self.old.nodes self.old.node (Did event.now) → ⊥)

@@ -8,7 +8,8 @@ ghost use Rattle.trace_check.specs.Verdicts.{IsFirstLeft};
 ghost use Rattle.trace_check.specs.Views.{Stands, claim_kept};
 
 use crate::history::{KeptView, Sent};
-use crate::node_model::{EntryRoom, NodeModel};
+use crate::lazy_node::LazyNode;
+use crate::node_model::EntryRoom;
 use crate::sent_messages::SentMessages;
 use crate::trace::Trace;
 use group_task::{Members, NodeId};
@@ -17,7 +18,7 @@ use std::alloc::AllocError;
 /// A node of the trace: its node model, and the index of its next entry.
 #[derive(Drop)]
 pub(crate) struct NodeCursor {
-    pub(crate) node_model: NodeModel,
+    pub(crate) node_model: LazyNode,
     pub(crate) place: usize,
 }
 

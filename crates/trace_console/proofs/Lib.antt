@@ -1,6 +1,5 @@
 mod Lists
 mod NodeCursors
-mod Wholes
 mod Joins
 mod Looks
 mod Pieces
@@ -8,3 +7,4 @@ mod Stages
 mod Stopped
 mod Answered
 mod Tellings
+mod Thens

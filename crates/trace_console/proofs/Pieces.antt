@@ -1,26 +1,21 @@
 -- Lines of a run as it comes.
 use Rattle.std.proofs.Common.{◌≡◌, ◌<◌, ◌≤◌, ◌==◌, ℕ, zero, suc, ◌+◌, Bool, true, false, List, [], ◌∷◌, ◌++◌, length, take, drop, slice_get}
-use Rattle.std.proofs.Common.{slice_set, Option, Some, None, Result, Ok, Err, inl, inr, refl, sym, ap, ◌∙◌, subst, arith, append_assoc}
+use Rattle.std.proofs.Common.{slice_set, Option, Some, None, inl, inr, refl, sym, ap, ◌∙◌, subst, arith, append_assoc}
 use Rattle.std.proofs.Common.{append-nil}
-use Rattle.std.specs.Prelude.{◌&&◌, slice_index, IfOk}
+use Rattle.std.specs.Prelude.{slice_index}
 use Rattle.std.specs.List.{onto_first}
 use Rattle.std.specs.Io.KnownBytes.{Appends, Consumes, IsAtEnd, Keeps}
 use Rattle.std.proofs.lemmas.List.Splits.{slice_split-cons_yes, slice_split-cons_no}
 use Rattle.std.proofs.lemmas.Option.{same_Some}
-use Rattle.std.specs.declared.alloc.AllocError.{AllocError}
 use Rattle.memchr.specs.Find.{NoneBefore, Nowhere, Passes, is_byte}
-use Rattle.console_text.specs.Ends.{PrintsText, ending_of, line, printout_of, refused}
-use Rattle.console_text.specs.declared.ends.Output.{Output}
+use Rattle.console_text.specs.Ends.{PrintsText, ending_of}
 use Rattle.console_text.specs.declared.ends.ExitKind.{ExitKind}
 use Rattle.console_text.specs.declared.ends.ExitKind.TheVariants.{Done, Refused, NoMemory, Unread, Unwritten}
 use Rattle.line_words.specs.Lines.{is_line_feed, lines_of}
 use Rattle.trace_check.specs.Claims.{Claim}
-use Rattle.trace_text.specs.declared.fault.Location.{Location}
 use Rattle.trace_console.specs.declared.prefixes.Prefix.{Prefix}
-use Rattle.trace_console.specs.Judged.{bad_trace}
-use Rattle.trace_console.specs.Ongoing.{IsFollowing}
 use Rattle.trace_console.specs.Prefixes.{AreTaken, BringsTo, EndsLine, EndsPiece, HasNoFeed, IsBroken, IsGone, IsJudged, IsRefusedFirst}
-use Rattle.trace_console.specs.Prefixes.{IsStopped, IsTaken, JudgesPrefixes, PrintsMade, joined, no_memory, nothing, piece_of}
+use Rattle.trace_console.specs.Prefixes.{IsStopped, IsTaken, JudgesPrefixes, joined, no_memory, nothing}
 
 -- ---- what was written and read
 
@@ -304,9 +299,9 @@ ends_with_input input rest before behind now unread ending h end is =
 
 -- the line brought entries
 pub brought_line : (old : Prefix) (bytes : List ℕ) (new : Prefix) (before : Option (List ℕ)) → (length bytes == 0) ≡ false
-    → BringsTo old.trace bytes new.trace → new.good ≡ old.good → EndsLine old bytes new before before None
-brought_line old [] new before some came good = (let bad : true ≡ false = some in absurd cc)
-brought_line old (c ∷ bytes) new before some came good = ([], record { came = came; good = good; text_is = refl }, appends_none before)
+    → BringsTo old bytes new → EndsLine old bytes new before before None
+brought_line old [] new before some came = (let bad : true ≡ false = some in absurd cc)
+brought_line old (c ∷ bytes) new before some came = ([], (came, refl), appends_none before)
 
 -- ---- entries that come behind others
 

@@ -1,12 +1,9 @@
--- The value of a text in which it stands what was told.
-use Rattle.std.proofs.Common.{◌≡◌, ◌<◌, ℕ, ◌+◌, Bool, true, false, List, length, reverse, slice_get, slice_index_or, Option, Some, None}
+-- What is told of a node's turn.
+use Rattle.std.proofs.Common.{◌≡◌, ◌<◌, ℕ, ◌+◌, Bool, List, length, reverse, slice_get, slice_index_or, Option, Some, None}
 use Rattle.std.proofs.Common.{refl, sym, ap, ◌∙◌, subst, arith, option_map}
-use Rattle.std.specs.Prelude.{IfSome, IsNone, if◌then◌else◌}
-use Rattle.std.specs.Str.{is_utf8, IsUtf8}
-use Rattle.std.proofs.lemmas.Str.{IsUtf8-from_is_utf8, is_utf8-from_IsUtf8}
+use Rattle.std.specs.Prelude.{IfSome, IsNone}
 use Rattle.std.proofs.lemmas.Option.{slice_get_read}
-use Rattle.serde_json.specs.Data.{Data}
-use Rattle.serde_json.specs.Read.{read as read_text}
+use Rattle.trace_text.specs.Tellings.{TellingData, TellingsData}
 use Rattle.trace_check.specs.Claims.{Claim}
 use Rattle.trace_check.specs.Traces.{claim_seen}
 use Rattle.trace_check.specs.declared.history.EntryView.{EntryView}
@@ -16,26 +13,10 @@ use Rattle.trace_check.specs.Orders.{history, taken, IsLegal}
 use Rattle.trace_check.proofs.PublicLaws.{may_take}
 use Rattle.trace_console.specs.Answers.{entry_so, is_so_if}
 use Rattle.trace_console.specs.NodeAnswers.{is_finish}
-use Rattle.trace_console.specs.Told.{told_at, value_if}
+use Rattle.trace_console.specs.Told.{told_of}
 use Rattle.trace_console.specs.Turns.{AreSeats, seat_at}
 use Rattle.trace_console.proofs.Answered.{entry_is}
 use Rattle.trace_console.proofs.NodeCursors.{node_within}
-
--- ---- the value
-
-by_test : (b : Bool) (o : Option Data) → (b ≡ true → ⊥) → None ≡ (if b then o else None)
-by_test true o never = absurd (never refl)
-by_test false o never = refl
-
-pub no_text : (place : Option ℕ) (text : List ℕ) → (IsUtf8 text → ⊥) → None ≡ value_if place text
-no_text None text bad = refl
-no_text (Some place) text bad = by_test (is_utf8 text) (read_text text) (λ is. bad (IsUtf8-from_is_utf8 text is))
-
-pub some_value : (found : Option ℕ) (place : ℕ) (text : List ℕ) (o : Option Data) → found ≡ Some place → IsUtf8 text → read_text text ≡ o
-    → o ≡ value_if found text
-some_value found place text o is utf8 value =
-    sym (ap (λ (f : Option ℕ). value_if f text) is ∙ ap (λ (b : Bool). if b then read_text text else None) (is_utf8-from_IsUtf8 text utf8)
-    ∙ value)
 
 -- ---- an entry, and its node
 
@@ -50,10 +31,10 @@ seat_next hs past n i seats s is within at are = are.1 n s
     (subst (λ (j : ℕ). slice_get seats j ≡ Some s) is (slice_get_read seats (length seats) i s refl within at))
 
 -- what is asked of a turn's node, read from where the nodes stand before and behind the turn
-pub turn_fact : (hs : List (List Claim)) (d : Data) (order : List ℕ) (k n i : ℕ) (finished so : Bool) (olds news : List NodeCursor)
-    (old new : NodeCursor) (told : Option Data) → IsLegal hs (reverse order) → slice_get order k ≡ Some n → i ≡ n
+pub turn_fact : (hs : List (List Claim)) (d : TellingsData) (order : List ℕ) (k n i : ℕ) (finished so : Bool) (olds news : List NodeCursor)
+    (old new : NodeCursor) (told : Option TellingData) → IsLegal hs (reverse order) → slice_get order k ≡ Some n → i ≡ n
     → AreSeats hs (before order k) olds → AreSeats hs (before order (k + 1)) news → old ≡ slice_index_or olds i old
-    → new ≡ slice_index_or news i new → told ≡ told_at d i old.index → finished ≡ is_finish (slice_get (history hs n) old.index)
+    → new ≡ slice_index_or news i new → told ≡ told_of d i old.index → finished ≡ is_finish (slice_get (history hs n) old.index)
     → so ≡ is_so_if told finished old.node_model.node new.node_model.node
     → (so ≡ entry_so hs d n (taken n (before order k))) × (old.index ≡ taken n (before order k))
 turn_fact hs d order k n i finished so olds news old new told legal at here are are' was_at is_at told_is finishes so_is =
@@ -62,7 +43,7 @@ turn_fact hs d order k n i finished so olds news old new told legal at here are 
     let count' = are'.0 in
     let was = seat_next hs (before order k) n i olds old here (omega (arith, within, count, here)) was_at are in
     let is = seat_next hs (before order (k + 1)) n i news new here (omega (arith, within, count', here)) is_at are' in (
-      so_is ∙ ap (λ (t : Option Data). is_so_if t finished old.node_model.node new.node_model.node)
-          (told_is ∙ ap (λ (j : ℕ). told_at d j old.index) here) ∙ entry_is hs d order k n finished old new at was is finishes,
+      so_is ∙ ap (λ (t : Option TellingData). is_so_if t finished old.node_model.node new.node_model.node)
+          (told_is ∙ ap (λ (j : ℕ). told_of d j old.index) here) ∙ entry_is hs d order k n finished old new at was is finishes,
       ap (λ (x : NodeCursor). x.index) was,
     )

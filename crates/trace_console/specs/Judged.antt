@@ -1,5 +1,5 @@
 -- What the command `trace` prints.
-use Rattle.std.specs.Prelude.{ℕ, ◌≡◌, List, [], ◌∷◌, ◌++◌, true, codes, decimal, Option, Some, None, Result, Ok, Err}
+use Rattle.std.specs.Prelude.{ℕ, ◌≡◌, List, [], ◌∷◌, ◌++◌, true, codes, decimal, Option, Some, None}
 use Rattle.console_text.specs.Ends.{Printout, line, refused}
 use Rattle.trace_check.specs.declared.trace.Verdict.{Verdict}
 use Rattle.trace_check.specs.declared.trace.Verdict.TheVariants.{Run, NotARun}
@@ -26,7 +26,3 @@ pub record IsJudgement (histories : List (List Claim)) (printout : Printout) : T
   pub is_verdict : IsVerdict histories verdict
   pub decides : DecidesRun histories verdict
   pub printed : printout ≡ verdict_printed verdict
-
-abbrev pub IsJudgedBy : Result (List (List Claim)) (Option Location) → Printout → Type 0
-IsJudgedBy (Ok histories) printout = IsJudgement histories printout
-IsJudgedBy (Err location) printout = printout ≡ refused (bad_trace location)

@@ -1,6 +1,6 @@
 -- What the command `trace` prints of a run that is still going on.
-use Rattle.std.specs.Prelude.{ℕ, ◌≡◌, List, [], ◌∷◌, ◌++◌, true, if◌then◌else◌, codes, Option, Some, None, Result, Ok, Err}
-use Rattle.console_text.specs.Ends.{Printout, line, refused}
+use Rattle.std.specs.Prelude.{ℕ, ◌≡◌, List, [], ◌∷◌, ◌++◌, true, if◌then◌else◌, codes, Option, Some, None}
+use Rattle.console_text.specs.Ends.{Printout, line}
 use Rattle.trace_check.specs.declared.checking.Examined.{Examined}
 use Rattle.trace_check.specs.declared.leftover.Leftover.{Leftover}
 use Rattle.trace_check.specs.declared.trace.Verdict.{Verdict}
@@ -8,10 +8,9 @@ use Rattle.trace_check.specs.declared.trace.Verdict.TheVariants.{Run, NotARun}
 use Rattle.trace_check.specs.Claims.{Claim}
 use Rattle.trace_check.specs.Leftovers.{AreLeftovers}
 use Rattle.trace_check.specs.Verdicts.{AreTaken, DecidesRun, IsVerdict}
-use Rattle.trace_text.specs.declared.fault.Location.{Location}
 use Rattle.trace_console.specs.declared.judging.Stage.{Stage}
 use Rattle.trace_console.specs.declared.judging.Stage.TheVariants.{Over, Ongoing}
-use Rattle.trace_console.specs.Judged.{IsJudgedBy, IsJudgement, bad_trace, verdict_printed, words}
+use Rattle.trace_console.specs.Judged.{IsJudgement, verdict_printed, words}
 use Rattle.trace_console.specs.Reported.{waits}
 
 -- of entries that are left the first that can't be, whatever others send
@@ -44,16 +43,7 @@ pub record IsFollowing (histories : List (List Claim)) (printout : Printout) : T
   pub are_left : AreLeftovers histories left
   pub printed : printout ≡ ongoing_printed verdict taken left
 
-abbrev pub IsFollowedBy : Result (List (List Claim)) (Option Location) → Printout → Type 0
-IsFollowedBy (Ok histories) printout = IsFollowing histories printout
-IsFollowedBy (Err location) printout = printout ≡ refused (bad_trace location)
-
--- what is printed of a trace, or where there is none
-abbrev pub IsFoundAt : Stage → Result (List (List Claim)) (Option Location) → Printout → Type 0
-IsFoundAt Over found printout = IsJudgedBy found printout
-IsFoundAt Ongoing found printout = IsFollowedBy found printout
-
--- so of its histories
+-- what is printed of histories
 abbrev pub IsJudgementAt : Stage → List (List Claim) → Printout → Type 0
 IsJudgementAt Over histories printout = IsJudgement histories printout
 IsJudgementAt Ongoing histories printout = IsFollowing histories printout

@@ -1,6 +1,6 @@
 -- A run as it comes, line by line, and what is printed of it.
-use Rattle.std.specs.Prelude.{ℕ, ◌≡◌, ◌⊎◌, ◌==◌, ◌&&◌, Bool, true, false, List, [], ◌∷◌, ◌++◌, length, if◌then◌else◌, codes, Option, Some}
-use Rattle.std.specs.Prelude.{None, Result, Ok, Err}
+use Rattle.std.specs.Prelude.{ℕ, ◌≡◌, ◌<◌, ◌⊎◌, ◌==◌, ◌&&◌, Bool, true, false, List, [], ◌∷◌, ◌++◌, length, if◌then◌else◌, codes, Option}
+use Rattle.std.specs.Prelude.{Some, None, Result, Ok, Err}
 use Rattle.std.specs.Io.KnownBytes.{Appends, Consumes, IsAtEnd}
 use Rattle.std.specs.declared.alloc.AllocError.{AllocError}
 use Rattle.console_text.specs.Ends.{Printout, PrintsText, line, ending_of}
@@ -9,11 +9,15 @@ use Rattle.console_text.specs.declared.ends.ExitKind.{ExitKind}
 use Rattle.console_text.specs.declared.ends.ExitKind.TheVariants.{Done, Refused, NoMemory, Unread, Unwritten}
 use Rattle.line_words.specs.Lines.{is_line_feed, lines_of}
 use Rattle.trace_check.specs.Claims.{Claim}
+use Rattle.trace_check.specs.Orders.{history}
 use Rattle.trace_text.specs.declared.fault.Location.{Location}
+use Rattle.trace_text.specs.Tellings.{TellingsData}
 use Rattle.trace_text.specs.Wholes.{trace_of}
+use Rattle.trace_console.specs.declared.judging.Stage.TheVariants.{Ongoing}
 use Rattle.trace_console.specs.declared.prefixes.Prefix.{Prefix}
 use Rattle.trace_console.specs.Judged.{bad_trace}
-use Rattle.trace_console.specs.Ongoing.{IsFollowing}
+use Rattle.trace_console.specs.Answers.{IsJudgementAsTold}
+use Rattle.trace_console.specs.Told.{IsThen, IsToldIn, row}
 
 -- ---- a line
 
@@ -35,28 +39,35 @@ piece_from came (Err location) = Err location
 abbrev pub piece_of : List (List Claim) → List ℕ → Result (List (List Claim)) (Option Location)
 piece_of came text = piece_from came (trace_of text)
 
--- so the entries of a line came behind those before
-abbrev pub BringsTo : List (List Claim) → List ℕ → List (List Claim) → Type 0
-BringsTo old bytes new = (piece : List (List Claim)) × (piece_of old bytes ≡ Ok piece) × (new ≡ joined old piece)
+-- of each of so many nodes, what more is told stands behind what is told first of the entries of these histories
+abbrev pub AreThen : List (List Claim) → ℕ → TellingsData → TellingsData → TellingsData → Type 0
+AreThen hs nodes first more all =
+    (n : ℕ) → n < nodes → IsThen None (length (history hs n)) (row first n) (row more n) (row all n)
 
--- The verdict on what came, as it is said of a run that may go on.
+-- These entries of a line came behind those before, and so did what it tells of them.
+pub record Joins (old : Prefix) (bytes : List ℕ) (piece : List (List Claim)) (new : Prefix) : Type 0 where
+  pub trace : new.trace ≡ joined old.trace piece
+  pub line : TellingsData
+  pub is_line : IsToldIn bytes line
+  pub told : AreThen old.trace (length new.trace) old.told line new.told
+  pub good : new.good ≡ old.good
+
+abbrev pub BringsTo : Prefix → List ℕ → Prefix → Type 0
+BringsTo old bytes new = (piece : List (List Claim)) × (piece_of old.trace bytes ≡ Ok piece) × Joins old bytes piece new
+
+-- The verdict on what came, and on what was told of it, as it is said of a run that may go on.
 pub record IsAsked (old new : Prefix) (text : List ℕ) : Type 0 where
   pub printout : Printout
-  pub verdict : IsFollowing old.trace printout
+  pub verdict : IsJudgementAsTold Ongoing old.trace old.told printout
   pub text_is : text ≡ printout.text
-  pub came : new.trace ≡ old.trace
+  pub trace : new.trace ≡ old.trace
+  pub told : new.told ≡ old.told
   pub good : new.good ≡ (old.good && printout.good)
 
--- The entries of the line came behind those before, and nothing is printed.
-pub record IsBrought (old new : Prefix) (bytes text : List ℕ) : Type 0 where
-  pub came : BringsTo old.trace bytes new.trace
-  pub good : new.good ≡ old.good
-  pub text_is : text ≡ []
-
--- what a line does, and what is printed: an empty one asks, and any other brings entries
+-- what a line does, and what is printed: an empty one asks, and any other brings entries, of which nothing is printed
 abbrev pub IsTaken : Prefix → List ℕ → Prefix → List ℕ → Type 0
 IsTaken old [] new text = IsAsked old new text
-IsTaken old (c ∷ bytes) new text = IsBrought old new (c ∷ bytes) text
+IsTaken old (c ∷ bytes) new text = BringsTo old (c ∷ bytes) new × (text ≡ [])
 
 -- so of these lines, one behind another
 abbrev pub AreTaken : Prefix → List (List ℕ) → Prefix → List ℕ → Type 0
@@ -132,7 +143,7 @@ EndsPiece old kept piece new unread before behind (Some Unwritten) = Unit {0}
 
 -- nothing came yet
 abbrev pub nothing : Prefix
-nothing = record { trace = []; good = true }
+nothing = record { trace = []; told = []; good = true }
 
 -- All whole lines of what was read were taken, and this was printed of them.
 pub record IsJudged (input rest before behind : Option (List ℕ)) (came : Prefix) : Type 0 where

@@ -1,7 +1,8 @@
 -- What the command `turns` prints.
-use Rattle.std.specs.Prelude.{ℕ, ◌≡◌, ◌⊎◌, List, [], ◌∷◌, ◌++◌, reverse, codes, Bool, true, false, Option, Some, None, Result, Ok, Err}
+use Rattle.std.specs.Prelude.{ℕ, ◌≡◌, ◌⊎◌, List, [], ◌∷◌, ◌++◌, reverse, codes, ◌&&◌, Bool, true, false, is_none}
+use Rattle.std.specs.Prelude.{Option, Some, None}
 use Rattle.std.specs.List.{flat_map}
-use Rattle.console_text.specs.Ends.{Printout, refused}
+use Rattle.console_text.specs.Ends.{Printout}
 use Rattle.node_words.specs.Words.{group_text, ids_text, phase_text}
 use Rattle.trace_check.specs.declared.leftover.Leftover.{Leftover}
 use Rattle.trace_check.specs.declared.trace.Verdict.{Verdict}
@@ -10,13 +11,16 @@ use Rattle.trace_check.specs.Claims.{Claim}
 use Rattle.trace_check.specs.Leftovers.{AreLeftovers}
 use Rattle.trace_check.specs.Orders.{IsLegal, IsComplete}
 use Rattle.trace_check.specs.Verdicts.{IsVerdict, DecidesRun, AreTaken}
-use Rattle.trace_text.specs.declared.fault.Location.{Location}
 use Rattle.trace_text.specs.Ordered.{Ordered, order_of}
+use Rattle.trace_text.specs.Tellings.{TellingsData}
 use Rattle.trace_text.specs.Wholes.{trace_of}
+use Rattle.trace_console.specs.declared.answers.FalseAnswer.{FalseAnswer}
 use Rattle.trace_console.specs.declared.turn.Stand.{Stand}
 use Rattle.trace_console.specs.declared.turn.Turn.{Turn}
-use Rattle.trace_console.specs.Judged.{bad_trace, words}
+use Rattle.trace_console.specs.Answers.{IsComparison, IsPrintedWith}
+use Rattle.trace_console.specs.Judged.{words}
 use Rattle.trace_console.specs.Reported.{leftover_text}
+use Rattle.trace_console.specs.Told.{IsToldIn}
 use Rattle.trace_console.specs.Turns.{AreTurns}
 
 -- ---- the text
@@ -57,36 +61,30 @@ pub record Tells (hs : List (List Claim)) (order : List ℕ) (recorded : Bool) (
 abbrev pub IsRunIn : List (List Claim) → List ℕ → Type 0
 IsRunIn hs order = IsLegal hs (reverse order) × IsComplete hs (reverse order)
 
--- the run that was recorded
-pub record TellsRecorded (hs : List (List Claim)) (order : List ℕ) (printout : Printout) : Type 0 where
-  pub good : printout.good ≡ true
-  pub tells : Tells hs order true [] printout.text
-
 abbrev pub is_run : Verdict → Bool
 is_run (Run order) = true
 is_run (NotARun node index) = false
 
--- what can be taken, in the order in which the checker takes it, and what is left
-pub record TellsTaken (hs : List (List Claim)) (printout : Printout) : Type 0 where
+-- the order that the text gives is taken where all entries can be taken in it, and only there; else what can be taken is told in the order
+-- in which the checker takes it, and what is left
+abbrev pub TellsIn : List (List Claim) → Option Ordered → List ℕ → List Leftover → List ℕ → Type 0
+TellsIn hs None taken left text = Tells hs taken false left text
+TellsIn hs (Some given) taken left text = (IsRunIn hs given.0 × Tells hs given.0 true [] text)
+    ⊎ ((IsRunIn hs given.0 → ⊥) × Tells hs taken false left text)
+
+-- it ends well where all entries can be taken, and nothing else is told of any of them than its node tells
+pub record IsTelling (given : Option Ordered) (hs : List (List Claim)) (d : TellingsData) (printout : Printout) : Type 0 where
   pub verdict : Verdict
-  pub order : List ℕ
-  pub left : List Leftover
   pub is_verdict : IsVerdict hs verdict
   pub decides : DecidesRun hs verdict
-  pub taken : AreTaken hs verdict order
+  pub taken : List ℕ
+  pub are_taken : AreTaken hs verdict taken
+  pub left : List Leftover
   pub are_left : AreLeftovers hs left
-  pub good : printout.good ≡ is_run verdict
-  pub tells : Tells hs order false left printout.text
-
--- the order that the text gives is taken where all entries can be taken in it, and only there
-abbrev pub IsTelling : List (List Claim) → Option Ordered → Printout → Type 0
-IsTelling hs None printout = TellsTaken hs printout
-IsTelling hs (Some given) printout = (IsRunIn hs given.0 × TellsRecorded hs given.0 printout)
-    ⊎ ((IsRunIn hs given.0 → ⊥) × TellsTaken hs printout)
-
-abbrev pub IsToldBy : Option Ordered → Result (List (List Claim)) (Option Location) → Printout → Type 0
-IsToldBy given (Ok hs) printout = IsTelling hs given printout
-IsToldBy given (Err location) printout = printout ≡ refused (bad_trace location)
+  pub found : Option FalseAnswer
+  pub compared : IsComparison hs d found
+  pub good : printout.good ≡ (is_run verdict && is_none found)
+  pub tells : TellsIn hs given taken left printout.text
 
 abbrev pub AreToldOf : List ℕ → Printout → Type 0
-AreToldOf text printout = IsToldBy (order_of text) (trace_of text) printout
+AreToldOf text printout = IsPrintedWith (IsTelling (order_of text)) (IsToldIn text) (trace_of text) printout

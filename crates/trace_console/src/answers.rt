@@ -1,23 +1,23 @@
 //! Whether what the nodes of a trace told is what they tell of these entries.
 ghost use Rattle.std.specs.Prelude.{◌≡◌, ◌<◌, ◌+◌, length, reverse, IfOk, OnOk, option_map};
-ghost use Rattle.serde_json.specs.View.{view};
+ghost use Rattle.trace_text.specs.Tellings.{telling_by, text_said};
 ghost use Rattle.trace_check.specs.Followed.{before};
 ghost use Rattle.trace_check.specs.Orders.{IsLegal};
 ghost use Rattle.node_core.specs.State.{state_of};
-ghost use Rattle.trace_console.specs.NodeAnswers.{dropped_answer, gone_answer, took_answer};
-ghost use Rattle.trace_console.specs.Answers.{AnswersDecide, IsFalseAt, IsFirstFalse, is_so, is_so_if, is_text, says};
+ghost use Rattle.trace_console.specs.NodeAnswers.{dropped_answer, gone_answer, group_answer, id_answer, kept_answer, took_answer};
+ghost use Rattle.trace_console.specs.Answers.{AnswersDecide, IsFalseAt, IsFirstFalse, is_so, is_so_if, says};
 ghost use Rattle.trace_console.specs.Turns.{AreSeats};
 
 use crate::node_answers::{
     dropped_answer, gone_answer, group_answer, id_answer, is_finish, kept_answer, took_answer,
 };
-use crate::told::told_at;
+use crate::told::Told;
 use crate::walk::{NodeCursor, open};
 use group_task::NodeId;
 use node_core::Vector;
-use serde_json::Value;
 use std::alloc::{AllocError, Global};
 use trace_check::{NodeModel, Trace};
+use trace_text::{Said, Telling};
 
 /// An entry of which the trace says that something else was told than its node tells.
 #[derive(Clone, Copy, Debug)]
@@ -32,12 +32,15 @@ pub struct FalseAnswer {
 pub(crate) fn first_false(
     alloc: Global,
     trace: &Trace,
-    told: &Value,
+    told: &Told,
     order: &[NodeId],
 ) -> Result<Option<FalseAnswer>, AllocError>
     requires { IsLegal trace.now (reverse order.now) }
-    ensures { IfOk result (IsFirstFalse trace.now (view told.now) order.now) }
+    ensures { IfOk result (IsFirstFalse trace.now told.now order.now) }
 {
+    if told.is_silent() {
+        return Ok(None);
+    }
     let mut before = open(alloc, trace)?;
     let mut behind = open(alloc, trace)?;
     for turn in 0..order.len() {
@@ -80,7 +83,7 @@ fn step(
 fn false_at(
     alloc: Global,
     trace: &Trace,
-    told: &Value,
+    told: &Told,
     order: &[NodeId],
     turn: usize,
     old: &[NodeCursor],
@@ -90,7 +93,7 @@ fn false_at(
     requires legal { IsLegal trace.now (reverse order.now) }
     requires old { AreSeats trace.now (before order.now turn) old.now }
     requires new { AreSeats trace.now (before order.now (turn + 1)) new.now }
-    ensures { IfOk result (IsFalseAt trace.now (view told.now) order.now turn) }
+    ensures { IfOk result (IsFalseAt trace.now told.now order.now turn) }
 {
     let node = order[turn];
     let number = usize::from(node.number());
@@ -98,10 +101,10 @@ fn false_at(
     let new = &new[number];
     let index = old.index;
     let entry = trace.entry(node, index);
-    let told = told_at(told, number, index);
+    let told = told.get(number, index);
     if is_so(
         alloc,
-        told,
+        &told,
         is_finish(&entry),
         &old.node_model,
         &new.node_model,
@@ -114,12 +117,12 @@ fn false_at(
 /// Whether what was told of an entry, if something was, is what a node tells that stood so before it, and so behind it.
 fn is_so(
     alloc: Global,
-    told: Option<&Value>,
+    told: &Option<Telling<'_>>,
     is_finished: bool,
     old: &NodeModel,
     new: &NodeModel,
 ) -> Result<bool, AllocError>
-    ensures { IfOk result (λ so. so ≡ is_so_if (option_map (λ v. view v.now) told.entry) is_finished old.now.node new.now.node) }
+    ensures { IfOk result (λ so. so ≡ is_so_if (option_map telling_by told.now) is_finished old.now.node new.now.node) }
 {
     match told {
         Some(told) => are_so(alloc, told, is_finished, old, new),
@@ -130,98 +133,111 @@ fn is_so(
 /// Whether each field that says what was told says what a node tells that stood so before an entry, and so behind it.
 fn are_so(
     alloc: Global,
-    told: &Value,
+    told: &Telling<'_>,
     is_finished: bool,
     old: &NodeModel,
     new: &NodeModel,
 ) -> Result<bool, AllocError>
-    ensures { IfOk result (λ so. so ≡ is_so (view told.now) is_finished old.now.node new.now.node) }
+    ensures { IfOk result (λ so. so ≡ is_so (telling_by told.now) is_finished old.now.node new.now.node) }
 {
-    let group = group_answer(alloc, new.vector())?;
-    let id = id_answer(alloc, old, new)?;
-    let kept = kept_answer(alloc, new)?;
-    let took = took_so(alloc, told.get("took"), old.vector(), new.vector())?;
-    let dropped = dropped_so(
-        alloc,
-        told.get("dropped"),
-        is_finished,
-        old.vector(),
-        new.vector(),
-    )?;
-    let gone = gone_so(alloc, told.get("gone"), old, new)?;
-    Ok(
-        told.is_object()
-            && says(told.get("group"), &group)
-            && took
-            && dropped
-            && gone
-            && says(told.get("id"), &id)
-            && says(told.get("kept"), &kept),
-    )
+    let group = group_so(alloc, told.group, new.vector())?;
+    let took = took_so(alloc, told.took, old.vector(), new.vector())?;
+    let dropped = dropped_so(alloc, told.dropped, is_finished, old.vector(), new.vector())?;
+    let gone = gone_so(alloc, told.gone, old, new)?;
+    let id = id_so(alloc, told.id, old, new)?;
+    let kept = kept_so(alloc, told.kept, new)?;
+    Ok(told.is_object && group && took && dropped && gone && id && kept)
+}
+
+fn group_so(alloc: Global, said: Option<Said<'_>>, new: &Vector) -> Result<bool, AllocError>
+    ensures { IfOk result (λ so. so ≡ says (option_map text_said said.entry) (group_answer (state_of new.now))) }
+{
+    if said.is_none() {
+        return Ok(true);
+    }
+    let text = group_answer(alloc, new)?;
+    Ok(says(said, &text))
 }
 
 fn took_so(
     alloc: Global,
-    field: Option<&Value>,
+    said: Option<Said<'_>>,
     old: &Vector,
     new: &Vector,
 ) -> Result<bool, AllocError>
-    ensures { IfOk result (λ so. so ≡ says (option_map (λ v. view v.now) field.entry) (took_answer (state_of old.now) (state_of new.now))) }
+    ensures { IfOk result (λ so. so ≡ says (option_map text_said said.entry) (took_answer (state_of old.now) (state_of new.now))) }
 {
-    if field.is_none() {
+    if said.is_none() {
         return Ok(true);
     }
     let text = took_answer(alloc, old, new)?;
-    Ok(says(field, &text))
+    Ok(says(said, &text))
 }
 
 fn dropped_so(
     alloc: Global,
-    field: Option<&Value>,
+    said: Option<Said<'_>>,
     is_finished: bool,
     old: &Vector,
     new: &Vector,
 ) -> Result<bool, AllocError>
-    ensures { IfOk result (λ so. so ≡ says (option_map (λ v. view v.now) field.entry) (dropped_answer is_finished (state_of old.now) (state_of new.now))) }
+    ensures { IfOk result (λ so. so ≡ says (option_map text_said said.entry) (dropped_answer is_finished (state_of old.now) (state_of new.now))) }
 {
-    if field.is_none() {
+    if said.is_none() {
         return Ok(true);
     }
     let text = dropped_answer(alloc, is_finished, old, new)?;
-    Ok(says(field, &text))
+    Ok(says(said, &text))
 }
 
 fn gone_so(
     alloc: Global,
-    field: Option<&Value>,
+    said: Option<Said<'_>>,
     old: &NodeModel,
     new: &NodeModel,
 ) -> Result<bool, AllocError>
-    ensures { IfOk result (λ so. so ≡ says (option_map (λ v. view v.now) field.entry) (gone_answer old.now.node.durable new.now.node.durable)) }
+    ensures { IfOk result (λ so. so ≡ says (option_map text_said said.entry) (gone_answer old.now.node.durable new.now.node.durable)) }
 {
-    if field.is_none() {
+    if said.is_none() {
         return Ok(true);
     }
     let text = gone_answer(alloc, old, new)?;
-    Ok(says(field, &text))
+    Ok(says(said, &text))
+}
+
+fn id_so(
+    alloc: Global,
+    said: Option<Said<'_>>,
+    old: &NodeModel,
+    new: &NodeModel,
+) -> Result<bool, AllocError>
+    ensures { IfOk result (λ so. so ≡ says (option_map text_said said.entry) (id_answer old.now.node.durable new.now.node.durable)) }
+{
+    if said.is_none() {
+        return Ok(true);
+    }
+    let text = id_answer(alloc, old, new)?;
+    Ok(says(said, &text))
+}
+
+fn kept_so(alloc: Global, said: Option<Said<'_>>, new: &NodeModel) -> Result<bool, AllocError>
+    ensures { IfOk result (λ so. so ≡ says (option_map text_said said.entry) (kept_answer new.now.node.durable)) }
+{
+    if said.is_none() {
+        return Ok(true);
+    }
+    let text = kept_answer(alloc, new)?;
+    Ok(says(said, &text))
 }
 
 /// Whether a field that is there has this text.
-fn says(field: Option<&Value>, text: &[u8]) -> bool
-    ensures { result ≡ says (option_map (λ v. view v.now) field.entry) text.now }
-{
-    match field {
-        Some(field) => is_text(field.as_str(), text),
-        None => true,
-    }
-}
-
-fn is_text(said: Option<&str>, text: &[u8]) -> bool
-    ensures { result ≡ is_text (option_map (λ s. s.now) said.entry) text.now }
+fn says(said: Option<Said<'_>>, text: &[u8]) -> bool
+    ensures { result ≡ says (option_map text_said said.entry) text.now }
 {
     match said {
-        Some(said) => said.as_bytes() == text,
-        None => false,
+        Some(Said::Text(said)) => said == text,
+        Some(Said::Other) => false,
+        None => true,
     }
 }
 

@@ -1,62 +1,74 @@
-//! The verdict on a trace whose text says what its nodes told.
+//! What of a trace is told otherwise than its nodes tell it.
 ghost use Rattle.std.specs.Prelude.{◌≡◌, ◌++◌, IfOk, OnOk};
 ghost use Rattle.console_text.specs.Ends.{printout_of};
-ghost use Rattle.serde_json.specs.View.{view};
-ghost use Rattle.trace_check.specs.declared.trace.Verdict.TheVariants.{NotARun};
-ghost use Rattle.trace_console.specs.Judged.{verdict_printed};
-ghost use Rattle.trace_console.specs.Answers.{IsComparison, IsJudgementAsTold, IsReportAsTold, false_text};
+ghost use Rattle.trace_check.specs.Leftovers.{AreLeftovers};
+ghost use Rattle.trace_check.specs.Verdicts.{AreTaken, DecidesRun, IsVerdict};
+ghost use Rattle.trace_console.specs.Answers.{IsComparison, IsSaidOf, false_text, printed_as_told};
 
 use crate::answers::{FalseAnswer, first_false};
-use crate::judging::{Stage, judge, verdict_printout};
-use crate::reporting::push_place;
-use console_text::{CommandError, push_text};
-use serde_json::Value;
+use crate::judging::{Stage, printout_at, verdict_printout};
+use crate::reporting::{push_place, report};
+use crate::told::Told;
+use console_text::{Output, push_text};
 use std::alloc::{AllocError, Global};
-use trace_check::{Trace, Verdict, examine};
-
-/// The verdict on a trace and on what is told in it, and what is said of it.
-pub(crate) fn judge_told(
-    alloc: Global,
-    stage: Stage,
-    trace: &Trace,
-    told: &Value,
-) -> Result<CommandError, AllocError>
-    ensures printed { IfOk result (λ explained. IsJudgementAsTold stage trace.now (view told.now) (printout_of explained.printout)) }
-    ensures why { IfOk result (λ explained. IsReportAsTold trace.now (view told.now) explained.why.items) }
-{
-    match compare(alloc, trace, told)? {
-        Some(answer) => false_outcome(alloc, &answer),
-        None => judge(alloc, stage, trace),
-    }
-}
+use trace_check::{Examined, Trace, Verdict};
 
 /// Of the entries that can be taken the first of which something else is told than its node tells.
-fn compare(alloc: Global, trace: &Trace, told: &Value) -> Result<Option<FalseAnswer>, AllocError>
-    ensures { IfOk result (IsComparison trace.now (view told.now)) }
+pub(crate) fn compare(
+    alloc: Global,
+    trace: &Trace,
+    told: &Told,
+    examined: &Examined,
+) -> Result<Option<FalseAnswer>, AllocError>
+    requires verdict { IsVerdict trace.now examined.now.verdict }
+    requires decides { DecidesRun trace.now examined.now.verdict }
+    requires taken { AreTaken trace.now examined.now.verdict examined.now.taken.items }
+    ensures { IfOk result (IsComparison trace.now told.now) }
 {
-    let examined = examine(alloc, trace)?;
     first_false(alloc, trace, told, &examined.taken)
 }
 
-/// What is printed and said of an entry of which something else is told.
-fn false_outcome(alloc: Global, answer: &FalseAnswer) -> Result<CommandError, AllocError>
-    ensures printed { IfOk result (λ explained. printout_of explained.printout ≡ verdict_printed (NotARun answer.now.node answer.now.index)) }
-    ensures why { IfOk result (λ explained. explained.why.items ≡ false_text answer.now) }
+/// What is printed of what was found.
+pub(crate) fn printout_as_told(
+    alloc: Global,
+    stage: Stage,
+    examined: &Examined,
+    found: &Option<FalseAnswer>,
+) -> Result<Output, AllocError>
+    ensures { IfOk result (λ printout. printout_of printout ≡ printed_as_told stage examined.now found.now) }
 {
-    let mut why = Vec::new(alloc);
-    push_false(&mut why, answer)?;
-    let printout = verdict_printout(alloc, &Verdict::NotARun(answer.node, answer.index))?;
-    Ok(CommandError { printout, why })
+    match found {
+        Some(answer) => verdict_printout(alloc, &Verdict::NotARun(answer.node, answer.index)),
+        None => printout_at(alloc, stage, examined),
+    }
 }
 
-/// Adds where something else is told.
-#[tactic(auto, unfolding(crate::specs::Answers::false_text))]
-fn push_false(text: &mut Vec<u8>, answer: &FalseAnswer) -> Result<(), AllocError>
-    ensures { OnOk result (text.new.items ≡ text.old.items ++ false_text answer.now) }
+/// What is said of what was found.
+pub(crate) fn report_as_told(
+    alloc: Global,
+    trace: &Trace,
+    examined: &Examined,
+    found: &Option<FalseAnswer>,
+) -> Result<Vec<u8>, AllocError>
+    requires { AreLeftovers trace.now examined.now.left.items }
+    ensures { IfOk result (λ why. IsSaidOf trace.now found.now why.items) }
 {
+    match found {
+        Some(answer) => false_report(alloc, answer),
+        None => report(alloc, trace, &examined.left),
+    }
+}
+
+/// Where something else is told.
+#[tactic(auto, unfolding(crate::specs::Answers::false_text))]
+fn false_report(alloc: Global, answer: &FalseAnswer) -> Result<Vec<u8>, AllocError>
+    ensures { IfOk result (λ why. why.items ≡ false_text answer.now) }
+{
+    let mut why = Vec::new(alloc);
     push_text(
-        text,
+        &mut why,
         "no order takes all entries as they were told: look first at node ",
     )?;
-    push_place(text, answer.node, ", entry ", answer.index)
+    push_place(&mut why, answer.node, ", entry ", answer.index)?;
+    Ok(why)
 }

@@ -4,9 +4,10 @@ ghost use Rattle.console_text.specs.Ends.{printout_of, refused};
 ghost use Rattle.group_task.specs.declared.node.TheConstants.{NODES};
 ghost use Rattle.trace_console.specs.Files.{IsFilesPrintout, IsFilesReport, IsFilesTold, IsReportBehind, PrintsFiles, bad_text, run_of, spot_behind, spot_text, too_many_text};
 ghost use Rattle.trace_console.specs.Judged.{bad_trace};
-ghost use Rattle.trace_console.specs.Ongoing.{IsFoundAt};
+ghost use Rattle.trace_console.specs.Answers.{IsJudgementAsTold, IsPrintedWith};
 
 use crate::judging::{Stage, bad_printout, judge};
+use crate::told::Told;
 use console_text::{CommandError, Ended, IoTrouble, print_explained, push_number, push_text};
 use group_task::NODES;
 use std::alloc::{AllocError, Global};
@@ -33,6 +34,9 @@ pub fn trace_files<W: Write>(
     // Promise: Of a run whose records stand in several files the trace that is judged has the histories of all files, in their order; of
     // files that are no traces the first is named, with the place in it.
     // Refuses: later_files_passed_over, bad_file_counted_from_itself.
+    // Promise: What each file says that its nodes told is compared, as `trace` compares it.
+    // Also: judge_files, Told::append_nodes.
+    // Refuses: told_of_later_files_passed_over, told_of_the_first_nodes.
     ensures prints { PrintsFiles stage files.now (W.contents output.old) (W.contents output.new) result.ending }
     ensures why { IsFilesTold files.now result.ending result.why.items }
 {
@@ -50,16 +54,20 @@ fn judge_files(
     ensures why { IfOk result (λ explained. IsFilesReport files.now explained.why.items) }
 {
     let mut histories = Vec::new(alloc);
+    let mut told = Told::nothing(alloc);
     for file in files {
         match read(alloc, &file.text) {
-            Ok(trace) => histories.append(&mut trace.into_histories())?,
+            Ok(trace) => {
+                told.append_nodes(alloc, histories.len(), Told::read(alloc, &file.text)?)?;
+                histories.append(&mut trace.into_histories())?;
+            }
             Err(TraceFault::BadTrace(location)) => {
                 return bad_file(alloc, file.name, histories.len(), location);
             }
             Err(TraceFault::NoMemory) => return Err(AllocError),
         }
     }
-    judge_all(alloc, stage, histories)
+    judge_all(alloc, stage, histories, &told)
 }
 
 /// What is printed of the histories of all files.
@@ -67,14 +75,15 @@ fn judge_all(
     alloc: Global,
     stage: Stage,
     histories: Vec<History>,
+    told: &Told,
 ) -> Result<CommandError, AllocError>
-    ensures printed { IfOk result (λ explained. IsFoundAt stage (run_of (Ok histories.items)) (printout_of explained.printout)) }
-    ensures why { IfOk result (λ explained. IsReportBehind (Ok histories.items) explained.why.items) }
+    ensures printed { IfOk result (λ explained. IsPrintedWith (IsJudgementAsTold stage) (λ d. d ≡ told.now) (run_of (Ok histories.items)) (printout_of explained.printout)) }
+    ensures why { IfOk result (λ explained. IsReportBehind (λ d. d ≡ told.now) (Ok histories.items) explained.why.items) }
 {
     if usize::from(NODES) < histories.len() {
         return too_many(alloc);
     }
-    judge(alloc, stage, &Trace::new(histories))
+    judge(alloc, stage, &Trace::new(histories), told)
 }
 
 /// What is printed where the files have too many nodes.

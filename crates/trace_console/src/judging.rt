@@ -1,21 +1,17 @@
-ghost use Rattle.std.specs.Prelude.{◌≡◌, ◌≤◌, ◌+◌, ◌++◌, ◌∷◌, [], ℕ, List, codes, IfOk, OnOk, Ok, option_map};
+ghost use Rattle.std.specs.Prelude.{◌≡◌, ◌≤◌, ◌+◌, ◌++◌, ◌∷◌, [], ℕ, List, codes, IfOk, OnOk};
 ghost use Rattle.console_text.specs.Ends.{Prints, printout_of, refused};
-ghost use Rattle.serde_json.specs.View.{view};
 ghost use Rattle.trace_console.specs.Judged.{bad_trace, verdict_printed, words};
-ghost use Rattle.trace_console.specs.Answers.{IsJudgedAt, IsJudgedWith, IsReportedAsTold, IsReportedWith, IsVerdictTold};
-ghost use Rattle.trace_console.specs.Ongoing.{IsJudgementAt, printed_at};
-ghost use Rattle.trace_console.specs.Reported.{IsReport};
+ghost use Rattle.trace_console.specs.Answers.{IsJudgedAt, IsJudgementAsTold, IsReportAsTold, IsReportedAsTold, IsVerdictTold};
+ghost use Rattle.trace_console.specs.Ongoing.{printed_at};
 
-use crate::comparing::judge_told;
+use crate::comparing::{compare, printout_as_told, report_as_told};
 use crate::ongoing::ongoing_printout;
-use crate::reporting::report;
-use crate::told::read_told;
+use crate::told::Told;
 use console_text::{
     CommandError, Ended, IoTrouble, Output, Source, print_explained, push_number, push_text,
     read_source,
 };
 use group_task::NodeId;
-use serde_json::Value;
 use std::alloc::{AllocError, Global};
 use std::io::{Read, Write};
 use trace_check::{Examined, Trace, Verdict, examine};
@@ -67,9 +63,8 @@ fn judge_text(alloc: Global, stage: Stage, text: &[u8]) -> Result<CommandError, 
     ensures printed { IfOk result (λ explained. IsJudgedAt stage text.now (printout_of explained.printout)) }
     ensures why { IfOk result (λ explained. IsReportedAsTold text.now explained.why.items) }
 {
-    let told = read_told(alloc, text)?;
     match read(alloc, text) {
-        Ok(trace) => judge_all(alloc, stage, &trace, &told),
+        Ok(trace) => judge(alloc, stage, &trace, &Told::read(alloc, text)?),
         Err(TraceFault::BadTrace(location)) => {
             let printout = bad_printout(alloc, location)?;
             Ok(printout.without_why(alloc))
@@ -78,35 +73,29 @@ fn judge_text(alloc: Global, stage: Stage, text: &[u8]) -> Result<CommandError, 
     }
 }
 
-/// The verdict on a trace, and on what its text says was told, if it says something.
-fn judge_all(
+/// The verdict on a trace and on what was told, and what is said of it.
+pub(crate) fn judge(
     alloc: Global,
     stage: Stage,
     trace: &Trace,
-    told: &Option<Value>,
+    told: &Told,
 ) -> Result<CommandError, AllocError>
-    ensures printed { IfOk result (λ explained. IsJudgedWith stage (option_map view told.now) (Ok trace.now) (printout_of explained.printout)) }
-    ensures why { IfOk result (λ explained. IsReportedWith (option_map view told.now) (Ok trace.now) explained.why.items) }
-{
-    match told {
-        Some(told) => judge_told(alloc, stage, trace, told),
-        None => judge(alloc, stage, trace),
-    }
-}
-
-/// The verdict on a trace, and what is said of it.
-pub(crate) fn judge(alloc: Global, stage: Stage, trace: &Trace) -> Result<CommandError, AllocError>
-    ensures printed { IfOk result (λ explained. IsJudgementAt stage trace.now (printout_of explained.printout)) }
-    ensures why { IfOk result (λ explained. IsReport trace.now explained.why.items) }
+    ensures printed { IfOk result (λ explained. IsJudgementAsTold stage trace.now told.now (printout_of explained.printout)) }
+    ensures why { IfOk result (λ explained. IsReportAsTold trace.now told.now explained.why.items) }
 {
     let examined = examine(alloc, trace)?;
-    let why = report(alloc, trace, &examined.left)?;
-    let printout = printout_at(alloc, stage, &examined)?;
+    let found = compare(alloc, trace, told, &examined)?;
+    let why = report_as_told(alloc, trace, &examined, &found)?;
+    let printout = printout_as_told(alloc, stage, &examined, &found)?;
     Ok(CommandError { printout, why })
 }
 
 /// What is printed of what was found.
-fn printout_at(alloc: Global, stage: Stage, examined: &Examined) -> Result<Output, AllocError>
+pub(crate) fn printout_at(
+    alloc: Global,
+    stage: Stage,
+    examined: &Examined,
+) -> Result<Output, AllocError>
     ensures { IfOk result (λ printout. printout_of printout ≡ printed_at stage examined.now) }
 {
     match stage {

@@ -1,13 +1,15 @@
 //! A run as it comes: lines bring entries, and an empty one asks for the verdict on all that came.
-ghost use Rattle.std.specs.Prelude.{◌≡◌, ◌≤◌, ◌+◌, [], IfErr, IfOk, OnOk};
+ghost use Rattle.std.specs.Prelude.{◌≡◌, ◌≤◌, ◌+◌, [], IfErr, IfOk, IsTrue, OnOk};
 ghost use Rattle.console_text.specs.Ends.{ending_of, printout_of};
 ghost use Rattle.trace_text.specs.Wholes.{IsFaultOf};
-ghost use Rattle.trace_console.specs.Ongoing.{IsFollowing};
-ghost use Rattle.trace_console.specs.Prefixes.{BringsTo, EndsLine, EndsPiece, HasNoFeed, JudgesPrefixes, PrintsMade, piece_of};
+ghost use Rattle.trace_console.specs.declared.judging.Stage.TheVariants.{Ongoing};
+ghost use Rattle.trace_console.specs.Answers.{IsJudgementAsTold};
+ghost use Rattle.trace_console.specs.Prefixes.{BringsTo, EndsLine, EndsPiece, HasNoFeed, Joins, JudgesPrefixes, PrintsMade, fits, piece_of};
 
 use crate::appending::append_all;
-use crate::judging::bad_printout;
-use crate::ongoing::ongoing_printout;
+use crate::comparing::{compare, printout_as_told};
+use crate::judging::{Stage, bad_printout};
+use crate::told::Told;
 use console_text::{ExitKind, IoTrouble, MAX_READS, Output, Source, print};
 use memchr::memchr;
 use std::alloc::{AllocError, Global};
@@ -23,6 +25,8 @@ const PIECE: usize = 65_536;
 #[derive(Drop)]
 pub(crate) struct Prefix {
     pub(crate) trace: Trace,
+    /// What was told of its entries.
+    pub(crate) told: Told,
     /// Whether each verdict that was asked for is that of a run, or of one that may go on.
     pub(crate) good: bool,
 }
@@ -39,6 +43,10 @@ pub fn judge_prefixes<R: Read, W: Write>(
     // on their trace, and nothing else is; each line is taken once, in its order, whatever pieces the input comes in.
     // Also: take_bytes, take_line, tell, verdict_on, take_piece, append_all.
     // Refuses: prefix_verdict_of_the_whole, last_piece_judged_alone, prefix_judged_as_over, end_of_a_line_lost.
+    // Promise: What the lines of `judge` say that nodes told is compared, as `trace --ongoing` compares it: what a line tells is told of the
+    // entries that it brings.
+    // Also: take_piece, join, Told::append_entries.
+    // Refuses: told_of_a_line_passed_over, told_at_the_entries_before.
     // Promise: A line that is no trace of as many nodes as the first ends `judge`, answered as `trace` answers it, and nothing behind it is
     // taken; at the end of its input the status is 0 exactly where no verdict was `NotARun`.
     // Also: take_piece, ending_of.
@@ -48,6 +56,7 @@ pub fn judge_prefixes<R: Read, W: Write>(
 {
     let mut prefix = Prefix {
         trace: Trace::new(Vec::new(alloc)),
+        told: Told::nothing(alloc),
         good: true,
     };
     let mut unread = Vec::new(alloc);
@@ -118,7 +127,7 @@ fn take_line<W: Write>(
     if line.is_empty() {
         return tell(alloc, prefix, output);
     }
-    match take_piece(alloc, &mut prefix.trace, line) {
+    match take_piece(alloc, prefix, line) {
         Ok(()) => None,
         Err(TraceFault::BadTrace(location)) => {
             Some(print_made(output, bad_printout(alloc, location)))
@@ -131,7 +140,7 @@ fn take_line<W: Write>(
 fn tell<W: Write>(alloc: Global, prefix: &mut Prefix, output: &mut W) -> Option<ExitKind>
     ensures { EndsLine prefix.old [] prefix.new (W.contents output.old) (W.contents output.new) result }
 {
-    match print_made(output, verdict_on(alloc, &prefix.trace)) {
+    match print_made(output, verdict_on(alloc, prefix)) {
         ExitKind::Done => None,
         ExitKind::Refused => {
             prefix.good = false;
@@ -143,12 +152,13 @@ fn tell<W: Write>(alloc: Global, prefix: &mut Prefix, output: &mut W) -> Option<
     }
 }
 
-/// What is printed of a run that may go on.
-fn verdict_on(alloc: Global, trace: &Trace) -> Result<Output, AllocError>
-    ensures { IfOk result (λ printout. IsFollowing trace.now (printout_of printout)) }
+/// What is printed of what came, which may go on.
+fn verdict_on(alloc: Global, prefix: &Prefix) -> Result<Output, AllocError>
+    ensures { IfOk result (λ printout. IsJudgementAsTold Ongoing prefix.now.trace prefix.now.told (printout_of printout)) }
 {
-    let examined = examine(alloc, trace)?;
-    ongoing_printout(alloc, &examined)
+    let examined = examine(alloc, &prefix.trace)?;
+    let found = compare(alloc, &prefix.trace, &prefix.told, &examined)?;
+    printout_as_told(alloc, Stage::Ongoing, &examined, &found)
 }
 
 /// Prints a text, or that there was no memory for it.
@@ -161,25 +171,37 @@ fn print_made<W: Write>(output: &mut W, made: Result<Output, AllocError>) -> Exi
     }
 }
 
-/// Adds the entries that a line brings behind those that came.
-fn take_piece(alloc: Global, trace: &mut Trace, line: &[u8]) -> Result<(), TraceFault>
-    ensures came { OnOk result (BringsTo trace.old line.now trace.new) }
-    ensures fault { IfErr result (λ fault. IsFaultOf (piece_of trace.old line.now) fault) }
+/// Adds the entries that a line brings behind those that came, and what it tells of them.
+fn take_piece(alloc: Global, prefix: &mut Prefix, line: &[u8]) -> Result<(), TraceFault>
+    ensures came { OnOk result (BringsTo prefix.old line.now prefix.new) }
+    ensures fault { IfErr result (λ fault. IsFaultOf (piece_of prefix.old.trace line.now) fault) }
 {
     let piece = read(alloc, line)?;
-    let nodes = trace.nodes();
-    if nodes == 0 {
-        *trace = piece;
-        return Ok(());
-    }
-    if piece.nodes() != nodes {
+    let nodes = prefix.trace.nodes();
+    if nodes != 0 && piece.nodes() != nodes {
         return Err(TraceFault::BadTrace(None));
     }
-    let came = mem::replace(trace, Trace::new(Vec::new(alloc)));
+    match join(alloc, prefix, piece, line) {
+        Ok(()) => Ok(()),
+        Err(AllocError) => Err(TraceFault::NoMemory),
+    }
+}
+
+/// Adds the entries of a line behind those that came, and what it tells of them.
+fn join(alloc: Global, prefix: &mut Prefix, piece: Trace, line: &[u8]) -> Result<(), AllocError>
+    requires { IsTrue (fits prefix.old.trace piece) }
+    ensures { OnOk result (Joins prefix.old line.now piece prefix.new) }
+{
+    let told = Told::read(alloc, line)?;
+    if prefix.trace.nodes() == 0 {
+        prefix.trace = piece;
+        prefix.told = told;
+        return Ok(());
+    }
+    let came = mem::replace(&mut prefix.trace, Trace::new(Vec::new(alloc)));
     let mut histories = came.into_histories();
-    let Ok(()) = append_all(alloc, &mut histories, piece.histories()) else {
-        return Err(TraceFault::NoMemory);
-    };
-    *trace = Trace::new(histories);
+    prefix.told.append_entries(alloc, &histories, &told)?;
+    append_all(alloc, &mut histories, piece.histories())?;
+    prefix.trace = Trace::new(histories);
     Ok(())
 }

@@ -1,18 +1,23 @@
 //! The turns of a run, as lines: in which order they are, a line for each turn, a line for each entry that is left.
-ghost use Rattle.std.specs.Prelude.{◌≡◌, ◌≤◌, ◌+◌, ◌++◌, [], reverse, option_map, IfOk, OnOk};
+ghost use Rattle.std.specs.Prelude.{◌≡◌, ◌≤◌, ◌+◌, ◌++◌, reverse, option_map, IfOk, OnOk};
 ghost use Rattle.std.specs.List.{flat_map};
 ghost use Rattle.console_text.specs.Ends.{Prints, printout_of};
 ghost use Rattle.trace_text.specs.Ordered.{ordered_by};
-ghost use Rattle.trace_console.specs.Reported.{IsReport, IsReported, IsTold};
-ghost use Rattle.trace_console.specs.Turning.{AreToldOf, IsRunIn, IsTelling, TellsRecorded, TellsTaken, after_text, is_run, members_text, order_text, stand_text, turn_text, turns_text};
+ghost use Rattle.trace_check.specs.Orders.{IsLegal};
+ghost use Rattle.trace_check.specs.Verdicts.{AreTaken};
+ghost use Rattle.trace_console.specs.Answers.{IsReportAsTold, IsReportedAsTold, IsVerdictTold};
+ghost use Rattle.trace_console.specs.Turning.{AreToldOf, IsTelling, Tells, TellsIn, after_text, is_run, members_text, order_text, stand_text, turn_text};
 
+use crate::comparing::{compare, report_as_told};
 use crate::judging::{bad_printout, push_place, push_word};
-use crate::reporting::{push_leftovers, report};
+use crate::reporting::push_leftovers;
+use crate::told::Told;
 use crate::turn::{Stand, Turn};
 use crate::walk::walk;
 use console_text::{
     CommandError, Ended, IoTrouble, Output, Source, print_explained, push_text, read_source,
 };
+use group_task::NodeId;
 use node_words::{phase_word, push_group, push_ids};
 use std::alloc::{AllocError, Global};
 use std::io::{Read, Write};
@@ -29,10 +34,11 @@ pub fn turns<R: Read, W: Write>(alloc: Global, input: &mut Source<R>, output: &m
     // Promise: Each turn is printed with its node, the index of its entry, and how the node stands then: its phase, its group, its
     // coordinator, its members and how many jobs it works on, or that it is down.
     // Refuses: stands_as_before_its_turn, creator_for_the_coordinator, down_where_it_elects, hand_is_empty.
-    // Promise: Of a trace that is no run the turns that can be taken are printed, and each entry that is left, and it ends as `trace` does.
-    // Refuses: no_run_ends_as_a_run, nothing_is_left.
+    // Promise: Of a trace that is no run the turns that can be taken are printed, and each entry that is left, and it ends as `trace` does, also
+    // where of a turn something else was told than its node tells.
+    // Refuses: no_run_ends_as_a_run, nothing_is_left, false_answer_ends_as_a_run.
     ensures prints { Prints AreToldOf (R.remaining input.old.reader) (W.contents output.old) (W.contents output.new) result.ending }
-    ensures why { IsTold (R.remaining input.old.reader) result.ending result.why.items }
+    ensures why { IsVerdictTold (R.remaining input.old.reader) result.ending result.why.items }
     ensures reads { input.old.left ≤ input.new.left + 16777216 }
 {
     let outcome = match read_source(alloc, input) {
@@ -45,12 +51,12 @@ pub fn turns<R: Read, W: Write>(alloc: Global, input: &mut Source<R>, output: &m
 /// What is printed for an input, and what is said of it.
 fn tell_text(alloc: Global, text: &[u8]) -> Result<CommandError, AllocError>
     ensures printed { IfOk result (λ explained. AreToldOf text.now (printout_of explained.printout)) }
-    ensures why { IfOk result (λ explained. IsReported text.now explained.why.items) }
+    ensures why { IfOk result (λ explained. IsReportedAsTold text.now explained.why.items) }
 {
     match read(alloc, text) {
         Ok(trace) => {
             let order = read_order(alloc, text)?;
-            tell_trace(alloc, &trace, &order)
+            tell_trace(alloc, &trace, &Told::read(alloc, text)?, &order)
         }
         Err(TraceFault::BadTrace(location)) => {
             let printout = bad_printout(alloc, location)?;
@@ -60,55 +66,45 @@ fn tell_text(alloc: Global, text: &[u8]) -> Result<CommandError, AllocError>
     }
 }
 
-/// What is printed of a trace beside which this order stands.
+/// What is printed of a trace beside which this order stands, and of what was told.
 fn tell_trace(
     alloc: Global,
     trace: &Trace,
+    told: &Told,
     order: &Option<Order>,
 ) -> Result<CommandError, AllocError>
-    ensures printed { IfOk result (λ explained. IsTelling trace.now (option_map ordered_by order.now) (printout_of explained.printout)) }
-    ensures why { IfOk result (λ explained. IsReport trace.now explained.why.items) }
+    ensures printed { IfOk result (λ explained. IsTelling (option_map ordered_by order.now) trace.now told.now (printout_of explained.printout)) }
+    ensures why { IfOk result (λ explained. IsReportAsTold trace.now told.now explained.why.items) }
 {
-    let Some(order) = order else {
-        return tell_taken(alloc, trace);
-    };
-    if is_order(alloc, trace, &order.nodes)? {
-        tell_recorded(alloc, trace, order)
-    } else {
-        tell_taken(alloc, trace)
-    }
-}
-
-/// The run that was recorded.
-fn tell_recorded(alloc: Global, trace: &Trace, order: &Order) -> Result<CommandError, AllocError>
-    requires { IsRunIn trace.now order.now.nodes.items }
-    ensures printed { IfOk result (λ explained. TellsRecorded trace.now order.now.nodes.items (printout_of explained.printout)) }
-    ensures why { IfOk result (λ explained. IsReport trace.now explained.why.items) }
-{
-    let turns = walk(alloc, trace, &order.nodes)?;
-    let text = told(alloc, trace, true, &turns, &[])?;
-    let printout = Output { text, good: true };
-    Ok(printout.without_why(alloc))
-}
-
-/// What can be taken, and what is left.
-fn tell_taken(alloc: Global, trace: &Trace) -> Result<CommandError, AllocError>
-    ensures printed { IfOk result (λ explained. TellsTaken trace.now (printout_of explained.printout)) }
-    ensures why { IfOk result (λ explained. IsReport trace.now explained.why.items) }
-{
-    let Examined {
-        verdict,
-        left,
-        taken,
-    } = examine(alloc, trace)?;
-    let turns = walk(alloc, trace, &taken)?;
-    let text = told(alloc, trace, false, &turns, &left)?;
-    let why = report(alloc, trace, &left)?;
-    let good = is_run(&verdict);
+    let examined = examine(alloc, trace)?;
+    let found = compare(alloc, trace, told, &examined)?;
+    let why = report_as_told(alloc, trace, &examined, &found)?;
+    let text = turns_in(alloc, trace, order, &examined)?;
+    let good = is_run(&examined.verdict) && found.is_none();
     Ok(CommandError {
         printout: Output { text, good },
         why,
     })
+}
+
+/// The turns in this order, if all entries can be taken in it; else what was taken, and what is left.
+fn turns_in(
+    alloc: Global,
+    trace: &Trace,
+    order: &Option<Order>,
+    examined: &Examined,
+) -> Result<Vec<u8>, AllocError>
+    requires { AreTaken trace.now examined.now.verdict examined.now.taken.items }
+    ensures { IfOk result (λ text. TellsIn trace.now (option_map ordered_by order.now) examined.now.taken.items examined.now.left.items text.items) }
+{
+    let Some(order) = order else {
+        return told(alloc, trace, &examined.taken, false, &examined.left);
+    };
+    if is_order(alloc, trace, &order.nodes)? {
+        told(alloc, trace, &order.nodes, true, &[])
+    } else {
+        told(alloc, trace, &examined.taken, false, &examined.left)
+    }
 }
 
 /// Whether all entries can be taken.
@@ -121,20 +117,22 @@ fn is_run(verdict: &Verdict) -> bool
     }
 }
 
-/// The text of turns, and of the entries that are left.
+/// The text of the turns of an order, and of the entries that are left.
 #[tactic(auto, unfolding(crate::specs::Turning::turns_text))]
 fn told(
     alloc: Global,
     trace: &Trace,
+    order: &[NodeId],
     recorded: bool,
-    turns: &[Turn],
     left: &[Leftover],
 ) -> Result<Vec<u8>, AllocError>
-    ensures { IfOk result (λ text. text.items ≡ turns_text trace.now recorded turns.now left.now) }
+    requires { IsLegal trace.now (reverse order.now) }
+    ensures { IfOk result (λ text. Tells trace.now order.now recorded left.now text.items) }
 {
+    let turns = walk(alloc, trace, order)?;
     let mut text = Vec::new(alloc);
     push_order(&mut text, recorded)?;
-    push_turns(&mut text, turns)?;
+    push_turns(&mut text, &turns)?;
     push_leftovers(alloc, &mut text, trace, left)?;
     push_text(&mut text, "\n")?;
     Ok(text)

@@ -22,7 +22,7 @@ plain_by : (q k : List ℕ) (d : Data) (ms : Members) (b : Bool) → bytes_eq k 
 plain_by q k d ms true e = ap (option_map plain) (get_by q k d ms true e)
 plain_by q k d ms false e = ap (option_map plain) (get_by q k d ms false e)
 
-get_put : (q k : List ℕ) (d : Data) (ms : Members) → get_member q (put k d ms) ≡ (if bytes_eq k q then Some d else get_member q ms)
+pub get_put : (q k : List ℕ) (d : Data) (ms : Members) → get_member q (put k d ms) ≡ (if bytes_eq k q then Some d else get_member q ms)
 get_put q k d ms = get_by q k d ms (bytes_eq k q) refl
 
 by_key : {X : Type 0} (key name : List ℕ) (f : List ℕ → X) (a rest : X) (b : Bool) → bytes_eq key name ≡ b → f name ≡ a
@@ -31,7 +31,7 @@ by_key key name f a rest true e is other = ap f ((bytes_eq-Decides key name).0 e
 by_key key name f a rest false e is other = other e
 
 -- the key is this one, or another
-either : {X : Type 0} (key name : List ℕ) (f : List ℕ → X) (a rest : X) → f name ≡ a → (bytes_eq key name ≡ false → f key ≡ rest)
+pub either : {X : Type 0} (key name : List ℕ) (f : List ℕ → X) (a rest : X) → f name ≡ a → (bytes_eq key name ≡ false → f key ≡ rest)
     → f key ≡ (if bytes_eq key name then a else rest)
 either key name f a rest is other = by_key key name f a rest (bytes_eq key name) refl is other
 

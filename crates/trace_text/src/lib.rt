@@ -17,6 +17,8 @@ mod ordered;
 mod parts;
 mod reading;
 mod stream;
+mod telling;
+mod told;
 mod values;
 mod writable;
 mod writing;
@@ -25,6 +27,8 @@ pub use fault::{Location, TraceFault, WriteFault};
 pub use ordered::{end_ordered, read_order, write_ordered};
 pub use parts::{begin_items, begin_trace, end_items, end_trace, push_item};
 pub use stream::read;
+pub use telling::{Said, Telling, Tellings};
+pub use told::read_tellings;
 pub use writing::{
     action_name, begin_entry, begin_handled, end_entry, write, write_spelled, write_text,
 };

@@ -16,7 +16,8 @@ const section = (...lines) => element("section", ...lines.map(parts => element("
 
 function fields(turn) {
     return Object.entries(turn[FIELDS]).map(([key, value]) => {
-        const words = key === "payload" ? `${value || "-"}${text(value) && ` "${text(value)}"`}` : value;
+        const said = () => Object.entries(value).flatMap(([what, words]) => words ? [`${what} ${words}`] : []).join(" ");
+        const words = key === "payload" ? `${value || "-"}${text(value) && ` "${text(value)}"`}` : key === "told" ? said() || "nothing" : value;
         return `${key} ${words}`;
     }).join(", ");
 }

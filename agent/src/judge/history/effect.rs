@@ -22,6 +22,29 @@ pub(super) enum Effect {
 /// The lines of an answer that say nothing of a change.
 const QUIET: [&str; 3] = ["send", "fired", "next"];
 
+/// What an event may make a node tell, by the table of events, where it sends something or nothing: of these keys its entry says something, though no line does. In
+/// all other events the node tells nothing, or its sendings would differ, too.
+pub(super) fn keys_of(name: &str, request: &str, has_sent: bool) -> &'static [&'static str] {
+    const GROUP: &[&str] = &["group", "dropped"];
+    let digits = request.split(' ').nth(1).filter(|_| name == "deliver").unwrap_or_default();
+    match (name, digits.get(KIND).unwrap_or_default()) {
+        ("check", _) | ("deliver", "01" | "02" | "03" | "06") => &[],
+        ("merge", _) | ("deliver", "05" | "07") => if has_sent { GROUP } else { &[] },
+        ("coord", _) => if has_sent { &[] } else { GROUP },
+        ("deliver", "04") => if is_yes(digits) { &[] } else { GROUP },
+        ("accept" | "ready" | "recover", _) | ("deliver", "08") => GROUP,
+        ("dispatch", _) | ("deliver", "09" | "0b") => &["took"],
+        ("finish", _) | ("deliver", "0a") => &["gone"],
+        ("submit", _) => &["took", "id"],
+        _ => &["group", "took", "dropped", "gone", "id"],
+    }
+}
+
+/// Of a Here, whether it says yes.
+fn is_yes(digits: &str) -> bool {
+    digits.get(BODY + GROUP..BODY + GROUP + 2) == Some("01")
+}
+
 /// The places of a message's kind, sender, receiver and body in its digits. A group has so many.
 const KIND: std::ops::Range<usize> = 2..4;
 const SENDER: std::ops::Range<usize> = 4..6;
@@ -153,6 +176,78 @@ mod tests {
         }
         let unknown = |name, request| effect_of(name, request, &[], false, false);
         assert_eq!([unknown("check", "tick 9"), unknown("dispatch", "tick 9"), unknown("deliver", "deliver 01090001001f")], [Effect::Other, Effect::Other, Effect::Other]);
+    }
+
+    #[test]
+    fn what_an_event_may_make_a_node_tell() {
+        let here = |agreed: &str| format!("deliver 01040001000a000000000000000001{agreed}ff");
+        let (yes, no) = (here("01"), here("00"));
+        let (group, all): (&[&str], &[&str]) = (&["group", "dropped"], &["group", "took", "dropped", "gone", "id"]);
+        for (name, request, has_sent, keys) in [
+            ("check", "tick 9", false, &[][..]),
+            ("merge", "tick 9", true, group),
+            ("merge", "tick 9", false, &[]),
+            ("coord", "tick 9", true, &[]),
+            ("coord", "lost 1", false, group),
+            ("accept", "tick 9", false, group),
+            ("ready", "tick 9", false, group),
+            ("recover", "recover", false, group),
+            ("dispatch", "tick 9", true, &["took"]),
+            ("submit", "submit 3 -", true, &["took", "id"]),
+            ("finish", "finish 0 5", true, &["gone"]),
+            ("deliver", "deliver 010101000000", true, &[]),
+            ("deliver", "deliver 0102010000010000", false, &[]),
+            ("deliver", &yes, false, &[]),
+            ("deliver", &no, false, group),
+            ("deliver", "deliver 01050100000900", true, group),
+            ("deliver", "deliver 01050100000900", false, &[]),
+            ("deliver", "deliver 01070100000900", true, group),
+            ("deliver", "deliver 01080100000900", false, group),
+            ("deliver", "deliver 01090100000900", false, &["took"]),
+            ("deliver", "deliver 010b0100000900", false, &["took"]),
+            ("deliver", "deliver 010a0100000900", false, &["gone"]),
+            ("deliver", "deliver 010c0100000900", false, all),
+            ("deliver", "deliver", false, all),
+        ] {
+            assert_eq!(keys_of(name, request, has_sent), keys, "{name} {request} {has_sent}");
+        }
+    }
+
+    /// The cells of the rows of a table in a page, which has these heads.
+    fn table(page: &str, heads: &str) -> Vec<Vec<String>> {
+        let path = concat!(env!("CARGO_MANIFEST_DIR"), "/../../../docs/").to_string() + page;
+        let text = std::fs::read_to_string(&path).unwrap_or_else(|why| panic!("{path}: {why}"));
+        let rows = text.lines().skip_while(|line| !line.starts_with(heads)).skip(2).take_while(|line| line.starts_with('|'));
+        rows.map(|row| row.split('|').skip(1).map(|cell| cell.trim().to_string()).collect()).collect()
+    }
+
+    #[test]
+    fn each_event_may_tell_what_it_changes_by_the_table_of_events() {
+        let (yes, no) = ("000a00000000000000000101", "000a00000000000000000100");
+        let kinds = table("FORMATS.md", "| Kind | Name | Body |");
+        let events = table("PROTOCOL.md", "| Event | Guard | Effect |");
+        assert_eq!((kinds.len(), events.len()), (11, 19));
+        for (event, effect) in events.iter().map(|row| (row[0].split([' ', '(']).next().unwrap(), &row[2])) {
+            let digits: Vec<&str> = kinds.iter().filter(|row| row[1] == event).map(|row| row[0].as_str()).collect();
+            let timer = event.strip_suffix("Timer").unwrap_or(event).to_lowercase();
+            let mut may_tell = std::collections::BTreeSet::new();
+            for has_sent in [false, true] {
+                let brought = digits.iter().flat_map(|kind| [yes, no].map(|body| format!("deliver 01{kind}0100{body}")));
+                brought.for_each(|request| may_tell.extend(keys_of("deliver", &request, has_sent)));
+                if digits.is_empty() {
+                    may_tell.extend(keys_of(&timer, "tick 9", has_sent));
+                }
+            }
+            let says = |words: &[&str]| words.iter().any(|words| effect.contains(*words));
+            let changes = [
+                (&["group", "dropped"][..], says(&["recovery", "stop work", "; Normal", ": Normal", "or Normal"])),
+                (&["took"], says(&["taken in hand", "the hand gains"])),
+                (&["gone"], says(&["marked as done"])),
+                (&["id"], says(&["gives its id"])),
+            ];
+            let expected = changes.iter().filter(|(_, changes)| *changes).flat_map(|(keys, _)| keys.iter());
+            assert_eq!(may_tell, expected.collect(), "{event}: {effect}");
+        }
     }
 
     #[test]

@@ -1,80 +1,72 @@
 //! The entries of a trace, as a history writes them.
 
 use crate::judge::message::message_of;
-use crate::judge::order::{Message, Sent, Turn};
-use super::{Detail, Event, History};
+use crate::judge::notes::Note;
+use crate::judge::order::Message;
+use crate::judge::told::Texts;
+use super::{Event, History};
 use serde_json::{json, Map, Value};
-
-/// No clock of a machine that runs says less, in milliseconds since 1970; a record that has no time counts from the beginning of a process.
-const LEAST_TIME: u64 = 1_000_000_000_000;
 
 impl History {
     /// Reads the time, where the node is told it.
     pub(super) fn told(&mut self, request: &str) {
         if let Some(Ok(ms)) = request.strip_prefix("tick ").map(str::parse::<u64>) {
             self.time = self.time.max(self.began.saturating_add(ms));
-            self.turns[self.untimed..].iter_mut().for_each(|turn| turn.time = self.time);
             self.timed();
         }
     }
 
     /// The entries so far were by now.
     pub(super) fn timed(&mut self) {
-        self.untimed = self.turns.len();
-        let untold = std::mem::take(&mut self.untold);
-        let first = match untold.first() {
-            Some(first) if self.time >= LEAST_TIME => *first,
-            _ => return,
-        };
-        let tail = self.entries.split_off(first);
-        for (place, begin) in untold.iter().enumerate() {
-            let end = untold.get(place + 1).map_or(tail.len(), |next| next - first);
-            self.entries.push_str(&format!("{{\"at\":{},", self.time));
-            self.entries.push_str(&tail[begin - first + 1..end]);
-        }
+        self.noting.as_mut().into_iter().for_each(|noting| noting.timed(self.time));
     }
 
     /// Puts an entry of an event that a request, if any, brought.
-    pub(super) fn put(&mut self, name: &str, request: &str, sent: &[&str], fields: Map<String, Value>) {
-        let mut entry = fields;
-        let messages: Vec<String> = sent.iter().map(|digits| message_of(digits, &self.begins)).collect();
+    pub(super) fn put(&mut self, name: &str, request: &str, sent: &[&str], mut fields: Map<String, Value>) {
         self.places.push(self.place);
-        entry.insert("do".to_string(), json!(name));
-        entry.insert("sent".to_string(), json!(messages));
-        if !self.entries.is_empty() {
+        fields.insert("do".to_string(), json!(name));
+        if self.noting.as_ref().map_or(!self.entries.is_empty(), |noting| noting.count() > 0) {
             self.entries.push(',');
         }
-        if self.detail == Detail::Times {
-            self.untold.push(self.entries.len());
+        let begin = self.entries.len();
+        self.entries.push_str(&Value::Object(fields).to_string());
+        // the last of its keys
+        self.entries.pop();
+        self.entries.push_str(",\"sent\":[");
+        let mut messages = Vec::with_capacity(sent.len());
+        for (place, digits) in sent.iter().enumerate() {
+            let message = message_of(digits, &self.begins);
+            messages.push(Message::of(&message));
+            self.entries.push_str(if place == 0 { "" } else { "," });
+            self.entries.push_str(&json!(message).to_string());
         }
-        let text = Value::Object(entry).to_string();
-        self.entries.push_str(&text);
-        if self.detail == Detail::Entries {
-            self.kept.put(text.len(), messages.iter().map(|digits| Message::of(digits)).collect());
-            return;
+        self.entries.push_str("]}");
+        let length = self.entries.len() - begin;
+        if let Some(noting) = &mut self.noting {
+            let brought = request.split(' ').nth(1).filter(|_| name == "deliver").map(Message::of);
+            noting.put(Note { place: self.place, length, brought, sent: sent.iter().map(|digits| Message::of(digits)).collect() }, messages);
+        } else {
+            self.kept.put(length, messages);
         }
-        let turn = self.turns.len();
-        self.sent.extend(messages.iter().map(|digits| Message::of(digits)).zip((0..).map(|place| (turn, place))));
-        let brought = if name == "deliver" { request.split(' ').nth(1) } else { None };
-        self.turns.push(Turn {
-            time: self.time,
-            sent: sent.iter().map(|digits| Sent { first: Message::of(digits), again: Vec::new() }).collect(),
-            brought: brought.map(Message::of),
-        });
     }
 
-    /// A message that is sent again, under another seal, is that of the turn that sent it.
-    pub(super) fn sent_again(&mut self, event: &Event) {
-        if self.detail == Detail::Entries {
-            return;
+    /// Adds to the last entry what was told of it.
+    pub(super) fn tell(&mut self, texts: &Texts) {
+        self.entries.pop();
+        let before = self.entries.len();
+        let told = serde_json::to_string(texts).unwrap_or_default();
+        self.entries.extend([",\"told\":", &told, "}"]);
+        let more = self.entries.len() - before - 1;
+        match &mut self.noting {
+            Some(noting) => noting.lengthen(more),
+            None => self.kept.lengthen(more),
         }
-        for digits in event.sent() {
-            if let Some((turn, place)) = self.sent.get(&Message::of(&message_of(digits, &self.begins))) {
-                let (sent, copy) = (&mut self.turns[*turn].sent[*place], Message::of(digits));
-                if sent.first != copy {
-                    sent.again.push(copy);
-                }
-            }
+    }
+
+    /// A message that is sent again, under another seal, is that of the entry that sent it.
+    pub(super) fn sent_again(&mut self, event: &Event) {
+        if let Some(noting) = &mut self.noting {
+            event.sent().for_each(|digits| noting.sent_again(Message::of(&message_of(digits, &self.begins)), Message::of(digits)));
         }
     }
 

@@ -37,6 +37,11 @@ impl Kept {
         self.marks.push(Mark { length, effect: Effect::Other, sent });
     }
 
+    /// The text of the last entry has so many bytes more.
+    pub fn lengthen(&mut self, more: usize) {
+        self.marks.last_mut().into_iter().for_each(|mark| mark.length += more);
+    }
+
     /// What the last entry makes of its node.
     pub fn means(&mut self, effect: Effect) {
         if let Some(mark) = self.marks.last_mut() {
@@ -111,7 +116,6 @@ impl History {
         }
         let mut chosen = stays.iter();
         self.kept.marks.retain(|_| chosen.next() == Some(&true));
-        self.told.renumber(base, stays);
         retain_from(&mut self.places, base, stays);
         retain_from(&mut self.kept.numbers, base, stays);
         self.kept.forgotten += stays.iter().filter(|stays| !**stays).count();

@@ -9,14 +9,16 @@ mod tests;
 
 use super::doubt::ended_by;
 use super::message::Begin;
-use super::order::{Message, Turn};
-use super::told::{Said, Told};
-use super::{NodeRecord, RecordError};
-use crate::node::{Closing, Group, GroupNumber, Phase};
-use effect::effect_of;
+use super::notes::{Noting, Since};
+use super::order::Message;
+use super::told::Told;
+use super::RecordError;
+use crate::node::{Closing, Group, Phase};
+use effect::{effect_of, keys_of};
 use forget::Kept;
 use recovery::{Recovery, Waiting};
-use std::collections::{BTreeSet, HashMap, VecDeque};
+use std::collections::{BTreeSet, VecDeque};
+use std::io::{self, Write};
 use std::path::PathBuf;
 use std::sync::Arc;
 
@@ -30,25 +32,40 @@ struct Event<'a> {
 }
 
 impl<'a> Event<'a> {
+    /// Those of an answer: that of the request, which is known by its word, and those that were fired, each with its lines.
+    fn all(word: &'a str, answer: &'a str) -> Vec<Event<'a>> {
+        let (mut events, mut last) = (Vec::new(), Event { name: word, lines: Vec::new() });
+        for line in lines_of(answer) {
+            if let Some(name) = line.strip_prefix("fired ") {
+                events.push(std::mem::replace(&mut last, Event { name, lines: Vec::new() }));
+            }
+            last.lines.push(line);
+        }
+        events.push(last);
+        events
+    }
+
     fn sent(&self) -> impl Iterator<Item = &'a str> + '_ {
         self.lines.iter().filter_map(|line| line.strip_prefix("send ")?.split(' ').nth(1))
     }
-}
 
-/// What is made beside the entries.
-#[derive(Clone, Copy, Debug, PartialEq, Eq)]
-pub enum Detail {
-    Entries,
-    /// What an order needs to know of them.
-    Order,
-    /// That, and when each was, which no judgement needs.
-    Times,
+    /// Where nothing was done, nothing that changed is told, unless the device failed.
+    fn is_idle(&self, closing: &Closing) -> Result<(), Wrong> {
+        let lines = if matches!(closing, Closing::Fault) { &[] } else { &self.lines[..] };
+        let told = lines.iter().find(|line| ["group", "take", "drop", "gone"].contains(&line.split(' ').next().unwrap_or_default()));
+        told.map_or(Ok(()), |line| Err(Wrong::Untrue(format!("{line:?}, where no event stands"))))
+    }
 }
 
 /// Where a line stands in a record: its part, counted from 0, and its number there, from 1.
 pub type Place = (u32, u32);
 
 type PlacedLine = (Place, String);
+
+/// The lines of an answer, each of which has its end.
+fn lines_of(answer: &str) -> impl Iterator<Item = &str> {
+    answer.split_terminator('\n')
+}
 
 /// Why an answer isn't taken.
 enum Wrong {
@@ -62,11 +79,8 @@ pub struct History {
     begins: Arc<[Begin]>,
     /// The entries as JSON, with commas between them.
     entries: String,
-    /// What an order needs to know of each entry; nothing where none is asked for.
-    turns: Vec<Turn>,
-    detail: Detail,
-    /// Where the entries begin whose time isn't known yet.
-    untold: Vec<usize>,
+    /// Of a whole record: what is noted of its entries. These are stored meanwhile, and not kept.
+    noting: Option<Noting>,
     /// Where each entry stands in the record, and the line that is read.
     places: Vec<Place>,
     place: Place,
@@ -74,10 +88,6 @@ pub struct History {
     time: u64,
     /// What that clock was when this process began.
     began: u64,
-    /// From this turn on they have no time yet: the node is told it behind all else that it is asked.
-    untimed: usize,
-    /// Of each message that was sent, as the trace has it, the last turn that sent it, and its place there.
-    sent: HashMap<Message, (usize, usize)>,
     /// What the node's file keeps: the count of groups, from the begin of the record on; the next id; and the ids of the jobs.
     count: u64,
     next: u64,
@@ -85,53 +95,46 @@ pub struct History {
     /// Whether a process mounted the file, and whether it still has it.
     has_begun: bool,
     is_up: bool,
-    /// The requests without an answer, and what there is of the answer to the first one.
+    /// The requests without an answer, and the lines that there are of the answer to the first one.
     asked: VecDeque<String>,
-    answer: Vec<String>,
+    answer: String,
     /// The requests that kills left without an answer since the file was mounted.
     doubts: Vec<String>,
     waiting: Option<Waiting>,
     told: Told,
-    /// Where only entries are made: which of them have to be kept.
+    /// Of a record that grows: which entries have to be kept.
     kept: Kept,
 }
 
 impl History {
-    /// The history of a node that hasn't begun.
-    pub fn new(own: u8, begins: Arc<[Begin]>, detail: Detail) -> History {
+    /// The history of a node that hasn't begun, whose record grows.
+    pub fn new(own: u8, begins: Arc<[Begin]>) -> History {
         History {
             own,
-            begins,
+            begins: Arc::clone(&begins),
             entries: String::new(),
-            turns: Vec::new(),
-            detail,
-            untold: Vec::new(),
+            noting: None,
             places: Vec::new(),
             place: (0, 0),
             time: 0,
             began: 0,
-            untimed: 0,
-            sent: HashMap::new(),
             count: 1,
             next: 0,
             pending: BTreeSet::new(),
             has_begun: false,
             is_up: false,
             asked: VecDeque::new(),
-            answer: Vec::new(),
+            answer: String::new(),
             doubts: Vec::new(),
             waiting: None,
-            told: Told::new(own),
+            told: Told::new(own, begins),
             kept: Kept::default(),
         }
     }
 
-    /// Reads a whole record.
-    pub fn of(own: u8, record: &NodeRecord, begins: &Arc<[Begin]>, detail: Detail) -> Result<History, RecordError> {
-        let mut history = History::new(own, Arc::clone(begins), detail);
-        record.placed_lines().try_for_each(|(place, line)| history.reads(place, line))?;
-        history.end()?;
-        Ok(history)
+    /// That of a node whose whole record is there.
+    pub fn noted(own: u8, begins: Arc<[Begin]>) -> History {
+        History { noting: Some(Noting::default()), ..History::new(own, begins) }
     }
 
     /// Reads the next line. An answer is that to the first request that has none. At a kill some requests are in doubt: what the next recovery finds says how many
@@ -155,7 +158,7 @@ impl History {
     }
 
     /// No line comes any more: what waits for one has to go without.
-    fn end(&mut self) -> Result<(), RecordError> {
+    pub fn end(&mut self) -> Result<(), RecordError> {
         while self.is_waiting() {
             let mut left = VecDeque::new();
             self.go_on(&mut left)?;
@@ -175,7 +178,8 @@ impl History {
         } else if let Some(closing) = Closing::read(line) {
             self.closed(line, &closing)?;
         } else {
-            self.answer.push(line.to_string());
+            self.answer.push_str(line);
+            self.answer.push('\n');
         }
         Ok(())
     }
@@ -224,47 +228,55 @@ impl History {
         &self.places
     }
 
-    /// What the node told beside its messages.
-    pub fn said(&self) -> &Told {
-        &self.told
+    /// How many bytes the entries have that aren't stored.
+    pub fn unstored(&self) -> usize {
+        self.entries.len()
     }
 
-    /// The entries, what an order needs to know of each, and what was told beside them.
-    pub fn into_parts(self) -> (String, Vec<Turn>, Told) {
-        (self.entries, self.turns, self.told)
+    /// Stores the entries so far, and what was noted of them.
+    pub fn store(&mut self, entries: &mut impl Write, notes: &mut impl Write) -> io::Result<()> {
+        entries.write_all(self.entries.as_bytes())?;
+        self.entries.clear();
+        self.places.clear();
+        self.noting.as_mut().map_or(Ok(()), |noting| noting.store(notes))
+    }
+
+    /// What was noted beside.
+    pub fn into_since(self) -> Since {
+        self.noting.unwrap_or_default().end()
     }
 
     /// The lines of an answer belong to the event of the request, or each to the event that was fired before it.
-    fn answered(&mut self, request: &str, answer: &[String], closing: &Closing) -> Result<(), Wrong> {
+    fn answered(&mut self, request: &str, answer: &str, closing: &Closing) -> Result<(), Wrong> {
         let word = request.split(' ').next().ok_or(Wrong::Unreadable)?;
-        let mut events = vec![Event { name: word, lines: Vec::new() }];
-        for line in answer {
-            if let Some(name) = line.strip_prefix("fired ") {
-                events.push(Event { name, lines: Vec::new() });
-            }
-            events.last_mut().ok_or(Wrong::Unreadable)?.lines.push(line);
-        }
+        let mut events = Event::all(word, answer);
         if ["tick", "lost"].contains(&word) {
-            self.sent_again(&events.remove(0)); // what stands before was sent before
+            let before = events.remove(0);
+            before.is_idle(closing)?;
+            self.sent_again(&before); // what stands before was sent before
         } else if NO_EVENTS.contains(&word) {
-            return Ok(());
+            return events[0].is_idle(closing);
         }
-        self.numbered(word, request, closing)?;
+        let id = match closing {
+            Closing::Ok(Some(id)) if word != "submit" => return Err(Wrong::Untrue(format!("id {id}, and {request:?} brings no job"))),
+            Closing::Ok(id) => *id,
+            _ => None,
+        };
         let count = events.len();
         for (place, event) in events.into_iter().enumerate() {
             if matches!(closing, Closing::Ok(_)) || place + 1 < count {
-                self.event(&event, request)?;
+                self.event(&event, request, id)?;
             }
         }
         if word == "tick" {
             self.timed();
         }
-        match closing {
-            Closing::Ok(Some(id)) => {
-                self.next = id.wrapping_add(1);
-                self.pending.insert(*id);
+        match (word, closing) {
+            ("submit", Closing::Ok(_)) => {
+                self.pending.insert(self.next);
+                self.next = self.next.wrapping_add(1);
             }
-            Closing::Fault => {
+            (_, Closing::Fault) => {
                 self.doubts.push(request.to_string());
                 self.is_up = false;
             }
@@ -273,52 +285,31 @@ impl History {
         Ok(())
     }
 
-    /// A submission that was done has the file's next id, and nothing else has one.
-    fn numbered(&mut self, word: &str, request: &str, closing: &Closing) -> Result<(), Wrong> {
-        let id = match closing {
-            Closing::Ok(id) => *id,
-            _ => return Ok(()),
-        };
-        let next = Some(self.next).filter(|_| word == "submit");
-        if id != next {
-            let named = |id: Option<u64>| id.map_or_else(|| "no id".to_string(), |id| format!("id {id}"));
-            return Err(Wrong::Untrue(format!("{} of {request:?}, where its file gives {}", named(id), named(next))));
-        }
-        if let Some(id) = id {
-            self.told.keeps(id, request);
-        }
-        Ok(())
-    }
-
-    fn event(&mut self, event: &Event, request: &str) -> Result<(), Wrong> {
+    /// An event, and the id of the job that it brought, as it was told.
+    fn event(&mut self, event: &Event, request: &str, id: Option<u64>) -> Result<(), Wrong> {
         let sent: Vec<&str> = event.sent().collect();
         let fields = self.fields_of(event.name, request).ok_or(Wrong::Unreadable)?;
-        let ends = ended_by(self.own, request).filter(|id| self.pending.contains(id));
         self.put(event.name, request, &sent, fields);
-        if self.detail == Detail::Entries {
+        if self.noting.is_none() {
             self.kept.means(effect_of(event.name, request, &event.lines, self.told.is_hand_known(), self.begins.len() > 1));
         }
-        self.follow(event.lines.iter().copied()).ok_or(Wrong::Unreadable)?;
-        self.hears(&Said { name: event.name, request, lines: &event.lines, ends }).map_err(Wrong::Untrue)?;
-        self.told.after(self.places.len() - 1);
+        self.follow(&event.lines).ok_or(Wrong::Unreadable)?;
+        let mut texts = self.told.says(event.name, &event.lines, keys_of(event.name, request, !sent.is_empty())).map_err(Wrong::Untrue)?;
+        if let Some(id) = id {
+            texts.insert("id", id.wrapping_sub(self.begins[usize::from(self.own)].id).to_string());
+        }
+        // before its file is mounted nothing is sure
+        if self.is_up && !texts.is_empty() {
+            self.tell(&texts);
+        }
+        ended_by(self.own, request).map(|id| self.pending.remove(&id));
         Ok(())
     }
 
-    /// What was told beside the messages, with the numbers that begin with the trace.
-    fn hears(&mut self, said: &Said) -> Result<(), String> {
-        let begins = &self.begins;
-        let begin = |creator: u8| begins.get(usize::from(creator)).copied().unwrap_or_default();
-        self.told.hears(said, |number| GroupNumber { count: number.count.wrapping_sub(begin(number.creator).count), ..number })
-    }
-
-    /// Takes the node's group, and the jobs that it keeps, from the lines of an event.
-    fn follow<'l>(&mut self, lines: impl Iterator<Item = &'l str>) -> Option<()> {
-        for line in lines {
-            if let Some(words) = line.strip_prefix("group ") {
-                self.entered(&Group::read(&words.split(' ').collect::<Vec<_>>()).ok()?);
-            } else if let Some(id) = line.strip_prefix("gone ") {
-                self.pending.remove(&id.parse().ok()?);
-            }
+    /// Takes the count of the node's groups from the lines of an event.
+    fn follow(&mut self, lines: &[&str]) -> Option<()> {
+        for words in lines.iter().filter_map(|line| line.strip_prefix("group ")) {
+            self.entered(&Group::read(&words.split(' ').collect::<Vec<_>>()).ok()?);
         }
         Some(())
     }
@@ -334,8 +325,8 @@ impl History {
     }
 
     /// What the file keeps that a node mounted, by its answer to a request.
-    fn kept_by(&self, request: &str, answer: &[String]) -> Option<String> {
+    fn kept_by(&self, request: &str, answer: &str) -> Option<String> {
         let is_mounted = request == "recover" && !self.is_up;
-        answer.iter().find_map(|line| line.strip_prefix("keeps ")).filter(|_| is_mounted).map(str::to_string)
+        lines_of(answer).find_map(|line| line.strip_prefix("keeps ")).filter(|_| is_mounted).map(str::to_string)
     }
 }

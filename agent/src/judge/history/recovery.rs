@@ -1,9 +1,9 @@
 //! What becomes of the requests that a kill left without an answer: what the next process finds says how many counted, and what is said of jobs later, which.
 
 use crate::judge::doubt::{ends, is_open, puts, Seen};
-use crate::judge::told::Said;
 use crate::judge::RecordError;
-use super::{History, PlacedLine};
+use super::effect::keys_of;
+use super::{lines_of, History, PlacedLine};
 use serde_json::{json, Map};
 use std::collections::VecDeque;
 
@@ -32,7 +32,7 @@ impl Found {
 pub(super) struct Recovery {
     /// What it keeps, in the words of the answer.
     pub(super) keeps: String,
-    pub(super) answer: Vec<String>,
+    pub(super) answer: String,
     pub(super) last: String,
 }
 
@@ -109,20 +109,18 @@ impl History {
     /// Puts what became of the requests in doubt, by what was said of jobs since where that had to be known.
     fn settle(&mut self, recovery: &Recovery, found: &Found, seen: &Seen) -> Result<(), RecordError> {
         let first = self.places.len();
-        let mut recovered = first;
+        let lines: Vec<&str> = lines_of(&recovery.answer).collect();
+        let texts = self.told.says("recover", &lines, keys_of("recover", "recover", false)).map_err(|why| self.untrue(why))?;
         if found.doubts.is_some() {
             let others = self.put_finished(found, seen).ok_or_else(|| self.no_state(recovery))?;
             self.put_crash(found.groups);
-            recovered = self.places.len();
             self.put_doubts(found, seen, others).ok_or_else(|| self.no_state(recovery))?;
         }
         (self.count, self.next, self.is_up) = (found.count, found.next, true);
-        let lines: Vec<&str> = recovery.answer.iter().map(String::as_str).collect();
-        self.follow(lines.iter().copied()).ok_or_else(|| self.fault(&recovery.last))?;
-        self.hears(&Said { name: "recover", request: "recover", lines: &lines, ends: None }).map_err(|why| self.untrue(why))?;
-        self.told.unsaid(first, self.places.len() > recovered);
-        if self.places.len() > first {
-            self.told.after(self.places.len() - 1);
+        self.follow(&lines).ok_or_else(|| self.fault(&recovery.last))?;
+        match self.places.len() > first {
+            true => self.tell(&texts),
+            false => self.told.owes(texts),
         }
         Ok(())
     }
@@ -158,7 +156,7 @@ impl History {
             let fields = self.fields_of("submit", request)?;
             self.put("submit", request, &[], fields);
             self.pending.insert(id);
-            self.told.keeps(id, request);
+            self.told.takes_early(id, request);
         }
         self.put_ends(others)
     }

@@ -1,7 +1,6 @@
 //! Records line by line, and what they come to.
 
 use super::*;
-use crate::judge::{Reached, Turn as ToldTurn};
 use serde_json::{json, Value};
 
 fn values(entries: &str) -> Vec<Value> {
@@ -14,14 +13,20 @@ fn begins() -> Arc<[Begin]> {
 
 /// What so many lines come to that a record has so far.
 fn grown(lines: &str, count: usize) -> Result<History, RecordError> {
-    let mut history = History::new(0, begins(), Detail::Entries);
+    let mut history = History::new(0, begins());
     (2..).zip(lines.lines().take(count)).try_for_each(|(number, line)| history.reads((0, number), line))?;
     Ok(history)
 }
 
+fn noted(lines: &str) -> Result<History, RecordError> {
+    let mut history = History::noted(0, begins());
+    (2..).zip(lines.lines()).try_for_each(|(number, line)| history.reads((0, number), line))?;
+    history.end().map(|()| history)
+}
+
 /// A whole record. One that grows to it comes to the same in the end, and before to nothing else than its begin.
 fn whole(lines: &str) -> Result<History, RecordError> {
-    let whole = History::of(0, &NodeRecord::of_text(0, lines), &begins(), Detail::Order);
+    let whole = noted(lines);
     let count = lines.lines().count();
     let ended = grown(lines, count).and_then(|mut history| history.end().map(|()| history));
     match (&whole, &ended) {
@@ -46,11 +51,57 @@ const START: &str = "start\n> recover\ngroup Normal 0 0:101 0\nkeeps 101 5 0\nok
 fn a_record_begins_with_count_1_and_id_0() {
     let lines = format!("{START}> submit 3 6869\ntake 0 5 3 6869\nok 2 id 5\n> finish 0 5\ngone 5\nok 3\n> tick 9\nfired check\nnext 30\nok 4\n");
     let put = [
-        r#"{"do":"submit","payload":"6869","queue":3,"sent":[]}"#,
-        r#"{"do":"finish","id":0,"origin":0,"sent":[]}"#,
+        r#"{"do":"submit","payload":"6869","queue":3,"sent":[],"told":{"dropped":"","group":"Normal 0 0:1 0","id":"0","took":"0 0 3 6869;"}}"#,
+        r#"{"do":"finish","id":0,"origin":0,"sent":[],"told":{"gone":"0;"}}"#,
         r#"{"do":"check","sent":[]}"#,
     ];
     assert_eq!(entries(&lines), put);
+}
+
+/// What is told of the entries of such a record.
+fn told(lines: &str) -> Vec<Value> {
+    values(whole(lines).unwrap().entries()).iter().map(|entry| entry["told"].clone()).collect()
+}
+
+#[test]
+fn what_could_be_told_and_was_not_is_told_as_nothing() {
+    let group = "Normal 0 0:1 0";
+    let lines = format!("{START}> check\nok 2\n> dispatch\nok 3\n> submit 3 -\nok 4\n> finish 1 7\nok 5\n> tick 9\nfired coord\nfired dispatch\ntake 0 5 3 -\nnext 12\nok 6\n> submit 3 -\nrefused 7 Full\n> deliver 0101\nok 8\n");
+    let texts = [
+        json!({"dropped": "", "group": group}),
+        json!({"took": ""}),
+        json!({"took": "", "id": ""}),
+        json!({"gone": ""}),
+        json!({"dropped": "", "group": group}),
+        json!({"took": "0 0 3 -;"}),
+        Value::Null,
+    ];
+    assert_eq!(told(&lines), texts);
+}
+
+#[test]
+fn a_recovery_tells_its_group_and_what_the_file_keeps_behind_what_was_in_doubt() {
+    let again = "start\n> recover\ngroup Normal 0 0:102 0\nkeeps 102 7 2\nok 1\n> tick 9\nfired dispatch\ntake 0 5 3 6869\ntake 0 6 4 -\nok 2\n> recover\ngroup Normal 0 0:103 0\ndrop 0 5\ndrop 0 6\nkeeps 103 7 2\nok 3\n";
+    let texts = |asked: &str| told(&format!("{START}{asked}{again}"));
+    let (recovery, last) = (json!({"dropped": "", "group": "Normal 0 0:2 0", "kept": "2 2 2"}), json!({"dropped": "0 0;0 1;", "group": "Normal 0 0:3 0", "kept": "3 2 2"}));
+    let doubtful = "> submit 3 6869\n> submit 4 -\n";
+    assert_eq!(texts(doubtful), [Value::Null, Value::Null, Value::Null, recovery.clone(), json!({"took": ""}), last.clone()]);
+    let known = "> submit 3 6869\ntake 0 5 3 6869\nok 2 id 5\n> submit 4 -\ntake 0 6 4 -\nok 3 id 6\n";
+    assert_eq!(texts(known)[2..], [Value::Null, recovery, json!({"took": "0 0 3 6869;0 1 4 -;"}), last]);
+}
+
+#[test]
+fn what_is_told_where_no_entry_can_say_it_is_refused() {
+    for (lines, why) in [
+        ("> tick 9\ntake 0 5 3 -\nnext 12\nok 2\n", "\"take 0 5 3 -\", where no event stands"),
+        ("> tick 9\ngone 5\nfired check\nok 2\n", "\"gone 5\", where no event stands"),
+        ("> jobs\ndrop 0 5\nok 2\n", "\"drop 0 5\", where no event stands"),
+        ("> tick 9\nok 2 id 5\n", "id 5, and \"tick 9\" brings no job"),
+        ("> tick 9\nok 3\n", "\"ok 3\" closes the answer to request 2 of its process"),
+    ] {
+        let refused = whole(&format!("{START}{lines}")).map_or_else(|why| why.to_string(), |_| "nothing".to_string());
+        assert!(refused.ends_with(&format!("node 0 told {why}")), "{refused}");
+    }
 }
 
 /// What a run comes to that a kill ends with these lines, and in which the next process finds these numbers and says these lines.
@@ -132,12 +183,12 @@ fn ends_of_jobs_in_doubt_that_counted() {
 fn a_record_that_grows_waits_where_it_is_open_which_requests_counted() {
     let lines = |keeps: &str| {
         let again = format!("start\n> recover\ngroup Normal 0 0:102 0\nkeeps {keeps}\nok 1\n");
-        let taken = match keeps {
-            "102 5 0" => "send 1 010100010000",
-            "102 7 2" => "take 0 6 4 -",
-            _ => "take 0 5 4 -",
+        let (event, line) = match keeps {
+            "102 5 0" => ("dispatch", "send 1 010100010000"),
+            "102 7 2" => ("check", "send 1 010100010000"),
+            _ => ("dispatch", "take 0 5 4 -"),
         };
-        format!("{START}> submit 3 6869\n> submit 4 -\n{again}> tick 9\nfired check\nok 2\n> tick 10\nfired dispatch\n{taken}\nok 3\n")
+        format!("{START}> submit 3 6869\n> submit 4 -\n{again}> tick 9\nfired check\nok 2\n> tick 10\nfired {event}\n{line}\nok 3\n")
     };
     // none before the recovery's last line, which is the twelfth; then so many by that one, by the next answer, and by the one in which the node dispatches
     for (keeps, counts) in [("102 5 0", [2, 3, 4]), ("102 7 2", [4, 5, 6]), ("102 6 1", [0, 0, 5])] {
@@ -172,10 +223,10 @@ fn a_clock_that_fell_back_or_jumped_orders_no_turn_before_an_earlier_one() {
         (90_000, [5009, 90_001, 90_001, 91_900]),
     ] {
         let lines = START.replace("start", "start 5000") + &tick(9, 2) + &again(second) + &tick(1, 2) + &tick(1900, 3);
-        let (entries, turns, _) = whole(&lines).unwrap().into_parts();
-        let entries = values(&entries);
-        let seen: Vec<(&str, u64)> =
-            entries.iter().zip(&turns).map(|(entry, turn)| (entry["do"].as_str().unwrap(), turn.time)).collect();
+        let history = whole(&lines).unwrap();
+        let entries = values(history.entries());
+        let since = history.into_since();
+        let seen: Vec<(&str, u64)> = entries.iter().zip(since.times()).map(|(entry, time)| (entry["do"].as_str().unwrap(), time)).collect();
         let what = ["check", "crash", "recover", "check", "check"];
         assert_eq!(seen.iter().map(|(what, _)| *what).collect::<Vec<_>>(), what);
         let seen: Vec<u64> = seen.iter().map(|(_, time)| *time).collect();
@@ -193,10 +244,10 @@ fn numbers_that_nothing_in_doubt_brings_about_are_refused() {
 
 #[test]
 fn a_failed_device_leaves_its_event_in_doubt() {
-    let lines = format!("{START}> submit 3 -\ngroup Down\nfault 2 Device\nstart\n> recover\nkeeps 102 5 0\nok 1\n");
-    assert_eq!(entries(&lines), [r#"{"do":"crash","sent":[]}"#, r#"{"do":"recover","kept":false,"sent":[]}"#]);
-    let kept = lines.replace("keeps 102 5 0", "keeps 102 6 1");
-    assert_eq!(entries(&kept)[2], r#"{"do":"submit","payload":"","queue":3,"sent":[]}"#);
+    let lines = |keeps: &str| format!("{START}> submit 3 -\ngroup Down\nfault 2 Device\nstart\n> recover\ngroup Normal 0 0:102 0\nkeeps {keeps}\nok 1\n");
+    let told = |kept: &str| format!(r#","sent":[],"told":{{"dropped":"","group":"Normal 0 0:2 0","kept":"{kept}"}}}}"#);
+    assert_eq!(entries(&lines("102 5 0")), [r#"{"do":"crash","sent":[]}"#.to_string(), r#"{"do":"recover","kept":false"#.to_string() + &told("2 0 0")]);
+    assert_eq!(entries(&lines("102 6 1"))[2], r#"{"do":"submit","payload":"","queue":3"#.to_string() + &told("2 1 1"));
 }
 
 /// A leader that checks and finds nobody, and is asked by a member, so many times.
@@ -211,7 +262,7 @@ fn steady(times: usize) -> String {
 
 /// Two nodes, of which the first begins with count 101.
 fn of_two(lines: &str) -> History {
-    let mut history = History::new(0, Arc::new([Begin { count: 100, id: 5 }, Begin::default()]), Detail::Entries);
+    let mut history = History::new(0, Arc::new([Begin { count: 100, id: 5 }, Begin::default()]));
     (2..).zip(lines.lines()).try_for_each(|(number, line)| history.reads((0, number), line)).unwrap();
     history
 }
@@ -272,16 +323,11 @@ fn what_sends_something_new_or_changes_a_group_stays() {
 }
 
 #[test]
-fn turns_are_compared_behind_what_was_forgotten() {
-    let group = "> recover\ngroup Normal 0 0:102 0\nok 14\n> tick 99\nfired check\nsend 1 010100010000\nok 15\n";
+fn what_stays_tells_what_it_told() {
+    let group = "> recover\ngroup Normal 0 0:102 0\nkeeps 102 5 0\nok 14\n> tick 99\nfired check\nsend 1 010100010000\nok 15\n";
     let mut history = of_two(&format!("{}{group}", steady(3)));
-    history.forget(12);
-    let differs = |lines: &[&str]| {
-        let mut reached = Reached::default();
-        lines.iter().map(|line| history.said().differs(&mut reached, &ToldTurn::read(line).unwrap()).is_some()).collect::<Vec<_>>()
-    };
-    let before = ["turn 0 0 Normal 0:1 0 0 0", "turn 0 1 Normal 0:1 0 0 0", "turn 0 2 Normal 0:1 0 0 0"];
-    let behind = |group: &'static str| [before.as_slice(), &[group, group]].concat();
-    assert_eq!(differs(&behind("turn 0 3 Normal 0:2 0 0 0")), [false; 5]);
-    assert_eq!(differs(&behind("turn 0 3 Normal 0:1 0 0 0")), [false, false, false, true, true]);
+    history.forget(usize::MAX);
+    let texts: Vec<Value> = values(history.entries()).iter().map(|entry| entry["told"].clone()).collect();
+    let first = json!({"dropped": "", "group": "Normal 0 0:1 0"});
+    assert_eq!(texts, [first, Value::Null, Value::Null, json!({"dropped": "", "group": "Normal 0 0:2 0", "kept": "2 0 0"}), Value::Null]);
 }

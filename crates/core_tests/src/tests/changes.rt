@@ -12,6 +12,11 @@ fn seen(rt: &impl Abort, node: &DurableNode<MemDisk>) -> Seen {
     node.seen().expect(rt, "memory to see a node")
 }
 
+fn seen_before(rt: &impl Abort, node: &DurableNode<MemDisk>, event: &Event) -> Seen {
+    node.seen_before(event)
+        .expect(rt, "memory to see a node before an event")
+}
+
 fn changes<'a>(rt: &impl Abort, node: &'a DurableNode<MemDisk>, seen: &Seen) -> Changes<'a> {
     node.changes_since(seen)
         .expect(rt, "memory for what changed")
@@ -61,6 +66,39 @@ fn jobs_taken_and_dropped(rt: HostRuntime) {
         second.dropped.as_slice(),
         [(NodeId::numbered(1), 0)].as_slice()
     );
+}
+
+#[test]
+fn seen_before_events(rt: HostRuntime) {
+    let mut node = opened(&rt, rt.alloc());
+    take_job(&rt, &mut node);
+    let question = Event::Deliver(Message::between(
+        NodeId::numbered(0),
+        NodeId::numbered(1),
+        Body::AreYouCoordinator,
+    ));
+    let asked = seen_before(&rt, &node, &question);
+    step(&rt, &mut node, &question);
+    let answered = changes(&rt, &node, &asked);
+    assert!(rt;
+        answered.group.is_none() && answered.taken.is_empty() && answered.dropped.is_empty()
+    );
+    drop(answered);
+    // A node that comes up again has nothing in hand, until it takes what is pending.
+    let alone = seen_before(&rt, &node, &Event::Recover);
+    step(&rt, &mut node, &Event::Recover);
+    let left = changes(&rt, &node, &alone);
+    assert_eq!(rt;
+        left.dropped.as_slice(),
+        [(NodeId::numbered(1), 0)].as_slice()
+    );
+    drop(left);
+    let dispatch = Event::Timer(Timer::Dispatch);
+    let waiting = seen_before(&rt, &node, &dispatch);
+    step(&rt, &mut node, &dispatch);
+    let dispatched = changes(&rt, &node, &waiting);
+    assert!(rt; dispatched.group.is_none() && dispatched.dropped.is_empty());
+    assert_eq!(rt; dispatched.taken.len(), 1);
 }
 
 #[test]

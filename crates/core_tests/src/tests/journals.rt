@@ -288,8 +288,8 @@ fn no_compaction_left(rt: HostRuntime) {
         &mut disk,
         &[
             (Call::Put, 0, Err(JournalFault::Full)),
-            (Call::Done(1), 0, Err(JournalFault::Exhausted)),
-            (Call::Compact, 0, Err(JournalFault::Exhausted)),
+            (Call::Done(1), 0, Err(JournalFault::AreaExhausted)),
+            (Call::Compact, 0, Err(JournalFault::AreaExhausted)),
         ],
     );
 }

@@ -4,6 +4,7 @@ ghost use Rattle.sector_disk.specs.Memory.{state_of};
 ghost use Rattle.job_journal.specs.Journal.{IsSound};
 ghost use Rattle.node_store.specs.Store.{slots_for};
 
+use job_journal::JournalFault;
 use job_model::{Payload, Queue, Work};
 use node_store::{MountFault, NodeStore, StoreFault, format};
 use sector_disk::MemDisk;
@@ -55,7 +56,7 @@ fn work(rt: &impl Abort) -> Work {
 }
 
 // Makes a call. A compaction that is done answers 0.
-fn make(rt: &impl Abort, store: &mut NodeStore<MemDisk>, call: Call) -> Result<u64, StoreFault>
+fn make(rt: &impl Abort, store: &mut NodeStore<MemDisk>, call: Call) -> Result<u64, JournalFault>
     requires { IsSound store.old.journal.slots (state_of store.old.disk) }
     ensures { IsSound store.new.journal.slots (state_of store.new.disk) }
 {
@@ -66,7 +67,7 @@ fn make(rt: &impl Abort, store: &mut NodeStore<MemDisk>, call: Call) -> Result<u
     }
 }
 
-fn compact(store: &mut NodeStore<MemDisk>) -> Result<u64, StoreFault>
+fn compact(store: &mut NodeStore<MemDisk>) -> Result<u64, JournalFault>
     requires { IsSound store.old.journal.slots (state_of store.old.disk) }
     ensures { IsSound store.new.journal.slots (state_of store.new.disk) }
 {
@@ -77,7 +78,7 @@ fn compact(store: &mut NodeStore<MemDisk>) -> Result<u64, StoreFault>
 }
 
 // A call and its answer.
-type Row = (Call, Result<u64, StoreFault>);
+type Row = (Call, Result<u64, JournalFault>);
 
 // Opens an empty store of so many sectors, makes these calls, and compares their answers.
 fn after(rt: &impl Abort, alloc: Global, sectors: u64, rows: &[Row]) -> NodeStore<MemDisk> {
@@ -139,7 +140,7 @@ fn smallest_disk(rt: HostRuntime) {
         &[
             (Call::Put, Ok(0)),
             (Call::Put, Ok(1)),
-            (Call::Put, Err(StoreFault::Full)),
+            (Call::Put, Err(JournalFault::Full)),
         ],
     );
 }

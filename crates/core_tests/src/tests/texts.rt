@@ -52,6 +52,7 @@ fn faults_of_journals(rt: HostRuntime) {
             "the device failed earlier, mount again",
         ),
         (JournalFault::Exhausted, "no number is left"),
+        (JournalFault::AreaExhausted, "no number is left"),
         (JournalFault::Damaged(6), "the body in sector 6 is damaged"),
         (JournalFault::Full, "the journal is full"),
         (JournalFault::NoSuchJob, "no such job is pending"),
@@ -65,12 +66,8 @@ fn faults_of_journals(rt: HostRuntime) {
 fn faults_of_stores(rt: HostRuntime) {
     for (fault, text) in [
         (StoreFault::Device, "the device failed"),
-        (StoreFault::Broken, "the device failed earlier, mount again"),
-        (StoreFault::Exhausted, "no number is left"),
         (StoreFault::NotFormatted, "the disk isn't formatted"),
         (StoreFault::Damaged(8), "the body in sector 8 is damaged"),
-        (StoreFault::Full, "the journal is full"),
-        (StoreFault::NoSuchJob, "no such job is pending"),
         (StoreFault::NoMemory, "out of memory"),
         (StoreFault::TooSmall, "the disk has too few sectors"),
     ] {

@@ -4,5 +4,5 @@ use Rattle.command_line.proofs.Endings.{file_ends}
 use Rattle.command_line.proofs.obeying.salvage.Goals as goal
 
 pub returns : goal.returns
-returns g c = file_ends IsSalvagePrintout None _ _ c.salvage-ended.result.ending c.tell_of_file.result c.salvage-ended.ensures.prints
-    c.tell_of_file.ensures
+returns g c = file_ends IsSalvagePrintout None _ _ c.salvage-ended.result.ending c.tell.result c.salvage-ended.ensures.prints
+    c.tell.ensures

@@ -1,16 +1,17 @@
-use Rattle.std.proofs.Common.{◌≡◌, Option, Result, Ok, Err, IsOk, IfErr, ℕ, refl, sym, ap, subst}
+use Rattle.std.proofs.Common.{◌≡◌, Option, Result, Ok, Err, IsOk, IfErr, ℕ, refl, sym, ap, arith, subst}
 use Rattle.job_model.specs.declared.node_command.NodeCommand.{NodeCommand as Command}
-use Rattle.job_model.specs.declared.node_command.NodeCommand.TheVariants.{Put, Done}
+use Rattle.job_model.specs.declared.node_command.NodeCommand.TheVariants.{Raise, Put, Done}
 use Rattle.node_core.specs.Planned.{lent_by}
-use Rattle.node_store.specs.declared.fault.StoreFault.{StoreFault}
-use Rattle.durable_node.specs.declared.fault.NodeFault.{NodeFault}
-use Rattle.durable_node.specs.Faults.{fault_for}
+use Rattle.job_journal.specs.declared.fault.JournalFault.{JournalFault}
+use Rattle.histories.specs.declared.event_outcome.EventOutcome.{EventOutcome}
+use Rattle.durable_node.specs.Faults.{outcome_for}
 use Rattle.durable_node.specs.Carrying.{Writes}
 use Rattle.durable_node.proofs.Mounts.{written}
 use Rattle.durable_node.proofs.carry.carry.Goals as goal
 
 -- what is answered as done was done
-done_of : (r : Result ℕ StoreFault) (t : Result (Option ℕ) NodeFault) → IfErr r (λ fault. t ≡ Err (fault_for fault)) → IsOk t → IsOk r
+done_of : (r : Result ℕ JournalFault) (t : Result (Option ℕ) EventOutcome) → IfErr r (λ fault. t ≡ Err (outcome_for fault)) → IsOk t
+    → IsOk r
 done_of (Ok n) t err ok = refl
 done_of (Err fault) t err ok = (let failed = rw err at ok in absurd cc)
 
@@ -34,3 +35,13 @@ returns-in-Done-clause-disk g c =
     (λ honest ok. (e.appends.after honest (done_of c.done.result c.node_answer-in-Done.result c.node_answer-in-Done.ensures.err ok)).lasts)
     (λ honest ok. (e.appends.after honest (done_of c.done.result c.node_answer-in-Done.result c.node_answer-in-Done.ensures.err
     ok)).spelled))
+
+pub returns-in-Raise-clause-disk : goal.returns-in-Raise-clause-disk
+returns-in-Raise-clause-disk g c =
+    let e = c.raise.ensures in
+    subst (λ (w : Option Command). Writes g.D.SectorDisk.state c.args.store.now c.raise.new.self w (IsOk c.node_answer.result))
+    (sym (ap lent_by c.in-Raise.is))
+    (written g.D.SectorDisk.state c.args.store.now c.raise.new.self Raise (IsOk c.node_answer.result)
+    c.requires.ready.whole e.tries.areas.slots e.images
+    (λ honest ok. e.after honest (done_of c.raise.result c.node_answer.result c.node_answer.ensures.err ok))
+    (λ honest ok image is from k at less. absurd (omega (arith, less))))

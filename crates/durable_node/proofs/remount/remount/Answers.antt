@@ -35,19 +35,19 @@ returns-in-Err-clause-call g c =
     let m = c.unmounted.ensures in
     record {
       step = mount_fails state a.setting.id a.setting.nodes a.core.now a.disk.now c.take.result disk a.doubt.now a.mounted.now
-          c.take.ensures.disk fallen _ _ e.counts e.run c.node_fault.result c.unmounted.result m.what m.quiet m.tried;
+          c.take.ensures.disk fallen _ _ e.counts e.run c.unmounted.result m.what m.quiet m.tried;
       stuck = stuck state a.setting.id a.setting.nodes a.core.now a.disk.now c.take.result disk a.doubt.now a.mounted.now
           c.take.ensures.disk
-          fallen c.in-Err.refused.fault e.no_other e.mounts e.untouched c.node_fault.result c.node_fault.ensures c.unmounted.result m.stuck;
+          fallen c.in-Err.refused.fault e.mounts e.untouched c.unmounted.result m.stuck;
       answers = λ d area kept at. absurd (area_hidden (is_down a.core.now.state.phase) (store_in a.disk.now) area c.requires.down at);
       counts = rw c.take.ensures.disk (counts_of state c.take.result disk (answered c.unmounted.result) (search rules)
           (quiet_rises (state c.take.result) (state disk) e.run));
       area = λ d area kept at. absurd (area_hidden (is_down a.core.now.state.phase) (store_in a.disk.now) area c.requires.down at);
-      mounting = λ _ _. rw (m.answered, c.node_fault.ensures) (unmounted_at a.setting.id a.setting.nodes a.core.now a.disk.now disk
-          a.doubt.now a.mounted.now c.in-Err.refused.fault e.no_other);
+      mounting = λ _ _. rw m.answered (unmounted_at a.setting.id a.setting.nodes a.core.now a.disk.now disk
+          a.doubt.now a.mounted.now c.in-Err.refused.fault);
       mounted = λ _ _. (
         grind arith,
-        rw (c.take.ensures.disk, m.answered, c.node_fault.ensures)
+        rw (c.take.ensures.disk, m.answered)
             (at_both (λ was now. IsRead state was now _ _) c.take.result disk
             (unread_at state c.take.result disk c.in-Err.refused.fault e.too_small e.untouched e.answers_for e.run)),
       );

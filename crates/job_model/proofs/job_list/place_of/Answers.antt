@@ -6,15 +6,15 @@ use Rattle.job_model.proofs.job_list.place_of.Goals.{else-place-rows-via-then-pl
 use Rattle.job_model.proofs.job_list.place_of.Goals.{else-place-rows-via-else-place-rows}
 use Rattle.job_model.proofs.job_list.place_of.Goals as goal
 
-pub returns-then-rows-place : goal.returns-then-rows-place
-returns-then-rows-place c payloads next r =
+pub returns-then-rows-place-clause-place : goal.returns-then-rows-place-clause-place
+returns-then-rows-place-clause-place c payloads next r =
     let row = c.index-rows-place.result in
     let same : row.id ≡ c.args.id = search rules in
     found payloads c.args.rows.now c.args.id c.partition_point-place.result next row r (omega (arith, c.if-place-rows.true))
     (ap (λ (x : PackedJob). x.id) (sym c.index-rows-place.is) ∙ same)
 
-pub returns-else-place-rows : goal.returns-else-place-rows
-returns-else-place-rows c payloads next r =
+pub returns-else-place-rows-clause-place : goal.returns-else-place-rows-clause-place
+returns-else-place-rows-clause-place c payloads next r =
     let rows = c.args.rows.now in
     let id = c.args.id in
     let at = c.partition_point-place.result in

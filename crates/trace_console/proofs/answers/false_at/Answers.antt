@@ -1,6 +1,6 @@
 use Rattle.std.proofs.Common.{ℕ, length, slice_get, option_map, refl, sym, ap, ◌∙◌, arith}
 use Rattle.std.proofs.lemmas.Option.{slice_get_read}
-use Rattle.serde_json.specs.View.{view}
+use Rattle.trace_text.specs.Tellings.{telling_by}
 use Rattle.trace_check.specs.Followed.{before}
 use Rattle.trace_check.specs.Orders.{history}
 use Rattle.trace_check.proofs.PublicLaws.{may_take}
@@ -34,7 +34,7 @@ bounds-new-number c =
 pub returns-then-branch : goal.returns-then-branch
 returns-then-branch c =
     let hs = c.args.trace.now in
-    let d = view c.args.told.now in
+    let d = c.args.told.now in
     let order = c.args.order.now in
     let k = c.args.turn in
     let n = c.index-order-turn.result in
@@ -43,15 +43,15 @@ returns-then-branch c =
     let finishes = c.is_finish.ensures ∙ ap is_finish (entry_seen c.entry-entry.result (slice_get (history hs n) old.index)
     c.entry-entry.ensures.some c.entry-entry.ensures.none) in
     let fact = turn_fact hs d order k n c.from-number.result c.is_finish.result c.in_ok-is_so.field-0 c.args.old.now c.args.new.now old
-    c.index-new-number.result (option_map (λ v. view v.now) c.told_at-told.result) c.requires.legal now
+    c.index-new-number.result (option_map telling_by c.get-told.result) c.requires.legal now
     (c.from-number.ensures ∙ c.number.ensures.value) c.requires.old c.requires.new c.index-old-number.is c.index-new-number.is
-    c.told_at-told.ensures finishes c.in_ok-is_so.ensures in
+    c.get-told.ensures finishes c.in_ok-is_so.ensures in
     turn_is hs d order k n now ∙ sym fact.0 ∙ c.if-branch.true
 
 pub returns : goal.returns
 returns c =
     let hs = c.args.trace.now in
-    let d = view c.args.told.now in
+    let d = c.args.told.now in
     let order = c.args.order.now in
     let k = c.args.turn in
     let n = c.index-order-turn.result in
@@ -60,7 +60,7 @@ returns c =
     let finishes = c.is_finish.ensures ∙ ap is_finish (entry_seen c.entry-entry.result (slice_get (history hs n) old.index)
     c.entry-entry.ensures.some c.entry-entry.ensures.none) in
     let fact = turn_fact hs d order k n c.from-number.result c.is_finish.result c.in_ok-is_so.field-0 c.args.old.now c.args.new.now old
-    c.index-new-number.result (option_map (λ v. view v.now) c.told_at-told.result) c.requires.legal now
+    c.index-new-number.result (option_map telling_by c.get-told.result) c.requires.legal now
     (c.from-number.ensures ∙ c.number.ensures.value) c.requires.old c.requires.new c.index-old-number.is c.index-new-number.is
-    c.told_at-told.ensures finishes c.in_ok-is_so.ensures in
+    c.get-told.ensures finishes c.in_ok-is_so.ensures in
     record { turn = refl; node = now; index = fact.1; other = ap (λ (i : ℕ). entry_so hs d n i) fact.1 ∙ sym fact.0 ∙ c.if-branch.false }

@@ -1,5 +1,4 @@
 use Rattle.std.proofs.Common.{◌≡◌, ◌<◌, ℕ, true}
-use Rattle.serde_json.specs.View.{view}
 use Rattle.trace_check.specs.Followed.{before}
 use Rattle.trace_console.specs.Answers.{turn_so}
 use Rattle.trace_console.specs.Turns.{AreSeats}
@@ -9,5 +8,5 @@ abbrev pub invariant-loop-turn : goal.invariant-loop-turn
 invariant-loop-turn l = record {
   old : AreSeats l.trace (before l.order l.turn) l.before.items;
   new : AreSeats l.trace (before l.order l.turn) l.behind.items;
-  so : (k : ℕ) → k < l.turn → turn_so l.trace (view l.told) l.order k ≡ true;
+  so : (k : ℕ) → k < l.turn → turn_so l.trace l.told l.order k ≡ true;
 }

@@ -10,11 +10,11 @@ pub returns-in-Some-claimed-clause-turn : goal.returns-in-Some-claimed-clause-tu
 returns-in-Some-claimed-clause-turn c =
     let ok : IsOk c.claim.result = search rules in
     no_action (record { terms = refl; start = refl; seal = refl; text = refl; halt = refl; told = refl }) c.in-Some.is refl
-    (c.asking_is_steps.ensures.claims c.in-Some.machine c.claim.new.self c.args.now c.args.user c.args.name.now (c.claim.ensures.claimed ok)
-    (c.claim.ensures.counts ok)
+    (c.asking_is_steps.ensures.claims c.in-Some.machine c.claim.new.self c.args.now c.args.user c.args.name.now
+    (c.claim.ensures.claimed ok).1 (c.claim.ensures.claimed ok).0
     c.claim.ensures.voter c.claim.ensures.others c.claim.ensures.goes_on)
     (leases_beside c.in-Some.machine c.claim.new.self c.args.now c.args.name.now
-    (kept_begun c.in-Some.machine c.claim.new.self c.args.name.now (c.claim.ensures.claimed ok)) c.claim.ensures.others)
+    (kept_begun c.in-Some.machine c.claim.new.self c.args.name.now (c.claim.ensures.claimed ok).1) c.claim.ensures.others)
 
 pub returns-in-Err-Claimed-clause-turn : goal.returns-in-Err-Claimed-clause-turn
 returns-in-Err-Claimed-clause-turn c = no_action (record { terms = refl; start = refl; seal = refl; text = refl; halt = refl; told = refl })

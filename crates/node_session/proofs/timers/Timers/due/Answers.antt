@@ -15,9 +15,7 @@ returns-then-is_some-clause-looks c =
       down = e.down;
       moves = e.moves;
       sets = e.set;
-      recovers =
-          e.recovers;
-      stays = e.stays;
+      prompts = e.prompts;
       checks = e.checks;
       dispatches = e.dispatches;
       kept = e.kept;
@@ -40,9 +38,7 @@ returns-clause-looks c =
       down = e.down;
       moves = e.moves;
       sets = e.set;
-      recovers =
-          e.recovers;
-      stays = e.stays;
+      prompts = e.prompts;
       checks = e.checks;
       dispatches = e.dispatches;
       kept = e.kept;
@@ -56,9 +52,7 @@ returns-clause-looks c =
       down = f.down;
       moves = f.moves;
       sets = f.set;
-      recovers =
-          f.recovers;
-      stays = f.stays;
+      prompts = f.prompts;
       checks = f.checks;
       dispatches = f.dispatches;
       kept = f.kept;

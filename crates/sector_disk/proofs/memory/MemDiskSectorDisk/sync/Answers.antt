@@ -1,7 +1,8 @@
 use Rattle.std.proofs.Common.{◌≡◌, ◌⊎◌, ⊎_elim, ◌∙◌, ℕ, Bool, List, ap, sym, subst, refl, not, Result, Ok, Err, IsOk, IsFalse, length}
-use Rattle.std.proofs.Common.{get_or, replicate, false, rules}
+use Rattle.std.proofs.Common.{get_or, replicate, false, rules, arith}
 use Rattle.std.specs.Prelude.{OnErr, is_ok}
 use Rattle.std.proofs.lemmas.Bool.{false≢true}
+use Rattle.std.proofs.lemmas.Grind.{common_steps}
 use Rattle.std.specs.Vec.{with_items}
 use Rattle.std.proofs.lemmas.List.{with_items_is}
 use Rattle.sector_disk.specs.Disk.{Touches, nothing}
@@ -69,10 +70,16 @@ returns-then-is_err-clause-touches c = λ honest.
     (ap (λ (t : List (List Overwritten)). spans_of t (undone new.notes.since i.sectors)) times
     ∙ ap (λ (s : Image). spans_of i.notes.times s) back))
 
-pub returns-then-is_err-clause-idle : goal.returns-then-is_err-clause-idle
-returns-then-is_err-clause-idle c = λ quiet passes.
+pub returns-then-is_err-clause-sync : goal.returns-then-is_err-clause-sync
+returns-then-is_err-clause-sync c =
     let failed = c.is_err.ensures.negation ∙ ap not c.if-is_err.true in
-    let inside = subst (λ (m : Memory). (at : ℕ) → IsFalse (is_unsynced m at)) (sym c.self.view_is) quiet in
-    let ok = c.end_time.ensures.idle (subst (λ (u : List Bool). (at : ℕ)
-    → IsFalse (get_or u at false)) (sym c.deref_mut.ensures.value) inside) in
-    absurd (false≢true (sym failed ∙ ok))
+    record {
+      armed = search rules;
+      idle = λ quiet passes.
+          let inside = subst (λ (m : Memory). (at : ℕ) → IsFalse (is_unsynced m at)) (sym c.self.view_is) quiet in
+          let ok = c.end_time.ensures.idle (subst (λ (u : List Bool). (at : ℕ)
+          → IsFalse (get_or u at false)) (sym c.deref_mut.ensures.value) inside) in
+          absurd (false≢true (sym failed ∙ ok));
+      ok = search rules;
+      failed = grind (arith, common_steps);
+    }
