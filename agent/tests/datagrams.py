@@ -297,10 +297,13 @@ def of_the_gone(bed):
     agents.one_group()
     others, turn = (1, 2), 0
     while min(sum(int(message[4:6], 16) == i for life in delivered(agents, 0) for message, *_ in life) for i in others) < 120:
-        # nodes that begin anew have much to say
+        # who leads has much to say, and each of them leads for a while
         agents.ask(1, do="submit", queue=turn % 8, text="recorded")
-        agents.kill(others[turn % 2])
+        for i in others:
+            agents.kill(i)
         agents.start(others[turn % 2])
+        agents.one_group([0, others[turn % 2]])
+        agents.start(others[1 - turn % 2])
         agents.one_group()
         turn += 1
     agents.kill(1)

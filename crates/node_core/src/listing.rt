@@ -68,7 +68,10 @@ impl Listing {
     pub(crate) fn clear(&mut self)
         ensures { Lists self.new [] }
     {
-        self.keys.clear();
+        // where none is listed, the room for many costs nothing
+        if !self.keys.is_empty() {
+            self.keys.clear();
+        }
         self.is_whole = true;
     }
 
