@@ -296,7 +296,7 @@ def of_the_gone(bed):
     agents.start_all()
     agents.one_group()
     others, turn = (1, 2), 0
-    while min(sum(int(message[4:6], 16) == i for life in delivered(agents, 0) for message, *_ in life) for i in others) < 120:
+    while min(sum(int(message[4:6], 16) == i for life in delivered(agents, 0) for message, *_ in life) for i in others) < 60:
         # who leads has much to say, and each of them leads for a while
         agents.ask(1, do="submit", queue=turn % 8, text="recorded")
         for i in others:
@@ -314,7 +314,7 @@ def of_the_gone(bed):
     groups = agents.groups()
     for i in others:
         agents.send_all(0, [datagram for (to, datagram), sender in kept if (to, sender) == (0, i)])
-        agents.until(lambda: len(again(agents, 0, i)) >= 100)
+        agents.until(lambda: len(again(agents, 0, i)) >= 50)
         answers = again(agents, 0, i)
         check("no recorded message of node %d is taken by a node that began later" % i, all(how == ["refused", "Forged"] for how in answers), answers)
     timed("no group is changed by them", agents.groups() == groups, (groups, agents.groups()))

@@ -168,14 +168,8 @@ def judged(tried, name, data, printed):
     tried.mark(trouble, name)
 
 
-# These may take more than a second: each dispatch looks at all pending jobs.
-LONGEST = {"dispatches of many jobs", "a dispatch after each job"}
-
-
 def try_shapes(tried):
     for name, (text, printed) in {**texts(), **stuck()}.items():
-        if tried.is_long or name not in LONGEST:
-            judged(tried, name, text.encode(), printed)
+        judged(tried, name, text.encode(), printed)
     for name, (made, entries) in RUNS.items():
-        if tried.is_long or name not in LONGEST:
-            judged(tried, name, made(entries).text().encode(), b"Run ..")
+        judged(tried, name, made(entries).text().encode(), b"Run ..")

@@ -6,8 +6,9 @@
 Of each schedule's trace some entries are spoiled, one at a time, and of a long run with crashes and of one without. Where an entry can't be, the core has to be
 the entries of that node alone up to that one, 32 at most, from the index that it says; the model of a node in tests/hostile, brought through the entries before
 them, has to stand as the core says, alone in its group and never so again where there are fewer than 32; and begun as the core says it takes each of its entries
-but the last, whatever others sent. Where each entry that is left waits, that has to be said in one line. The status and standard error are those of `trace`. The
-last line counts the checks, and the one before says how many entries the cores have."""
+but the last, whatever others sent. Of some entries something is told that no node tells: then the core is of the entries up to the first of these, which its node
+takes, too. Where each entry that is left waits, that has to be said in one line. The status and standard error are those of `trace`. The last line counts the
+checks, and the one before says how many entries the cores have."""
 import argparse, json, os, random, re, sys
 
 TOP = os.path.join(os.path.dirname(os.path.abspath(__file__)), "../..")
@@ -18,6 +19,7 @@ from common.tally import Tally
 from node_model import DOWN, Node, Search
 
 MOST = 32
+FIELDS = ("group", "took", "dropped", "gone", "id", "kept")
 ALL_WAIT = b"each entry that is left waits for a message that none sent\n"
 
 
@@ -34,7 +36,7 @@ class Everything:
 class Checks(Tally):
     def __init__(self, invite):
         super().__init__()
-        self.program, self.lengths, self.waiting = invite, [], 0
+        self.program, self.lengths, self.waiting, self.told = invite, [], 0, 0
 
     def printed(self, words, text):
         """The status, what is printed, and what is said."""
@@ -112,12 +114,12 @@ def judge(checks, name, text):
     status, verdict, said = checks.printed(["trace"], text)
     core_status, core, core_said = checks.printed(["trace", "--core"], text)
     checks.check((core_status, core_said) == (status, said), f"{name}: ends as trace does", core_status, core_said)
-    look = re.match(rb"invite: no order takes all entries: look first at node (\d+), entry (\d+)\n", said)
+    look = re.match(rb"invite: no order takes all entries( as they were told)?: look first at node (\d+), entry (\d+)\n?", said)
     if not look:
         checks.waiting += status == 1
         checks.check(core == (ALL_WAIT if verdict.startswith(b"NotARun") else verdict), f"{name}: a run, or all wait", core)
         return
-    own, index = int(look[1]), int(look[2])
+    is_told, own, index = bool(look[1]), int(look[2]), int(look[3])
     nodes, histories = traces.read(text)
     *lines, text = core.decode().splitlines() or [""]
     begin = re.fullmatch(r"node (\d+) entry (\d+) (.*)", lines[0] if lines else "")
@@ -136,8 +138,9 @@ def judge(checks, name, text):
     later = [place for place, (_, opened) in enumerate(stood) if place > first and opened]
     checks.check(not later and (index + 1 - first == MOST or stood[first][1]), f"{name}: and opened there, or before the last {MOST}", later)
     taken, _ = brought(begun(own, nodes, lines), nodes, part[own])
-    checks.check(taken == index - first, f"{name}: the last can't be", taken, index - first)
+    checks.check(taken == index - first + is_told, f"{name}: the last can't be, or isn't told so", taken, index - first)
     checks.lengths.append(index + 1 - first)
+    checks.told += is_told
 
 
 def spoiled(random, entry):
@@ -189,7 +192,11 @@ def main():
             trace = json.loads(text)
             spoiled(chance, trace["histories"][node][index])
             judge(checks, f"{name}, node {node}, entry {index}", json.dumps(trace).encode())
-    checks.check(checks.lengths and checks.waiting, "cores of each kind")
+            trace = json.loads(text)
+            for other, place in [(node, index), chance.choice(places)]:
+                trace["histories"][other][place]["told"] = {chance.choice(FIELDS): "x"}
+            judge(checks, f"{name}, node {node}, entry {index}, told otherwise", json.dumps(trace).encode())
+    checks.check(checks.lengths and checks.waiting and checks.told, "cores of each kind")
     print(f"{len(checks.lengths)} cores, of {sum(checks.lengths)} entries, the longest of {max(checks.lengths, default=0)}")
     return checks.close()
 

@@ -139,9 +139,9 @@ def middle(entries):
 
 
 def redispatch(entries):
-    """All jobs of a node, 4,000 at most, leave its hand by a recovery, and come back by a dispatch, over and over."""
+    """All jobs of a node leave its hand by a recovery, and come back by a dispatch, over and over."""
     cluster = Cluster(1)
-    jobs = min(4_000, entries // 3)
+    jobs = entries // 3
     for _ in range(jobs):
         cluster.submit(0, 0)
     # not by the model, which takes each job in hand each time

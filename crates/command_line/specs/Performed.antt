@@ -9,7 +9,6 @@ use Rattle.invite_console.specs.Reasons.{answer_flaw, schedule_flaw, show_flaw}
 use Rattle.store_console.specs.Session.{IsSession, IsSessionWhy, IsTold as IsSessionTold}
 use Rattle.trace_console.specs.Contradicting.{IsContradictionOf}
 use Rattle.trace_console.specs.Answers.{IsJudgedAt, IsVerdictTold}
-use Rattle.trace_console.specs.Reported.{IsTold}
 use Rattle.invite_console.specs.Recording.{IsRecording}
 use Rattle.threads_console.specs.Printed.{IsThreading}
 use Rattle.threads_console.specs.Reasons.{plans_flaw}
@@ -40,7 +39,7 @@ IsWhyOf (Trace stage) = IsVerdictTold
 IsWhyOf Record = IsWhy schedule_flaw
 IsWhyOf (Threads kind) = IsWhy plans_flaw
 IsWhyOf Turns = IsVerdictTold
-IsWhyOf Contradiction = IsTold
+IsWhyOf Contradiction = IsVerdictTold
 
 -- what standard error says of the requests of a store belongs to what was printed
 abbrev pub IsSaidOf : Batch → Option (List ℕ) → Option (List ℕ) → Option (List ℕ) → ExitKind → List ℕ → Type 0

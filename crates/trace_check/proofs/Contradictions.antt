@@ -1,7 +1,8 @@
 -- Entries of one node that can't be, whatever the other nodes do.
 use Rattle.std.proofs.Common.{◌≡◌, ◌<◌, ◌≤◌, ◌==◌, ◌⊎◌, ℕ, zero, suc, ◌+◌, ◌-◌, Bool, true, false, List, [], ◌∷◌, ◌++◌, length, take, drop}
-use Rattle.std.proofs.Common.{Option, Some, None, slice_get, inl, inr, refl, sym, ap, ◌∙◌, subst, arith, append_assoc}
+use Rattle.std.proofs.Common.{Option, Some, None, slice_get, reverse, inl, inr, refl, sym, ap, ◌∙◌, subst, arith, append_assoc}
 use Rattle.std.proofs.Math.Seq.{take-append_seam, take-nil, take-suc}
+use Rattle.std.proofs.lemmas.List.{length_push}
 use Rattle.std.proofs.lemmas.Bool.{cases_Bool, cases_lt, eqb-true}
 use Rattle.std.proofs.lemmas.Option.{same_Some, get_or_from_slice_get, slice_get_within}
 use Rattle.histories.specs.Lists.{IsAmong}
@@ -11,14 +12,16 @@ use Rattle.trace_check.specs.declared.contradiction.Contradiction.{Contradiction
 use Rattle.trace_check.specs.declared.contradiction.TheConstants.{MOST_ENTRIES}
 use Rattle.trace_check.specs.declared.leftover.Leftover.{Leftover}
 use Rattle.trace_check.specs.Claims.{Claim, MayCome, state_after, after_claim, brought_by}
-use Rattle.trace_check.specs.Contradictions.{CantBe, IsContradiction, IsLastOpening, IsOpenedAt, IsStart, IsStopped, LeftoversStop, lone}
+use Rattle.trace_check.specs.Contradictions.{CantBe, IsContradiction, IsCore, IsLastOpening, IsOpenedAt, IsStart, IsStopped, LeftoversStop}
 use Rattle.trace_check.specs.Twins.{opened}
 use Rattle.trace_check.specs.Kept.{part}
-use Rattle.trace_check.specs.Leftovers.{AddsLeft, AreLeftBelow, HoldsUp}
+use Rattle.trace_check.specs.Followed.{before}
+use Rattle.trace_check.specs.Leftovers.{AddsLeft, AreLeftBelow, CanReplay, HoldsUp}
 use Rattle.trace_check.specs.Orders.{history, claims_of, taken, state_of, MayTake, IsLegal}
 use Rattle.trace_check.specs.Searches.{twin_after}
 use Rattle.trace_check.specs.Twins.{Twin}
 use Rattle.trace_check.proofs.Leftovers.{can_replay, hold}
+use Rattle.trace_check.proofs.Prefixes.{legal_before}
 
 -- ---- parts of a list
 
@@ -99,51 +102,79 @@ state_append self nodes s (c ∷ xs) ys = state_append self nodes (after_claim s
 
 -- ---- what can't be
 
--- entries of which the last can't come behind the others
-cant : (nodes n : ℕ) (s : NodeState) (front : List Claim) (c : Claim)
-    → (MayCome n nodes (state_after n nodes s front) c → AreAddressed n (brought_by c.action) → ⊥) → CantBe nodes n s (front ++ c ∷ [])
-cant nodes n s front c dead hs before behind count is stands run =
+-- an entry of one trace is the last of so many of its node in another one, behind the same state
+pub record StandsAgain (hs gs : List (List Claim)) (n index : ℕ) (c : Claim) (many : ℕ) : Type 0 where
+  pub place : ℕ
+  pub last : place + 1 ≡ many
+  pub at : slice_get (history gs n) place ≡ Some c
+  pub state : state_of gs n place ≡ state_of hs n index
+
+-- so it is behind those before it, from a place on where its node stood so
+pub stands_again : (hs gs : List (List Claim)) (n first index : ℕ) (c : Claim) (front behind : List Claim) → first ≤ index
+    → slice_get (history hs n) index ≡ Some c → length gs ≡ length hs
+    → history gs n ≡ front ++ (part first (index + 1) (history hs n) ++ behind)
+    → state_after n (length hs) (opening n) front ≡ state_of hs n first
+    → StandsAgain hs gs n index c (length (front ++ part first (index + 1) (history hs n)))
+stands_again hs gs n first index c front behind within at count is stands =
     let h = history hs n in
-    let early = before ++ front in
-    let k = length early in
-    let whole : h ≡ early ++ (c ∷ behind) = is ∙ ap (λ (xs : List Claim). before ++ xs) (append_assoc front (c ∷ []) behind)
-    ∙ sym (append_assoc before front (c ∷ behind)) in
-    let at : slice_get h k ≡ Some c = ap (λ (xs : List Claim). slice_get xs k) whole ∙ get_seam early c behind in
-    let there : take k h ≡ early = ap (λ (xs : List Claim). take k xs) whole ∙ take-append_seam early (c ∷ behind) in
-    let state : state_of hs n k ≡ state_after n nodes s front =
-    ap (λ (xs : List Claim). state_after n (length hs) (opening n) xs) there ∙ ap (λ (m : ℕ). state_after n m (opening n) early) count
-    ∙ state_append n nodes (opening n) before front ∙ ap (λ (t : NodeState). state_after n nodes t front) stands in
-    let all = run.2 n in
-    let some = slice_get_within h k c at in
-    let less : k < taken n run.0 = omega (arith, all, some) in
-    let may = can_replay hs run.0 n run.1 k c less at in
-    dead (subst (λ (t : NodeState). MayCome n nodes t c) state (subst (λ (m : ℕ). MayCome n m (state_of hs n k) c) count may))
-    (are_addressed hs run.0 n k c run.1 less at)
+    let nodes = length hs in
+    let since = part first index h in
+    let early = front ++ since in
+    let more = part_more first index h c within at in
+    let whole : history gs n ≡ early ++ (c ∷ behind) = is ∙ ap (λ (xs : List Claim). front ++ (xs ++ behind)) more
+    ∙ ap (λ (xs : List Claim). front ++ xs) (append_assoc since (c ∷ []) behind) ∙ sym (append_assoc front since (c ∷ behind)) in
+    let there : take (length early) (history gs n) ≡ early =
+    ap (λ (xs : List Claim). take (length early) xs) whole ∙ take-append_seam early (c ∷ behind) in
+    let state : state_of hs n index ≡ state_after n nodes (state_of hs n first) since =
+    ap (λ (xs : List Claim). state_after n nodes (opening n) xs) (part_whole first index h within)
+    ∙ state_append n nodes (opening n) (take first h) since in
+    record {
+      place = length early;
+      last = sym (ap (λ (xs : List Claim). length (front ++ xs)) more
+          ∙ ap (λ (xs : List Claim). length xs) (sym (append_assoc front since (c ∷ [])))
+          ∙ length_push early c);
+      at = ap (λ (xs : List Claim). slice_get xs (length early)) whole ∙ get_seam early c behind;
+      state = ap (λ (xs : List Claim). state_after n (length gs) (opening n) xs) there
+          ∙ ap (λ (m : ℕ). state_after n m (opening n) early) count ∙ state_append n nodes (opening n) front since
+          ∙ ap (λ (t : NodeState). state_after n nodes t since) stands ∙ sym state;
+    }
+
+-- the state behind one entry more
+pub state_more : (hs : List (List Claim)) (n k : ℕ) (c : Claim) → slice_get (history hs n) k ≡ Some c
+    → state_of hs n (k + 1) ≡ after_claim n (length hs) (state_of hs n k) c
+state_more hs n k c at = ap (λ (xs : List Claim). state_after n (length hs) (opening n) xs)
+    (sym (taken_more (history hs n) (take k (history hs n)) (take k (history hs n) ++ c ∷ []) k c refl at refl))
+    ∙ state_append n (length hs) (opening n) (take k (history hs n)) (c ∷ [])
 
 -- those of a history from one place up to an entry that can't come
 pub cant_part : (hs : List (List Claim)) (n first index : ℕ) (s : NodeState) → IsStopped hs n index → first ≤ index
     → s ≡ state_of hs n first → CantBe (length hs) n s (part first (index + 1) (history hs n))
-cant_part hs n first index s stopped within is =
-    let h = history hs n in
-    let nodes = length hs in
-    let front = part first index h in
-    let state : state_of hs n index ≡ state_after n nodes s front =
-    ap (λ (xs : List Claim). state_after n nodes (opening n) xs) (part_whole first index h within)
-    ∙ state_append n nodes (opening n) (take first h) front
-    ∙ ap (λ (t : NodeState). state_after n nodes t front) (sym is) in
-    subst (λ (xs : List Claim). CantBe nodes n s xs) (sym (part_more first index h stopped.claim within stopped.next))
-    (cant nodes n s front stopped.claim (λ may. stopped.dead (subst (λ (t : NodeState). MayCome n nodes t stopped.claim) (sym state) may)))
+cant_part hs n first index s stopped within is gs front behind count whole stands run =
+    let c = stopped.claim in
+    let again = stands_again hs gs n first index c front behind within stopped.next count whole (stands ∙ is) in
+    let k = again.place in
+    let all = run.2 n in
+    let some = slice_get_within (history gs n) k c again.at in
+    let less : k < taken n run.0 = omega (arith, all, some) in
+    let may = can_replay gs run.0 n run.1 k c less again.at in
+    stopped.dead (subst (λ (t : NodeState). MayCome n (length hs) t c) again.state
+    (subst (λ (m : ℕ). MayCome n m (state_of gs n k) c) count may))
+    (are_addressed gs run.0 n k c run.1 less again.at)
+
+-- the entries before that which a turn takes can come one behind another
+pub replays_to : (hs : List (List Claim)) (order : List ℕ) (k n : ℕ) → IsLegal hs (reverse order)
+    → CanReplay hs n (taken n (before order k))
+replays_to hs order k n legal = can_replay hs (before order k) n (legal_before hs order k legal)
 
 -- ---- what is left
 
-in_some : (o : Option (List Claim)) (k : ℕ) (c : Claim) → slice_get (claims_of o) k ≡ Some c → (h : List Claim) × (o ≡ Some h)
-in_some None k c at = absurd cc
-in_some (Some h) k c at = (h, refl)
+in_some : (o : Option (List Claim)) (k : ℕ) → k < length (claims_of o) → (h : List Claim) × (o ≡ Some h)
+in_some None k less = absurd (omega (arith, less))
+in_some (Some h) k less = (h, refl)
 
 -- a node with an entry is one of the cluster
-pub stopped_within : (hs : List (List Claim)) (n index : ℕ) → IsStopped hs n index → n < length hs
-stopped_within hs n index stopped = let found = in_some (slice_get hs n) index stopped.claim stopped.next in
-    slice_get_within hs n found.0 found.1
+pub stopped_within : (hs : List (List Claim)) (n index : ℕ) → index < length (history hs n) → n < length hs
+stopped_within hs n index there = let found = in_some (slice_get hs n) index there in slice_get_within hs n found.0 found.1
 
 among_front : {A : Type 0} → (x y : A) (xs : List A) → IsAmong x (xs ++ y ∷ []) → IsAmong x xs ⊎ (x ≡ y)
 among_front x y [] (inl here) = inr here
@@ -227,15 +258,11 @@ not_true false low high = absurd cc
 
 -- ---- what is found
 
-pub found : (hs : List (List Claim)) (n index : ℕ) (c : Contradiction) → c.node ≡ n → IsStopped hs n index → IsStart hs n index c.first
-    → c.before ≡ twin_after hs n c.first
-    → c.trace ≡ lone (length hs) n (part c.first (index + 1) (history hs n)) → IsContradiction hs n index c
-found hs n index c node stopped start before entries = record {
-  node = node;
-  start = start;
-  before = before;
-  entries = entries;
-  cant = cant_part hs n c.first index c.before.node stopped start.few.0 (ap (λ (t : Twin). t.node) before);
+pub cant_core : (hs : List (List Claim)) (n index : ℕ) (c : Contradiction) → IsStopped hs n index → IsCore hs n index c
+    → IsContradiction hs n index c
+cant_core hs n index c stopped core = record {
+  core = core;
+  cant = cant_part hs n c.first index c.before.node stopped core.start.few.0 (ap (λ (t : Twin). t.node) core.before);
 }
 
 -- ---- where the entries begin

@@ -7,6 +7,7 @@ mod Leftovers
 mod Bundles
 mod Turning
 mod Twins
+mod Rests
 mod Keyed
 mod Lazily
 mod Searches

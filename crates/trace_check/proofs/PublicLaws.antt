@@ -13,3 +13,5 @@ pub use Rattle.trace_check.proofs.Turning.{turns}
 pub use Rattle.trace_check.proofs.Turns.{none_past}
 -- The turns of an order, from the first to the last.
 pub use Rattle.trace_check.proofs.Prefixes.{before_more, may_take}
+-- An entry that stands in another trace behind the same state of its node, and what can come before it.
+pub use Rattle.trace_check.proofs.Contradictions.{StandsAgain, stands_again, state_more, replays_to}

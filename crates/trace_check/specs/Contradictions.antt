@@ -59,11 +59,16 @@ CantBe nodes n s entries =
 abbrev pub lone : ℕ → ℕ → List Claim → List (List Claim)
 lone nodes n entries = replicate n [] ++ (entries ∷ replicate (nodes - n - 1) [])
 
--- The entries of a node since it opened last, up to this one, or the last of them where these are more than so many: no run has them where
--- the node stands as it did before them.
-pub record IsContradiction (hs : List (List Claim)) (n index : ℕ) (c : Contradiction) : Type 0 where
+-- The entries of a node since it opened last, up to this one, or the last of them where these are more than so many, and how the node
+-- stands
+-- before them.
+pub record IsCore (hs : List (List Claim)) (n index : ℕ) (c : Contradiction) : Type 0 where
   pub node : c.node ≡ n
   pub start : IsStart hs n index c.first
   pub before : c.before ≡ twin_after hs n c.first
   pub entries : c.trace ≡ lone (length hs) n (part c.first (index + 1) (history hs n))
+
+-- no run has them where the node stands as it did before them
+pub record IsContradiction (hs : List (List Claim)) (n index : ℕ) (c : Contradiction) : Type 0 where
+  pub core : IsCore hs n index c
   pub cant : CantBe (length hs) n c.before.node (part c.first (index + 1) (history hs n))

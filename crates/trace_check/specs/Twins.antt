@@ -6,6 +6,7 @@ use Rattle.wire_msg.specs.Envelope.{Envelope}
 use Rattle.group_task.specs.declared.node.TheConstants.{NODES}
 use Rattle.node_core.specs.declared.event.Event.{Event}
 use Rattle.node_core.specs.declared.event.Event.TheVariants.{Timer}
+use Rattle.node_core.specs.declared.event.Event.TheVariants as on
 use Rattle.node_core.specs.declared.timer.Timer.TheVariants.{Dispatch}
 use Rattle.node_core.specs.declared.wanted.Wanted.{Wanted}
 use Rattle.node_core.specs.Core.{Core}
@@ -64,6 +65,11 @@ Judged old new what sent false = Comes old what sent → ⊥
 pub record RestsAt (t : Twin) : Type 0 where
   pub comes : Comes t (Did (Timer Dispatch)) []
   pub stays : t.node ≡ after t.id t.nodes t.node (Did (Timer Dispatch))
+
+-- the event is a submit
+abbrev pub IsSubmit : Event → Type 0
+IsSubmit (on.Submit work) = Unit {0}
+IsSubmit event = ⊥
 
 -- what comes of an event that is handled, or else in whose command the device failed
 abbrev pub came : Bool → Event → HistoryEvent

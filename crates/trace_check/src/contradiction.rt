@@ -1,7 +1,7 @@
 //! What of a trace can't be by itself: entries of one node, whatever the other nodes did.
 ghost use Rattle.std.specs.Prelude.{◌≡◌, ◌<◌, ◌≤◌, ◌+◌, ◌-◌, ◌++◌, [], ◌∷◌, length, replicate, IfOk, OnOk};
 ghost use Rattle.group_task.specs.declared.node.TheConstants.{NODES};
-ghost use Rattle.trace_check.specs.Contradictions.{IsContradiction, IsLastOpening, IsStart, IsStopped, lone};
+ghost use Rattle.trace_check.specs.Contradictions.{IsContradiction, IsCore, IsLastOpening, IsStart, IsStopped, lone};
 ghost use Rattle.trace_check.specs.Kept.{part};
 ghost use Rattle.trace_check.specs.Leftovers.{CanReplay};
 ghost use Rattle.trace_check.specs.Orders.{history};
@@ -17,7 +17,7 @@ use std::alloc::{AllocError, Global};
 /// So many entries of a node are a contradiction at most: of more since it opened last these are the last ones.
 pub const MOST_ENTRIES: usize = 32;
 
-/// Entries of one node that can't be, whatever the other nodes did: those since it opened last, or the last of these.
+/// Entries by which a node contradicts itself, whatever the other nodes did: those since it opened last, or the last of these.
 #[derive(Debug, Drop)]
 pub struct Contradiction {
     pub node: NodeId,
@@ -25,7 +25,7 @@ pub struct Contradiction {
     pub first: usize,
     /// How the node stands before that entry.
     pub before: NodeModel,
-    /// The entries, as a trace in which the other nodes have none. The last one can't come.
+    /// The entries, as a trace in which the other nodes have none. The last one is the one that doesn't fit.
     pub trace: Trace,
 }
 
@@ -40,9 +40,24 @@ pub fn contradiction_at(
     // Promise: Of an entry that can't come, whatever is sent, a part of its node's history is handed on that is a contradiction by itself: its last
     // entries since the node stood as where it opens, 32 at most, and how it stood before them. No run has them behind that, whatever the node
     // did before and does behind, and whatever the other nodes do.
+    // Also: core_at.
     // Refuses: core_of_another_node, core_that_is_a_run, first_opening_taken, opened_with_a_job_in_hand, stands_as_at_its_end,
     // twice_as_many_entries.
     ensures { IfOk result (IsContradiction trace.now node index) }
+{
+    core_at(alloc, trace, node, index)
+}
+
+/// The entries of a node up to this one, behind those before it, since it opened last, or the last of these.
+pub fn core_at(
+    alloc: Global,
+    trace: &Trace,
+    node: NodeId,
+    index: usize,
+) -> Result<Contradiction, AllocError>
+    requires there { index < length (history trace.now node) }
+    requires before { CanReplay trace.now node index }
+    ensures { IfOk result (IsCore trace.now node index) }
 {
     let first = start(alloc, trace, node, index)?;
     let before = replayed(alloc, trace, node, first)?;

@@ -28,7 +28,7 @@ mod stored;
 mod trace;
 
 pub use checking::{Examined, check, examine};
-pub use contradiction::{Contradiction, MOST_ENTRIES, contradiction_at};
+pub use contradiction::{Contradiction, MOST_ENTRIES, contradiction_at, core_at};
 pub use following::is_order;
 pub use history::{EntryView, History, Sent, keep_messages};
 pub use kept::{PackedEvent, event_said, keep_event, read_event};

@@ -10,7 +10,7 @@ ghost use Rattle.histories.specs.declared.history_event.HistoryEvent.TheVariants
 ghost use Rattle.histories.specs.declared.history_event.NoOpKind.TheVariants.{Nothing};
 ghost use Rattle.histories.specs.Possible.{IsForNode, IsPossible};
 ghost use Rattle.trace_check.specs.Leftovers.{IsRefused, IsSilent, WouldSend};
-ghost use Rattle.trace_check.specs.Twins.{Judged, Settled, Taken, WantsOf, came, opened};
+ghost use Rattle.trace_check.specs.Twins.{IsSubmit, Judged, Settled, Taken, WantsOf, came, opened};
 ghost use Rattle.trace_check.specs.Kept.{EventStands, event_said};
 ghost use Rattle.trace_check.specs.Traces.{claim, claim_seen};
 ghost use Rattle.trace_check.specs.Views.{Stands, claim_kept};
@@ -304,9 +304,11 @@ impl NodeModel {
         ensures made { IfOk result (λ made. MatchOption made (IsPossible self.old.id self.old.nodes self.old.node (Did event.now) → ⊥)
             (λ messages. Judged self.old self.new (Did event.now) messages.items true)) }
     {
-        let Event::Timer(Timer::Dispatch) = event else {
-            return self.stepped(event);
-        };
+        match event {
+            Event::Timer(Timer::Dispatch) => {}
+            Event::Submit(_) => return self.submitted(event),
+            _ => return self.stepped(event),
+        }
         if self.rested {
             return Ok(Some(Vec::new(self.alloc)));
         }
@@ -317,6 +319,24 @@ impl NodeModel {
             && self.in_hand() == had
         {
             self.rested = true;
+        }
+        Ok(made)
+    }
+
+    /// A submit. A job that the node keeps and takes in hand gives the next dispatch nothing more to do.
+    fn submitted(&mut self, event: &Event) -> Result<Option<Vec<Message>>, AllocError>
+        requires { IsSubmit event.now }
+        ensures id { self.new.id ≡ self.old.id }
+        ensures nodes { self.new.nodes ≡ self.old.nodes }
+        ensures made { IfOk result (λ made. MatchOption made (IsPossible self.old.id self.old.nodes self.old.node (Did event.now) → ⊥)
+            (λ messages. Judged self.old self.new (Did event.now) messages.items true)) }
+    {
+        let rested = self.rested;
+        let made = self.stepped(event)?;
+        if let Some(messages) = &made
+            && messages.is_empty()
+        {
+            self.rested = rested;
         }
         Ok(made)
     }

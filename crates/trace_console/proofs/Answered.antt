@@ -52,7 +52,7 @@ all_before hs d order each (suc k) within =
     (so, all_before hs d order each k (omega (arith, within)))
 
 -- in an order in which each node would have told so, of each entry that it takes
-so_taken : (hs : List (List Claim)) (d : TellingsData) (order : List ℕ) (n i : ℕ) → AllSo hs d order → i < taken n order
+pub so_taken : (hs : List (List Claim)) (d : TellingsData) (order : List ℕ) (n i : ℕ) → AllSo hs d order → i < taken n order
     → entry_so hs d n i ≡ true
 so_taken hs d [] n i all less = absurd (omega (arith, less))
 so_taken hs d (m ∷ past) n i all less = elim (cases_Bool (m == n)) [

@@ -5,6 +5,8 @@ mod Looks
 mod Pieces
 mod Stages
 mod Stopped
+mod Cores
+mod Silence
 mod Answered
 mod Tellings
 mod Thens

@@ -7,12 +7,10 @@ use Rattle.trace_check.specs.declared.contradiction.Contradiction.{Contradiction
 use Rattle.trace_check.specs.declared.leftover.Holdup.{Holdup}
 use Rattle.trace_check.specs.declared.leftover.Holdup.TheVariants.{Waits}
 use Rattle.trace_check.specs.declared.leftover.Leftover.{Leftover}
-use Rattle.trace_check.specs.Claims.{Claim}
-use Rattle.trace_check.specs.Contradictions.{IsContradiction}
 use Rattle.trace_text.specs.Fits.{IsWritable}
 use Rattle.trace_text.specs.Wholes.{trace_of}
 use Rattle.trace_text.specs.Written.{text_of_trace}
-use Rattle.trace_console.specs.Contradicting.{IsShownUpTo, before_text}
+use Rattle.trace_console.specs.Contradicting.{IsShown, before_text}
 use Rattle.trace_console.specs.Ongoing.{first_stopped}
 use Rattle.trace_console.specs.Reported.{waits}
 
@@ -31,20 +29,13 @@ stopped_among (x ∷ ls) l is = elim (cases_Bool (waits x.holdup)) [
       (inl (sym here), subst (λ (y : Leftover). y.holdup ≡ Waits → ⊥) here (goes_on x.holdup low)))
 ]
 
--- what is printed up to it: how its node stands, and the text of its entries
-pub shown : (hs : List (List Claim)) (left : Leftover) (c : Contradiction) (none before both all written : List ℕ)
-    → IsContradiction hs left.node left.index c → written ≡ text_of_trace c.trace
+-- what is printed of entries: how their node stands, and their text
+pub shown : (c : Contradiction) (none before both all written : List ℕ) → written ≡ text_of_trace c.trace
     → (IsWritable c.trace → trace_of written ≡ Ok c.trace) → none ≡ [] → before ≡ none ++ before_text c → both ≡ before ++ written
-    → all ≡ both ++ codes "\n" → IsShownUpTo hs left (record { text = all; good = false })
-shown hs left c none before both all written is same back empty one two three =
+    → all ≡ both ++ codes "\n" → IsShown c (record { text = all; good = false })
+shown c none before both all written same back empty one two three =
     let front : before ≡ before_text c = one ∙ ap (λ (xs : List ℕ). xs ++ before_text c) empty in
     let text : all ≡ (before_text c ++ text_of_trace c.trace) ++ codes "\n" =
     three ∙ ap (λ (xs : List ℕ). xs ++ codes "\n") (two ∙ ap (λ (xs : List ℕ). xs ++ written) front
     ∙ ap (λ (xs : List ℕ). before_text c ++ xs) same) in
-    record {
-      contradiction = c;
-      is = is;
-      printed = λ i. record { text = text i; good = false };
-      reads = λ writable. ap trace_of (sym same)
-          ∙ back writable;
-    }
+    record { printed = λ i. record { text = text i; good = false }; reads = λ writable. ap trace_of (sym same) ∙ back writable }

@@ -6,6 +6,7 @@ use Rattle.console_text.specs.Ends.{Printout, refused}
 use Rattle.console_text.specs.declared.ends.ExitKind.{ExitKind}
 use Rattle.console_text.specs.declared.ends.ExitKind.TheVariants.{Done, Refused, NoMemory, Unread, Unwritten}
 use Rattle.histories.specs.NodeState.{NodeState}
+use Rattle.memchr.specs.Find.{FindsNeedle}
 use Rattle.trace_check.specs.declared.checking.Examined.{Examined}
 use Rattle.trace_check.specs.declared.trace.Verdict.{Verdict}
 use Rattle.trace_check.specs.declared.trace.Verdict.TheVariants.{Run, NotARun}
@@ -148,6 +149,11 @@ IsPrintedWith Is IsTold (Err location) printout = printout ≡ refused (bad_trac
 -- the verdict on the trace that a text is, and on what it says was told
 abbrev pub IsJudgedAt : Stage → List ℕ → Printout → Type 0
 IsJudgedAt stage text printout = IsPrintedWith (IsJudgementAsTold stage) (IsToldIn text) (trace_of text) printout
+
+-- of a text in which the key doesn't stand it is that on its entries alone
+abbrev pub UntoldIsJudgedAlone : Type 0
+UntoldIsJudgedAlone = (stage : Stage) (text : List ℕ) (hs : List (List Claim)) (printout : Printout)
+    → FindsNeedle text (codes "\"told\"") 0 None → trace_of text ≡ Ok hs → IsJudgedAt stage text printout → IsJudgementAt stage hs printout
 
 -- and what is said of it; what is wrong with a text that is no trace is printed, and not said again
 abbrev pub IsReportedWith : (TellingsData → Type 0) → Result (List (List Claim)) (Option Location) → List ℕ → Type 0

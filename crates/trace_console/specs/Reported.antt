@@ -1,10 +1,8 @@
 -- What the command `trace` says on standard error of entries that are no run.
 use Rattle.std.specs.Prelude.{ℕ, Bool, true, false, if◌then◌else◌, ◌≡◌, List, [], ◌∷◌, ◌++◌, map, codes, decimal, Option, Some, None}
-use Rattle.std.specs.Prelude.{IfSome, Result, Ok, Err, slice_get}
+use Rattle.std.specs.Prelude.{slice_get}
 use Rattle.std.specs.List.{flat_map}
 use Rattle.hex.specs.Hex.{encode_lower}
-use Rattle.console_text.specs.declared.ends.ExitKind.{ExitKind}
-use Rattle.console_text.specs.declared.ends.ExitKind.TheVariants.{Done, Refused, NoMemory, Unread, Unwritten}
 use Rattle.wire_msg.specs.Envelope.{Envelope}
 use Rattle.wire_msg.specs.Spelling.{spelling}
 use Rattle.node_words.specs.Words.{phase_text}
@@ -15,8 +13,6 @@ use Rattle.trace_check.specs.declared.leftover.Leftover.{Leftover}
 use Rattle.trace_check.specs.Claims.{Claim, brought_by}
 use Rattle.trace_check.specs.Leftovers.{AreLeftovers}
 use Rattle.trace_check.specs.Orders.{history}
-use Rattle.trace_text.specs.declared.fault.Location.{Location}
-use Rattle.trace_text.specs.Wholes.{trace_of}
 use Rattle.trace_text.specs.Written.{action_name}
 use Rattle.trace_console.specs.Judged.{words}
 
@@ -79,23 +75,3 @@ report hs (left ∷ others) = look_text (left ∷ others) ++ flat_map (leftover_
 
 abbrev pub IsReport : List (List Claim) → List ℕ → Type 0
 IsReport hs why = (left : List Leftover) × AreLeftovers hs left × (why ≡ report hs left)
-
--- what is wrong with a text that is no trace is printed, and not said again
-abbrev pub IsReportBy : Result (List (List Claim)) (Option Location) → List ℕ → Type 0
-IsReportBy (Ok hs) why = IsReport hs why
-IsReportBy (Err location) why = why ≡ []
-
-abbrev pub IsReported : List ℕ → List ℕ → Type 0
-IsReported text why = IsReportBy (trace_of text) why
-
--- this is said of the bytes that were read; where the reader says its bytes, they are these
-abbrev pub IsReportOf : Option (List ℕ) → List ℕ → Type 0
-IsReportOf input why = (bytes : List ℕ) × IfSome input (λ known. known ≡ bytes) × IsReported bytes why
-
--- so where the verdict was printed
-abbrev pub IsTold : Option (List ℕ) → ExitKind → List ℕ → Type 0
-IsTold input Done why = IsReportOf input why
-IsTold input Refused why = IsReportOf input why
-IsTold input NoMemory why = Unit {0}
-IsTold input Unread why = Unit {0}
-IsTold input Unwritten why = Unit {0}

@@ -1,16 +1,20 @@
 //! What of a trace can't be by itself, whatever the other nodes did.
-ghost use Rattle.std.specs.Prelude.{◌≡◌, ◌≤◌, ◌+◌, ◌++◌, IfOk, OnOk};
+ghost use Rattle.std.specs.Prelude.{◌≡◌, ◌≤◌, ◌<◌, ◌+◌, ◌++◌, length, IfOk, OnOk};
 ghost use Rattle.console_text.specs.Ends.{Prints, printout_of, refused};
-ghost use Rattle.trace_check.specs.Contradictions.{IsStopped};
-ghost use Rattle.trace_check.specs.Leftovers.{AreLeftovers};
-ghost use Rattle.trace_console.specs.Contradicting.{IsContradictionOf, IsShowing, IsShownAt, IsShownLeft, IsShownUpTo, all_wait, before_text};
+ghost use Rattle.trace_check.specs.declared.contradiction.Contradiction.{Contradiction};
+ghost use Rattle.trace_check.specs.Contradictions.{IsCore, IsStopped};
+ghost use Rattle.trace_check.specs.Leftovers.{AreLeftovers, CanReplay};
+ghost use Rattle.trace_check.specs.Orders.{history};
+ghost use Rattle.trace_console.specs.Answers.{IsReportAsTold, IsReportedAsTold, IsVerdictTold};
+ghost use Rattle.trace_console.specs.Contradicting.{IsContradictionOf, IsShowing, IsShown, IsShownAt, IsShownLeft, IsShownUpTo, all_wait, before_text};
 ghost use Rattle.trace_console.specs.Ongoing.{first_stopped};
-ghost use Rattle.trace_console.specs.Reported.{IsReport, IsReported, IsTold};
 
+use crate::answers::FalseAnswer;
+use crate::comparing::{compare, report_as_told};
 use crate::judging::{bad_printout, verdict_printout};
 use crate::node_states::push_node_state;
 use crate::ongoing::first_stopped;
-use crate::reporting::report;
+use crate::told::Told;
 use console_text::{
     CommandError, Ended, IoTrouble, Output, Source, print_explained, push_named_number, push_text,
     read_source,
@@ -18,13 +22,15 @@ use console_text::{
 use std::alloc::{AllocError, Global};
 use std::io::{Read, Write};
 use trace_check::{
-    Contradiction, Examined, Leftover, Trace, Verdict, contradiction_at, examine, leftovers_stop,
+    Contradiction, Examined, Leftover, Trace, Verdict, contradiction_at, core_at, examine,
+    leftovers_stop,
 };
 use trace_text::{TraceFault, read, write_text};
 
-/// Reads a trace, and prints the entries of one node that can't be by themselves, where no order takes all entries and one is left that can't
+/// Reads a trace, and prints the entries of one node by which it contradicts itself, where no order takes all entries and one is left that can't
 /// come, whatever others send: how the node stands before them, and a trace in which it alone has them. Where each entry that is left waits, it
-/// says so. The verdict on a run, and what is no trace, are answered as `trace` does, and so are the ending and what is handed on.
+/// says so. Where an entry that can be taken says that its node told something else than it tells, those up to that one are printed. The verdict
+/// on a run, and what is no trace, are answered as `trace` does, and so are the ending and what is handed on.
 pub fn contradiction<R: Read, W: Write>(
     alloc: Global,
     input: &mut Source<R>,
@@ -34,8 +40,11 @@ pub fn contradiction<R: Read, W: Write>(
     // the node stands before them: no run has them behind that, whatever the other nodes do. Else it says that each entry that is left waits, or
     // prints the order of a run.
     // Refuses: core_of_an_entry_that_waits, next_id_told_as_count, unready_told_as_found, doubt_left_out.
+    // Promise: So it prints those up to the first entry of which something else is told than its node tells: no run has them behind that in which the
+    // node tells so of the last.
+    // Refuses: core_of_what_was_told_passed_over, told_core_of_the_first_entry.
     ensures prints { Prints IsContradictionOf (R.remaining input.old.reader) (W.contents output.old) (W.contents output.new) result.ending }
-    ensures why { IsTold (R.remaining input.old.reader) result.ending result.why.items }
+    ensures why { IsVerdictTold (R.remaining input.old.reader) result.ending result.why.items }
     ensures reads { input.old.left ≤ input.new.left + 16777216 }
 {
     let outcome = match read_source(alloc, input) {
@@ -48,10 +57,10 @@ pub fn contradiction<R: Read, W: Write>(
 /// What is printed for an input, and what is said of it.
 fn show_text(alloc: Global, text: &[u8]) -> Result<CommandError, AllocError>
     ensures printed { IfOk result (λ explained. IsContradictionOf text.now (printout_of explained.printout)) }
-    ensures why { IfOk result (λ explained. IsReported text.now explained.why.items) }
+    ensures why { IfOk result (λ explained. IsReportedAsTold text.now explained.why.items) }
 {
     match read(alloc, text) {
-        Ok(trace) => show_trace(alloc, &trace),
+        Ok(trace) => show_trace(alloc, &trace, &Told::read(alloc, text)?),
         Err(TraceFault::BadTrace(location)) => {
             let printout = bad_printout(alloc, location)?;
             Ok(printout.without_why(alloc))
@@ -60,15 +69,29 @@ fn show_text(alloc: Global, text: &[u8]) -> Result<CommandError, AllocError>
     }
 }
 
-/// What is printed of a trace, and what is said of it.
-fn show_trace(alloc: Global, trace: &Trace) -> Result<CommandError, AllocError>
-    ensures printed { IfOk result (λ explained. IsShowing trace.now (printout_of explained.printout)) }
-    ensures why { IfOk result (λ explained. IsReport trace.now explained.why.items) }
+/// What is printed of a trace and of what was told, and what is said of it.
+fn show_trace(alloc: Global, trace: &Trace, told: &Told) -> Result<CommandError, AllocError>
+    ensures printed { IfOk result (λ explained. IsShowing trace.now told.now (printout_of explained.printout)) }
+    ensures why { IfOk result (λ explained. IsReportAsTold trace.now told.now explained.why.items) }
 {
     let examined = examine(alloc, trace)?;
-    let why = report(alloc, trace, &examined.left)?;
-    let printout = found_printout(alloc, trace, &examined)?;
+    let found = compare(alloc, trace, told, &examined)?;
+    let why = report_as_told(alloc, trace, &examined, &found)?;
+    let printout = match &found {
+        Some(answer) => told_printout(alloc, trace, answer)?,
+        None => found_printout(alloc, trace, &examined)?,
+    };
     Ok(CommandError { printout, why })
+}
+
+/// What is printed up to an entry of which something else is told.
+fn told_printout(alloc: Global, trace: &Trace, answer: &FalseAnswer) -> Result<Output, AllocError>
+    requires there { answer.now.index < length (history trace.now answer.now.node) }
+    requires before { CanReplay trace.now answer.now.node answer.now.index }
+    ensures { IfOk result (λ printout. (c : Contradiction) × IsCore trace.now answer.now.node answer.now.index c × IsShown c (printout_of printout)) }
+{
+    let found = core_at(alloc, trace, answer.node, answer.index)?;
+    core_printout(alloc, &found)
 }
 
 /// What is printed of what was found.
@@ -100,9 +123,16 @@ fn stopped_printout(alloc: Global, trace: &Trace, left: &Leftover) -> Result<Out
     ensures { IfOk result (λ printout. IsShownUpTo trace.now left.now (printout_of printout)) }
 {
     let found = contradiction_at(alloc, trace, left.node, left.index)?;
+    core_printout(alloc, &found)
+}
+
+/// What is printed of entries of one node.
+fn core_printout(alloc: Global, found: &Contradiction) -> Result<Output, AllocError>
+    ensures { IfOk result (λ printout. IsShown found.now (printout_of printout)) }
+{
     let written = write_text(alloc, &found.trace)?;
     let mut text = Vec::new(alloc);
-    push_before(&mut text, &found)?;
+    push_before(&mut text, found)?;
     text.extend_from_slice(&written)?;
     push_text(&mut text, "\n")?;
     Ok(Output { text, good: false })

@@ -1,7 +1,7 @@
 ghost use Rattle.std.specs.Prelude.{◌≡◌, ◌≤◌, ◌+◌, ◌++◌, ◌∷◌, [], ℕ, List, codes, IfOk, OnOk};
 ghost use Rattle.console_text.specs.Ends.{Prints, printout_of, refused};
 ghost use Rattle.trace_console.specs.Judged.{bad_trace, verdict_printed, words};
-ghost use Rattle.trace_console.specs.Answers.{IsJudgedAt, IsJudgementAsTold, IsReportAsTold, IsReportedAsTold, IsVerdictTold};
+ghost use Rattle.trace_console.specs.Answers.{IsJudgedAt, IsJudgementAsTold, IsReportAsTold, IsReportedAsTold, IsVerdictTold, UntoldIsJudgedAlone};
 ghost use Rattle.trace_console.specs.Ongoing.{printed_at};
 
 use crate::comparing::{compare, printout_as_told, report_as_told};
@@ -41,7 +41,7 @@ pub fn trace<R: Read, W: Write>(
     // Refuses: index_before_node, place_of_a_bad_trace_left_out, no_run_with_status_of_done, waiting_is_a_fault, ongoing_though_refused.
     // Promise: Where the text says what nodes told, it is `Run` exactly where some order of all entries is a run in which each node would also have told
     // so; else `NotARun` names the first entry, in the order in which they are taken, of which its node tells something else.
-    // Also: answers_decide.
+    // Also: answers_decide, untold_is_judged_alone.
     // Refuses: answer_not_compared, group_told_as_before, finished_job_told_as_dropped, told_of_the_next_entry, later_false_answer_named,
     // false_answer_printed_as_a_run.
     ensures prints { Prints (IsJudgedAt stage) (R.remaining input.old.reader) (W.contents output.old) (W.contents output.new) result.ending }
@@ -57,6 +57,11 @@ pub fn trace<R: Read, W: Write>(
     };
     print_explained(alloc, output, outcome)
 }
+
+/// Of a text in which the key `told` doesn't stand, the verdict is that on its entries alone.
+pub fn untold_is_judged_alone()
+    ensures { UntoldIsJudgedAlone }
+{}
 
 /// What `trace` prints for an input, and what it says of it.
 fn judge_text(alloc: Global, stage: Stage, text: &[u8]) -> Result<CommandError, AllocError>

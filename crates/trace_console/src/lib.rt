@@ -26,7 +26,7 @@ mod walk;
 pub use answers::{FalseAnswer, answers_decide};
 pub use contradicting::contradiction;
 pub use files::{TraceFile, trace_files};
-pub use judging::{Stage, trace};
+pub use judging::{Stage, trace, untold_is_judged_alone};
 pub use prefixes::judge_prefixes;
 pub use turn::{Stand, Turn};
 pub use turning::turns;

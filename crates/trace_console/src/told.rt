@@ -3,7 +3,7 @@
 //! It stands under the key `told` of an entry. Who reads the trace passes over the key; who compares what was told reads the text once more,
 //! if the key stands in it.
 
-ghost use Rattle.std.specs.Prelude.{◌≡◌, ◌++◌, ◌-◌, [], length, replicate, IfOk, IsTrue, OnOk, None, option_map};
+ghost use Rattle.std.specs.Prelude.{◌≡◌, ◌↔◌, ◌++◌, ◌-◌, [], length, replicate, IfOk, IsTrue, OnOk, None, option_map};
 ghost use Rattle.trace_text.specs.Tellings.{telling_by};
 ghost use Rattle.trace_console.specs.Prefixes.{AreThen};
 ghost use Rattle.trace_console.specs.Told.{IsSilent, IsThen, IsToldIn, told_of};
@@ -60,7 +60,7 @@ impl Told {
 
     /// Whether nothing is told of any entry.
     pub(crate) fn is_silent(&self) -> bool
-        ensures { IsTrue result → IsSilent self.now }
+        ensures { IsTrue result ↔ IsSilent self.now }
     {
         for row in &self.rows {
             if row.len() > 0 {

@@ -3,7 +3,7 @@ use Rattle.trace_console.proofs.Answered.{first_at, silent_first}
 use Rattle.trace_console.proofs.answers.first_false.Goals as goal
 
 pub returns-then-is_silent : goal.returns-then-is_silent
-returns-then-is_silent c = silent_first c.args.trace.now c.args.told.now c.args.order.now (c.is_silent.ensures c.if-is_silent.true)
+returns-then-is_silent c = silent_first c.args.trace.now c.args.told.now c.args.order.now (c.is_silent.ensures.0 c.if-is_silent.true)
 
 pub returns-then-is_some : goal.returns-then-is_some
 returns-then-is_some c =

@@ -1,11 +1,11 @@
-use Rattle.std.proofs.Common.{ℕ, List, ◌++◌, ap, ◌∙◌}
-use Rattle.trace_console.proofs.Stopped.{shown}
+use Rattle.std.proofs.lemmas.Result.{IfOk-weaker}
+use Rattle.console_text.specs.Ends.{printout_of}
+use Rattle.trace_console.specs.Contradicting.{IsShown, IsShownUpTo}
 use Rattle.trace_console.proofs.contradicting.stopped_printout.Goals as goal
 
 pub returns : goal.returns
 returns c =
-    shown c.args.trace.now c.args.left.now c.in_ok-found.found c.new-text.result.items c.push_before.new.text.items
-    c.extend_from_slice.new.self.items c.push_text.new.text.items c.in_ok-written.written.items c.in_ok-found.ensures
-    c.in_ok-written.ensures.text c.in_ok-written.ensures.reads_back c.new-text.ensures.items c.in_ok-push_before.ensures
-    (c.in_ok-extend_from_slice.ensures.items ∙ ap (λ (xs : List ℕ). c.push_before.new.text.items ++ xs) c.deref.ensures.value)
-    c.in_ok-push_text.ensures
+    let found = c.in_ok-found.found in
+    IfOk-weaker c.core_printout.result (λ printout. IsShown found (printout_of printout))
+    (λ printout. IsShownUpTo c.args.trace.now c.args.left.now (printout_of printout))
+    (λ printout shown. (found, c.in_ok-found.ensures, shown)) c.core_printout.ensures
