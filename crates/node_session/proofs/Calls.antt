@@ -11,10 +11,8 @@ use Rattle.node_store.specs.Store.{slots_for}
 use Rattle.durable_node.specs.Node.{Node, Stands}
 use Rattle.histories.specs.NodeState.{NodeState}
 use Rattle.node_session.proofs.Happens.{caused}
-use Rattle.node_session.specs.declared.call_outcome.CallOutcome.{CallOutcome}
-use Rattle.node_session.specs.declared.call_outcome.CallOutcome.TheVariants as end
 use Rattle.node_core.specs.State.{State, is_down}
-use Rattle.node_session.specs.Turns.{Turn, after_turn, cause, end_of, sent_in, IsFired, IsTimely, IsGoing, MayComeOf, MayCompact}
+use Rattle.node_session.specs.Turns.{CallEnd, Turn, after_turn, cause, end_of, sent_in, IsFired, IsTimely, IsGoing, MayComeOf, MayCompact}
 use Rattle.node_timers.specs.Retransmission.{Waits}
 use Rattle.node_session.specs.Chains.{AreGoing, AreTimely, ComesAndEnds, IsOne, IsWrittenAnew, brought_up, after_turns, last_end}
 use Rattle.node_session.specs.Chains.{waits_turn, waits_turns}
@@ -31,7 +29,7 @@ after_more : (self nodes : ℕ) (s : NodeState) (ts : List Turn) (t : Turn)
 after_more self nodes s [] t = refl
 after_more self nodes s (u ∷ ts) t = after_more self nodes (after_turn self nodes s u) ts t
 
-end_more : (self nodes : ℕ) (before : CallOutcome) (s : NodeState) (ts : List Turn) (t : Turn)
+end_more : (self nodes : ℕ) (before : CallEnd) (s : NodeState) (ts : List Turn) (t : Turn)
     → last_end self nodes before s (ts ++ t ∷ []) ≡ end_of self nodes (after_turns self nodes s ts) t
 end_more self nodes before s [] t = refl
 end_more self nodes before s (u ∷ ts) t = end_more self nodes (end_of self nodes s u) (after_turn self nodes s u) ts t
@@ -138,7 +136,7 @@ same_behind {Disk} old mid new first second = second ∙ ap (λ (p : Progress Di
 -- ---- calls
 
 pub one_call : {Disk : Type 0} (disks : Disk → DiskState) (old new : Progress Disk) (May : ℕ → ℕ → ℕ → NodeState → Turn → Type 0)
-    (before ended : CallOutcome) → Turns disks old new May ended
+    (before ended : CallEnd) → Turns disks old new May ended
     → Calls disks old new no_news (λ i n slots s turns. IsOne (May i n slots s) turns) before ended
 one_call disks old new May before ended a = record {
   node = a.node;
@@ -169,10 +167,10 @@ up_so disks old new s t b before behind is =
     ∙ (ap (λ (x : State). brought_up (is_down old.state.phase) (is_down x.phase)) (sym behind.state) ∙ is)
 
 -- the call of an event that brings no node up
-pub step_alone : {Disk : Type 0} (disks : Disk → DiskState) (old new : Progress Disk) (event : Event) (ended : CallOutcome)
+pub step_alone : {Disk : Type 0} (disks : Disk → DiskState) (old new : Progress Disk) (event : Event) (ended : CallEnd)
     → Turns disks old new (λ i n. MayComeOf i n event) ended
     → brought_up (is_down old.node.state.phase) (is_down new.node.state.phase) ≡ false
-    → Calls disks old new no_news (ComesAndEnds event ended) (end.Done None) ended
+    → Calls disks old new no_news (ComesAndEnds event ended) (Ok None) ended
 step_alone {Disk} disks old new event ended a stays = record {
   node = a.node;
   same = same_timers old new a.same;
@@ -196,10 +194,10 @@ step_alone {Disk} disks old new event ended a stays = record {
 }
 
 -- one that does, and the compaction behind it
-pub step_anew : {Disk : Type 0} (disks : Disk → DiskState) (old mid new : Progress Disk) (event : Event) (step last : CallOutcome)
+pub step_anew : {Disk : Type 0} (disks : Disk → DiskState) (old mid new : Progress Disk) (event : Event) (step last : CallEnd)
     → Turns disks old mid (λ i n. MayComeOf i n event) step
     → brought_up (is_down old.node.state.phase) (is_down mid.node.state.phase) ≡ true → Turns disks mid new MayCompact last
-    → Calls disks old new no_news (ComesAndEnds event step) (end.Done None) last
+    → Calls disks old new no_news (ComesAndEnds event step) (Ok None) last
 step_anew {Disk} disks old mid new event step last a up b = record {
   node = node_then disks old.node mid.node new.node a.node b.node;
   same = same_timers old new (b.same ∙ ap (λ (p : Progress Disk). record p { node = new.node; text = new.text; waits = new.waits }) a.same);
@@ -228,7 +226,7 @@ step_anew {Disk} disks old mid new event step last a up b = record {
       });
 }
 
-pub no_call : {Disk : Type 0} (disks : Disk → DiskState) (p : Progress Disk) (before : CallOutcome)
+pub no_call : {Disk : Type 0} (disks : Disk → DiskState) (p : Progress Disk) (before : CallEnd)
     (So : ℕ → ℕ → NodeState → List Turn → Type 0) → ((s : NodeState) → Stands disks p.node s → So p.node.id p.node.nodes s [])
     → Calls disks p p fired_news (Timely So) before before
 no_call disks p before So so = record {
@@ -249,7 +247,7 @@ no_call disks p before So so = record {
 }
 
 -- the timers alone were looked at behind calls
-pub look_more : {Disk : Type 0} (disks : Disk → DiskState) (old mid new : Progress Disk) (before ended : CallOutcome)
+pub look_more : {Disk : Type 0} (disks : Disk → DiskState) (old mid new : Progress Disk) (before ended : CallEnd)
     (Before After : ℕ → ℕ → NodeState → List Turn → Type 0) → new ≡ record mid { timers = new.timers }
     → ((s : NodeState) (turns : List Turn) → Stands disks mid.node (after_turns old.node.id old.node.nodes s turns)
     → mid.node.id ≡ old.node.id → mid.waits ≡ waits_turns old.node.id old.node.nodes s turns old.waits
@@ -281,7 +279,7 @@ look_more {Disk} disks old mid new before ended Before After is goes a =
 
 -- one more, behind the line that names its event
 pub call_more : {Disk : Type 0} (disks : Disk → DiskState) (old mid new : Progress Disk) (event : Event) (said : List ℕ) (told : Timers)
-    (before between ended : CallOutcome) (Before After : ℕ → ℕ → NodeState → List Turn → Type 0) → IsFired event
+    (before between ended : CallEnd) (Before After : ℕ → ℕ → NodeState → List Turn → Type 0) → IsFired event
     → said ≡ mid.text ++ fired_line event
     → ((s : NodeState) (turns : List Turn) (turn : Turn) → Stands disks mid.node (after_turns old.node.id old.node.nodes s turns)
     → mid.node.id ≡ old.node.id

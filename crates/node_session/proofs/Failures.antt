@@ -1,16 +1,14 @@
 -- A session that stops met a device that failed.
 use Rattle.std.proofs.Common.{◌≡◌, ◌⊎◌, ◌<◌, ◌≤◌, ◌-◌, ◌^◌, inl, inr, ℕ, List, [], ◌∷◌, Bool, true, false, refl, sym, ap, ◌∙◌, subst, arith}
 use Rattle.std.proofs.Common.{Option, Some, None}
-use Rattle.std.specs.Prelude.{IsSome}
+use Rattle.std.specs.Prelude.{IsSome, Ok, Err}
 use Rattle.sector_disk.specs.Disk.{DiskState}
 use Rattle.node_core.specs.declared.event.Event.{Event}
 use Rattle.wire_msg.specs.Envelope.{Envelope}
 use Rattle.histories.specs.NodeState.{NodeState}
 use Rattle.durable_node.specs.declared.fault.NodeFault.TheVariants as node
 use Rattle.durable_node.specs.Node.{Node}
-use Rattle.node_session.specs.declared.call_outcome.CallOutcome.{CallOutcome}
-use Rattle.node_session.specs.declared.call_outcome.CallOutcome.TheVariants as end
-use Rattle.node_session.specs.Turns.{Turn, after_turn, cause, end_of, sent_in}
+use Rattle.node_session.specs.Turns.{CallEnd, Turn, after_turn, cause, end_of, sent_in}
 use Rattle.node_session.specs.Chains.{LineOutcome, is_failed, last_end}
 use Rattle.node_session.specs.Lines.{At, after_by, after_line, after_lines}
 use Rattle.node_session.specs.Exact.{AreCallsIn, AreCallsOf, IsCallBy}
@@ -31,10 +29,10 @@ there : {A : Type 0} (o : Option A) → IsSome o → (x : A) × (o ≡ Some x)
 there None is = absurd cc
 there (Some x) is = (x, refl)
 
-denied : (ended : CallOutcome) → is_failed ended ≡ true → ended ≡ end.Denied node.Device
-denied (end.Done answer) failed = absurd cc
-denied (end.Denied node.Device) failed = refl
-denied (end.Denied fault) failed = absurd cc
+denied : (ended : CallEnd) → is_failed ended ≡ true → ended ≡ Err node.Device
+denied (Ok answer) failed = absurd cc
+denied (Err node.Device) failed = refl
+denied (Err fault) failed = absurd cc
 
 some_rose : (m n : ℕ) → (m < n) ⊎ (n ≡ 2 ^ 64 - 1) → Rose m n
 some_rose m n (inl less) = inl less
@@ -49,7 +47,7 @@ then_rose l m n more (inl less) = inl (omega (arith, less, more))
 then_rose l m n more (inr most) = inr most
 
 call_later : {Disk : Type 0} (disks : Disk → DiskState) (event : Option Event) (old new : Node Disk) (sent : List Envelope)
-    (ended : CallOutcome) (was : Disk) → IsCallBy disks event old sent ended new → old.disk ≡ Some was
+    (ended : CallEnd) (was : Disk) → IsCallBy disks event old sent ended new → old.disk ≡ Some was
     → (now : Disk) × (new.disk ≡ Some now) × ((disks was).failures ≤ (disks now).failures)
 call_later disks (Some event) old new sent ended was call is =
     let n = there new.disk call.says.counts.is_there in
@@ -59,7 +57,7 @@ call_later disks None old new sent ended was call is =
     (n.0, n.1, (call.says.counts.counts was n.0 is n.1).later)
 
 call_goes : {Disk : Type 0} (disks : Disk → DiskState) (event : Option Event) (old new : Node Disk) (sent : List Envelope)
-    (ended : CallOutcome) (was : Disk) → IsCallBy disks event old sent ended new → old.disk ≡ Some was
+    (ended : CallEnd) (was : Disk) → IsCallBy disks event old sent ended new → old.disk ≡ Some was
     → Goes disks was new false (is_failed ended)
 call_goes disks event old new sent ended was call is =
     let n = call_later disks event old new sent ended was call is in
@@ -102,7 +100,7 @@ stays : {Disk : Type 0} (disks : Disk → DiskState) (was : Disk) (old new : Nod
     → Goes disks was new failed failed
 stays disks was old new failed same is = record { now = was; is = ap (λ n. n.disk) same ∙ is; later = omega arith; rose = λ fell. inl fell }
 
-calls_go : {Disk : Type 0} (disks : Disk → DiskState) (self nodes : ℕ) (s : NodeState) (turns : List Turn) (before : CallOutcome)
+calls_go : {Disk : Type 0} (disks : Disk → DiskState) (self nodes : ℕ) (s : NodeState) (turns : List Turn) (before : CallEnd)
     (old new : Node Disk) (was : Disk) → AreCallsOf disks self nodes s turns old new → old.disk ≡ Some was
     → Goes disks was new (is_failed before) (is_failed (last_end self nodes before s turns))
 calls_go disks self nodes s [] before old new was calls is = stays disks was old new (is_failed before) calls is
@@ -117,10 +115,10 @@ line_goes : {Disk : Type 0} (disks : Disk → DiskState) (self nodes : ℕ) (b :
     (old new : Node Disk) (was : Disk) → a.stopped ≡ b → AreCallsOf disks self nodes a.state came.turns old new → old.disk ≡ Some was
     → Goes disks was new b (after_by self nodes b a line came).stopped
 line_goes disks self nodes true a line came old new was stopped calls is =
-    let g = calls_go disks self nodes a.state came.turns (end.Done None) old new was calls is in
+    let g = calls_go disks self nodes a.state came.turns (Ok None) old new was calls is in
     record { now = g.now; is = g.is; later = g.later; rose = λ fell. inl refl }
 line_goes disks self nodes false a line came old new was stopped calls is =
-    calls_go disks self nodes a.state came.turns (end.Done None) old new was calls is
+    calls_go disks self nodes a.state came.turns (Ok None) old new was calls is
 
 lines_go : {Disk : Type 0} (disks : Disk → DiskState) (self nodes : ℕ) (a : At) (lines : List (List ℕ)) (all : List LineOutcome)
     (old new : Node Disk) (was : Disk) → AreCallsIn disks self nodes a lines all old new → old.disk ≡ Some was

@@ -1,6 +1,6 @@
 -- An answer is made of lines: those of the messages that are handed out, and others that hand out nothing.
 use Rattle.std.proofs.Common.{◌≡◌, ℕ, ◌+◌, ◌==◌, ◌&&◌, Bool, true, false, List, [], ◌∷◌, ◌++◌, map, refl, sym, ap, ◌∙◌, subst, append_assoc}
-use Rattle.std.proofs.Common.{append-nil, arith, Option, Some, None}
+use Rattle.std.proofs.Common.{append-nil, arith, Option, Some, None, Ok, Err}
 use Rattle.std.proofs.lemmas.Bool.{and_parts}
 use Rattle.std.specs.Prelude.{All, codes, decimal, if◌then◌else◌, length}
 use Rattle.std.specs.List.{flat_map}
@@ -37,12 +37,10 @@ use Rattle.node_session.specs.declared.asked.Asked.{Asked}
 use Rattle.node_session.specs.declared.asked.Asked.TheVariants as ask
 use Rattle.node_session.specs.declared.asked.Unsealed.{Unsealed}
 use Rattle.node_session.specs.declared.asked.Unsealed.TheVariants as unsealed
-use Rattle.node_session.specs.declared.call_outcome.CallOutcome.{CallOutcome}
-use Rattle.node_session.specs.declared.call_outcome.CallOutcome.TheVariants as end
 use Rattle.node_session.specs.Changes.{changes, drop_line, drops_by, gone_at, gone_by, gone_line, gone_news, group_by, group_news}
 use Rattle.node_session.specs.Changes.{held_text, is_finish, take_line}
 use Rattle.node_words.specs.Words.{core_name, event_word, group_part, group_text, id_text, ids_text, more_ids_text, phase_text, truth_text}
-use Rattle.node_session.specs.Turns.{Turn, after_turn, cause, end_of, sent_in}
+use Rattle.node_session.specs.Turns.{CallEnd, Turn, after_turn, cause, end_of, sent_in}
 use Rattle.node_session.specs.Chains.{LineOutcome, IsNone, MayCome, after_turns, event_line_end, line_end, next}
 use Rattle.node_session.specs.Lines.{At, AreOf, Comes, after_by, after_line, answer_by, plain_answer}
 use Rattle.node_session.specs.Seals.{Seals, Brought, NoBytes, Strange, Garbled, Opened, asked_under, brought_by, brought_word, is_fresh}
@@ -216,8 +214,8 @@ gone_event (Some (on.Finish origin job)) id = gone_made id
 gone_event (Some (on.Deliver m)) id = body_made m.body id
 gone_event event id = nothing
 
-gone_so : (event : Option Event) (ended : CallOutcome) → IsMade (gone_news event ended) []
-gone_so event (end.Done (Some id)) = gone_event event id
+gone_so : (event : Option Event) (ended : CallEnd) → IsMade (gone_news event ended) []
+gone_so event (Ok (Some id)) = gone_event event id
 gone_so event ended = nothing
 
 -- ---- the calls of a line
@@ -281,21 +279,21 @@ denial_made n node.TooSmall = refused_row n (codes "TooSmall") refl
 ok_made : (n : ℕ) (rest : List ℕ) → one_line rest → IsMade (ok_line n rest) []
 ok_made n rest one = said (codes "ok ") (decimal n ++ rest) (both_lines (decimal n) rest (number_line n) one) refl
 
-closing_made : (n : ℕ) (ended : CallOutcome) → IsMade (closing n ended) []
-closing_made n (end.Done answer) = ok_made n [] refl
-closing_made n (end.Denied fault) = denial_made n fault
+closing_made : (n : ℕ) (ended : CallEnd) → IsMade (closing n ended) []
+closing_made n (Ok answer) = ok_made n [] refl
+closing_made n (Err fault) = denial_made n fault
 
 id_line : (o : Option ℕ) → one_line (id_text o)
 id_line None = refl
 id_line (Some id) = number_line id
 
-event_made : (n : ℕ) (event : Event) (ended : CallOutcome) → IsMade (event_closing n event ended) []
-event_made n event (end.Done answer) = ok_made n (answer_text event answer) (by_event event)
+event_made : (n : ℕ) (event : Event) (ended : CallEnd) → IsMade (event_closing n event ended) []
+event_made n event (Ok answer) = ok_made n (answer_text event answer) (by_event event)
   where
     by_event : (e : Event) → one_line (answer_text e answer)
     by_event (on.Submit work) = id_line answer
     by_event e = refl
-event_made n event (end.Denied fault) = denial_made n fault
+event_made n event (Err fault) = denial_made n fault
 
 keeps_made : (b : Bool) (d : Durable) → IsMade (keeps_by b d) []
 keeps_made true d = nothing
@@ -304,8 +302,8 @@ keeps_made false d =
     (spaced (decimal d.counter ++ codes " " ++ decimal d.next) (decimal (length d.pending))
     (spaced (decimal d.counter) (decimal d.next) (number_line d.counter) (number_line d.next)) (number_line (length d.pending))) refl
 
-keeps_so : (event : Event) (ended : CallOutcome) (s : NodeState) → IsMade (keeps_news event ended s) []
-keeps_so on.Recover (end.Done answer) s = keeps_made (is_down s.state.phase) s.durable
+keeps_so : (event : Event) (ended : CallEnd) (s : NodeState) → IsMade (keeps_news event ended s) []
+keeps_so on.Recover (Ok answer) s = keeps_made (is_down s.state.phase) s.durable
 keeps_so event ended s = nothing
 
 next_made : (o : Option ℕ) → IsMade (next_line o) []

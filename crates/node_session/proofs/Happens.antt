@@ -41,9 +41,8 @@ use Rattle.durable_node.specs.Stepping.{CountsOf, Does, IsMounting, Steps, Stuck
 use Rattle.durable_node.specs.Faults.{fault_of, answered, answered_as}
 use Rattle.node_core.specs.declared.fault.CoreFault.TheVariants.{NoMemory}
 use Rattle.durable_node.specs.Remounting.{Remounted}
-use Rattle.node_session.specs.declared.call_outcome.CallOutcome.{CallOutcome}
-use Rattle.node_session.specs.declared.call_outcome.CallOutcome.TheVariants as end
-use Rattle.node_session.specs.Turns.{Turn, Goes, Unmounted, Begins, MayBegin, MayComeOf, MayCompact, IsGoing, IsOfCompaction, after_begun}
+use Rattle.node_session.specs.Turns.{CallEnd, Turn, Goes, Unmounted, Begins, MayBegin, MayComeOf, MayCompact, IsGoing, IsOfCompaction}
+use Rattle.node_session.specs.Turns.{after_begun}
 use Rattle.node_session.specs.Turns.{after_turn, begun, cause}
 use Rattle.node_session.specs.Turns.{compaction_end, end_at, end_of, ended_by, sent_by, sent_in}
 use Rattle.node_timers.specs.Retransmission.{Waits, waits_behind}
@@ -68,8 +67,8 @@ ends : (slots self nodes : ℕ) (s : NodeState) (event : Event) (came : StepRepo
     → Does slots self nodes s event came given (what_of event event_outcome)
     → (ended_by (answered_as came (fault_of event_outcome)) ≡ end_at self nodes s (what_of event event_outcome))
     × (sent_by (answered_as came (fault_of event_outcome)) ≡ sent_at self nodes s (what_of event event_outcome))
-ends slots self nodes s event came given event_outcome.Done does = (ap end.Done does.answer, does.sent)
-ends slots self nodes s event came given (event_outcome.Recovered kept) does = (ap end.Done does.answer, does.sent)
+ends slots self nodes s event came given event_outcome.Done does = (ap Ok does.answer, does.sent)
+ends slots self nodes s event came given (event_outcome.Recovered kept) does = (ap Ok does.answer, does.sent)
 ends slots self nodes s event came given event_outcome does = (refl, refl)
 
 -- a disk of a history is one that can be mounted
@@ -126,7 +125,7 @@ begins disks slots old new (Ok came) (Some given) s mounted fallen down stands l
   may = (refl, ap (λ (v : State). is_down v.phase) (sym stands.state) ∙ down, tt, (refl, λ kept. absurd cc, mounted.5));
   going = λ honest. absurd cc;
   stands = record { state = mounted.1; doubt = mounted.2; up = λ _. (mounted.0, refl); disk = left _ };
-  ended = ap end.Done mounted.4;
+  ended = ap Ok mounted.4;
   sent = mounted.3;
 }
 begins disks slots old new (Err fault) None s mounted fallen down stands left = record {
@@ -158,7 +157,7 @@ begins {Disk} disks slots old new (Err fault) (Some given) s mounted fallen down
       may = (refl, was_down, tt, (refl, λ kept. absurd cc, failed.2));
       going = λ honest. absurd cc;
       stands = record { state = mounted.0 ∙ fallen down; doubt = failed.1; up = λ up. absurd cc; disk = left _ };
-      ended = ap end.Denied failed.0;
+      ended = ap Err failed.0;
       sent = refl;
     }
     by_cases (inr spent) = record {
@@ -166,7 +165,7 @@ begins {Disk} disks slots old new (Err fault) (Some given) s mounted fallen down
       may = (refl, was_down, tt, (refl, λ kept. absurd cc, spent.1));
       going = λ honest. absurd cc;
       stands = record { state = mounted.0 ∙ stands.state; doubt = spent.2 ∙ stands.doubt; up = λ up. absurd cc; disk = left s };
-      ended = ap end.Denied spent.0;
+      ended = ap Err spent.0;
       sent = refl;
     }
 
@@ -319,7 +318,7 @@ event_turns {Disk} disks old node' event reply seen came waits sent changed text
                 ∙ (ap (λ (v : State). old.text ++ call_text (cause h.turn) (sent_by (answered reply)) s.state v (ended_by (answered reply)))
                 h.stands.state
                 ∙ (ap (λ (ms : List Envelope). old.text ++ call_text (cause h.turn) ms s.state t.state (ended_by (answered reply))) h.sent
-                ∙ ap (λ (e : CallOutcome). old.text ++ call_text (cause h.turn) (sent_in self count s h.turn) s.state t.state e)
+                ∙ ap (λ (e : CallEnd). old.text ++ call_text (cause h.turn) (sent_in self count s h.turn) s.state t.state e)
                 h.ended))));
             waits = waited ∙ (ap (λ (o : Option Event). waits_behind o (sent_by (answered reply)) node'.state old.waits)
                 (caused self count (slots_for (disks was).sectors) s event h.turn h.may)
@@ -329,7 +328,7 @@ event_turns {Disk} disks old node' event reply seen came waits sent changed text
     }
 
 pub turn_so : {Disk : Type 0} (disks : Disk → DiskState) (old here : Progress Disk) (node' : Node Disk) (event : Event)
-    (reply : Result StepReport NodeFault) (ended : CallOutcome) (finished : Bool) (seen : Sight) (came : Changes) (behind : State)
+    (reply : Result StepReport NodeFault) (ended : CallEnd) (finished : Bool) (seen : Sight) (came : Changes) (behind : State)
     (given : List Envelope) (waits : Waits) (sent changed text : List ℕ) → here ≡ old → node'.id ≡ here.node.id
     → node'.nodes ≡ here.node.nodes → IfOk reply (Steps disks here.node node' event) → IfErr reply (Stuck disks here.node node' event)
     → reply ≢ Err (node.Core NoMemory)
@@ -347,7 +346,7 @@ turn_so {Disk} disks old here node' event reply ended finished seen came behind 
     mounting fallen counts says sees are finish ends_so given_so fits then waited first second third =
     subst (λ (p : Progress Disk). Turns disks p (record here { node = node'; text = text; waits = waits }) (λ i n. MayComeOf i n event)
     ended) is
-    (subst (λ (e : CallOutcome). Turns disks here (record here { node = node'; text = text; waits = waits }) (λ i n. MayComeOf i n event) e)
+    (subst (λ (e : CallEnd). Turns disks here (record here { node = node'; text = text; waits = waits }) (λ i n. MayComeOf i n event) e)
     (sym ends_so)
     (event_turns disks here node' event reply seen came waits sent changed text id nodes steps stuck memory mounting fallen counts says
     (subst (All IsMessage) given_so fits)
@@ -355,7 +354,7 @@ turn_so {Disk} disks old here node' event reply ended finished seen came behind 
     ∙ ap (λ (v : State). waits_behind (Some event) (sent_by (answered reply)) v here.waits) then))
     (first ∙ ap (λ (ms : List Envelope). here.text ++ send_lines ms) given_so) sees are
     (second ∙ ap (λ (b : Bool). sent ++ news b came.group came.taken.items came.dropped.items) finish)
-    (third ∙ ap (λ (e : CallOutcome). changed ++ gone_news (Some event) e) ends_so)))
+    (third ∙ ap (λ (e : CallEnd). changed ++ gone_news (Some event) e) ends_so)))
 
 -- ---- a compaction
 
@@ -390,10 +389,10 @@ of_compaction self nodes slots s Crashed result said = record {
 }
 of_compaction self nodes slots s what result said = absurd said
 
-silent_text : (x y : State) (ended : CallOutcome) → changes false x y ≡ call_text None [] x y ended
-silent_text x y (end.Done None) = sym (append-nil (changes false x y))
-silent_text x y (end.Done (Some id)) = sym (append-nil (changes false x y))
-silent_text x y (end.Denied fault) = sym (append-nil (changes false x y))
+silent_text : (x y : State) (ended : CallEnd) → changes false x y ≡ call_text None [] x y ended
+silent_text x y (Ok None) = sym (append-nil (changes false x y))
+silent_text x y (Ok (Some id)) = sym (append-nil (changes false x y))
+silent_text x y (Err fault) = sym (append-nil (changes false x y))
 
 pub compaction_turns : {Disk : Type 0} (disks : Disk → DiskState) (old : Progress Disk) (node' : Node Disk) (result : Result Unit NodeFault)
     (waits : Waits) (text : List ℕ)
@@ -425,7 +424,7 @@ compaction_turns {Disk} disks old node' result waits text id nodes says waited s
             ∙ (ap (λ (ms : List Envelope). old.text ++ call_text None ms s.state t.state (compaction_end result)) (sym of.silent)
             ∙ (ap (λ (e : Option Event). old.text ++ call_text e (sent_at self count s what) s.state t.state (compaction_end result))
             (sym of.causeless)
-            ∙ ap (λ (e : CallOutcome). old.text ++ call_text (event_of what) (sent_at self count s what) s.state t.state e) of.ended)))));
+            ∙ ap (λ (e : CallEnd). old.text ++ call_text (event_of what) (sent_at self count s what) s.state t.state e) of.ended)))));
         waits = waited ∙ (ap (λ (v : State). waits_behind None [] v old.waits) step.3.state
             ∙ (ap (λ (ms : List Envelope). waits_behind None ms t.state old.waits) (sym of.silent)
             ∙ ap (λ (e : Option Event). waits_behind e (sent_at self count s what) t.state old.waits) (sym of.causeless)));
@@ -433,7 +432,7 @@ compaction_turns {Disk} disks old node' result waits text id nodes says waited s
 }
 
 pub compaction_so : {Disk : Type 0} (disks : Disk → DiskState) (old here : Progress Disk) (node' : Node Disk)
-    (result : Result Unit NodeFault) (ended : CallOutcome) (seen : Sight) (came : Changes) (behind : State) (waits : Waits) (text : List ℕ)
+    (result : Result Unit NodeFault) (ended : CallEnd) (seen : Sight) (came : Changes) (behind : State) (waits : Waits) (text : List ℕ)
     → here ≡ old → node'.id ≡ here.node.id → node'.nodes ≡ here.node.nodes → CompactionSays disks here.node result node'
     → seen ≡ seen_of hand.Turns here.node.state → AreChangesSince seen node'.state came → ended ≡ compaction_end result
     → behind ≡ node'.state → waits ≡ waits_behind None [] behind here.waits
@@ -441,7 +440,7 @@ pub compaction_so : {Disk : Type 0} (disks : Disk → DiskState) (old here : Pro
     → Turns disks old (record here { node = node'; text = text; waits = waits }) MayCompact ended
 compaction_so {Disk} disks old here node' result ended seen came behind waits text is id nodes says sees are ends_so then waited said =
     subst (λ (p : Progress Disk). Turns disks p (record here { node = node'; text = text; waits = waits }) MayCompact ended) is
-    (subst (λ (e : CallOutcome). Turns disks here (record here { node = node'; text = text; waits = waits }) MayCompact e) (sym ends_so)
+    (subst (λ (e : CallEnd). Turns disks here (record here { node = node'; text = text; waits = waits }) MayCompact e) (sym ends_so)
     (compaction_turns disks here node' result waits text id nodes says (waited ∙ ap (λ (v : State). waits_behind None [] v here.waits) then)
     (changed_so false here.node.state node'.state came here.text text
     ((subst (λ (x : Sight). AreChangesSince x node'.state came) sees are).are here.node.state refl tt) said)))

@@ -12,23 +12,22 @@ use Rattle.durable_node.specs.Faults.{answered}
 use Rattle.durable_node.specs.Refusing.{AnswersEvent, AnswersTo, disk_refusal}
 use Rattle.node_core.specs.Refusals.{refusal_of}
 use Rattle.node_core.specs.Wants.{wants_of}
-use Rattle.node_session.specs.declared.call_outcome.CallOutcome.TheVariants as end
 use Rattle.node_session.specs.Turns.{compaction_end, ended_by}
 use Rattle.node_session.specs.Exact.{DeviceWhereFailed, ExhaustedWhereNoneLeft}
 
 -- the fault that ends a call is the one that it answers, and the other way round
-step_fault : (r : Result StepReport NodeFault) (fault : NodeFault) → end.Denied fault ≡ ended_by r → r ≡ Err fault
+step_fault : (r : Result StepReport NodeFault) (fault : NodeFault) → Err fault ≡ ended_by r → r ≡ Err fault
 step_fault (Ok came) fault so = absurd cc
 step_fault (Err other) fault so = cc
 
-step_ends : (r : Result StepReport NodeFault) (fault : NodeFault) → r ≡ Err fault → ended_by r ≡ end.Denied fault
+step_ends : (r : Result StepReport NodeFault) (fault : NodeFault) → r ≡ Err fault → ended_by r ≡ Err fault
 step_ends r fault so = ap ended_by so
 
-compaction_fault : (r : Result Unit NodeFault) (fault : NodeFault) → end.Denied fault ≡ compaction_end r → r ≡ Err fault
+compaction_fault : (r : Result Unit NodeFault) (fault : NodeFault) → Err fault ≡ compaction_end r → r ≡ Err fault
 compaction_fault (Ok done) fault so = absurd cc
 compaction_fault (Err other) fault so = cc
 
-compaction_ends : (r : Result Unit NodeFault) (fault : NodeFault) → r ≡ Err fault → compaction_end r ≡ end.Denied fault
+compaction_ends : (r : Result Unit NodeFault) (fault : NodeFault) → r ≡ Err fault → compaction_end r ≡ Err fault
 compaction_ends r fault so = ap compaction_end so
 
 pub device_so : {Disk : Type 0} (disks : Disk → DiskState) → DeviceWhereFailed disks

@@ -12,12 +12,10 @@ use Rattle.wire_msg.specs.Envelope.{Envelope}
 use Rattle.wire_msg.specs.Spelling.{IsMessage}
 use Rattle.node_session.specs.declared.asked.Asked.{Asked}
 use Rattle.node_session.specs.declared.asked.Asked.TheVariants as ask
-use Rattle.node_session.specs.declared.call_outcome.CallOutcome.{CallOutcome}
-use Rattle.node_session.specs.declared.call_outcome.CallOutcome.TheVariants as end
 use Rattle.node_session.specs.Seals.{Seals, asked_under, life_of, sealed_behind, taken_under, written}
 use Rattle.node_core.specs.declared.event.Event.{Event}
 use Rattle.node_core.specs.State.{State, is_down}
-use Rattle.node_session.specs.Turns.{Turn, MayCompact}
+use Rattle.node_session.specs.Turns.{CallEnd, Turn, MayCompact}
 use Rattle.node_timers.specs.Retransmission.{Waits, sent_again, waits_on}
 use Rattle.node_session.specs.Chains.{LineOutcome, ComesAndEnds, IsAtOnce, behind_end, step_end, MayCome, IsTold, IsToldBy, after_turns}
 use Rattle.node_session.specs.Chains.{is_failed, line_end, next, waits_begun, waits_turns}
@@ -225,7 +223,7 @@ abbrev IsClosed : {Disk : Type 0} (disks : Disk → DiskState) (mid : Progress D
 IsClosed {Disk} disks mid close text = (t : NodeState) → Stands disks mid.node t → text ≡ mid.text ++ close t
 
 abbrev Answers : (heading : Turn → List ℕ) (May : ℕ → ℕ → ℕ → NodeState → List Turn → Type 0) (number : ℕ) (w : Waits) (a : Asked)
-    (again : List ℕ) (ended : CallOutcome) (due : Option ℕ) (close : NodeState → List ℕ) → Type 0
+    (again : List ℕ) (ended : CallEnd) (due : Option ℕ) (close : NodeState → List ℕ) → Type 0
 Answers heading May number w a again ended due close =
     (self nodes slots : ℕ) (s : NodeState) (turns : List Turn) → May self nodes slots s turns → ended ≡ line_end self nodes s turns
     → answer self nodes number s w a (record { turns = turns; due = due })
@@ -263,11 +261,11 @@ Times {Disk} disks old mid May a due =
 
 -- a line of which calls came, behind what was sent again
 called_line : {Disk : Type 0} (disks : Disk → DiskState) (old here mid : Progress Disk) (heading : Turn → List ℕ)
-    (May : ℕ → ℕ → ℕ → NodeState → List Turn → Type 0) (a : Asked) (number : ℕ) (again : List ℕ) (ended : CallOutcome) (due : Option ℕ)
+    (May : ℕ → ℕ → ℕ → NodeState → List Turn → Type 0) (a : Asked) (number : ℕ) (again : List ℕ) (ended : CallEnd) (due : Option ℕ)
     (close : NodeState → List ℕ) (begun text : List ℕ) (told : Timers)
     → next old.count a ≡ old.count + 1 → number ≡ old.count + 1
     → begun ≡ old.text ++ again → here ≡ record old { count = number; text = begun; waits = waits_begun a old.waits; timers = told }
-    → Gives May a → Calls disks here mid heading May (end.Done None) ended
+    → Gives May a → Calls disks here mid heading May (Ok None) ended
     → IsClosed disks mid close text → Tells disks mid a due → Times disks old mid May a due
     → Answers heading May number old.waits a again ended due close → All IsMessage (sent_first a old.waits)
     → Replies disks old (record mid { stopped = is_failed ended; text = text }) a
@@ -278,7 +276,7 @@ called_line {Disk} disks old here mid heading May a number again ended due close
     record {
       node = subst (λ n. IsNodeOf disks n mid.node) same calls.node;
       seal = ap (λ (p : Progress Disk). p.seal) calls.same ∙ ap (λ p. p.seal) is;
-      replied = λ was s at stands. (let x = subst (λ n. Called disks here mid n.id n.nodes heading May (end.Done None) ended was s) same
+      replied = λ was s at stands. (let x = subst (λ n. Called disks here mid n.id n.nodes heading May (Ok None) ended was s) same
           (calls.called was s (ap (λ n. n.disk) same ∙ at) (subst (λ n. Stands disks n s) (sym same) stands)) in
           let t = after_turns old.node.id old.node.nodes s x.turns in
           let turns_said = turns_text heading old.node.id old.node.nodes s x.turns in
@@ -306,11 +304,11 @@ called_line {Disk} disks old here mid heading May a number again ended due close
 
 -- as the code does it: the call, the mark of a device that failed, and the closing line
 called_so : {Disk : Type 0} (disks : Disk → DiskState) (old here mid stop : Progress Disk) (heading : Turn → List ℕ)
-    (May : ℕ → ℕ → ℕ → NodeState → List Turn → Type 0) (a : Asked) (number : ℕ) (again : List ℕ) (ended : CallOutcome) (due : Option ℕ)
+    (May : ℕ → ℕ → ℕ → NodeState → List Turn → Type 0) (a : Asked) (number : ℕ) (again : List ℕ) (ended : CallEnd) (due : Option ℕ)
     (close : NodeState → List ℕ) (begun text : List ℕ) (told : Timers)
     → next old.count a ≡ old.count + 1 → number ≡ old.count + 1
     → begun ≡ old.text ++ again → here ≡ record old { count = number; text = begun; waits = waits_begun a old.waits; timers = told }
-    → Gives May a → Calls disks here mid heading May (end.Done None) ended
+    → Gives May a → Calls disks here mid heading May (Ok None) ended
     → stop ≡ record mid { stopped = is_failed ended } → IsClosed disks stop close text → Tells disks stop a due
     → Times disks old stop May a due → Answers heading May number old.waits a again ended due close
     → All IsMessage (sent_first a old.waits) → Replies disks old (record stop { text = text }) a
@@ -331,9 +329,9 @@ told_so {Disk} old p number told tell is tells =
     ∙ ap (λ (t : Timers). record old { count = number; timers = t }) (tells ∙ ap (λ (q : Progress Disk). tell q.timers) is)
 
 pub event_line : {Disk : Type 0} (disks : Disk → DiskState) (old here mid stop : Progress Disk) (event : Event) (number : ℕ)
-    (step last ended : CallOutcome) (kept text : List ℕ)
+    (step last ended : CallEnd) (kept text : List ℕ)
     → number ≡ old.count + 1 → here ≡ record old { count = number; timers = heard event old.timers } → mid.timers ≡ here.timers
-    → Calls disks here mid no_news (ComesAndEnds event step) (end.Done None) last
+    → Calls disks here mid no_news (ComesAndEnds event step) (Ok None) last
     → stop ≡ record mid { stopped = is_failed last } → ended ≡ behind_end step last
     → ((t : NodeState) → Stands disks stop.node t → kept ≡ stop.text ++ keeps_news event ended t)
     → text ≡ kept ++ event_closing number event ended → Replies disks old (record stop { text = text }) (ask.Event event)
@@ -345,12 +343,12 @@ event_line disks old here mid stop event number step last ended kept text counts
     (λ t stands. both_texts stop.text kept text (keeps_news event ended t) (event_closing number event ended) (keeps t stands) said)
     (λ t stands. refl) (λ slots s turns made stands id waits. ap (λ p. p.timers) marked ∙ (stays ∙ ap (λ p. p.timers) is))
     (λ self nodes slots s turns made so.
-    ap (λ (e : CallOutcome). turns_text no_news self nodes s turns
+    ap (λ (e : CallEnd). turns_text no_news self nodes s turns
     ++ (keeps_news event e (after_turns self nodes s turns) ++ event_closing number event e))
-    (sym (ends ∙ (ap (λ (e : CallOutcome). behind_end e last) made.1
-    ∙ ap (λ (e : CallOutcome). behind_end (step_end self nodes s turns) e) so)))) (All-nil IsMessage)
+    (sym (ends ∙ (ap (λ (e : CallEnd). behind_end e last) made.1
+    ∙ ap (λ (e : CallEnd). behind_end (step_end self nodes s turns) e) so)))) (All-nil IsMessage)
 
-pub compact_line : {Disk : Type 0} (disks : Disk → DiskState) (old here mid stop : Progress Disk) (number : ℕ) (ended : CallOutcome)
+pub compact_line : {Disk : Type 0} (disks : Disk → DiskState) (old here mid stop : Progress Disk) (number : ℕ) (ended : CallEnd)
     (text : List ℕ)
     → number ≡ old.count + 1 → here ≡ record old { count = number } → Turns disks here mid MayCompact ended
     → stop ≡ record mid { stopped = is_failed ended } → text ≡ stop.text ++ closing number ended
@@ -358,10 +356,10 @@ pub compact_line : {Disk : Type 0} (disks : Disk → DiskState) (old here mid st
 compact_line disks old here mid stop number ended text counts is turns marked said =
     called_so disks old here mid stop no_news (λ i n slots s turns. MayCome i n slots s ask.Compact turns) ask.Compact number [] ended None
     (λ t. closing number ended) old.text text old.timers refl counts (sym (append-nil old.text)) is
-    (λ self nodes slots s turns may. may) (one_call disks here mid MayCompact (end.Done None) ended turns) marked (λ t stands. said)
+    (λ self nodes slots s turns may. may) (one_call disks here mid MayCompact (Ok None) ended turns) marked (λ t stands. said)
     (λ t stands. refl) (λ slots s ts may stands id waits. ap (λ p. p.timers) marked
     ∙ (ap (λ p. p.timers) turns.same ∙ ap (λ p. p.timers) is))
-    (λ self nodes slots s turns may so. ap (λ (e : CallOutcome). turns_text no_news self nodes s turns ++ closing number e) (sym so))
+    (λ self nodes slots s turns may so. ap (λ (e : CallEnd). turns_text no_news self nodes s turns ++ closing number e) (sym so))
     (All-nil IsMessage)
 
 -- the times that the timers were told, and what is told of them
@@ -377,12 +375,12 @@ tick_times disks old here stop now due waited told next = λ slots s turns may s
       (next (after_turns old.node.id old.node.nodes s turns) stands)),
 )
 
-pub tick_line : {Disk : Type 0} (disks : Disk → DiskState) (old first here mid stop : Progress Disk) (now number : ℕ) (ended : CallOutcome)
+pub tick_line : {Disk : Type 0} (disks : Disk → DiskState) (old first here mid stop : Progress Disk) (now number : ℕ) (ended : CallEnd)
     (due : Option ℕ) (told text : List ℕ)
     → number ≡ old.count + 1 → first ≡ record old { count = number; timers = told_time now old.timers }
     → here ≡ record first { text = first.text ++ send_lines (sent_again now first.waits); waits = waits_on now first.waits }
     → All IsMessage (sent_again now first.waits)
-    → Calls disks here mid fired_news (Timely (Fires here.waits here.timers mid.timers)) (end.Done None) ended
+    → Calls disks here mid fired_news (Timely (Fires here.waits here.timers mid.timers)) (Ok None) ended
     → stop ≡ record mid { stopped = is_failed ended } → Tells disks stop (ask.Tick now) due
     → ((t : NodeState) → Stands disks stop.node t → IfSome due (IsToldNext stop.node.id t stop.waits stop.timers now))
     → told ≡ stop.text ++ next_line due → text ≡ told ++ closing number ended
@@ -405,14 +403,14 @@ tick_line {Disk} disks old first here mid stop now number ended due told text co
     (subst (λ (t : Timers). Times disks old stop (Timely (Fires here.waits here.timers t)) (ask.Tick now) due)
     (ap (λ (p : Progress Disk). p.timers) marked)
     (tick_times disks old here stop now due (ap (λ (p : Progress Disk). p.waits) begun) (ap (λ (p : Progress Disk). p.timers) begun) says))
-    (λ self nodes slots s turns may so. ap (λ (e : CallOutcome). send_lines (sent_again now old.waits)
+    (λ self nodes slots s turns may so. ap (λ (e : CallEnd). send_lines (sent_again now old.waits)
     ++ (turns_text fired_news self nodes s turns ++ (next_line due ++ closing number e))) (sym so))
     (subst (λ (p : Progress Disk). All IsMessage (sent_again now p.waits)) is fits)
 
-pub loss_line : {Disk : Type 0} (disks : Disk → DiskState) (old here mid stop : Progress Disk) (node number : ℕ) (ended : CallOutcome)
+pub loss_line : {Disk : Type 0} (disks : Disk → DiskState) (old here mid stop : Progress Disk) (node number : ℕ) (ended : CallEnd)
     (text : List ℕ)
     → number ≡ old.count + 1 → here ≡ record old { count = number }
-    → Calls disks here mid fired_news (Timely (GivesUp node here.timers mid.timers)) (end.Done None) ended
+    → Calls disks here mid fired_news (Timely (GivesUp node here.timers mid.timers)) (Ok None) ended
     → stop ≡ record mid { stopped = is_failed ended } → text ≡ stop.text ++ closing number ended
     → Replies disks old (record stop { text = text }) (ask.Lost node)
 loss_line {Disk} disks old here mid stop node number ended text counts is calls marked said =
@@ -422,7 +420,7 @@ loss_line {Disk} disks old here mid stop node number ended text counts is calls 
     (λ slots s turns may stands id waits. subst (λ (t : Timers). GivesUp node old.timers t old.node.id old.node.nodes s turns)
     (sym (ap (λ (p : Progress Disk). p.timers) marked))
     (subst (λ (t : Timers). GivesUp node t mid.timers old.node.id old.node.nodes s turns) (ap (λ (p : Progress Disk). p.timers) is) may.1))
-    (λ self nodes slots s turns may so. ap (λ (e : CallOutcome). turns_text fired_news self nodes s turns ++ closing number e) (sym so))
+    (λ self nodes slots s turns may so. ap (λ (e : CallEnd). turns_text fired_news self nodes s turns ++ closing number e) (sym so))
     (All-nil IsMessage)
 
 -- a line that asks nothing of the node but what it knows

@@ -1,5 +1,5 @@
 -- What comes of each line, and the chains of histories that this makes.
-use Rattle.std.specs.Prelude.{ℕ, ◌≡◌, ◌+◌, List, [], ◌∷◌, Bool, true, false, if◌then◌else◌, Option, None, is_some}
+use Rattle.std.specs.Prelude.{ℕ, ◌≡◌, ◌+◌, List, [], ◌∷◌, Bool, true, false, if◌then◌else◌, Option, None, is_some, Ok, Err}
 use Rattle.node_timers.specs.Retransmission.{Waits, waits_behind, waits_on}
 use Rattle.histories.specs.NodeState.{NodeState}
 use Rattle.histories.specs.HistoryEvent.{Entry}
@@ -10,9 +10,8 @@ use Rattle.durable_node.specs.declared.fault.NodeFault.{NodeFault}
 use Rattle.durable_node.specs.declared.fault.NodeFault.TheVariants as node
 use Rattle.node_session.specs.declared.asked.Asked.{Asked}
 use Rattle.node_session.specs.declared.asked.Asked.TheVariants as ask
-use Rattle.node_session.specs.declared.call_outcome.CallOutcome.{CallOutcome}
-use Rattle.node_session.specs.declared.call_outcome.CallOutcome.TheVariants as end
-use Rattle.node_session.specs.Turns.{Turn, Goes, Unmounted, Begins, after_turn, cause, end_of, sent_in, MayComeOf, MayCompact, IsTimely}
+use Rattle.node_session.specs.Turns.{CallEnd, Turn, Goes, Unmounted, Begins, after_turn, cause, end_of, sent_in, MayComeOf, MayCompact}
+use Rattle.node_session.specs.Turns.{IsTimely}
 use Rattle.node_session.specs.Turns.{IsGoing}
 
 -- what came of a line: the calls of the node, and what a tick tells, when something is due next
@@ -32,13 +31,13 @@ after_turns self nodes s [] = s
 after_turns self nodes s (turn ∷ turns) = after_turns self nodes (after_turn self nodes s turn) turns
 
 -- how the last of them ended, behind a call that ended so
-abbrev pub last_end : ℕ → ℕ → CallOutcome → NodeState → List Turn → CallOutcome
+abbrev pub last_end : ℕ → ℕ → CallEnd → NodeState → List Turn → CallEnd
 last_end self nodes ended s [] = ended
 last_end self nodes ended s (turn ∷ turns) = last_end self nodes (end_of self nodes s turn) (after_turn self nodes s turn) turns
 
 -- how a line ends: well, where nothing was asked of the node
-abbrev pub line_end : ℕ → ℕ → NodeState → List Turn → CallOutcome
-line_end self nodes s turns = last_end self nodes (end.Done None) s turns
+abbrev pub line_end : ℕ → ℕ → NodeState → List Turn → CallEnd
+line_end self nodes s turns = last_end self nodes (Ok None) s turns
 
 -- the messages that are waited for behind a call
 abbrev pub waits_turn : ℕ → ℕ → NodeState → Turn → Waits → Waits
@@ -54,23 +53,23 @@ waits_begun (ask.Tick now) w = waits_on now w
 waits_begun asked w = w
 
 -- how the first of them ended
-abbrev pub step_end : ℕ → ℕ → NodeState → List Turn → CallOutcome
-step_end self nodes s [] = end.Done None
+abbrev pub step_end : ℕ → ℕ → NodeState → List Turn → CallEnd
+step_end self nodes s [] = Ok None
 step_end self nodes s (turn ∷ turns) = end_of self nodes s turn
 
 abbrev pub is_device : NodeFault → Bool
 is_device node.Device = true
 is_device fault = false
 
-abbrev pub is_failed : CallOutcome → Bool
-is_failed (end.Done answer) = false
-is_failed (end.Denied fault) = is_device fault
+abbrev pub is_failed : CallEnd → Bool
+is_failed (Ok answer) = false
+is_failed (Err fault) = is_device fault
 
 -- how an event ends whose call ended so, where the last call of its line ended so: as its call did, unless the device failed behind that
-abbrev pub behind_end : CallOutcome → CallOutcome → CallOutcome
+abbrev pub behind_end : CallEnd → CallEnd → CallEnd
 behind_end step last = if is_failed last then last else step
 
-abbrev pub event_line_end : ℕ → ℕ → NodeState → List Turn → CallOutcome
+abbrev pub event_line_end : ℕ → ℕ → NodeState → List Turn → CallEnd
 event_line_end self nodes s turns = behind_end (step_end self nodes s turns) (line_end self nodes s turns)
 
 abbrev pub IsNone : List Turn → Type 0
@@ -107,7 +106,7 @@ ComesOfEvent self nodes slots s event (turn ∷ turns) =
     (after_turn self nodes s turn) turns
 
 -- and the first of them ended so
-abbrev pub ComesAndEnds : Event → CallOutcome → ℕ → ℕ → ℕ → NodeState → List Turn → Type 0
+abbrev pub ComesAndEnds : Event → CallEnd → ℕ → ℕ → ℕ → NodeState → List Turn → Type 0
 ComesAndEnds event step self nodes slots s turns = ComesOfEvent self nodes slots s event turns × (step ≡ step_end self nodes s turns)
 
 -- they may come of what a line asks

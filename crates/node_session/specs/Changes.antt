@@ -1,5 +1,5 @@
 -- What a service that follows the node reads: that its group changed, and the jobs that came into its hand or left it.
-use Rattle.std.specs.Prelude.{ℕ, List, [], ◌++◌, map, codes, decimal, Bool, true, false, Option, Some, None}
+use Rattle.std.specs.Prelude.{ℕ, List, [], ◌++◌, map, codes, decimal, Bool, true, false, Option, Some, None, Ok}
 use Rattle.std.specs.List.{flat_map}
 use Rattle.console_text.specs.Words.{work_text}
 use Rattle.wire_msg.specs.declared.body.Body.{Body}
@@ -10,9 +10,8 @@ use Rattle.node_core.specs.declared.in_hand.InHand.{InHand}
 use Rattle.node_core.specs.State.{State, is_down}
 use Rattle.durable_node.specs.Changes.{dropped_since, held_by, taken_since, told_anew, view_of}
 use Rattle.durable_node.specs.declared.group_view.GroupView.{GroupView}
-use Rattle.node_session.specs.declared.call_outcome.CallOutcome.{CallOutcome}
-use Rattle.node_session.specs.declared.call_outcome.CallOutcome.TheVariants as end
 use Rattle.node_words.specs.Words.{group_text, ids_text, phase_text}
+use Rattle.node_session.specs.Turns.{CallEnd}
 
 -- ---- the group
 
@@ -68,8 +67,8 @@ gone_at (Some (on.Finish origin job)) id = gone_line id
 gone_at (Some (on.Deliver m)) id = gone_by m.body id
 gone_at event id = []
 
-abbrev pub gone_news : Option Event → CallOutcome → List ℕ
-gone_news event (end.Done (Some id)) = gone_at event id
+abbrev pub gone_news : Option Event → CallEnd → List ℕ
+gone_news event (Ok (Some id)) = gone_at event id
 gone_news event ended = []
 
 -- ---- all

@@ -22,9 +22,7 @@ use Rattle.durable_node.specs.Reading.{ReadsDisk}
 use Rattle.durable_node.specs.Refusing.{Answers, AnswersTo, compaction_refusal, disk_refusal}
 use Rattle.durable_node.specs.Remounting.{IsMountedBy, Remounted}
 use Rattle.durable_node.specs.Stepping.{AreaGoesOn, CountsOf, Steps, Stuck, most_by}
-use Rattle.node_session.specs.declared.call_outcome.CallOutcome.{CallOutcome}
-use Rattle.node_session.specs.declared.call_outcome.CallOutcome.TheVariants as end
-use Rattle.node_session.specs.Turns.{Turn, after_turn, cause, compaction_end, end_of, ended_by, sent_by, sent_in}
+use Rattle.node_session.specs.Turns.{CallEnd, Turn, after_turn, cause, compaction_end, end_of, ended_by, sent_by, sent_in}
 use Rattle.node_session.specs.Chains.{LineOutcome}
 use Rattle.node_session.specs.Lines.{At, after_line}
 
@@ -50,7 +48,7 @@ pub record StepSays {Disk : Type 0} (disks : Disk → DiskState) (old : Node Dis
   pub few : IfOk reply (λ came. length came.sent.items ≤ most_by old.nodes old.kept)
 
 -- the node took a step at the event, which ended so and handed out these messages
-pub record IsStep {Disk : Type 0} (disks : Disk → DiskState) (old : Node Disk) (event : Event) (sent : List Envelope) (ended : CallOutcome)
+pub record IsStep {Disk : Type 0} (disks : Disk → DiskState) (old : Node Disk) (event : Event) (sent : List Envelope) (ended : CallEnd)
     (new : Node Disk) : Type 0 where
   pub reply : Result StepReport NodeFault
   pub ended_so : ended ≡ ended_by (answered reply)
@@ -72,13 +70,13 @@ pub record CompactionSays {Disk A : Type 0} (disks : Disk → DiskState) (old : 
   pub counts : CountsOf disks old.disk new.disk result
 
 -- the node compacted its journal, which ended so
-pub record IsCompacting {Disk : Type 0} (disks : Disk → DiskState) (old : Node Disk) (ended : CallOutcome) (new : Node Disk) : Type 0 where
+pub record IsCompacting {Disk : Type 0} (disks : Disk → DiskState) (old : Node Disk) (ended : CallEnd) (new : Node Disk) : Type 0 where
   pub result : Result Unit NodeFault
   pub ended_so : ended ≡ compaction_end result
   pub says : CompactionSays disks old result new
 
 -- a call at this event; a compaction is of none
-abbrev pub IsCallBy : {Disk : Type 0} → (Disk → DiskState) → Option Event → Node Disk → List Envelope → CallOutcome → Node Disk → Type 0
+abbrev pub IsCallBy : {Disk : Type 0} → (Disk → DiskState) → Option Event → Node Disk → List Envelope → CallEnd → Node Disk → Type 0
 IsCallBy disks (Some event) old sent ended new = IsStep disks old event sent ended new
 IsCallBy disks None old sent ended new = IsCompacting disks old ended new
 
@@ -107,14 +105,14 @@ AreCallsIn {Disk} disks self nodes a (line ∷ lines) (came ∷ all) old new =
 
 -- a call ends with `Device` only where the disk's count of failures rose, or is the greatest, and any other leaves that count
 abbrev pub DeviceWhereFailed : {Disk : Type 0} → (Disk → DiskState) → Type 0
-DeviceWhereFailed {Disk} disks = (event : Option Event) (old new : Node Disk) (sent : List Envelope) (ended : CallOutcome) (was now : Disk)
+DeviceWhereFailed {Disk} disks = (event : Option Event) (old new : Node Disk) (sent : List Envelope) (ended : CallEnd) (was now : Disk)
     → IsCallBy disks event old sent ended new → old.disk ≡ Some was → new.disk ≡ Some now
-    → (ended ≡ end.Denied node.Device → ((disks was).failures < (disks now).failures) ⊎ ((disks now).failures ≡ 2 ^ 64 - 1))
-    × (ended ≢ end.Denied node.Device → (disks now).failures ≡ (disks was).failures)
+    → (ended ≡ Err node.Device → ((disks was).failures < (disks now).failures) ⊎ ((disks now).failures ≡ 2 ^ 64 - 1))
+    × (ended ≢ Err node.Device → (disks now).failures ≡ (disks was).failures)
 
 -- an event at a node that is up ends with `Exhausted` only where the disk has no number left for its command
 abbrev pub ExhaustedWhereNoneLeft : {Disk : Type 0} → (Disk → DiskState) → Type 0
 ExhaustedWhereNoneLeft {Disk} disks = (event : Event) (old new : Node Disk) (sent : List Envelope) (d : Durable) (area : Area)
-    → IsStep disks old event sent (end.Denied node.Exhausted) new → old.kept ≡ Some d → old.area ≡ Some area
+    → IsStep disks old event sent (Err node.Exhausted) new → old.kept ≡ Some d → old.area ≡ Some area
     → (disk_refusal d area (wants_of old.id d.pending event old.state) ≡ Some Exhausted)
     ⊎ (disk_refusal d area (wants_of old.id d.pending event old.state) ≡ Some AreaExhausted)

@@ -13,7 +13,7 @@ use Rattle.histories.specs.declared.history_event.HistoryEvent.{HistoryEvent}
 use Rattle.histories.specs.After.{after}
 use Rattle.histories.specs.History.{Follows, FollowsSlots, replay}
 use Rattle.line_words.specs.Lines.{lines_of}
-use Rattle.node_session.specs.Turns.{Turn, Goes, Begins, begun, after_begun, after_turn, end_of, sent_in, IsGoing}
+use Rattle.node_session.specs.Turns.{CallEnd, Turn, Goes, Begins, begun, after_begun, after_turn, end_of, sent_in, IsGoing}
 use Rattle.node_session.specs.Chains.{LineOutcome, AllGoing, AreGoing, IsTold, MayCome, after_turns, entries_in, is_failed, last_end}
 use Rattle.node_session.specs.Chains.{line_end, next, first_turn, waits_begun, waits_turn, waits_turns}
 use Rattle.node_session.specs.Lines.{At, AreOf, after_lines, answers}
@@ -24,7 +24,6 @@ use Rattle.node_session.specs.Timing.{Timers, AreTimedIn, IsTimed, Nothing, OwnT
 use Rattle.node_timers.specs.declared.timer_settings.TimerSettings.{TimerSettings}
 use Rattle.node_session.specs.Text.{answer, turn_text, turns_text}
 use Rattle.node_session.specs.declared.asked.Asked.{Asked}
-use Rattle.node_session.specs.declared.call_outcome.CallOutcome.{CallOutcome}
 
 pub record Progress (Disk : Type 0) : Type 0 where
   pub node : Node Disk
@@ -105,7 +104,7 @@ Fed disks old piece new = IsFed disks OwnTime old piece new
 
 -- This came of it.
 pub record Turned {Disk : Type 0} (disks : Disk → DiskState) (old new : Progress Disk) (self nodes : ℕ)
-    (May : ℕ → ℕ → ℕ → NodeState → Turn → Type 0) (ended : CallOutcome) (was : Disk) (s : NodeState) : Type 0 where
+    (May : ℕ → ℕ → ℕ → NodeState → Turn → Type 0) (ended : CallEnd) (was : Disk) (s : NodeState) : Type 0 where
   pub turn : Turn
   pub may : May self nodes (slots_for (disks was).sectors) s turn
   pub exact : IsCallOf disks self nodes s turn old.node new.node
@@ -118,7 +117,7 @@ pub record Turned {Disk : Type 0} (disks : Disk → DiskState) (old new : Progre
 
 -- whatever state the node stood for; it changes the node, the text and what is waited for alone
 pub record Turns {Disk : Type 0} (disks : Disk → DiskState) (old new : Progress Disk) (May : ℕ → ℕ → ℕ → NodeState → Turn → Type 0)
-    (ended : CallOutcome) : Type 0 where
+    (ended : CallEnd) : Type 0 where
   pub node : IsNodeOf disks old.node new.node
   pub same : new ≡ record old { node = new.node; text = new.text; waits = new.waits }
   pub turned : (was : Disk) (s : NodeState) → old.node.disk ≡ Some was → Stands disks old.node s
@@ -128,7 +127,7 @@ pub record Turns {Disk : Type 0} (disks : Disk → DiskState) (old new : Progres
 
 -- These came of them.
 pub record Called {Disk : Type 0} (disks : Disk → DiskState) (old new : Progress Disk) (self nodes : ℕ) (heading : Turn → List ℕ)
-    (May : ℕ → ℕ → ℕ → NodeState → List Turn → Type 0) (before ended : CallOutcome) (was : Disk) (s : NodeState) : Type 0 where
+    (May : ℕ → ℕ → ℕ → NodeState → List Turn → Type 0) (before ended : CallEnd) (was : Disk) (s : NodeState) : Type 0 where
   pub turns : List Turn
   pub may : May self nodes (slots_for (disks was).sectors) s turns
   pub exact : AreCallsOf disks self nodes s turns old.node new.node
@@ -141,7 +140,7 @@ pub record Called {Disk : Type 0} (disks : Disk → DiskState) (old new : Progre
 
 -- whatever state the node stood for; this is written before each. The timers may be looked at meanwhile
 pub record Calls {Disk : Type 0} (disks : Disk → DiskState) (old new : Progress Disk) (heading : Turn → List ℕ)
-    (May : ℕ → ℕ → ℕ → NodeState → List Turn → Type 0) (before ended : CallOutcome) : Type 0 where
+    (May : ℕ → ℕ → ℕ → NodeState → List Turn → Type 0) (before ended : CallEnd) : Type 0 where
   pub node : IsNodeOf disks old.node new.node
   pub same : new ≡ record old { node = new.node; text = new.text; waits = new.waits; timers = new.timers }
   pub called : (was : Disk) (s : NodeState) → old.node.disk ≡ Some was → Stands disks old.node s

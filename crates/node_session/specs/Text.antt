@@ -1,5 +1,5 @@
 -- What a node answers, as text.
-use Rattle.std.specs.Prelude.{ℕ, List, [], ◌∷◌, ◌++◌, codes, decimal, length, Bool, true, false, Option, Some, None}
+use Rattle.std.specs.Prelude.{ℕ, List, [], ◌∷◌, ◌++◌, codes, decimal, length, Bool, true, false, Option, Some, None, Ok, Err}
 use Rattle.std.specs.List.{flat_map}
 use Rattle.hex.specs.Hex.{encode_lower}
 use Rattle.console_text.specs.Words.{work_text}
@@ -20,10 +20,8 @@ use Rattle.node_session.specs.declared.asked.Asked.{Asked}
 use Rattle.node_session.specs.declared.asked.Asked.TheVariants as ask
 use Rattle.node_session.specs.declared.asked.Unsealed.{Unsealed}
 use Rattle.node_session.specs.declared.asked.Unsealed.TheVariants.{Forged, Stale}
-use Rattle.node_session.specs.declared.call_outcome.CallOutcome.{CallOutcome}
-use Rattle.node_session.specs.declared.call_outcome.CallOutcome.TheVariants as end
 use Rattle.node_words.specs.Words.{core_name, event_word, group_part, id_text, ids_text, phase_text, truth_text}
-use Rattle.node_session.specs.Turns.{Turn, after_turn, cause, end_of, sent_in}
+use Rattle.node_session.specs.Turns.{CallEnd, Turn, after_turn, cause, end_of, sent_in}
 use Rattle.node_session.specs.Chains.{LineOutcome, after_turns, event_line_end, line_end}
 use Rattle.node_session.specs.Changes.{changes, gone_news, held_text, is_finish}
 
@@ -53,7 +51,7 @@ send_lines [] = []
 send_lines (m ∷ ms) = send_line m ++ send_lines ms
 
 -- what is written of a call: the messages, what changed, and the job that left the table
-abbrev pub call_text : Option Event → List Envelope → State → State → CallOutcome → List ℕ
+abbrev pub call_text : Option Event → List Envelope → State → State → CallEnd → List ℕ
 call_text event sent old new ended = send_lines sent ++ (changes (is_finish event) old new ++ gone_news event ended)
 
 abbrev pub turn_text : ℕ → ℕ → NodeState → Turn → List ℕ
@@ -92,8 +90,8 @@ keeps_by true d = []
 keeps_by false d = keeps_line d
 
 -- behind a recovery that was done, what the node keeps then
-abbrev pub keeps_news : Event → CallOutcome → NodeState → List ℕ
-keeps_news on.Recover (end.Done answer) s = keeps_by (is_down s.state.phase) s.durable
+abbrev pub keeps_news : Event → CallEnd → NodeState → List ℕ
+keeps_news on.Recover (Ok answer) s = keeps_by (is_down s.state.phase) s.durable
 keeps_news event ended s = []
 
 -- ---- what a tick tells
@@ -129,13 +127,13 @@ abbrev pub answer_text : Event → Option ℕ → List ℕ
 answer_text (on.Submit work) answer = id_text answer
 answer_text event answer = []
 
-abbrev pub closing : ℕ → CallOutcome → List ℕ
-closing n (end.Done answer) = ok_line n []
-closing n (end.Denied fault) = denial_line n fault
+abbrev pub closing : ℕ → CallEnd → List ℕ
+closing n (Ok answer) = ok_line n []
+closing n (Err fault) = denial_line n fault
 
-abbrev pub event_closing : ℕ → Event → CallOutcome → List ℕ
-event_closing n event (end.Done answer) = ok_line n (answer_text event answer)
-event_closing n event (end.Denied fault) = denial_line n fault
+abbrev pub event_closing : ℕ → Event → CallEnd → List ℕ
+event_closing n event (Ok answer) = ok_line n (answer_text event answer)
+event_closing n event (Err fault) = denial_line n fault
 
 -- ---- the state and the jobs
 

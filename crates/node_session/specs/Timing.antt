@@ -1,6 +1,6 @@
 -- The timers of a session: what each line tells the policy, and the events that a tick or a loss makes.
 use Rattle.std.specs.Prelude.{ℕ, ◌≡◌, ◌≢◌, ◌↔◌, ◌⊎◌, ◌≤◌, List, [], ◌∷◌, length, Bool, true, false, not, ◌&&◌, ◌||◌, ◌==◌, if◌then◌else◌}
-use Rattle.std.specs.Prelude.{Option, Some, None, is_some, IfSome, IsNone}
+use Rattle.std.specs.Prelude.{Option, Some, None, is_some, IfSome, IsNone, Ok, Err, IsErr}
 use Rattle.group_task.specs.Group.{Group}
 use Rattle.group_task.specs.Ids.{has}
 use Rattle.job_model.specs.declared.job.Job.{Job}
@@ -21,11 +21,9 @@ use Rattle.node_timers.specs.Snapshots.{snapshot_of}
 use Rattle.node_timers.specs.Timers.{raise_of}
 use Rattle.node_session.specs.declared.asked.Asked.{Asked}
 use Rattle.node_session.specs.declared.asked.Asked.TheVariants as ask
-use Rattle.node_session.specs.declared.call_outcome.CallOutcome.{CallOutcome}
-use Rattle.node_session.specs.declared.call_outcome.CallOutcome.TheVariants as end
 use Rattle.node_session.specs.declared.timers.TheConstants.{MOST_FIRED}
 use Rattle.node_session.specs.Ticks.{IsNext, Ticks}
-use Rattle.node_session.specs.Turns.{Turn, after_turn, cause, end_of}
+use Rattle.node_session.specs.Turns.{CallEnd, Turn, after_turn, cause, end_of}
 use Rattle.node_session.specs.Chains.{AreTimely, LineOutcome, after_turns, line_end, waits_turn, waits_turns}
 use Rattle.node_session.specs.Lines.{At, after_line}
 use Rattle.node_session.specs.Seals.{asked_under}
@@ -106,10 +104,10 @@ pub record IsDueAt (self : ℕ) (s : NodeState) (w : Waits) (old : Timers) (fire
 -- ---- what fires
 
 -- behind a call that is denied nothing fires
-abbrev pub GoesOn : CallOutcome → List Turn → Type 0
+abbrev pub GoesOn : CallEnd → List Turn → Type 0
 GoesOn ended [] = Unit {0}
-GoesOn (end.Done answer) (turn ∷ turns) = Unit {0}
-GoesOn (end.Denied fault) (turn ∷ turns) = ⊥
+GoesOn (Ok answer) (turn ∷ turns) = Unit {0}
+GoesOn (Err fault) (turn ∷ turns) = ⊥
 
 -- each call is of the event that was due where the one before it left the node
 abbrev pub AreDue : ℕ → ℕ → NodeState → Waits → List Turn → Timers → Timers → Type 0
@@ -118,16 +116,9 @@ AreDue self nodes s w (turn ∷ turns) old new =
     (mid : Timers) × IsDueAt self s w old (cause turn) mid × GoesOn (end_of self nodes s turn) turns
     × AreDue self nodes (after_turn self nodes s turn) (waits_turn self nodes s turn w) turns mid new
 
-abbrev pub is_denied : CallOutcome → Bool
-is_denied (end.Done answer) = false
-is_denied (end.Denied fault) = true
-
-abbrev pub IsDenied : CallOutcome → Type 0
-IsDenied ended = is_denied ended ≡ true
-
 -- no more fires: the last call was denied, so many fired as may in one tick, or nothing is due
-abbrev pub IsAtRest : ℕ → NodeState → Waits → CallOutcome → ℕ → Timers → Timers → Type 0
-IsAtRest self s w ended count old new = (IsDenied ended × (new ≡ old))
+abbrev pub IsAtRest : ℕ → NodeState → Waits → CallEnd → ℕ → Timers → Timers → Type 0
+IsAtRest self s w ended count old new = (IsErr ended × (new ≡ old))
     ⊎ (((count ≡ MOST_FIRED) × (new ≡ old)) ⊎ IsDueAt self s w old None new)
 
 -- the calls of a tick: all that is due fires, and nothing else

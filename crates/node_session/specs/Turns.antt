@@ -22,8 +22,6 @@ use Rattle.durable_node.specs.declared.step_report.StepReport.{StepReport}
 use Rattle.durable_node.specs.Faults.{shown}
 use Rattle.durable_node.specs.Remounting.{IsUnmounted}
 use Rattle.durable_node.specs.Stepping.{answer_at}
-use Rattle.node_session.specs.declared.call_outcome.CallOutcome.{CallOutcome}
-use Rattle.node_session.specs.declared.call_outcome.CallOutcome.TheVariants as end
 
 pub data Turn : Type 0 where
   -- the node's history went on by this
@@ -61,28 +59,31 @@ cause (Goes what) = event_of what
 cause (Unmounted fault) = Some on.Recover
 cause (Begins mounted what) = Some on.Recover
 
--- ---- how it ends
+-- ---- how it ends: with the answer of the command that was wanted, if one was, or denied
 
-abbrev pub rest_end : NoOpKind → CallOutcome
-rest_end Nothing = end.Done None
-rest_end Compacted = end.Done None
-rest_end CompactDown = end.Denied (node.Core core.Down)
-rest_end CompactAreaExhausted = end.Denied node.Exhausted
+abbrev pub CallEnd : Type 0
+CallEnd = Result (Option ℕ) NodeFault
 
-abbrev pub end_at : ℕ → ℕ → NodeState → HistoryEvent → CallOutcome
-end_at self nodes s (Did event) = end.Done (answer_at self nodes s (Did event))
-end_at self nodes s (Refused event fault) = end.Denied (shown fault)
-end_at self nodes s (Faulted event) = end.Denied node.Device
+abbrev pub rest_end : NoOpKind → CallEnd
+rest_end Nothing = Ok None
+rest_end Compacted = Ok None
+rest_end CompactDown = Err (node.Core core.Down)
+rest_end CompactAreaExhausted = Err node.Exhausted
+
+abbrev pub end_at : ℕ → ℕ → NodeState → HistoryEvent → CallEnd
+end_at self nodes s (Did event) = Ok (answer_at self nodes s (Did event))
+end_at self nodes s (Refused event fault) = Err (shown fault)
+end_at self nodes s (Faulted event) = Err node.Device
 end_at self nodes s (NoOp rest) = rest_end rest
-end_at self nodes s Crashed = end.Denied node.Device
-end_at self nodes s (Recovered kept) = end.Done (answer_at self nodes s (Recovered kept))
-end_at self nodes s MountFailed = end.Denied node.Device
-end_at self nodes s (RaiseFailed kept) = end.Denied node.Device
-end_at self nodes s (RaiseRefused kept) = end.Denied node.Exhausted
+end_at self nodes s Crashed = Err node.Device
+end_at self nodes s (Recovered kept) = Ok (answer_at self nodes s (Recovered kept))
+end_at self nodes s MountFailed = Err node.Device
+end_at self nodes s (RaiseFailed kept) = Err node.Device
+end_at self nodes s (RaiseRefused kept) = Err node.Exhausted
 
-abbrev pub end_of : ℕ → ℕ → NodeState → Turn → CallOutcome
+abbrev pub end_of : ℕ → ℕ → NodeState → Turn → CallEnd
 end_of self nodes s (Goes what) = end_at self nodes s what
-end_of self nodes s (Unmounted fault) = end.Denied fault
+end_of self nodes s (Unmounted fault) = Err fault
 end_of self nodes s (Begins mounted what) = end_at self nodes (begun self mounted) what
 
 -- ---- what may come
@@ -137,14 +138,14 @@ IsGoing (Begins mounted what) = ⊥
 
 -- ---- for the code
 
-abbrev pub ended_by : Result StepReport NodeFault → CallOutcome
-ended_by (Ok came) = end.Done came.answer
-ended_by (Err fault) = end.Denied fault
+abbrev pub ended_by : Result StepReport NodeFault → CallEnd
+ended_by (Ok came) = Ok came.answer
+ended_by (Err fault) = Err fault
 
 abbrev pub sent_by : Result StepReport NodeFault → List Envelope
 sent_by (Ok came) = came.sent.items
 sent_by (Err fault) = []
 
-abbrev pub compaction_end : {A : Type 0} → Result A NodeFault → CallOutcome
-compaction_end (Ok done) = end.Done None
-compaction_end (Err fault) = end.Denied fault
+abbrev pub compaction_end : {A : Type 0} → Result A NodeFault → CallEnd
+compaction_end (Ok done) = Ok None
+compaction_end (Err fault) = Err fault

@@ -1,25 +1,11 @@
 // How calls of the node end.
 ghost use Rattle.std.specs.Prelude.{◌≡◌};
 ghost use Rattle.node_session.specs.Chains.{behind_end};
-ghost use Rattle.node_session.specs.Timing.{is_denied};
 
 use durable_node::NodeFault;
 
-/// How a call of the node ended.
-#[derive(Clone, Copy, Debug, PartialEq, Eq)]
-pub enum CallOutcome {
-    /// It was done, with the answer of the command that was wanted, if one was.
-    Done(Option<u64>),
-    Denied(NodeFault),
-}
-
-impl CallOutcome {
-    pub(crate) fn is_denied(&self) -> bool
-        ensures { result ≡ is_denied self.now }
-    {
-        matches!(self, CallOutcome::Denied(_))
-    }
-}
+/// How a call of the node ended: with the answer of the command that was wanted, if one was.
+pub(crate) type CallOutcome = Result<Option<u64>, NodeFault>;
 
 /// How the calls of an event ended: that of the event, and the last one, which is another where the journal was written anew behind it.
 #[derive(Clone, Copy, Debug)]
@@ -34,7 +20,7 @@ impl EventEnds {
         ensures { result ≡ behind_end self.now.step self.now.last }
     {
         match self.last {
-            CallOutcome::Denied(NodeFault::Device) => self.last,
+            Err(NodeFault::Device) => self.last,
             _ => self.step,
         }
     }

@@ -96,12 +96,8 @@ pub(crate) fn push_gone(
     ensures { OnOk result (text.new.items ≡ text.old.items ++ gone_news (Some event.now) ended.now) }
 {
     match (event, ended) {
-        (Event::Finish(_, _), CallOutcome::Done(Some(id))) => push_gone_line(text, *id),
-        (Event::Deliver(message), CallOutcome::Done(Some(id))) => push_gone_by(
-            text,
-            message.body(),
-            *id,
-        ),
+        (Event::Finish(_, _), Ok(Some(id))) => push_gone_line(text, *id),
+        (Event::Deliver(message), Ok(Some(id))) => push_gone_by(text, message.body(), *id),
         _ => Ok(()),
     }
 }

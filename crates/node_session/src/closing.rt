@@ -20,12 +20,12 @@ pub(crate) fn push_event_closing(
     ensures { OnOk result (text.new.items ≡ text.old.items ++ event_closing number event.now ended.now) }
 {
     match ended {
-        CallOutcome::Done(answer) => {
+        Ok(answer) => {
             push_named_number(text, "ok ", number)?;
             push_answer(text, event, *answer)?;
             push_text(text, "\n")
         }
-        CallOutcome::Denied(fault) => push_denial(text, number, fault),
+        Err(fault) => push_denial(text, number, fault),
     }
 }
 
@@ -38,8 +38,8 @@ pub(crate) fn push_closing(
     ensures { OnOk result (text.new.items ≡ text.old.items ++ closing number ended.now) }
 {
     match ended {
-        CallOutcome::Done(_) => push_ok(text, number),
-        CallOutcome::Denied(fault) => push_denial(text, number, fault),
+        Ok(_) => push_ok(text, number),
+        Err(fault) => push_denial(text, number, fault),
     }
 }
 

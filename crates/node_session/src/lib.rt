@@ -26,7 +26,6 @@ mod timers;
 mod unread;
 
 pub use asked::{Asked, Unsealed, read_line};
-pub use call_outcome::CallOutcome;
 pub use laws::{
     any_clearing, any_cutting, any_taking, at_once_is_fed, begins_anywhere, begun_history,
     device_where_failed, exhausted_where_none_left, lives_follow, no_stamp_twice, one_history,

@@ -1,5 +1,5 @@
 // A node that is fed with lines, and what it answers.
-ghost use Rattle.std.specs.Prelude.{◌≡◌, ◌<◌, ◌≤◌, ◌+◌, ◌++◌, ◌∷◌, ◌↔◌, List, ℕ, [], All, IfOk, IfSome, IsNone, OnOk, IsTrue, Err, None, Some, false, take, drop, length};
+ghost use Rattle.std.specs.Prelude.{◌≡◌, ◌<◌, ◌≤◌, ◌+◌, ◌++◌, ◌∷◌, ◌↔◌, List, ℕ, [], All, IfOk, IfSome, IsNone, OnOk, IsTrue, Ok, Err, None, Some, false, take, drop, length};
 ghost use Rattle.group_task.specs.declared.node.TheConstants.{NODES};
 ghost use Rattle.job_journal.specs.Journal.{IsSound};
 ghost use Rattle.job_model.specs.Durable.{Durable};
@@ -7,7 +7,6 @@ ghost use Rattle.node_store.specs.Store.{slots_for};
 ghost use Rattle.node_core.specs.declared.fault.CoreFault.TheVariants.{NoMemory};
 ghost use Rattle.line_words.specs.Lines.{lines_of};
 ghost use Rattle.node_session.specs.declared.asked.Asked.TheVariants as ask;
-ghost use Rattle.node_session.specs.declared.call_outcome.CallOutcome.TheVariants as end;
 ghost use Rattle.node_session.specs.Seals.{asked_under, life_of, sealed_behind, taken_under, written};
 ghost use Rattle.node_session.specs.Chains.{ComesAndEnds, IsAtOnce, IsToldBy, brought_up, is_failed};
 ghost use Rattle.node_session.specs.Serving.{opened_by, Calls, FedAtOnce, Replies, Serves, Turns};
@@ -368,7 +367,7 @@ impl<D: SectorDisk + Drop> Session<D> {
     fn stop_where_failed(&mut self, ended: &CallOutcome)
         ensures { self.new ≡ record self.old { stopped = is_failed ended.now } }
     {
-        self.stopped = matches!(ended, CallOutcome::Denied(NodeFault::Device));
+        self.stopped = matches!(ended, Err(NodeFault::Device));
     }
 
     /// Sends again what is waited for and due at this time.
@@ -385,16 +384,16 @@ impl<D: SectorDisk + Drop> Session<D> {
     /// Makes the events that are due at the time that was told.
     fn fire_due(&mut self) -> Result<CallOutcome, AllocError>
         ensures rest { self.new.rest ≡ self.old.rest }
-        ensures calls { IfOk result (λ ended. Calls D.state self.old self.new fired_news (Timely (Fires self.old.waits self.old.timers self.new.timers)) (end.Done None) ended) }
+        ensures calls { IfOk result (λ ended. Calls D.state self.old self.new fired_news (Timely (Fires self.old.waits self.old.timers self.new.timers)) (Ok None) ended) }
     {
-        let mut ended = CallOutcome::Done(None);
+        let mut ended = Ok(None);
         for _fired in 0..MOST_FIRED {
             let Some(event) = self.due() else {
                 return Ok(ended);
             };
             self.add_fired(&event)?;
             ended = self.turn(&event)?;
-            if ended.is_denied() {
+            if ended.is_err() {
                 return Ok(ended);
             }
         }
@@ -450,7 +449,7 @@ impl<D: SectorDisk + Drop> Session<D> {
     /// A node that the transport gave up isn't waited for: its coordinator leaves the group, and a member asks or leaves.
     fn give_up(&mut self, node: NodeId) -> Result<CallOutcome, AllocError>
         ensures rest { self.new.rest ≡ self.old.rest }
-        ensures calls { IfOk result (λ ended. Calls D.state self.old self.new fired_news (Timely (GivesUp node self.old.timers self.new.timers)) (end.Done None) ended) }
+        ensures calls { IfOk result (λ ended. Calls D.state self.old self.new fired_news (Timely (GivesUp node self.old.timers self.new.timers)) (Ok None) ended) }
     {
         match loss_of(self.node.id(), self.node.vector(), node) {
             Some(event) => {
@@ -458,7 +457,7 @@ impl<D: SectorDisk + Drop> Session<D> {
                 self.timers.give_up(&event);
                 self.turn(&event)
             }
-            None => Ok(CallOutcome::Done(None)),
+            None => Ok(Ok(None)),
         }
     }
 }
@@ -502,7 +501,7 @@ impl<D: SectorDisk + Drop> Session<D> {
         // the device fails in that, so does the recovery. No other event does.
         // Also: EventEnds::of_event.
         // Refuses: acknowledged_before_written_anew, written_anew_at_each_event, failure_behind_a_recovery_forgotten.
-        ensures calls { IfOk result (λ ends. Calls D.state self.old self.new no_news (ComesAndEnds event.now ends.step) (end.Done None) ends.last) }
+        ensures calls { IfOk result (λ ends. Calls D.state self.old self.new no_news (ComesAndEnds event.now ends.step) (Ok None) ends.last) }
     {
         let was_down = self.is_down();
         let step = self.turn(event)?;
@@ -552,10 +551,10 @@ fn ended_by(reply: &Result<StepReport, NodeFault>) -> CallOutcome
 {
     match reply {
         Ok(came) => match came.fault() {
-            None => CallOutcome::Done(came.answer),
-            Some(fault) => CallOutcome::Denied(fault),
+            None => Ok(came.answer),
+            Some(fault) => Err(fault),
         },
-        Err(fault) => CallOutcome::Denied(*fault),
+        Err(fault) => Err(*fault),
     }
 }
 
@@ -564,8 +563,8 @@ fn compaction_end(done: &Result<(), NodeFault>) -> CallOutcome
     ensures { result ≡ compaction_end done.now }
 {
     match done {
-        Ok(()) => CallOutcome::Done(None),
-        Err(fault) => CallOutcome::Denied(*fault),
+        Ok(()) => Ok(None),
+        Err(fault) => Err(*fault),
     }
 }
 

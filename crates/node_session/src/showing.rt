@@ -70,7 +70,7 @@ pub(crate) fn push_keeps_news<D: SectorDisk>(
     ensures { (s : NodeState) → Stands D.state node.now s → OnOk result (text.new.items ≡ text.old.items ++ keeps_news event.now ended.now s) }
 {
     match (event, ended) {
-        (Event::Recover, CallOutcome::Done(_)) => push_keeps(text, node),
+        (Event::Recover, Ok(_)) => push_keeps(text, node),
         _ => Ok(()),
     }
 }

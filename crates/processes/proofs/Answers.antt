@@ -1,7 +1,7 @@
 -- What processes answer of jobs.
 use Rattle.std.proofs.Common.{◌≡◌, ◌⊎◌, ℕ, Bool, true, false, not, ◌||◌, List, [], ◌∷◌, ◌++◌, length, refl, sym, ◌∙◌, ap, subst, inl, inr}
 use Rattle.std.proofs.Common.{arith, Some, None, append_assoc, append-nil}
-use Rattle.std.specs.Prelude.{◌==◌, if◌then◌else◌}
+use Rattle.std.specs.Prelude.{◌==◌, if◌then◌else◌, Ok}
 use Rattle.job_model.specs.declared.job.Job.{Job}
 use Rattle.job_model.specs.declared.work.Work.{Work}
 use Rattle.job_model.specs.declared.node_command.NodeCommand.TheVariants.{Done}
@@ -22,9 +22,7 @@ use Rattle.histories.specs.Possible.{IsPossible, IsSettling}
 use Rattle.histories.proofs.PublicLaws.{among_either, among_right, stays_up}
 use Rattle.node_session.specs.declared.asked.Asked.{Asked}
 use Rattle.node_session.specs.declared.asked.Asked.TheVariants as ask
-use Rattle.node_session.specs.declared.call_outcome.CallOutcome.{CallOutcome}
-use Rattle.node_session.specs.declared.call_outcome.CallOutcome.TheVariants as end
-use Rattle.node_session.specs.Turns.{Turn, Goes, Unmounted, Begins, end_of}
+use Rattle.node_session.specs.Turns.{CallEnd, Turn, Goes, Unmounted, Begins, end_of}
 use Rattle.node_session.specs.Chains.{LineOutcome, AreGoing, AllGoing, ComesOfEvent, IsNone, IsWrittenAnew, MayCome, after_turns}
 use Rattle.node_session.specs.Chains.{behind_end, brought_up, entries_in, event_line_end, is_failed, line_end}
 use Rattle.node_session.specs.Chains as chains
@@ -387,7 +385,7 @@ up_by false normal leads a b c is = refl
 
 -- the one call of a line that submits work
 taken_by : (self nodes : ℕ) (s : NodeState) (work : Work) (event : Event) (id : ℕ) → event ≡ on.Submit work
-    → IsPossible self nodes s (Did event) → end_of self nodes s (Goes (Did event)) ≡ end.Done (Some id)
+    → IsPossible self nodes s (Did event) → end_of self nodes s (Goes (Did event)) ≡ Ok (Some id)
     → (is_down s.state.phase ≡ false) × HasJob (after self nodes s (Did event)) (the_job id work)
 taken_by self nodes s work (on.Submit w) id same may ended =
     let work_is : w ≡ work = cc same in
@@ -404,16 +402,16 @@ taken_by self nodes s work (on.Submit w) id same may ended =
 taken_by self nodes s work event id same may ended = absurd cc
 
 submitted : (self nodes : ℕ) (s : NodeState) (work : Work) (what : HistoryEvent) (id : ℕ) → event_of what ≡ Some (on.Submit work)
-    → IsPossible self nodes s what → end_of self nodes s (Goes what) ≡ end.Done (Some id)
+    → IsPossible self nodes s what → end_of self nodes s (Goes what) ≡ Ok (Some id)
     → (is_down s.state.phase ≡ false) × HasJob (after self nodes s what) (the_job id work)
 submitted self nodes s work (Did event) id is may ended =
     (let same : event ≡ on.Submit work = cc is in taken_by self nodes s work event id same may ended)
 submitted self nodes s work what id is may ended = absurd cc
 
-step_ended : (one two : CallOutcome) (id : ℕ) → behind_end one two ≡ end.Done (Some id) → one ≡ end.Done (Some id)
+step_ended : (one two : CallEnd) (id : ℕ) → behind_end one two ≡ Ok (Some id) → one ≡ Ok (Some id)
 step_ended one two id is = by_failed (is_failed two) refl is
   where
-    by_failed : (b : Bool) → is_failed two ≡ b → (if b then two else one) ≡ end.Done (Some id) → one ≡ end.Done (Some id)
+    by_failed : (b : Bool) → is_failed two ≡ b → (if b then two else one) ≡ Ok (Some id) → one ≡ Ok (Some id)
     by_failed true fails same = absurd (let both : false ≡ true = ap is_failed (sym same) ∙ fails in cc)
     by_failed false fails same = same
 
@@ -424,7 +422,7 @@ none_behind self nodes slots false c s [] job up may i = i
 none_behind self nodes slots false c s (t ∷ ts) job up may i = absurd may
 
 submit_takes : (self nodes slots : ℕ) (s : NodeState) (ts : List Turn) (job : Job) → ComesOfEvent self nodes slots s (on.Submit job.work) ts
-    → AreGoing ts → event_line_end self nodes s ts ≡ end.Done (Some job.id) → HasJob (after_turns self nodes s ts) job
+    → AreGoing ts → event_line_end self nodes s ts ≡ Ok (Some job.id) → HasJob (after_turns self nodes s ts) job
 submit_takes self nodes slots s [] job may going ended = absurd may
 submit_takes self nodes slots s (Goes what ∷ ts) job may going ended =
     let step = step_ended (end_of self nodes s (Goes what)) (line_end self nodes s (Goes what ∷ ts)) job.id ended in

@@ -1,6 +1,6 @@
 -- What is refused changes nothing.
 use Rattle.std.proofs.Common.{◌≡◌, ◌≢◌, ℕ, Bool, true, false, List, [], ◌∷◌, length, refl, sym, ◌∙◌, ap, subst, Some}
-use Rattle.std.specs.Prelude.{if◌then◌else◌}
+use Rattle.std.specs.Prelude.{if◌then◌else◌, Err}
 use Rattle.node_core.specs.declared.event.Event.{Event}
 use Rattle.node_core.specs.State.{is_down}
 use Rattle.histories.specs.NodeState.{NodeState}
@@ -13,9 +13,7 @@ use Rattle.durable_node.specs.declared.fault.NodeFault.{NodeFault}
 use Rattle.durable_node.specs.declared.fault.NodeFault.TheVariants as fault
 use Rattle.node_session.specs.declared.asked.Asked.{Asked}
 use Rattle.node_session.specs.declared.asked.Asked.TheVariants as ask
-use Rattle.node_session.specs.declared.call_outcome.CallOutcome.{CallOutcome}
-use Rattle.node_session.specs.declared.call_outcome.CallOutcome.TheVariants as end
-use Rattle.node_session.specs.Turns.{Turn, Goes, Unmounted, Begins, end_at, end_of}
+use Rattle.node_session.specs.Turns.{CallEnd, Turn, Goes, Unmounted, Begins, end_at, end_of}
 use Rattle.node_session.specs.Chains.{AreGoing, ComesOfEvent, IsWrittenAnew, MayCome, after_turns, behind_end, brought_up, event_line_end}
 use Rattle.node_session.specs.Chains.{is_device, is_failed, line_end}
 use Rattle.node_session.specs.Lines.{Comes}
@@ -29,16 +27,16 @@ device_is : (why : NodeFault) → is_device why ≡ true → why ≡ fault.Devic
 device_is fault.Device is = refl
 device_is why is = absurd cc
 
-step_denied : (one two : CallOutcome) (why : NodeFault) → why ≢ fault.Device → behind_end one two ≡ end.Denied why → one ≡ end.Denied why
+step_denied : (one two : CallEnd) (why : NodeFault) → why ≢ fault.Device → behind_end one two ≡ Err why → one ≡ Err why
 step_denied one two why other is = by_failed (is_failed two) refl is
   where
-    by_failed : (b : Bool) → is_failed two ≡ b → (if b then two else one) ≡ end.Denied why → one ≡ end.Denied why
+    by_failed : (b : Bool) → is_failed two ≡ b → (if b then two else one) ≡ Err why → one ≡ Err why
     by_failed true fails same = absurd (other (device_is why (ap is_failed (sym same) ∙ fails)))
     by_failed false fails same = same
 
 -- a history that goes on by what is refused stays as it is
 denied_stays : (self nodes : ℕ) (s : NodeState) (event : Event) (what : HistoryEvent) (why : NodeFault) → why ≢ fault.Device
-    → event_of what ≡ Some event → end_at self nodes s what ≡ end.Denied why
+    → event_of what ≡ Some event → end_at self nodes s what ≡ Err why
     → (after self nodes s what ≡ s) × (sent_at self nodes s what ≡ [])
 denied_stays self nodes s event (Refused e reason) why other of is = (refl, refl)
 denied_stays self nodes s event (RaiseRefused kept) why other of is = (refl, refl)
@@ -59,7 +57,7 @@ none_anew self nodes slots true s (t ∷ ts) may = absurd may
 none_anew self nodes slots false s (t ∷ ts) may = absurd may
 
 turns_stay : (self nodes slots : ℕ) (s : NodeState) (event : Event) (ts : List Turn) (why : NodeFault) → why ≢ fault.Device
-    → ComesOfEvent self nodes slots s event ts → AreGoing ts → event_line_end self nodes s ts ≡ end.Denied why
+    → ComesOfEvent self nodes slots s event ts → AreGoing ts → event_line_end self nodes s ts ≡ Err why
     → (after_turns self nodes s ts ≡ s) × (sent_turns self nodes s ts ≡ [])
 turns_stay self nodes slots s event [] why other may going is = absurd may
 turns_stay self nodes slots s event (Goes what ∷ ts) why other may going is =

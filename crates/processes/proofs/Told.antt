@@ -9,8 +9,7 @@ use Rattle.histories.specs.Lists.{IsAmong}
 use Rattle.histories.specs.NodeState.{NodeState}
 use Rattle.node_session.specs.declared.asked.Asked.{Asked}
 use Rattle.node_session.specs.declared.asked.Asked.TheVariants as ask
-use Rattle.node_session.specs.declared.call_outcome.CallOutcome.{CallOutcome}
-use Rattle.node_session.specs.Turns.{Turn}
+use Rattle.node_session.specs.Turns.{CallEnd, Turn}
 use Rattle.node_session.specs.Chains.{IsNone, MayCome, after_turns, next}
 use Rattle.node_session.specs.Lines.{Comes}
 use Rattle.node_session.specs.Seals.{asked_under}
@@ -27,7 +26,7 @@ accepted_is_answered self nodes x job it =
     let front = turns_text no_news self nodes x.at.state x.came.turns in (
       front,
       ap (λ (a : Asked). answer self nodes (next x.at.count a) x.at.state x.at.waits a x.came) it.asked
-          ∙ ap (λ (e : CallOutcome). front ++ event_closing (x.at.count + 1) (on.Submit job.work) e) it.ended,
+          ∙ ap (λ (e : CallEnd). front ++ event_closing (x.at.count + 1) (on.Submit job.work) e) it.ended,
     )
 
 -- ---- the answer to `jobs`

@@ -1,5 +1,5 @@
 -- What processes answer of jobs: a job that a node takes, and the jobs that it tells later.
-use Rattle.std.specs.Prelude.{ℕ, ◌+◌, codes, decimal, ◌≡◌, ◌≢◌, ◌⊎◌, false, List, [], ◌∷◌, ◌++◌, length, slice_get, Some}
+use Rattle.std.specs.Prelude.{ℕ, ◌+◌, codes, decimal, ◌≡◌, ◌≢◌, ◌⊎◌, false, List, [], ◌∷◌, ◌++◌, length, slice_get, Some, Ok, Err}
 use Rattle.job_model.specs.declared.job.Job.{Job}
 use Rattle.node_core.specs.declared.event.Event.{Event}
 use Rattle.node_core.specs.declared.event.Event.TheVariants as on
@@ -9,7 +9,6 @@ use Rattle.histories.specs.NodeState.{NodeState}
 use Rattle.durable_node.specs.declared.fault.NodeFault.{NodeFault}
 use Rattle.durable_node.specs.declared.fault.NodeFault.TheVariants as fault
 use Rattle.node_session.specs.declared.asked.Asked.TheVariants as ask
-use Rattle.node_session.specs.declared.call_outcome.CallOutcome.TheVariants as end
 use Rattle.node_session.specs.Chains.{LineOutcome, after_turns, event_line_end}
 use Rattle.node_session.specs.Lines.{At, after_line, plain_answer}
 use Rattle.node_session.specs.Seals.{asked_under}
@@ -59,7 +58,7 @@ left_by self nodes x = after_turns self nodes x.at.state x.came.turns
 pub record IsAccepted (self nodes : ℕ) (x : LineAt) (job : Job) : Type 0 where
   pub asked : asked_under x.at.seal x.line ≡ ask.Event (on.Submit job.work)
   pub answered : x.at.stopped ≡ false
-  pub ended : event_line_end self nodes x.at.state x.came.turns ≡ end.Done (Some job.id)
+  pub ended : event_line_end self nodes x.at.state x.came.turns ≡ Ok (Some job.id)
 
 -- ---- the law
 
@@ -78,7 +77,7 @@ abbrev pub RefusedChangesNothing : Type 0
 RefusedChangesNothing = (cluster : List NodeProcesses) → AreProcessesOf cluster → (n : ℕ) (node : NodeProcesses)
     → slice_get cluster n ≡ Some node → (x : LineAt) → IsAmong x (lines_at cluster n node) →
     (event : Event) → asked_under x.at.seal x.line ≡ ask.Event event → x.at.stopped ≡ false → (why : NodeFault) → why ≢ fault.Device
-    → event_line_end n (length cluster) x.at.state x.came.turns ≡ end.Denied why →
+    → event_line_end n (length cluster) x.at.state x.came.turns ≡ Err why →
     (left_by n (length cluster) x ≡ x.at.state) × (sent_turns n (length cluster) x.at.state x.came.turns ≡ [])
 
 -- ---- as text
