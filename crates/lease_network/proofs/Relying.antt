@@ -11,7 +11,7 @@ use Rattle.lease_runs.specs.Laws as run_laws
 use Rattle.lease_network.specs.Network.{Name, Step, Terms, AreSteps, machines}
 use Rattle.lease_network.specs.Laws.{Held, HeldEpochsFollow, HeldEpochsRise, HeldOneEpoch, HolderSentNone, MayRely, OneRelies}
 use Rattle.lease_network.specs.Projection.{StepsAreRuns, act_at, acts, client_events, run_of}
-use Rattle.lease_network.proofs.Runs.{does_there, is_done, is_stopping, stops_is}
+use Rattle.lease_network.proofs.Runs.{does_there, is_act, is_done, stops_is}
 use Rattle.lease_network.proofs.Held.{holds}
 use Rattle.lease_network.proofs.Clients.{act_of_moment, clients, moment_of_act, moments, moments_before, moments_more}
 
@@ -86,7 +86,7 @@ relies runs granted terms steps are name time client ask h =
     behind : (at epoch : ℕ) → ask.epoch ≤ epoch → Does (run_of terms name steps) at client (stops epoch) → time < at
     behind at epoch covers does =
         let d = is_done steps name steps at client (stops epoch) does in
-        let s = is_stopping steps name d.step.at epoch d.step.what d.event in
+        let s = is_act steps name d.step.at (stops epoch) d.step.what d.event in
         let less = h.goes_on d.step s.0 epoch d.among (sym d.by) s.1 covers in
         let same = d.then_at in omega (arith, less, same)
 
