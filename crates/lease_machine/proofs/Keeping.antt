@@ -1,7 +1,7 @@
 -- What a call leaves of each name.
 use Rattle.std.proofs.Common.{◌≡◌, ◌≢◌, ℕ, ◌+◌, ◌≤◌, ◌<◌, Bool, true, false, cond, List, [], ◌∷◌, ◌++◌, length, get_or, refl, sym, ap}
 use Rattle.std.proofs.Common.{subst, ◌∙◌, inl, inr, arith}
-use Rattle.std.specs.Prelude.{◌&&◌, All, IfSome, IsNone, is_none, Option, Some, None, option_map, map, set}
+use Rattle.std.specs.Prelude.{◌⊎◌, ◌&&◌, All, IfSome, IsNone, is_none, Option, Some, None, option_map, map, set}
 use Rattle.std.proofs.lemmas.List.{length-append, length-map, length-set}
 use Rattle.std.proofs.lemmas.List.Elements.{All-get_or, All-head, All-map, All-push, All-set, All-tail, All-weaker}
 use Rattle.std.specs.Option.{ForSome}
@@ -11,7 +11,7 @@ use Rattle.lease_runs.specs.declared.candidate.Request.{Request}
 use Rattle.lease_runs.specs.Run.{asks}
 use Rattle.lease_runs.specs.declared.client_id.ClientId.{ClientId}
 use Rattle.lease_runs.specs.declared.voter.LeaseVoter.{LeaseVoter}
-use Rattle.lease_runs.specs.Voter.{Client, Voter, VoterEvent, grants, raises, releases}
+use Rattle.lease_runs.specs.Voter.{Client, Voter, grants, raises, releases}
 use Rattle.lease_runs.specs.Code.{IsStep, ask_of, client_of, view}
 use Rattle.lease_machine.specs.declared.name_entry.TheConstants.{NAMES}
 use Rattle.lease_machine.specs.declared.name_entry.Claim.{Claim}
@@ -24,7 +24,8 @@ use Rattle.lease_machine.specs.Machine.{AllStay, IsForgotten, Stays, claim_in, u
 use Rattle.lease_machine.specs.declared.state.LeaseMachine.{LeaseMachine}
 use Rattle.lease_machine.proofs.Names.{IsFound, placed, dead_placed, same_name, self_same, set_found, unlike, AreApart, apart_from}
 use Rattle.lease_machine.proofs.Names.{apart_to, IsAt, at_get, found, set_other, set_gone, IsFitting, set_apart, push_apart, map_of}
-use Rattle.lease_machine.proofs.Names.{map_apart}
+use Rattle.lease_machine.proofs.Names.{map_apart, unplaced}
+use Rattle.std.proofs.lemmas.Bool.{both_ways, cases_Bool}
 
 -- ---- voters by what is shown of them
 
@@ -50,38 +51,6 @@ pub raised_is : (v w : LeaseVoter) (bound : ℕ) → IsStep v w 0 (raises bound)
 raised_is v w bound step =
     let h = step (λ boot at. 0) 0 0 refl in
     voter_same w (record v { bound = bound }) h.2 h.1
-
--- ---- one name more
-
-pub kept_pushed : (terms : LeaseTerms) (process claims began bound floor : ℕ) (es after : List NameEntry) (x : NameEntry)
-    → AreKept terms process claims began bound floor es
-    → IsEntry terms process claims began bound x → entry_of x.name es ≡ None → length es < NAMES → after ≡ es ++ x ∷ []
-    → AreKept terms process claims began bound floor after
-kept_pushed terms process claims began bound floor es after x kept fits none less is =
-    subst (AreKept terms process claims began bound floor) (sym is) (record {
-      entries = All-push (IsEntry terms process claims began bound) es x kept.entries fits;
-      apart = apart_to (es ++ x ∷ []) (push_apart x es (apart_from es kept.apart) none);
-      few = omega (arith, less, length-append es (x ∷ []));
-      floor_allowed = kept.floor_allowed;
-    })
-
-pub kept_set : (terms : LeaseTerms) (process claims began bound floor raised : ℕ) (es : List NameEntry) (k : ℕ) (d x : NameEntry)
-    → AreKept terms process claims began bound floor es
-    → IsAt k d es → IsEntry terms process claims began bound x → IsFitting d x es → raised ≤ bound
-    → AreKept terms process claims began bound raised (set es k x)
-kept_set terms process claims began bound floor raised es k d x kept at fits fitting allowed = record {
-  entries = All-set (IsEntry terms process claims began bound) es k x fits kept.entries;
-  apart = apart_to (set es k x) (set_apart k d x es at (apart_from es kept.apart) fitting);
-  few = omega (arith, kept.few, length-set es k x);
-  floor_allowed = allowed;
-}
-
-pub entry_at : (terms : LeaseTerms) (process claims began bound floor : ℕ) (es : List NameEntry) (k : ℕ) (d : NameEntry)
-    → AreKept terms process claims began bound floor es
-    → IsAt k d es → IsEntry terms process claims began bound d
-entry_at terms process claims began bound floor es k d kept at =
-    let h = at_get k d es d at in
-    subst (IsEntry terms process claims began bound) h.1 (All-get_or (IsEntry terms process claims began bound) es k d h.0 kept.entries)
 
 -- ---- in place of a name that may be forgotten
 
@@ -135,15 +104,10 @@ place_found place es test f =
     let at = subst (λ (n : ℕ). IsAt n f.d es) is f.at in
     record { d = f.d; at = at; passes = f.passes; within = (at_get place f.d es f.d at).0 }
 
-pub dead_found : (now place : ℕ) (seen es : List NameEntry) (r : Option ℕ) → seen ≡ es → r ≡ dead_from 0 now seen → r ≡ Some place
+pub dead_found : (now : ℕ) {place : ℕ} {seen es : List NameEntry} {r : Option ℕ} → seen ≡ es → r ≡ dead_from 0 now seen → r ≡ Some place
     → IsPlace place es (is_dead now)
-dead_found now place seen es r same is some = place_found place es (is_dead now)
+dead_found now {place} {seen} {es} same is some = place_found place es (is_dead now)
     (dead_placed 0 now es place (ap (dead_from 0 now) (sym same) ∙ sym is ∙ some))
-
-pub name_found : (name : List ℕ) (place : ℕ) (seen es : List NameEntry) (r : Option ℕ) → seen ≡ es → r ≡ place_from 0 name seen
-    → r ≡ Some place → IsPlace place es (λ e. is_same e.name name)
-name_found name place seen es r same is some = place_found place es (λ e. is_same e.name name)
-    (placed 0 name es place (ap (place_from 0 name) (sym same) ∙ sym is ∙ some))
 
 -- a name that is kept needs no room
 pub kept_needs_none : {e : NameEntry} (o : Option NameEntry) → o ≡ Some e → o ≡ None → ⊥
@@ -156,32 +120,38 @@ pub record IsRead (name : List ℕ) (es : List NameEntry) (place : ℕ) (e x : N
   pub new : entry_of name (set es place x) ≡ Some x
   pub others : (other : List ℕ) → other ≢ name → entry_of other (set es place x) ≡ entry_of other es
 
-pub is_read : (name : List ℕ) (es : List NameEntry) (place : ℕ) (e x : NameEntry) → IsPlace place es (λ y. is_same y.name name)
-    → are_apart es ≡ true → e ≡ get_or es place e → x.name ≡ e.name
-    → IsRead name es place e x
-is_read name es place e x p apart read same =
-    let is : e ≡ p.d = read ∙ (at_get place p.d es e p.at).1 in
-    let at : IsAt place e es = subst (λ (y : NameEntry). IsAt place y es) (sym is) p.at in
-    let named : e.name ≡ name = same_name e.name name (subst (λ (y : NameEntry). is_same y.name name ≡ true) (sym is) p.passes) in
+pub name_within : (name : List ℕ) (seen : List NameEntry) {place : ℕ} {r : Option ℕ} → r ≡ place_from 0 name seen → r ≡ Some place
+    → place < length seen
+name_within name seen {place} is some =
+    (place_found place seen (λ y. is_same y.name name) (placed 0 name seen place (sym is ∙ some))).within
+
+pub name_read : (name : List ℕ) {place : ℕ} {seen es : List NameEntry} {r : Option ℕ} → seen ≡ es → r ≡ place_from 0 name seen
+    → r ≡ Some place → are_apart es ≡ true → (e x : NameEntry) → e ≡ get_or es place e → x.name ≡ e.name → IsRead name es place e x
+name_read name {place} {seen} {es} same is some apart e x read like =
+    let p = place_found place es (λ y. is_same y.name name)
+    (placed 0 name es place (ap (place_from 0 name) (sym same) ∙ sym is ∙ some)) in
+    let here : e ≡ p.d = read ∙ (at_get place p.d es e p.at).1 in
+    let at : IsAt place e es = rw here p.at in
+    let named : e.name ≡ name = same_name e.name name (rw here p.passes) in
     let all = apart_from es apart in
     record {
       at = at;
       old = subst (λ (n : List ℕ). entry_of n es ≡ Some e) named (found place e es at all);
-      new = subst (λ (n : List ℕ). entry_of n (set es place x) ≡ Some x) named (set_found place e x es at all same);
+      new = subst (λ (n : List ℕ). entry_of n (set es place x) ≡ Some x) named (set_found place e x es at all like);
       others = λ other differ. set_other place e x other es at (unlike e.name other (λ s. differ (sym s ∙ named)))
-          (unlike x.name other (λ s. differ (sym s ∙ same ∙ named)));
+          (unlike x.name other (λ s. differ (sym s ∙ like ∙ named)));
     }
 
-pub step_of : (v w v' w' : LeaseVoter) (now : ℕ) (what : VoterEvent) → v' ≡ v → w' ≡ w → IsStep v w now what → IsStep v' w' now what
-step_of v w v' w' now what p q step = subst (λ (x : LeaseVoter). IsStep x w' now what) (sym p)
-    (subst (λ (x : LeaseVoter). IsStep v x now what) (sym q) step)
+pub not_kept : (name : List ℕ) {seen es : List NameEntry} {r : Option ℕ} → seen ≡ es → r ≡ place_from 0 name seen → r ≡ None
+    → entry_of name es ≡ None
+not_kept name {es = es} same is none = unplaced 0 name es (ap (place_from 0 name) (sym same) ∙ sym is ∙ none)
 
--- one name's voter is another one
-pub entry_with : (terms : LeaseTerms) (process claims began bound : ℕ) (e : NameEntry) (w : LeaseVoter)
-    → IsEntry terms process claims began bound e → w.keeps ≡ e.voter.keeps → w.began ≡ e.voter.began
-    → w.bound ≡ e.voter.bound → w.last ≤ bound → IsEntry terms process claims began bound (record e { voter = w })
-entry_with terms process claims began bound e w fits keeps since allowed last =
-    record { keeps = keeps ∙ fits.keeps; since = since ∙ fits.since; allowed = allowed ∙ fits.allowed; last = last; claim = fits.claim }
+-- of such a name nobody here asks, and nobody has a grant
+pub nobody_asks : {o : Option NameEntry} {c : Claim} → o ≡ None → claim_in o ≡ Some c → ⊥
+nobody_asks none is = absurd (let bad = rw none at is in cc)
+
+pub nobody_holds : {o : Option NameEntry} (u : LeaseVoter) {c : ClientId} → o ≡ None → u.holder ≡ None → (voter_in u o).holder ≡ Some c → ⊥
+nobody_holds u none free is = absurd (let bad = rw none at is in cc)
 
 -- what no answer changes, and the epoch is allowed
 pub record IsLike (v w : LeaseVoter) : Type 0 where
@@ -190,7 +160,7 @@ pub record IsLike (v w : LeaseVoter) : Type 0 where
   pub bound : w.bound ≡ v.bound
   pub last : v.last ≤ v.bound → w.last ≤ v.bound
 
-like_same : (v w : LeaseVoter) → w ≡ v → IsLike v w
+pub like_same : (v w : LeaseVoter) → w ≡ v → IsLike v w
 like_same v w is = subst (λ (x : LeaseVoter). IsLike v x) (sym is) (record { keeps = refl; began = refl; bound = refl; last = λ h. h })
 
 pub asked_like : (v w : LeaseVoter) (now : ℕ) (client : ClientId) (epoch : ℕ) (b : Bool)
@@ -219,46 +189,7 @@ released_like v w client epoch true freed same =
           λ less. omega (arith, less, ap (λ (x : Voter). x.last) h.1);
     }
 
-pub kept_like : (terms : LeaseTerms) (process claims began bound floor : ℕ) (es : List NameEntry) (place : ℕ) (e : NameEntry)
-    (w : LeaseVoter) → AreKept terms process claims began bound floor es → IsAt place e es
-    → IsLike e.voter w → AreKept terms process claims began bound floor (set es place (record e { voter = w }))
-kept_like terms process claims began bound floor es place e w kept at like =
-    let fits = entry_at terms process claims began bound floor es place e kept at in
-    kept_set terms process claims began bound floor floor es place e (record e { voter = w }) kept at
-    (entry_with terms process claims began bound e w fits like.keeps like.began like.bound (omega (
-      arith,
-      fits.allowed,
-      like.last (omega (arith, fits.allowed, fits.last)),
-    ))) (inl refl) kept.floor_allowed
-
 -- ---- all voters are raised
-
-pub allowed_before : (terms : LeaseTerms) (process claims began bound floor higher : ℕ) (es : List NameEntry)
-    → AreKept terms process claims began bound floor es → bound ≤ higher → All (λ e. e.voter.bound ≤ higher) es
-allowed_before terms process claims began bound floor higher es kept less =
-    All-weaker (IsEntry terms process claims began bound) (λ e. e.voter.bound ≤ higher)
-    (λ e fits. omega (arith, fits.allowed, less)) es kept.entries
-
-pub kept_raised : (terms : LeaseTerms) (process claims began bound floor higher : ℕ) (es after : List NameEntry)
-    → AreKept terms process claims began bound floor es → bound ≤ higher → after ≡ map (raised higher) es
-    → AreKept terms process claims began higher floor after
-kept_raised terms process claims began bound floor higher es after kept less is =
-    subst (AreKept terms process claims began higher floor) (sym is) (record {
-      entries = All-map (IsEntry terms process claims began higher)
-          (raised higher) es (All-weaker (IsEntry terms process claims began bound) (λ e.
-          IsEntry terms process claims began higher (raised higher e))
-          (λ e fits. record {
-            keeps = fits.keeps;
-            since = fits.since;
-            allowed = refl;
-            last = omega (arith, fits.last, less);
-            claim =
-                fits.claim;
-          }) es kept.entries);
-      apart = apart_to (map (raised higher) es) (map_apart (raised higher) (λ e. refl) es (apart_from es kept.apart));
-      few = omega (arith, kept.few, length-map es (raised higher));
-      floor_allowed = omega (arith, kept.floor_allowed, less);
-    })
 
 pub raised_entry : (name : List ℕ) (es after : List NameEntry) (higher : ℕ) → after ≡ map (raised higher) es
     → entry_of name after ≡ option_map (raised higher) (entry_of name es)
@@ -321,76 +252,23 @@ same_own terms process claims c d own same =
 pub the_claim : (a b : Claim) → Some a ≡ Some b → a ≡ b
 the_claim a b e = cc
 
-pub acted_own : (terms : LeaseTerms) (process claims : ℕ) (old new : Option Claim)
-    → ForSome old (λ c. IsOwn terms process claims c.candidate)
-    → (c d : Claim) → old ≡ Some c → new ≡ Some d → IsSameClaim c d → ForSome new (λ c. IsOwn terms process claims c.candidate)
-acted_own terms process claims old new own c d was is same x found =
-    subst (λ (y : Claim). IsOwn terms process claims y.candidate) (the_claim d x (sym is ∙ found))
-    (same_own terms process claims c.candidate d.candidate (own c was) same.terms)
-
-pub kept_asked : (terms : LeaseTerms) (process claims began bound floor : ℕ) (es : List NameEntry) (place : ℕ) (e x : NameEntry)
-    → AreKept terms process claims began bound floor es → IsAt place e es
-    → x.name ≡ e.name → x.voter ≡ e.voter → ForSome x.claim (λ c. IsOwn terms process claims c.candidate)
-    → AreKept terms process claims began bound floor (set es place x)
-kept_asked terms process claims began bound floor es place e x kept at named voted own =
-    let fits = entry_at terms process claims began bound floor es place e kept at in
-    kept_set terms process claims began bound floor floor es place e x kept at (record {
-      keeps = ap (λ (v : LeaseVoter). v.keeps) voted ∙ fits.keeps;
-      since = ap (λ (v : LeaseVoter). v.began) voted ∙ fits.since;
-      allowed = ap (λ (v : LeaseVoter). v.bound) voted ∙ fits.allowed;
-      last = omega (arith, fits.last, ap (λ (v : LeaseVoter). v.last) voted);
-      claim = own;
-    }) (inl named) kept.floor_allowed
-
 -- where the entry that is written is as it was
-pub unchanged : (name : List ℕ) (es : List NameEntry) (place : ℕ) (e x : NameEntry) (u : LeaseVoter) → IsRead name es place e x → x ≡ e
+pub unchanged : {name : List ℕ} {es : List NameEntry} {place : ℕ} {e x : NameEntry} (u : LeaseVoter) → IsRead name es place e x → x ≡ e
     → (other : List ℕ)
     → (voter_in u (entry_of other (set es place x)) ≡ voter_in u (entry_of other es))
     × (claim_in (entry_of other (set es place x)) ≡ claim_in (entry_of other es))
-unchanged name es place e x u r same other = by_test (is_same other name) refl
+unchanged {name} {es} {place} {e} {x} u r same other = by_test (cases_Bool (is_same other name))
   where
-    not_both : (b : Bool) → b ≡ false → b ≡ true → ⊥
-    not_both b p q = cc
-
-    here : other ≡ name → entry_of other (set es place x) ≡ entry_of other es
-    here is = subst (λ (n : List ℕ). entry_of n (set es place x) ≡ entry_of n es) (sym is)
-        (r.new ∙ ap (λ (y : NameEntry). Some y) same ∙ sym r.old)
-
     both : entry_of other (set es place x) ≡ entry_of other es
         → (voter_in u (entry_of other (set es place x)) ≡ voter_in u (entry_of other es))
         × (claim_in (entry_of other (set es place x)) ≡ claim_in (entry_of other es))
     both h = (ap (voter_in u) h, ap claim_in h)
 
-    by_test : (b : Bool) → is_same other name ≡ b
+    by_test : (is_same other name ≡ true) ⊎ (is_same other name ≡ false)
         → (voter_in u (entry_of other (set es place x)) ≡ voter_in u (entry_of other es))
         × (claim_in (entry_of other (set es place x)) ≡ claim_in (entry_of other es))
-    by_test true is = both (here (same_name other name is))
-    by_test false away = both (r.others other (λ s. absurd (not_both (is_same other name) away (self_same other name s))))
-
-pub at_claims : (P : Option Claim → Option Claim → Type 0) (o n o' n' : Option Claim) → o' ≡ o → n' ≡ n → P o n → P o' n'
-at_claims P o n o' n' p q h = subst (λ (x : Option Claim). P x n') (sym p) (subst (λ (x : Option Claim). P o x) (sym q) h)
-
-pub same_entry_own : (terms : LeaseTerms) (process claims : ℕ) (e x : NameEntry)
-    → ForSome e.claim (λ c. IsOwn terms process claims c.candidate) → x ≡ e → ForSome x.claim (λ c. IsOwn terms process claims c.candidate)
-same_entry_own terms process claims e x own same = subst (λ (y : NameEntry). ForSome y.claim (λ c. IsOwn terms process claims c.candidate))
-    (sym same) own
-
--- by an answer that says whether anything changed
-pub own_by : (terms : LeaseTerms) (process claims : ℕ) (e x : NameEntry) (b : Bool)
-    → ForSome e.claim (λ c. IsOwn terms process claims c.candidate)
-    → (b ≡ true → (c : Claim) × (d : Claim) × (e.claim ≡ Some c) × (x.claim ≡ Some d) × IsSameClaim c d) → (b ≡ false → x ≡ e)
-    → ForSome x.claim (λ c. IsOwn terms process claims c.candidate)
-own_by terms process claims e x false own changed same = same_entry_own terms process claims e x own (same refl)
-own_by terms process claims e x true own changed same = let h = changed refl in
-    acted_own terms process claims e.claim x.claim own h.0 h.1 h.2 h.3 h.4
-
-pub own_asked : {A : Type 0} (terms : LeaseTerms) (process claims : ℕ) (e x : NameEntry) (r : Option A) (P : A → Type 0)
-    → ForSome e.claim (λ c. IsOwn terms process claims c.candidate)
-    → IfSome r P → ((y : A) → P y → (c : Claim) × (d : Claim) × (e.claim ≡ Some c) × (x.claim ≡ Some d) × IsSameClaim c d)
-    → (IsNone r → x ≡ e) → ForSome x.claim (λ c. IsOwn terms process claims c.candidate)
-own_asked terms process claims e x None P own h changed same = same_entry_own terms process claims e x own (same refl)
-own_asked terms process claims e x (Some y) P own h changed same = let g = changed y h in
-    acted_own terms process claims e.claim x.claim own g.0 g.1 g.2 g.3 g.4
+    by_test (inl is) = both (rw (same_name other name is) (r.new ∙ ap (λ (y : NameEntry). Some y) same ∙ sym r.old))
+    by_test (inr away) = both (r.others other (λ s. both_ways (is_same other name) away (self_same other name s)))
 
 pub asked_made : (o n : Option Claim) (c d : Claim) (now epoch : ℕ) (r : Option Request) → o ≡ Some c → n ≡ Some d → IsSameClaim c d
     → IfSome r (λ q. (q.epoch ≡ epoch) × (q.sent ≡ now) × IsActed c.candidate d.candidate now (λ at.
@@ -414,3 +292,88 @@ added_voter false old new name x added same none voted = ap (λ (m : LeaseMachin
 
 pub all_stay : (old new : LeaseMachine) → new ≡ old → AllStay old new
 all_stay old new same = subst (λ (m : LeaseMachine). AllStay old m) (sym same) (λ name. (refl, refl))
+
+-- ---- what is kept stays kept
+
+-- the one who asks is the same, and has the same client
+abbrev IsChanged : NameEntry → NameEntry → Type 0
+IsChanged e x = (c : Claim) × (d : Claim) × (e.claim ≡ Some c) × (x.claim ≡ Some d) × IsSameClaim c d
+
+module _ {terms : LeaseTerms} {process claims began bound floor : ℕ} {es : List NameEntry}
+    (kept : AreKept terms process claims began bound floor es) where
+  abbrev IsOwnClaim : NameEntry → Type 0
+  IsOwnClaim x = ForSome x.claim (λ c. IsOwn terms process claims c.candidate)
+
+  pub entry_at : (k : ℕ) (d : NameEntry) → IsAt k d es → IsEntry terms process claims began bound d
+  entry_at k d at =
+      let h = at_get k d es d at in
+      rw h.1 at (All-get_or (IsEntry terms process claims began bound) es k d h.0 kept.entries)
+
+  pub kept_pushed : (after : List NameEntry) (x : NameEntry) → IsEntry terms process claims began bound x → entry_of x.name es ≡ None
+      → length es < NAMES → after ≡ es ++ x ∷ [] → AreKept terms process claims began bound floor after
+  kept_pushed after x fits none less is = rw is (record {
+    entries = All-push (IsEntry terms process claims began bound) es x kept.entries fits;
+    apart = apart_to (es ++ x ∷ []) (push_apart x es (apart_from es kept.apart) none);
+    few = omega (arith, less, length-append es (x ∷ []));
+    floor_allowed = kept.floor_allowed;
+  })
+
+  pub kept_set : (raised k : ℕ) (d x : NameEntry) → IsAt k d es → IsEntry terms process claims began bound x → IsFitting d x es
+      → raised ≤ bound → AreKept terms process claims began bound raised (set es k x)
+  kept_set raised k d x at fits fitting allowed = record {
+    entries = All-set (IsEntry terms process claims began bound) es k x fits kept.entries;
+    apart = apart_to (set es k x) (set_apart k d x es at (apart_from es kept.apart) fitting);
+    few = omega (arith, kept.few, length-set es k x);
+    floor_allowed = allowed;
+  }
+
+  module _ {name : List ℕ} {place : ℕ} {e x : NameEntry} (r : IsRead name es place e x) (named : x.name ≡ e.name) where
+    pub kept_like : IsLike e.voter x.voter → IsOwnClaim x → AreKept terms process claims began bound floor (set es place x)
+    kept_like like own =
+        let fits = entry_at place e r.at in
+        kept_set floor place e x r.at (record {
+          keeps = like.keeps ∙ fits.keeps;
+          since = like.began ∙ fits.since;
+          allowed = like.bound ∙ fits.allowed;
+          last = omega (arith, fits.allowed, like.last (omega (arith, fits.allowed, fits.last)));
+          claim = own;
+        }) (inl named) kept.floor_allowed
+
+    changed_own : IsChanged e x → IsOwnClaim x
+    changed_own (c, d, was, is, same) y found = rw (the_claim d y (sym is ∙ found)) at
+        (same_own terms process claims c.candidate d.candidate ((entry_at place e r.at).claim c was) same.terms)
+
+    same_own_claim : x ≡ e → IsOwnClaim x
+    same_own_claim same = rw same (entry_at place e r.at).claim
+
+    -- by an answer that says whether anything changed
+    pub kept_by : x.voter ≡ e.voter → (b : Bool) → (b ≡ true → IsChanged e x) → (b ≡ false → x ≡ e)
+        → AreKept terms process claims began bound floor (set es place x)
+    kept_by voted true changed same = kept_like (like_same e.voter x.voter voted) (changed_own (changed refl))
+    kept_by voted false changed same = kept_like (like_same e.voter x.voter voted) (same_own_claim (same refl))
+
+    pub kept_asked : {A : Type 0} → x.voter ≡ e.voter → (o : Option A) (P : A → Type 0) → IfSome o P → ((y : A) → P y → IsChanged e x)
+        → (IsNone o → x ≡ e) → AreKept terms process claims began bound floor (set es place x)
+    kept_asked voted (Some y) P h changed same = kept_like (like_same e.voter x.voter voted) (changed_own (changed y h))
+    kept_asked voted None P h changed same = kept_like (like_same e.voter x.voter voted) (same_own_claim (same refl))
+
+  module _ (higher : ℕ) (less : bound ≤ higher) where
+    pub allowed_before : All (λ e. e.voter.bound ≤ higher) es
+    allowed_before = All-weaker (IsEntry terms process claims began bound) (λ e. e.voter.bound ≤ higher)
+        (λ e fits. omega (arith, fits.allowed, less)) es kept.entries
+
+    pub kept_raised : (after : List NameEntry) → after ≡ map (raised higher) es → AreKept terms process claims began higher floor after
+    kept_raised after is = rw is (record {
+      entries = All-map (IsEntry terms process claims began higher) (raised higher) es
+          (All-weaker (IsEntry terms process claims began bound) (λ e. IsEntry terms process claims began higher (raised higher e))
+          (λ e fits. record {
+            keeps = fits.keeps;
+            since = fits.since;
+            allowed = refl;
+            last = omega (arith, fits.last, less);
+            claim = fits.claim;
+          }) es kept.entries);
+      apart = apart_to (map (raised higher) es) (map_apart (raised higher) (λ e. refl) es (apart_from es kept.apart));
+      few = omega (arith, kept.few, length-map es (raised higher));
+      floor_allowed = omega (arith, kept.floor_allowed, less);
+    })

@@ -1,28 +1,16 @@
-use Rattle.std.proofs.Common.{List, length, refl, sym, ap, ◌∙◌, arith}
-use Rattle.std.specs.Prelude.{is_some, Option}
-use Rattle.lease_machine.specs.declared.name_entry.Claim.{Claim}
-use Rattle.lease_machine.specs.declared.name_entry.NameEntry.{NameEntry}
-use Rattle.lease_machine.specs.Names.{place_from}
-use Rattle.lease_machine.specs.Machine.{claim_in}
-use Rattle.lease_machine.proofs.Names.{unplaced}
-use Rattle.lease_machine.proofs.Keeping.{is_read, name_found}
+use Rattle.std.proofs.Common.{refl, arith}
+use Rattle.lease_machine.proofs.Keeping.{name_read, name_within, not_kept}
 use Rattle.lease_machine.proofs.state.LeaseMachine.is_claimed.Goals as goal
 
 pub index-requires : goal.index-requires
-index-requires c =
-    let p = name_found c.args.name.now c.in-Some.place _ c.args.self.now.names.items _ c.deref.ensures.value c.place_of.ensures c.in-Some.is
-    in
-    omega (arith, p.within, c.deref.ensures.len, ap (λ (es : List NameEntry). length es) c.deref.ensures.value)
+index-requires c = omega (arith, name_within c.args.name.now _ c.place_of.ensures c.in-Some.is, c.deref.ensures.len)
 
 pub returns-in-Some : goal.returns-in-Some
 returns-in-Some c =
     let m = c.args.self.now in
     let e = c.index.result.now in
-    let p = name_found c.args.name.now c.in-Some.place _ m.names.items _ c.deref.ensures.value c.place_of.ensures c.in-Some.is in
-    let r = is_read c.args.name.now m.names.items c.in-Some.place e e p m.kept.apart c.index.ensures refl in
-    c.is_some.ensures ∙ ap (λ (o : Option Claim). is_some o) (sym (ap claim_in r.old))
+    let r = name_read c.args.name.now c.deref.ensures.value c.place_of.ensures c.in-Some.is m.kept.apart e e c.index.ensures refl in
+    rw r.old c.is_some.ensures
 
 pub returns-in-None : goal.returns-in-None
-returns-in-None c = ap (λ (o : Option NameEntry). is_some (claim_in o))
-    (sym (unplaced 0 c.args.name.now c.args.self.now.names.items (ap (place_from 0 c.args.name.now) (sym c.deref.ensures.value)
-    ∙ sym c.place_of.ensures ∙ c.in-None.is)))
+returns-in-None c = rw (not_kept c.args.name.now c.deref.ensures.value c.place_of.ensures c.in-None.is)

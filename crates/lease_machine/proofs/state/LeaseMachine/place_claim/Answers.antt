@@ -1,93 +1,63 @@
-use Rattle.std.proofs.Common.{List, length, refl, sym, ap, subst, ◌∙◌, inl, arith}
+use Rattle.std.proofs.Common.{rules, refl, ap, inl, arith}
 use Rattle.std.specs.Prelude.{Some}
-use Rattle.lease_machine.specs.declared.name_entry.Claim.{Claim}
-use Rattle.lease_machine.specs.declared.name_entry.NameEntry.{NameEntry}
-use Rattle.lease_machine.specs.Kept.{IsOwn}
-use Rattle.lease_machine.specs.Names.{entry_of, place_from}
-use Rattle.lease_machine.specs.Machine.{claim_in, unknown, voter_in}
-use Rattle.lease_machine.proofs.Names.{unplaced}
-use Rattle.lease_machine.proofs.Keeping.{added_voter, all_stay, is_read, kept_asked, kept_needs_none, name_found, same_left, the_claim}
+use Rattle.lease_machine.specs.Names.{entry_of}
+use Rattle.lease_machine.specs.Machine.{claim_in, unknown}
+use Rattle.lease_machine.proofs.Keeping.{added_voter, all_stay, kept_like, kept_needs_none, like_same, name_read, name_within, not_kept}
+use Rattle.lease_machine.proofs.Keeping.{same_left, the_claim}
 use Rattle.lease_machine.proofs.state.LeaseMachine.place_claim.Goals as goal
 
 pub index_mut-requires : goal.index_mut-requires
-index_mut-requires c =
-    let p = name_found c.args.name.now c.in-Some.place _ c.args.self.now.names.items _ c.deref.ensures.value c.place_of.ensures c.in-Some.is
-    in
-    omega (arith, p.within, c.deref.ensures.len, ap (λ (es : List NameEntry). length es) c.deref.ensures.value)
+index_mut-requires c = omega (arith, name_within c.args.name.now _ c.place_of.ensures c.in-Some.is, c.deref.ensures.len)
 
 pub invariant_of-self : goal.invariant_of-self
 invariant_of-self c =
     let m = c.args.self.now in
     let e = c.index_mut.result.now in
-    let p = name_found c.args.name.now c.in-Some.place _ m.names.items _ c.deref.ensures.value c.place_of.ensures c.in-Some.is in
-    let r = is_read c.args.name.now m.names.items c.in-Some.place e (record e { claim = Some c.args.claim }) p m.kept.apart
-    c.index_mut.ensures.value refl in
+    let r = name_read c.args.name.now c.deref.ensures.value c.place_of.ensures c.in-Some.is m.kept.apart e (record e {
+      claim =
+          Some c.args.claim;
+    }) c.index_mut.ensures.value refl in
     record {
-      kept = kept_asked m.terms m.process m.claims m.began m.bound m.floor m.names.items c.in-Some.place e (record e {
-        claim =
-            Some c.args.claim;
-      }) m.kept r.at refl refl (λ y h. subst (λ (k : Claim). IsOwn m.terms m.process m.claims k.candidate)
-          (the_claim c.args.claim y h) c.requires);
+      kept = kept_like m.kept r refl (like_same e.voter e.voter refl) (λ y h. rw (the_claim c.args.claim y h) at c.requires);
       room = m.room;
     }
 
-pub returns-in-Some-clause-voter : goal.returns-in-Some-clause-voter
-returns-in-Some-clause-voter c =
+pub returns-in-Some : goal.returns-in-Some
+returns-in-Some c =
     let m = c.args.self.now in
     let e = c.index_mut.result.now in
-    let p = name_found c.args.name.now c.in-Some.place _ m.names.items _ c.deref.ensures.value c.place_of.ensures c.in-Some.is in
-    let r = is_read c.args.name.now m.names.items c.in-Some.place e (record e { claim = Some c.args.claim }) p m.kept.apart
-    c.index_mut.ensures.value refl in
-    ap (voter_in (unknown m)) r.new ∙ sym (ap (voter_in (unknown m)) r.old)
-
-pub returns-in-Some-clause-others : goal.returns-in-Some-clause-others
-returns-in-Some-clause-others c = λ other differ.
-    let m = c.args.self.now in
-    let e = c.index_mut.result.now in
-    let p = name_found c.args.name.now c.in-Some.place _ m.names.items _ c.deref.ensures.value c.place_of.ensures c.in-Some.is in
-    let r = is_read c.args.name.now m.names.items c.in-Some.place e (record e { claim = Some c.args.claim }) p m.kept.apart
-    c.index_mut.ensures.value refl in
-    same_left c.args.now (unknown m) (unknown m) (entry_of other m.names.items) _ (inl refl) (r.others other differ)
-
-pub returns-in-Some-clause-placed : goal.returns-in-Some-clause-placed
-returns-in-Some-clause-placed c = λ _.
-    let m = c.args.self.now in
-    let e = c.index_mut.result.now in
-    let p = name_found c.args.name.now c.in-Some.place _ m.names.items _ c.deref.ensures.value c.place_of.ensures c.in-Some.is in
-    let r = is_read c.args.name.now m.names.items c.in-Some.place e (record e { claim = Some c.args.claim }) p m.kept.apart
-    c.index_mut.ensures.value refl in
-    ap claim_in r.new
+    let r = name_read c.args.name.now c.deref.ensures.value c.place_of.ensures c.in-Some.is m.kept.apart e (record e {
+      claim =
+          Some c.args.claim;
+    }) c.index_mut.ensures.value refl in
+    record {
+      placed = λ _. ap claim_in r.new;
+      full = λ no. absurd cc;
+      room = λ _ none. kept_needs_none (entry_of c.args.name.now m.names.items) r.old none.0;
+      terms = search rules;
+      voter = rw (r.old, r.new);
+      others = λ other differ. same_left c.args.now (unknown m) (unknown m) (entry_of other m.names.items) _ (inl refl)
+          (r.others other differ);
+    }
 
 pub add-requires-clause-new : goal.add-requires-clause-new
-add-requires-clause-new c = unplaced 0 c.args.name.now c.args.self.now.names.items
-    (ap (place_from 0 c.args.name.now) (sym c.deref.ensures.value) ∙ sym c.place_of.ensures ∙ c.in_default.is)
+add-requires-clause-new c = not_kept c.args.name.now c.deref.ensures.value c.place_of.ensures c.in_default.is
 
 pub returns-clause-voter : goal.returns-clause-voter
 returns-clause-voter c =
     added_voter c.add.result c.args.self.now c.add.new.self c.args.name.now (record {
       name = c.args.name.now;
-      voter =
-          c.unknown.result;
+      voter = c.unknown.result;
       claim = Some c.args.claim;
     }) c.add.ensures.added (λ no. (c.add.ensures.full no).0)
-    (unplaced 0 c.args.name.now c.args.self.now.names.items (ap (place_from 0 c.args.name.now) (sym c.deref.ensures.value)
-    ∙ sym c.place_of.ensures ∙ c.in_default.is)) c.unknown.ensures
+    (not_kept c.args.name.now c.deref.ensures.value c.place_of.ensures c.in_default.is) c.unknown.ensures
 
 pub returns-clause-full : goal.returns-clause-full
 returns-clause-full c = λ no.
-    let full = c.add.ensures.full no in
-    let unkept = unplaced 0 c.args.name.now c.args.self.now.names.items (ap (place_from 0 c.args.name.now) (sym c.deref.ensures.value)
-    ∙ sym c.place_of.ensures ∙ c.in_default.is) in
-    (all_stay c.args.self.now c.add.new.self full.0, (unkept, full.1))
+    let full = c.add.ensures.full no in (
+      all_stay c.args.self.now c.add.new.self full.0,
+      (not_kept c.args.name.now c.deref.ensures.value c.place_of.ensures c.in_default.is, full.1),
+    )
 
 pub returns-clause-room : goal.returns-clause-room
 returns-clause-room c = λ yes none. c.add.ensures.room yes none.1
-
-pub returns-in-Some-clause-room : goal.returns-in-Some-clause-room
-returns-in-Some-clause-room c = λ _ none.
-    let m = c.args.self.now in
-    let e = c.index_mut.result.now in
-    let p = name_found c.args.name.now c.in-Some.place _ m.names.items _ c.deref.ensures.value c.place_of.ensures c.in-Some.is in
-    let r = is_read c.args.name.now m.names.items c.in-Some.place e (record e { claim = Some c.args.claim }) p m.kept.apart
-    c.index_mut.ensures.value refl in
-    kept_needs_none (entry_of c.args.name.now m.names.items) r.old none.0

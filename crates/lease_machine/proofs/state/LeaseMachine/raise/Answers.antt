@@ -6,15 +6,13 @@ use Rattle.lease_machine.proofs.Keeping.{kept_raised, allowed_before, raised_ent
 use Rattle.lease_machine.proofs.state.LeaseMachine.raise.Goals as goal
 
 pub raise_all-requires : goal.raise_all-requires
-raise_all-requires c = allowed_before c.args.self.now.terms c.args.self.now.process c.args.self.now.claims c.args.self.now.began
-    c.args.self.now.bound c.args.self.now.floor c.args.bound c.args.self.now.names.items c.args.self.now.kept c.requires
+raise_all-requires c = allowed_before c.args.self.now.kept c.args.bound c.requires
 
 pub invariant_of-self : goal.invariant_of-self
 invariant_of-self c =
     let m = c.args.self.now in
     record {
-      kept = kept_raised m.terms m.process m.claims m.began m.bound m.floor c.args.bound m.names.items _ m.kept c.requires
-          c.raise_all.ensures.items;
+      kept = kept_raised m.kept c.args.bound c.requires _ c.raise_all.ensures.items;
       room = omega (arith, c.raise_all.ensures.capacity, m.room);
     }
 
