@@ -1,8 +1,9 @@
 -- A run in which two clients rely on leases, one after the other.
-use Rattle.std.proofs.Common.{◌≡◌, ℕ, zero, suc, ◌<◌, ◌≤◌, Bool, true, false, List, [], ◌∷◌, refl, sym, ap, subst, inl, inr, arith}
+use Rattle.std.proofs.Common.{◌≡◌, ℕ, zero, suc, ◌<◌, ◌≤◌, Bool, true, false, List, [], ◌∷◌, refl, inl, inr, arith}
+use Rattle.std.specs.List.{AllByRecursion}
 use Rattle.lease_runs.specs.Lists.{IsAmong}
-use Rattle.lease_runs.specs.Voter.{Client, Ask, VoterEvent, grants, passes, releases, raises, restarts, Moment, opening, Follows}
-use Rattle.lease_runs.specs.Run.{Run, ClientEvent, asks, hears, stops, Act, Releases, Does, Relies, IsRun, IsTimed}
+use Rattle.lease_runs.specs.Voter.{Client, Ask, VoterEvent, grants, releases, raises, Moment, opening, Follows}
+use Rattle.lease_runs.specs.Run.{Run, ClientEvent, asks, hears, stops, Act, Does, Relies, IsRun, IsTimed}
 use Rattle.lease_runs.specs.Laws.{LeasesHappen}
 
 abbrev ann : Client
@@ -18,11 +19,12 @@ abbrev second : Ask
 second = record { client = bob; number = 0; epoch = 2; sent = 219 }
 
 abbrev moments : List Moment
-moments = record { at = 0; what = raises 8 } ∷ record { at = 200; what = grants first } ∷ record {
-  at = 211;
-  what =
-      releases ann 1;
-} ∷ record { at = 220; what = grants second } ∷ []
+moments =
+    record { at = 0; what = raises 8 }
+    ∷ record { at = 200; what = grants first }
+    ∷ record { at = 211; what = releases ann 1 }
+    ∷ record { at = 220; what = grants second }
+    ∷ []
 
 abbrev actions : List Act
 actions =
@@ -58,120 +60,52 @@ follows = (
   ),
 )
 
--- what was granted, and what was heard
-abbrev asked_of : VoterEvent → Ask → Ask
-asked_of (grants ask) d = ask
-asked_of passes d = d
-asked_of (releases client epoch) d = d
-asked_of (raises bound) d = d
-asked_of (restarts boot floor) d = d
+-- a request that is granted was sent before, and who releases had stopped
+abbrev IsFounded : ℕ → VoterEvent → Type 0
+IsFounded at (grants ask) = (ask.sent ≤ at) × Does run ask.sent ask.client (asks ask)
+IsFounded at (releases client epoch) = (time : ℕ) × (time ≤ at) × Does run time client (stops epoch)
+IsFounded at _ = Unit {0}
 
-abbrev IsGrant : VoterEvent → Type 0
-IsGrant (grants ask) = Unit {0}
-IsGrant passes = ⊥
-IsGrant (releases client epoch) = ⊥
-IsGrant (raises bound) = ⊥
-IsGrant (restarts boot floor) = ⊥
+founded : AllByRecursion (λ (m : Moment). IsFounded m.at m.what) moments
+founded = (tt, ((omega arith, inl refl), ((210, omega arith, inr (inr (inl refl))), ((omega arith, inr (inl refl)), tt))))
 
-abbrev IsRelease : VoterEvent → Type 0
-IsRelease (grants ask) = ⊥
-IsRelease passes = ⊥
-IsRelease (releases client epoch) = Unit {0}
-IsRelease (raises bound) = ⊥
-IsRelease (restarts boot floor) = ⊥
+-- what is heard was granted before, and Ann alone stops
+abbrev IsBehind : Act → ClientEvent → Type 0
+IsBehind act (asks ask) = Unit {0}
+IsBehind act (hears voter ask) = (at : ℕ) × (at ≤ act.at) × IsAmong (record { at = at; what = grants ask }) moments
+IsBehind act (stops epoch) = (act.at ≡ 210) × (act.client.machine ≡ 0)
 
-abbrev stop_of : VoterEvent → Act
-stop_of (grants ask) = record { at = 210; client = ann; what = stops 1 }
-stop_of passes = record { at = 210; client = ann; what = stops 1 }
-stop_of (releases client epoch) = record { at = 210; client = client; what = stops epoch }
-stop_of (raises bound) = record { at = 210; client = ann; what = stops 1 }
-stop_of (restarts boot floor) = record { at = 210; client = ann; what = stops 1 }
+behind : AllByRecursion (λ (a : Act). IsBehind a a.what) actions
+behind =
+    let one : IsBehind (record { at = 201; client = ann; what = hears 0 first }) (hears 0 first) = (200, omega arith, inr (inl refl)) in
+    let two : IsBehind (record { at = 221; client = bob; what = hears 1 second }) (hears 1 second) =
+    (220, omega arith, inr (inr (inr (inl refl)))) in
+    (tt, (tt, ((refl, refl), (one, (one, (two, (two, tt)))))))
 
-abbrev heard_of : ClientEvent → Ask → Ask
-heard_of (asks ask) d = d
-heard_of (hears voter ask) d = ask
-heard_of (stops epoch) d = d
+of_each : {A : Type 0} (P : A → Type 0) (x : A) (xs : List A) → AllByRecursion P xs → IsAmong x xs → P x
+of_each P x [] all i = absurd i
+of_each P x (y ∷ xs) all (inl e) = rw e all.0
+of_each P x (y ∷ xs) all (inr i) = of_each P x xs all.1 i
 
-abbrev IsHearing : ClientEvent → Type 0
-IsHearing (asks ask) = ⊥
-IsHearing (hears voter ask) = Unit {0}
-IsHearing (stops epoch) = ⊥
+of_moment : (at : ℕ) (what : VoterEvent) → IsAmong (record { at = at; what = what }) moments → IsFounded at what
+of_moment at what = of_each (λ (m : Moment). IsFounded m.at m.what) (record { at = at; what = what }) moments founded
 
-abbrev IsStop : ClientEvent → Type 0
-IsStop (asks ask) = ⊥
-IsStop (hears voter ask) = ⊥
-IsStop (stops epoch) = Unit {0}
-
-abbrev granted : ℕ → Ask → Moment
-granted at ask = record { at = at; what = grants ask }
-
-asked_first : (at : ℕ) (ask : Ask) → granted at ask ≡ granted 200 first → (ask.sent ≤ at) × Does run ask.sent ask.client (asks ask)
-asked_first at ask e =
-    let t : at ≡ 200 = ap (λ (m : Moment). m.at) e in
-    let same : ask ≡ first = ap (λ (m : Moment). asked_of m.what ask) e in
-    subst (λ (x : Ask). (x.sent ≤ at) × Does run x.sent x.client (asks x)) (sym same) (omega (arith, t), inl refl)
-
-asked_second : (at : ℕ) (ask : Ask) → granted at ask ≡ granted 220 second → (ask.sent ≤ at) × Does run ask.sent ask.client (asks ask)
-asked_second at ask e =
-    let t : at ≡ 220 = ap (λ (m : Moment). m.at) e in
-    let same : ask ≡ second = ap (λ (m : Moment). asked_of m.what ask) e in
-    subst (λ (x : Ask). (x.sent ≤ at) × Does run x.sent x.client (asks x)) (sym same) (omega (arith, t), inr (inl refl))
-
-was_asked : (at : ℕ) (ask : Ask) → IsAmong (granted at ask) moments → (ask.sent ≤ at) × Does run ask.sent ask.client (asks ask)
-was_asked at ask (inl e) = absurd (subst (λ (m : Moment). IsGrant m.what) e tt)
-was_asked at ask (inr (inl e)) = asked_first at ask e
-was_asked at ask (inr (inr (inl e))) = absurd (subst (λ (m : Moment). IsGrant m.what) e tt)
-was_asked at ask (inr (inr (inr (inl e)))) = asked_second at ask e
-was_asked at ask (inr (inr (inr (inr i)))) = absurd i
-
-abbrev Answered : ℕ → Ask → Type 0
-Answered time ask = (at : ℕ) × (at ≤ time) × IsAmong (granted at ask) moments
-
-heard_first : (time voter n : ℕ) (client : Client) (ask : Ask)
-    → (let act : Act = record { at = time; client = client; what = hears voter ask } in
-    act ≡ record { at = 201; client = ann; what = hears n first }) → Answered time ask
-heard_first time voter n client ask e =
-    let t : time ≡ 201 = ap (λ (x : Act). x.at) e in
-    (200, omega (arith, t), inr (inl (ap (λ (x : Act). granted 200 (heard_of x.what ask)) e)))
-
-heard_second : (time voter n : ℕ) (client : Client) (ask : Ask)
-    → (let act : Act = record { at = time; client = client; what = hears voter ask } in
-    act ≡ record { at = 221; client = bob; what = hears n second }) → Answered time ask
-heard_second time voter n client ask e =
-    let t : time ≡ 221 = ap (λ (x : Act). x.at) e in
-    (220, omega (arith, t), inr (inr (inr (inl (ap (λ (x : Act). granted 220 (heard_of x.what ask)) e)))))
-
-was_answered : (time voter : ℕ) (client : Client) (ask : Ask) → Does run time client (hears voter ask) → Answered time ask
-was_answered time voter client ask (inl e) = absurd (subst (λ (x : Act). IsHearing x.what) e tt)
-was_answered time voter client ask (inr (inl e)) = absurd (subst (λ (x : Act). IsHearing x.what) e tt)
-was_answered time voter client ask (inr (inr (inl e))) = absurd (subst (λ (x : Act). IsHearing x.what) e tt)
-was_answered time voter client ask (inr (inr (inr (inl e)))) = heard_first time voter 0 client ask e
-was_answered time voter client ask (inr (inr (inr (inr (inl e))))) = heard_first time voter 1 client ask e
-was_answered time voter client ask (inr (inr (inr (inr (inr (inl e)))))) = heard_second time voter 1 client ask e
-was_answered time voter client ask (inr (inr (inr (inr (inr (inr (inl e))))))) = heard_second time voter 2 client ask e
-was_answered time voter client ask (inr (inr (inr (inr (inr (inr (inr i))))))) = absurd i
-
-was_stopped : (time : ℕ) (client : Client) (epoch : ℕ) → Releases run 0 time client epoch
-    → (at : ℕ) × (at ≤ time) × Does run at client (stops epoch)
-was_stopped time client epoch (inl e) = absurd (subst (λ (m : Moment). IsRelease m.what) e tt)
-was_stopped time client epoch (inr (inl e)) = absurd (subst (λ (m : Moment). IsRelease m.what) e tt)
-was_stopped time client epoch (inr (inr (inl e))) =
-    let t : time ≡ 211 = ap (λ (m : Moment). m.at) e in (210, omega (arith, t), inr (inr (inl (ap (λ (m : Moment). stop_of m.what) e))))
-was_stopped time client epoch (inr (inr (inr (inl e)))) = absurd (subst (λ (m : Moment). IsRelease m.what) e tt)
-was_stopped time client epoch (inr (inr (inr (inr i)))) = absurd i
+of_act : (at : ℕ) (client : Client) (what : ClientEvent) → Does run at client what
+    → IsBehind (record { at = at; client = client; what = what }) what
+of_act at client what = of_each (λ (a : Act). IsBehind a a.what) (record { at = at; client = client; what = what }) actions behind
 
 is_run : IsRun run
 is_run = record {
   voters = λ voter below. follows;
-  asked = λ voter below at ask i. was_asked at ask i;
-  answered = λ voter below time client ask i. was_answered time voter client ask i;
+  asked = λ voter below at ask. of_moment at (grants ask);
+  answered = λ voter below time client ask. of_act time client (hears voter ask);
 }
 
 is_timed : IsTimed run
 is_timed = record {
   clocks = λ machine boot s t le. (omega (arith, le), omega (arith, le));
   margin = omega arith;
-  released = λ voter below time client epoch i. was_stopped time client epoch i;
+  released = λ voter below time client epoch. of_moment time (releases client epoch);
 }
 
 abbrev low : ℕ → Bool
@@ -194,28 +128,18 @@ high_heard (suc zero) below q = (221, omega arith, inr (inr (inr (inr (inr (inl 
 high_heard (suc (suc zero)) below q = (221, omega arith, inr (inr (inr (inr (inr (inr (inl refl)))))))
 high_heard (suc (suc (suc n))) below q = absurd (omega (arith, below))
 
-stops_later : (client : Client) (at epoch : ℕ) → Does run at client (stops epoch) → (at ≡ 210) × (client.machine ≡ 0)
-stops_later client at epoch (inl e) = absurd (subst (λ (x : Act). IsStop x.what) e tt)
-stops_later client at epoch (inr (inl e)) = absurd (subst (λ (x : Act). IsStop x.what) e tt)
-stops_later client at epoch (inr (inr (inl e))) = (ap (λ (x : Act). x.at) e, ap (λ (x : Act). x.client.machine) e)
-stops_later client at epoch (inr (inr (inr (inl e)))) = absurd (subst (λ (x : Act). IsStop x.what) e tt)
-stops_later client at epoch (inr (inr (inr (inr (inl e))))) = absurd (subst (λ (x : Act). IsStop x.what) e tt)
-stops_later client at epoch (inr (inr (inr (inr (inr (inl e)))))) = absurd (subst (λ (x : Act). IsStop x.what) e tt)
-stops_later client at epoch (inr (inr (inr (inr (inr (inr (inl e))))))) = absurd (subst (λ (x : Act). IsStop x.what) e tt)
-stops_later client at epoch (inr (inr (inr (inr (inr (inr (inr i))))))) = absurd i
-
 relies_first : Relies run 201 first
 relies_first = record {
   granted = record { quorum = low; most = omega arith; heard = low_heard };
   lasts = omega arith;
-  goes_on = λ at epoch i le. omega (arith, (stops_later ann at epoch i).0);
+  goes_on = λ at epoch i le. omega (arith, (of_act at ann (stops epoch) i).0);
 }
 
 relies_second : Relies run 221 second
 relies_second = record {
   granted = record { quorum = high; most = omega arith; heard = high_heard };
   lasts = omega arith;
-  goes_on = λ at epoch i le. absurd (omega (arith, (stops_later bob at epoch i).1));
+  goes_on = λ at epoch i le. absurd (omega (arith, (of_act at bob (stops epoch) i).1));
 }
 
 pub leases_happen : LeasesHappen

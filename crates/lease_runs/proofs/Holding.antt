@@ -1,8 +1,8 @@
 -- A client that keeps to the rules relies on what it holds.
 use Rattle.std.proofs.Common.{◌≡◌, ◌⊎◌, ℕ, ◌+◌, ◌<◌, ◌≤◌, Bool, true, false, List, [], ◌∷◌, ◌++◌, Option, Some, None, refl, sym, ◌∙◌, ap}
 use Rattle.std.proofs.Common.{subst, inl, inr, arith}
-use Rattle.std.proofs.lemmas.Bool.{ltb-true, leb-false, eqb-true}
-use Rattle.std.specs.Prelude.{◌*◌, ◌==◌, ◌&&◌, leb, if◌then◌else◌}
+use Rattle.std.proofs.lemmas.Bool.{and_parts, cond_both, ltb-true, leb-false, eqb-true}
+use Rattle.std.specs.Prelude.{◌*◌, ◌==◌, leb}
 use Rattle.lease_runs.specs.Lists.{IsAmong, count}
 use Rattle.lease_runs.specs.Voter.{Client, Ask}
 use Rattle.lease_runs.specs.Run.{Run, ClientEvent, asks, hears, stops, Does, WasGranted, IsRun}
@@ -59,23 +59,22 @@ same_some x y e = cc
 
 -- ---- requests have numbers of their own
 
-number_voted : (nodes relies_for : ℕ) (clock : ℕ → ℕ) (at voter number : ℕ) (c : Candidate) (req : Option Ask)
-    → (voted nodes relies_for clock at voter number c req).number ≡ c.number
-number_voted nodes relies_for clock at voter number c None = refl
-number_voted nodes relies_for clock at voter number c (Some o) = by_same (o.number == number) where
-  by_same : (b : Bool) → (if b then record c {
-    votes = with_vote voter c.votes;
-    lease =
-        taken nodes relies_for clock at (with_vote voter c.votes) o c.lease;
-  } else c).number ≡ c.number
-  by_same true = refl
-  by_same false = refl
+-- one vote more, or as it was
+by_voted : (P : Candidate → Type 0) (nodes relies_for : ℕ) (clock : ℕ → ℕ) (at voter number : ℕ) (c : Candidate) (o : Option Ask)
+    → ((req : Ask) → o ≡ Some req → req.number ≡ number
+    → P (record c { votes = with_vote voter c.votes; lease = taken nodes relies_for clock at (with_vote voter c.votes) req c.lease }))
+    → P c → P (voted nodes relies_for clock at voter number c o)
+by_voted P nodes relies_for clock at voter number c None one same = same
+by_voted P nodes relies_for clock at voter number c (Some req) one same = cond_both (req.number == number)
+    (record c { votes = with_vote voter c.votes; lease = taken nodes relies_for clock at (with_vote voter c.votes) req c.lease }) c P
+    (λ is. one req refl (eqb-true req.number number is)) (λ other. same)
 
 number_rises : (nodes relies_for : ℕ) (clock : ℕ → ℕ) (self : Client) (c : Candidate) (at : ℕ) (what : ClientEvent)
     → MayAct nodes self c at what → c.number ≤ (after_act nodes relies_for clock c at what).number
 number_rises nodes relies_for clock self c at (asks ask) may = omega (arith, may.2)
 number_rises nodes relies_for clock self c at (hears voter ask) may =
-    omega (arith, number_voted nodes relies_for clock at voter ask.number c c.asked)
+    by_voted (λ (d : Candidate). c.number ≤ d.number) nodes relies_for clock at voter ask.number c c.asked (λ req is same. omega arith)
+    (omega arith)
 number_rises nodes relies_for clock self c at (stops epoch) may = omega arith
 
 asked_above : (nodes relies_for : ℕ) (clock : ℕ → ℕ) (self : Client) (time : ℕ) (c : Candidate) (ms : List ClientMoment)
@@ -83,7 +82,7 @@ asked_above : (nodes relies_for : ℕ) (clock : ℕ → ℕ) (self : Client) (ti
     → (at : ℕ) (ask : Ask) → IsAmong (moment at (asks ask)) ms → c.number < ask.number
 asked_above nodes relies_for clock self time c [] follows at ask i = absurd i
 asked_above nodes relies_for clock self time c (m ∷ ms) follows at ask (inl e) =
-    (subst (λ (n : ClientMoment). MayAct nodes self c n.at n.what) (sym e) follows.1).2
+    (rw (← e) at follows.1).2
 asked_above nodes relies_for clock self time c (m ∷ ms) follows at ask (inr i) =
     let rises = number_rises nodes relies_for clock self c m.at m.what follows.1 in
     let later = asked_above nodes relies_for clock self m.at (after_act nodes relies_for clock c m.at m.what) ms follows.2 at ask i in
@@ -94,8 +93,7 @@ asked_behind : (nodes relies_for : ℕ) (clock : ℕ → ℕ) (self : Client) (c
     → (at : ℕ) (a : Ask) → moment at (asks a) ≡ m → (time : ℕ) (b : Ask) → IsAmong (moment time (asks b)) ms → a.number < b.number
 asked_behind nodes relies_for clock self c m ms follows at a e time b i =
     asked_above nodes relies_for clock self at (after_act nodes relies_for clock c at (asks a)) ms
-    (subst (λ (n : ClientMoment). FollowsFrom nodes relies_for clock self n.at (after_act nodes relies_for clock c n.at n.what) ms) (sym e)
-    follows) time b i
+    (rw (← e) at follows) time b i
 
 one_number : (nodes relies_for : ℕ) (clock : ℕ → ℕ) (self : Client) (time : ℕ) (c : Candidate) (ms : List ClientMoment)
     → FollowsFrom nodes relies_for clock self time c ms
@@ -114,16 +112,11 @@ one_number nodes relies_for clock self time c (m ∷ ms) follows s t a b (inr i)
 
 -- ---- one moment
 
-and_left : (a b : Bool) → (a && b) ≡ true → a ≡ true
-and_left true b is = refl
-and_left false b is = is
-
-open_above : (epoch given_up : ℕ) (o : Option Ask) (x : Ask) → above epoch o ≡ Some x → (o ≡ Some x) × (epoch < x.epoch)
-open_above epoch given_up None x is = absurd cc
-open_above epoch given_up (Some ask) x is = by_less (leb ask.epoch epoch) refl is where
-  by_less : (b : Bool) → leb ask.epoch epoch ≡ b → (if b then None else Some ask) ≡ Some x → (Some ask ≡ Some x) × (epoch < x.epoch)
-  by_less true less bad = absurd cc
-  by_less false less same = (same, subst (λ (y : Ask). epoch < y.epoch) (same_some ask x same) (leb-false ask.epoch epoch less))
+open_above : (epoch : ℕ) (o : Option Ask) (x : Ask) → above epoch o ≡ Some x → (o ≡ Some x) × (epoch < x.epoch)
+open_above epoch None x is = absurd cc
+open_above epoch (Some ask) x is = cond_both (leb ask.epoch epoch) None (Some ask)
+    (λ (o : Option Ask). o ≡ Some x → (Some ask ≡ Some x) × (epoch < x.epoch)) (λ gone bad. absurd cc)
+    (λ more same. (same, rw (same_some ask x same) at (leb-false ask.epoch epoch more))) is
 
 -- every request that a voter is heard to have granted was made
 abbrev AllAsked : ℕ → Client → List ClientMoment → Type 0
@@ -133,118 +126,80 @@ AllAsked nodes client all = (at voter : ℕ) (ask : Ask) → IsAmong (moment at 
 abbrev AreNumbered : List ClientMoment → Type 0
 AreNumbered all = (s t : ℕ) (a b : Ask) → IsAmong (moment s (asks a)) all → IsAmong (moment t (asks b)) all → a.number ≡ b.number → a ≡ b
 
-kept_voted : (nodes relies_for : ℕ) (clock : ℕ → ℕ) (client : Client) (all : List ClientMoment) (now : ℕ) (c : Candidate) (at voter : ℕ)
-    (ask req : Ask) → AllAsked nodes client all → AreNumbered all
-    → now ≤ at → IsAmong (moment at (hears voter ask)) all → ask.client ≡ client → voter < nodes → c.asked ≡ Some req
-    → req.number ≡ ask.number → Kept nodes client all now c
-    → Kept nodes client all at (record c {
-      votes = with_vote voter c.votes;
-      lease =
-          taken nodes relies_for clock at (with_vote voter c.votes) req c.lease;
-    })
-kept_voted nodes relies_for clock client all now c at voter ask req asked numbered le here own below is_req same kept =
-    let opened = kept.opened req is_req in
-    let is_it : ask ≡ req = numbered ask.sent req.sent ask req (asked at voter ask here own below) opened.1 (sym same) in
-    let vote : (n : ℕ) → with_vote voter c.votes n ≡ true → Heard all at n req = λ n. by_voter n (n == voter) refl in
-    record {
-      opened = λ o is. kept.opened o is;
-      voted = λ o is n voted. subst (λ (x : Ask). Heard all at n x) (same_some req o (sym is_req ∙ is)) (vote n voted);
-      leased = λ l is. by_taken l (is_taken nodes relies_for clock at (with_vote voter c.votes) req c.lease) refl is;
-    }
-  where
-    by_voter : (n : ℕ) (b : Bool) → (n == voter) ≡ b → (if b then true else c.votes n) ≡ true → Heard all at n req
-    by_voter n true is vote = (
-      at,
-      omega arith,
-      subst (λ (x : Ask). IsAmong (moment at (hears n x)) all)
-          (numbered ask.sent req.sent ask req (asked at voter ask here own below) (kept.opened req is_req).1 (sym same))
-          (subst (λ (v : ℕ). IsAmong (moment at (hears v ask)) all) (sym (eqb-true n voter is)) here),
-    )
-    by_voter n false is vote = heard_later all now at n req le (kept.voted req is_req n vote)
+module _ (nodes relies_for : ℕ) (clock : ℕ → ℕ) (client : Client) (all : List ClientMoment) (asked : AllAsked nodes client all)
+    (numbered : AreNumbered all) where
+  kept_voted : (now : ℕ) (c : Candidate) (at voter : ℕ) (ask req : Ask) → now ≤ at → IsAmong (moment at (hears voter ask)) all
+      → ask.client ≡ client → voter < nodes → c.asked ≡ Some req → req.number ≡ ask.number → Kept nodes client all now c
+      → Kept nodes client all at
+      (record c { votes = with_vote voter c.votes; lease = taken nodes relies_for clock at (with_vote voter c.votes) req c.lease })
+  kept_voted now c at voter ask req le here own below is_req same kept = record {
+    opened = kept.opened;
+    voted = λ o is n yes. subst (λ (x : Ask). Heard all at n x) (same_some req o (sym is_req ∙ is)) (vote n yes);
+    leased = λ l. cond_both (is_taken nodes relies_for clock at (with_vote voter c.votes) req c.lease) (Some req) c.lease
+        (λ (o : Option Ask). o ≡ Some l → IsGranted nodes client all at l × (c.given_up < l.epoch))
+        (λ is one. subst (λ (x : Ask). IsGranted nodes client all at x × (c.given_up < x.epoch)) (same_some req l one) (by_this is))
+        (λ is old. (let x = kept.leased l old in (granted_later nodes client all now at l le x.0, x.1)));
+  }
+    where
+      opened : (req.client ≡ client) × IsAmong (moment req.sent (asks req)) all × (c.given_up < req.epoch)
+      opened = kept.opened req is_req
 
-    by_taken : (l : Ask) (b : Bool) → is_taken nodes relies_for clock at (with_vote voter c.votes) req c.lease ≡ b
-        → (if b then Some req else c.lease) ≡ Some l
-        → IsGranted nodes client all at l × (c.given_up < l.epoch)
-    by_taken l true is same = subst (λ (x : Ask). IsGranted nodes client all at x × (c.given_up < x.epoch)) (same_some req l same) (
-      record {
-        own = (kept.opened req is_req).0;
-        quorum = with_vote voter c.votes;
-        most = ltb-true nodes (2 * count (with_vote voter c.votes) nodes) (and_left (is_most nodes (with_vote voter c.votes)) _ is);
-        heard = λ n vote. by_voter n (n == voter) refl vote;
-      },
-      (kept.opened req is_req).2,
-    )
-    by_taken l false is same = (let x = kept.leased l same in (granted_later nodes client all now at l le x.0, x.1))
+      vote : (n : ℕ) → with_vote voter c.votes n ≡ true → Heard all at n req
+      vote n = cond_both (n == voter) true (c.votes n) (λ (b : Bool). b ≡ true → Heard all at n req)
+          (λ is yes. (
+            at,
+            omega arith,
+            subst (λ (a : Ask). IsAmong (moment at (hears n a)) all)
+                (numbered ask.sent req.sent ask req (asked at voter ask here own below) opened.1 (sym same)) (rw (eqb-true n voter is) here),
+          ))
+          (λ other yes. heard_later all now at n req le (kept.voted req is_req n yes))
 
-kept_heard : (nodes relies_for : ℕ) (clock : ℕ → ℕ) (client : Client) (all : List ClientMoment) (now : ℕ) (c : Candidate) (at voter : ℕ)
-    (ask : Ask) → AllAsked nodes client all → AreNumbered all
-    → now ≤ at → IsAmong (moment at (hears voter ask)) all → ask.client ≡ client → voter < nodes → (req : Option Ask) → c.asked ≡ req
-    → Kept nodes client all now c
-    → Kept nodes client all at (voted nodes relies_for clock at voter ask.number c req)
-kept_heard nodes relies_for clock client all now c at voter ask asked numbered le here own below None is kept =
-    kept_later nodes client all now at c le kept
-kept_heard nodes relies_for clock client all now c at voter ask asked numbered le here own below (Some req) is kept =
-    by_same (req.number == ask.number) refl where
-      by_same : (b : Bool) → (req.number == ask.number) ≡ b
-          → Kept nodes client all at (if b then record c {
-            votes = with_vote voter c.votes;
-            lease =
-                taken nodes relies_for clock at (with_vote voter c.votes) req c.lease;
-          } else c)
-      by_same true same = kept_voted nodes relies_for clock client all now c at voter ask req asked numbered le here own below is
-          (eqb-true req.number ask.number same) kept
-      by_same false same = kept_later nodes client all now at c le kept
+      by_this : is_taken nodes relies_for clock at (with_vote voter c.votes) req c.lease ≡ true
+          → IsGranted nodes client all at req × (c.given_up < req.epoch)
+      by_this is = (
+        record {
+          own = opened.0;
+          quorum = with_vote voter c.votes;
+          most = ltb-true nodes (2 * count (with_vote voter c.votes) nodes) (and_parts (is_most nodes (with_vote voter c.votes)) _ is).0;
+          heard = vote;
+        },
+        opened.2,
+      )
 
-kept_by : (nodes relies_for : ℕ) (clock : ℕ → ℕ) (client : Client) (all : List ClientMoment) (now : ℕ) (c : Candidate) (at : ℕ)
-    (what : ClientEvent) → AllAsked nodes client all → AreNumbered all
-    → now ≤ at → IsAmong (moment at what) all → MayAct nodes client c at what → Kept nodes client all now c
-    → Kept nodes client all at (after_act nodes relies_for clock c at what)
-kept_by nodes relies_for clock client all now c at (asks ask) asked numbered le here may kept = record {
-  opened = λ o is. subst (λ (x : Ask). (x.client ≡ client) × IsAmong (moment x.sent (asks x)) all × (c.given_up < x.epoch))
-      (same_some ask o is)
-      (may.0, subst (λ (t : ℕ). IsAmong (moment t (asks ask)) all) (sym may.1) here, may.3);
-  voted = λ o is voter vote. absurd (let bad : false ≡ true = vote in cc);
-  leased = λ l is. (let x = kept.leased l is in (granted_later nodes client all now at l le x.0, x.1));
-}
-kept_by nodes relies_for clock client all now c at (hears voter ask) asked numbered le here may kept =
-    kept_heard nodes relies_for clock client all now c at voter ask asked numbered le here may.0 may.1 c.asked refl kept
-kept_by nodes relies_for clock client all now c at (stops epoch) asked numbered le here may kept = record {
-  opened = λ o is. (let x = open_above epoch c.given_up c.asked o is in let y = kept.opened o x.0 in (y.0, y.1, omega (arith, x.1, y.2)));
-  voted = λ o is voter vote. (let x = open_above epoch c.given_up c.asked o is in
-      heard_later all now at voter o le (kept.voted o x.0 voter vote));
-  leased = λ l is. (let x = open_above epoch c.given_up c.lease l is in let y = kept.leased l x.0 in
-      (granted_later nodes client all now at l le y.0, omega (arith, x.1, y.1)));
-}
+  kept_by : (now : ℕ) (c : Candidate) (at : ℕ) (what : ClientEvent) → now ≤ at → IsAmong (moment at what) all
+      → MayAct nodes client c at what → Kept nodes client all now c → Kept nodes client all at (after_act nodes relies_for clock c at what)
+  kept_by now c at (asks ask) le here may kept = record {
+    opened = λ o is. subst (λ (x : Ask). (x.client ≡ client) × IsAmong (moment x.sent (asks x)) all × (c.given_up < x.epoch))
+        (same_some ask o is) (may.0, subst (λ (t : ℕ). IsAmong (moment t (asks ask)) all) (sym may.1) here, may.3);
+    voted = λ o is voter vote. absurd (let bad : false ≡ true = vote in cc);
+    leased = λ l is. (let x = kept.leased l is in (granted_later nodes client all now at l le x.0, x.1));
+  }
+  kept_by now c at (hears voter ask) le here may kept =
+      by_voted (Kept nodes client all at) nodes relies_for clock at voter ask.number c c.asked
+      (λ req is same. kept_voted now c at voter ask req le here may.0 may.1 is same kept) (kept_later nodes client all now at c le kept)
+  kept_by now c at (stops epoch) le here may kept = record {
+    opened = λ o is. (let x = open_above epoch c.asked o is in let y = kept.opened o x.0 in (y.0, y.1, omega (arith, x.1, y.2)));
+    voted = λ o is voter vote. (let x = open_above epoch c.asked o is in heard_later all now at voter o le (kept.voted o x.0 voter vote));
+    leased = λ l is. (let x = open_above epoch c.lease l is in let y = kept.leased l x.0 in
+        (granted_later nodes client all now at l le y.0, omega (arith, x.1, y.1)));
+  }
 
--- ---- all moments
-
-kept_all : (nodes relies_for : ℕ) (clock : ℕ → ℕ) (client : Client) (all : List ClientMoment) → AllAsked nodes client all → AreNumbered all
-    → (now time : ℕ) (c : Candidate) (past later : List ClientMoment) → FollowsFrom nodes relies_for clock client now c (past ++ later)
-    → ((m : ClientMoment) → IsAmong m past → IsAmong m all)
-    → now ≤ time → ((m : ClientMoment) → IsAmong m past → m.at ≤ time) → Kept nodes client all now c
-    → Kept nodes client all time (left nodes relies_for clock c past)
-kept_all nodes relies_for clock client all asked numbered now time c [] later follows within le before kept =
-    kept_later nodes client all now time c le kept
-kept_all nodes relies_for clock client all asked numbered now time c (m ∷ past) later follows within le before kept =
-    kept_all nodes relies_for clock client all asked numbered m.at time (after_act nodes relies_for clock c m.at m.what) past later
-    follows.2 (λ n i. within n (inr i)) (before m (inl refl)) (λ n i. before n (inr i))
-    (kept_by nodes relies_for clock client all now c m.at m.what asked numbered follows.0 (within m (inl refl)) follows.1 kept)
+  kept_all : (now time : ℕ) (c : Candidate) (past later : List ClientMoment)
+      → FollowsFrom nodes relies_for clock client now c (past ++ later) → ((m : ClientMoment) → IsAmong m past → IsAmong m all)
+      → now ≤ time → ((m : ClientMoment) → IsAmong m past → m.at ≤ time) → Kept nodes client all now c
+      → Kept nodes client all time (left nodes relies_for clock c past)
+  kept_all now time c [] later follows within le before kept = kept_later nodes client all now time c le kept
+  kept_all now time c (m ∷ past) later follows within le before kept =
+      kept_all m.at time (after_act nodes relies_for clock c m.at m.what) past later follows.2 (λ n i. within n (inr i))
+      (before m (inl refl)) (λ n i. before n (inr i)) (kept_by now c m.at m.what follows.0 (within m (inl refl)) follows.1 kept)
 
 -- no epoch that was given up is above what is kept as given up
 given_up_rises : (nodes relies_for : ℕ) (clock : ℕ → ℕ) (c : Candidate) (at : ℕ) (what : ClientEvent)
     → c.given_up ≤ (after_act nodes relies_for clock c at what).given_up
 given_up_rises nodes relies_for clock c at (asks ask) = omega arith
-given_up_rises nodes relies_for clock c at (hears voter ask) = by_open c.asked where
-  by_open : (o : Option Ask) → c.given_up ≤ (voted nodes relies_for clock at voter ask.number c o).given_up
-  by_open None = omega arith
-  by_open (Some o) = by_same (o.number == ask.number) where
-    by_same : (b : Bool) → c.given_up ≤ (if b then record c {
-      votes = with_vote voter c.votes;
-      lease =
-          taken nodes relies_for clock at (with_vote voter c.votes) o c.lease;
-    } else c).given_up
-    by_same true = omega arith
-    by_same false = omega arith
+given_up_rises nodes relies_for clock c at (hears voter ask) =
+    by_voted (λ (d : Candidate). c.given_up ≤ d.given_up) nodes relies_for clock at voter ask.number c c.asked (λ req is same. omega arith)
+    (omega arith)
 given_up_rises nodes relies_for clock c at (stops epoch) = omega arith
 
 all_given_up : (nodes relies_for : ℕ) (clock : ℕ → ℕ) (c : Candidate) (ms : List ClientMoment)
@@ -258,8 +213,7 @@ stopped_by : (nodes relies_for : ℕ) (clock : ℕ → ℕ) (c : Candidate) (ms 
     → IsAmong (moment at (stops epoch)) ms → epoch ≤ (left nodes relies_for clock c ms).given_up
 stopped_by nodes relies_for clock c [] at epoch i = absurd i
 stopped_by nodes relies_for clock c (m ∷ ms) at epoch (inl e) =
-    subst (λ (n : ClientMoment). epoch ≤ (left nodes relies_for clock (after_act nodes relies_for clock c n.at n.what) ms).given_up) e
-    (let rest = all_given_up nodes relies_for clock (after_act nodes relies_for clock c at (stops epoch)) ms in omega (arith, rest))
+    rw (← e) (let rest = all_given_up nodes relies_for clock (after_act nodes relies_for clock c at (stops epoch)) ms in omega (arith, rest))
 stopped_by nodes relies_for clock c (m ∷ ms) at epoch (inr i) =
     stopped_by nodes relies_for clock (after_act nodes relies_for clock c m.at m.what) ms at epoch i
 
