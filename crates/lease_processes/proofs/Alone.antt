@@ -1,19 +1,15 @@
 -- A machine that is alone meets the premises.
-use Rattle.std.proofs.Common.{◌≡◌, ℕ, ◌≤◌, Bool, true, List, [], ◌∷◌, Option, Some, None, refl, sym, ◌∙◌, ap, subst, arith}
+use Rattle.std.proofs.Common.{◌≡◌, ℕ, ◌≤◌, Bool, [], Option, Some, None, refl, sym, ap, subst, arith}
 use Rattle.std.specs.Prelude.{◌==◌, if◌then◌else◌, max}
 use Rattle.std.proofs.lemmas.Bool.{eq-eqb}
 use Rattle.lease_network.specs.Laws.{AreClocks}
-use Rattle.lease_message.specs.declared.message.LeaseMessage.{LeaseMessage}
 use Rattle.lease_machine.specs.declared.state.LeaseMachine.{LeaseMachine}
 use Rattle.lease_machine.specs.declared.terms.LeaseTerms.{LeaseTerms}
-use Rattle.lease_session.specs.Feeding.{At, Answers, IsNew}
+use Rattle.lease_session.specs.Feeding.{At, IsNew}
 use Rattle.lease_session.specs.Holding.{AreHoldersTold}
 use Rattle.lease_session.specs.Own.{bound_by}
-use Rattle.lease_session.specs.Reading.{meaning_of}
-use Rattle.lease_session.specs.Steps.{IsSound, LinesAreSteps, MayBring, TellsTime}
-use Rattle.lease_session.specs.Marks.{Mark}
-use Rattle.lease_processes.specs.Alone.{PremisesAreMet, alone, true_time}
-use Rattle.lease_processes.specs.Processes.{here, begins}
+use Rattle.lease_session.specs.Steps.{IsSound, LinesAreSteps}
+use Rattle.lease_processes.specs.Alone.{PremisesAreMet, true_time}
 
 -- one that begins is sound
 pub new_sound : (a : At) → IsNew a.process.terms a.process.start [] a → IsSound a

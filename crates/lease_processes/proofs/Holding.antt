@@ -8,7 +8,7 @@ use Rattle.lease_network.specs.Network.{Name}
 use Rattle.lease_machine.specs.declared.terms.LeaseTerms.{LeaseTerms}
 use Rattle.lease_session.specs.declared.process.Start.{Start}
 use Rattle.lease_session.specs.declared.told.Told.{Told}
-use Rattle.lease_session.specs.Feeding.{At, Answers, AreAnswered, Fed, IsNew}
+use Rattle.lease_session.specs.Feeding.{At, AreAnswered, Fed, IsNew}
 use Rattle.lease_session.specs.Marks.{Mark, did, wrote}
 use Rattle.lease_session.specs.Rows.{send, held, lost, refused, unserved, next, fault}
 use Rattle.lease_session.specs.Steps.{IsAnswered, LinesAreSteps}
@@ -37,8 +37,7 @@ behind mark marks t =
       until = t.until;
       front = mark ∷ t.front;
       back = t.back;
-      parts =
-          ap (λ (l : List Mark). mark ∷ l) t.parts;
+      parts = ap (λ (l : List Mark). mark ∷ l) t.parts;
     }
 
 none_of_none : (name : Name) (ts : List Told) → 0 < length (without name ts) → 0 < length ts
@@ -82,8 +81,7 @@ tells_line machine at line old new marks t =
       name = t.name;
       epoch = t.epoch;
       until = t.until;
-      line =
-          record { user = t.user; front = t.front; back = t.back; parts = t.parts };
+      line = record { user = t.user; front = t.front; back = t.back; parts = t.parts };
     }
 
 none_told : (ts : List Told) → ts ≡ [] → 0 < length ts → ⊥
@@ -155,8 +153,7 @@ somebody_holds law old new rest begun none fed some = two
           same = refl;
           clock = refl;
           brought = λ message may. absurd may;
-          answered =
-              first;
+          answered = first;
         },
       ),
       omega arith,
@@ -165,8 +162,7 @@ somebody_holds law old new rest begun none fed some = two
         runs = here_is machine mid (here (first_moment ∷ []) machine);
         same = refl;
         clock = refl;
-        brought =
-            λ message may. absurd may;
+        brought = λ message may. absurd may;
         answered = second;
       },
     )

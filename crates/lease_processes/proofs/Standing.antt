@@ -1,13 +1,14 @@
 -- What is true of the processes of all machines behind their moments.
-use Rattle.std.proofs.Common.{◌≡◌, ◌≢◌, ◌⊎◌, ℕ, ◌≤◌, Bool, true, false, cond, List, [], ◌∷◌, ◌++◌, Option, Some, None, refl, sym, ◌∙◌, ap}
+use Rattle.std.proofs.Common.{◌≡◌, ◌≢◌, ◌⊎◌, ℕ, ◌≤◌, List, [], ◌∷◌, ◌++◌, Option, Some, None, refl, sym, ◌∙◌, ap}
 use Rattle.std.proofs.Common.{subst, inl, inr, arith}
-use Rattle.std.specs.Prelude.{All, ◌==◌, if◌then◌else◌}
-use Rattle.std.proofs.lemmas.Bool.{eq-eqb, eqb-true}
+use Rattle.std.specs.Prelude.{All, ◌==◌}
+use Rattle.std.proofs.lemmas.Bool.{both_ways, cond_both, eq-eqb, eqb-true}
+use Rattle.std.proofs.lemmas.List.{append_assoc}
 use Rattle.std.proofs.lemmas.List.Elements.{All-head, All-tail}
 use Rattle.lease_runs.specs.Lists.{IsAmong}
 use Rattle.lease_runs.specs.Voter.{Client, Voter}
 use Rattle.lease_runs.specs.declared.voter.LeaseVoter.{LeaseVoter}
-use Rattle.lease_network.specs.Network.{Name, Message, request, grant, release, Event, begins as starts, reserves, sends, takes, Step}
+use Rattle.lease_network.specs.Network.{Name, Message, request, Event, begins as starts, sends, takes, Step}
 use Rattle.lease_network.specs.Network.{Terms, Machine, AreSteps, done, last_time, machines}
 use Rattle.lease_message.specs.declared.message.LeaseMessage.{LeaseMessage}
 use Rattle.lease_machine.specs.declared.name_entry.NameEntry.{NameEntry}
@@ -32,25 +33,15 @@ use Rattle.lease_processes.proofs.Alone.{new_sound}
 
 -- ---- steps
 
-step : ℕ → Client → Event → Step
+abbrev step : ℕ → Client → Event → Step
 step at by what = record { at = at; by = by; what = what }
 
 -- marks add steps in front
 pub steps_over : (at : ℕ) (past : List Step) (marks : List Mark) → (more : List Step) × (steps_with at past marks ≡ more ++ past)
 steps_over at past [] = ([], refl)
-steps_over at past (did by what ∷ marks) = behind (steps_over at (record { at = at; by = by; what = what } ∷ past) marks)
-  where
-    one_more : (more : List Step) (s : Step) → more ++ (s ∷ past) ≡ (more ++ s ∷ []) ++ past
-    one_more [] s = refl
-    one_more (x ∷ more) s = ap (λ (l : List Step). x ∷ l) (one_more more s)
-
-    behind : (more : List Step) × (steps_with at (record { at = at; by = by; what = what } ∷ past) marks
-        ≡ more ++ (record { at = at; by = by; what = what } ∷ past))
-        → (more : List Step) × (steps_with at (record { at = at; by = by; what = what } ∷ past) marks ≡ more ++ past)
-    behind (more, is) = (
-      more ++ record { at = at; by = by; what = what } ∷ [],
-      is ∙ one_more more (record { at = at; by = by; what = what }),
-    )
+steps_over at past (did by what ∷ marks) =
+    let (more, is) = steps_over at (step at by what ∷ past) marks in
+    (more ++ step at by what ∷ [], is ∙ sym (append_assoc more (step at by what ∷ []) past))
 steps_over at past (wrote row ∷ marks) = steps_over at past marks
 
 among_right : {A : Type 0} (x : A) (xs ys : List A) → IsAmong x ys → IsAmong x (xs ++ ys)
@@ -81,38 +72,27 @@ of_more s steps n p h = record { made = h.made; among = inr h.among; machine = h
 process_then : (terms : Terms) (by : Client) (m : Machine) (at : ℕ) (what : Event)
     → ((done terms by m at what).process ≡ m.process) ⊎ ((done terms by m at what).process ≡ Some by.boot)
 process_then terms by m at (starts floor) = inr refl
-process_then terms by m at (reserves bound) = inl refl
 process_then terms by m at (sends (request name client number epoch)) = inl refl
-process_then terms by m at (sends (grant name client number voter)) = inl refl
-process_then terms by m at (sends (release name client epoch)) = inl refl
 process_then terms by m at (takes (request name client number epoch)) = inl refl
-process_then terms by m at (takes (grant name client number voter)) = inl refl
-process_then terms by m at (takes (release name client epoch)) = inl refl
+process_then terms by m at _ = inl refl
 
 made_step : (terms : Terms) (s : Step) (steps : List Step) (n p : ℕ)
     → ((k : ℕ) → (machines terms steps k).process ≡ Some p → IsOf steps k p)
     → (machines terms (s ∷ steps) n).process ≡ Some p → IsOf (s ∷ steps) n p
-made_step terms s steps n p rest is = by_test (s.by.machine == n) refl is
+made_step terms s steps n p rest = cond_both (s.by.machine == n) (done terms s.by m s.at s.what) (machines terms steps n)
+    (λ (x : Machine). x.process ≡ Some p → IsOf (s ∷ steps) n p)
+    (λ same. by_kind (eqb-true s.by.machine n same) (process_then terms s.by m s.at s.what))
+    (λ other is. of_more s steps n p (rest n is))
   where
-    by_kind : (s.by.machine == n) ≡ true → ((done terms s.by (machines terms steps s.by.machine) s.at s.what).process
-        ≡ (machines terms steps s.by.machine).process)
-        ⊎ ((done terms s.by (machines terms steps s.by.machine) s.at s.what).process ≡ Some s.by.boot)
-        → (done terms s.by (machines terms steps s.by.machine) s.at s.what).process ≡ Some p → IsOf (s ∷ steps) n p
-    by_kind same (inl still) is =
-        of_more s steps n p (subst (λ (k : ℕ). IsOf steps k p) (eqb-true s.by.machine n same) (rest s.by.machine (sym still ∙ is)))
-    by_kind same (inr own) is = record {
-      made = s;
-      among = inl refl;
-      machine = eqb-true s.by.machine n same;
-      boot =
-          some_same s.by.boot p (sym own ∙ is);
-    }
+    m : Machine
+    m = machines terms steps s.by.machine
 
-    by_test : (b : Bool) → (s.by.machine == n) ≡ b
-        → (if b then done terms s.by (machines terms steps s.by.machine) s.at s.what else machines terms steps n).process ≡ Some p
-        → IsOf (s ∷ steps) n p
-    by_test true same is = by_kind same (process_then terms s.by (machines terms steps s.by.machine) s.at s.what) is
-    by_test false other is = of_more s steps n p (rest n is)
+    by_kind : s.by.machine ≡ n → ((done terms s.by m s.at s.what).process ≡ m.process)
+        ⊎ ((done terms s.by m s.at s.what).process ≡ Some s.by.boot)
+        → (done terms s.by m s.at s.what).process ≡ Some p → IsOf (s ∷ steps) n p
+    by_kind same (inl still) is = of_more s steps n p (rw same at (rest s.by.machine (sym still ∙ is)))
+    by_kind same (inr own) is =
+        record { made = s; among = inl refl; machine = same; boot = some_same s.by.boot p (sym own ∙ is) }
 
 made_it : (terms : Terms) (steps : List Step) (n p : ℕ) → (machines terms steps n).process ≡ Some p → IsOf steps n p
 made_it terms [] n p is = absurd cc
@@ -142,11 +122,8 @@ begun_more m past n p h = record { moment = h.moment; among = inr h.among; machi
 -- the machine of the moment, or another one
 here_is : (P : Option At → Type 0) (m : Moment) (past : List Moment) (n : ℕ) → (m.machine ≡ n → P (Some (left_by m.what)))
     → (m.machine ≢ n → P (here past n)) → P (here (m ∷ past) n)
-here_is P m past n own other = by_test (m.machine == n) refl
-  where
-    by_test : (b : Bool) → (m.machine == n) ≡ b → P (if b then Some (left_by m.what) else here past n)
-    by_test true same = own (eqb-true m.machine n same)
-    by_test false different = other (λ same. absurd (let bad : true ≡ false = sym (eq-eqb m.machine n same) ∙ different in cc))
+here_is P m past n own other = cond_both (m.machine == n) (Some (left_by m.what)) (here past n) P (λ is. own (eqb-true m.machine n is))
+    (λ is. other (λ same. both_ways (m.machine == n) is (eq-eqb m.machine n same)))
 
 some_at : (a b : At) → Some a ≡ Some b → a ≡ b
 some_at a b e = cc
@@ -165,12 +142,10 @@ new_before terms past n new s b =
     })
   where
     was_begun : IsOf (steps_of past) new.process.terms.machine new.process.start.process → HasBegun past n new.process.start.process
-    was_begun h = subst (λ (p : ℕ). HasBegun past n p) h.boot (subst (λ (k : ℕ). HasBegun past k h.made.by.boot) (h.machine
-        ∙ b.machine) (s.own h.made h.among))
+    was_begun h = rw (h.boot, h.machine, b.machine) at (s.own h.made h.among)
 
     here_bound : (name : Name) → ((machines terms (steps_of past) new.process.terms.machine).voter name).bound ≤ bound_of (here past n)
-    here_bound name = subst (λ (k : ℕ). ((machines terms (steps_of past) k).voter name).bound ≤ bound_of (here past n)) (sym b.machine)
-        (s.bounds n name)
+    here_bound name = rw b.machine (s.bounds n name)
 
 begin_stands : (terms : Terms) (past : List Moment) (at n : ℕ) (new : At) → Stand terms past → last_moment past ≤ at
     → MayBegin terms past n new
@@ -204,8 +179,7 @@ begin_stands terms past at n new s le b = record {
       machine = f.machine;
       begun = begun_more m past k a.process.start.process f.begun;
       runs = f.runs;
-      stands =
-          f.stands;
+      stands = f.stands;
       sound = f.sound;
     }
 
@@ -226,8 +200,7 @@ begin_stands terms past at n new s le b = record {
       among = among;
       to = to;
       bytes = bytes;
-      line =
-          line;
+      line = line;
     }) x i
 
 -- ---- a process is told a line
@@ -267,11 +240,9 @@ the_entry a b e = cc
 
 of_found : (P : NameEntry → Type 0) (name : List ℕ) (es : List NameEntry) (d : NameEntry) → All P es → entry_of name es ≡ Some d → P d
 of_found P name [] d all h = absurd cc
-of_found P name (e ∷ es) d all h = by_test (is_same e.name name) (All-head P e es all) (λ g. of_found P name es d (All-tail P e es all) g) h
-  where
-    by_test : (b : Bool) → P e → (entry_of name es ≡ Some d → P d) → cond b (Some e) (entry_of name es) ≡ Some d → P d
-    by_test true mine rest g = subst P (the_entry e d g) mine
-    by_test false mine rest g = rest g
+of_found P name (e ∷ es) d all h = cond_both (is_same e.name name) (Some e) (entry_of name es)
+    (λ (o : Option NameEntry). o ≡ Some d → P d) (λ same is. subst P (the_entry e d is) (All-head P e es all))
+    (λ other. of_found P name es d (All-tail P e es all)) h
 
 -- each name's voter grants up to the bound of the machine
 bound_at : (c : LeaseMachine) (name : Name) → (voter_at c name).bound ≡ c.bound

@@ -1,9 +1,9 @@
 -- Who goes by the last line of its process.
-use Rattle.std.proofs.Common.{◌≡◌, ◌⊎◌, ℕ, ◌<◌, ◌≤◌, Bool, true, false, List, [], ◌∷◌, ◌++◌, Option, Some, None, refl, sym, ◌∙◌, ap, subst}
+use Rattle.std.proofs.Common.{◌≡◌, ◌⊎◌, ℕ, ◌<◌, ◌≤◌, Bool, true, List, [], ◌∷◌, ◌++◌, Option, Some, None, refl, sym, ◌∙◌, ap, subst}
 use Rattle.std.proofs.Common.{inl, inr, append_assoc, arith}
-use Rattle.std.specs.Prelude.{◌==◌, if◌then◌else◌, leb, nat_eq, not}
+use Rattle.std.specs.Prelude.{◌==◌, if◌then◌else◌, leb, nat_eq}
 use Rattle.std.specs.Cmp.Lexicographic.{pointwise}
-use Rattle.std.proofs.lemmas.Bool.{eq-eqb, eqb-true, leb-false, leb-true}
+use Rattle.std.proofs.lemmas.Bool.{cases_Bool, cond_both, eq-eqb, eqb-true, false_from_ne_true, leb-false, leb-true}
 use Rattle.std.proofs.lemmas.Slice.Eq.{bytes_eq-Decides}
 use Rattle.lease_runs.specs.Lists.{IsAmong}
 use Rattle.lease_runs.specs.Voter.{Client}
@@ -13,7 +13,7 @@ use Rattle.lease_session.specs.declared.told.Told.{Told}
 use Rattle.lease_session.specs.declared.process.Start.{Start}
 use Rattle.lease_session.specs.Feeding.{At}
 use Rattle.lease_session.specs.Marks.{Mark, did, wrote}
-use Rattle.lease_session.specs.Rows.{Row, send, held, lost, refused, unserved, next, fault}
+use Rattle.lease_session.specs.Rows.{Row, send, held, lost}
 use Rattle.lease_session.specs.Steps.{Adds, AreHeld, IsHolder, steps_with}
 use Rattle.lease_session.specs.Telling.{AreTold, IsTold, SaysLost, told_after, told_of, told_row, without}
 use Rattle.lease_session.specs.Turns.{who}
@@ -31,28 +31,20 @@ is_self name = (bytes_eq-Decides name name).1 refl
 name_is : (a b : Name) → pointwise nat_eq a b ≡ true → a ≡ b
 name_is a b same = (bytes_eq-Decides a b).0 same
 
-true_false : true ≡ false → ⊥
-true_false e = absurd cc
-
 none_without : (name : Name) (ts : List Told) → told_of name (without name ts) ≡ None
 none_without name [] = refl
-none_without name (t ∷ ts) = by_test (pointwise nat_eq t.name name) refl (none_without name ts)
-  where
-    by_test : (b : Bool) → pointwise nat_eq t.name name ≡ b → told_of name (without name ts) ≡ None
-        → told_of name (if not b then t ∷ without name ts else without name ts) ≡ None
-    by_test true is rest = rest
-    by_test false is rest = ap (λ (c : Bool). if c then Some t.epoch else told_of name (without name ts)) is ∙ rest
+none_without name (t ∷ ts) = elim (cases_Bool (pointwise nat_eq t.name name)) [
+  | inl is ↦ rw is (none_without name ts)
+  | inr is ↦ rw (is, is) (none_without name ts)
+]
 
 behind_none : (name : Name) (ts : List Told) (last : Told) → told_of name ts ≡ None
     → told_of name (ts ++ last ∷ []) ≡ told_of name (last ∷ [])
 behind_none name [] last none = refl
-behind_none name (t ∷ ts) last none = by_test (pointwise nat_eq t.name name) none (λ rest. behind_none name ts last rest)
-  where
-    by_test : (b : Bool) → (if b then Some t.epoch else told_of name ts) ≡ None
-        → (told_of name ts ≡ None → told_of name (ts ++ last ∷ []) ≡ told_of name (last ∷ []))
-        → (if b then Some t.epoch else told_of name (ts ++ last ∷ [])) ≡ told_of name (last ∷ [])
-    by_test true none rest = absurd cc
-    by_test false none rest = rest none
+behind_none name (t ∷ ts) last none = elim (cases_Bool (pointwise nat_eq t.name name)) [
+  | inl is ↦ absurd (let bad = rw is at none in cc)
+  | inr is ↦ rw is (behind_none name ts last (rw is at none))
+]
 
 -- the line says it
 told_now : (name : Name) (user epoch until : ℕ) (ts : List Told) → told_of name (told_row ts (held name user epoch until)) ≡ Some epoch
@@ -62,39 +54,24 @@ told_now name user epoch until ts = behind_none name (without name ts) (record {
 
 other_without : (name other : Name) (ts : List Told) → (other ≡ name → ⊥) → told_of name (without other ts) ≡ told_of name ts
 other_without name other [] apart = refl
-other_without name other (t ∷ ts) apart = by_test (pointwise nat_eq t.name other) refl (other_without name other ts apart)
-  where
-    by_name : (c : Bool) → pointwise nat_eq t.name name ≡ c → pointwise nat_eq t.name other ≡ true
-        → told_of name (without other ts) ≡ told_of name ts
-        → told_of name (without other ts) ≡ (if c then Some t.epoch else told_of name ts)
-    by_name true is same rest = absurd (apart (sym (name_is t.name other same) ∙ name_is t.name name is))
-    by_name false is same rest = rest
-
-    by_test : (b : Bool) → pointwise nat_eq t.name other ≡ b → told_of name (without other ts) ≡ told_of name ts
-        → told_of name (if not b then t ∷ without other ts else without other ts) ≡ told_of name (t ∷ ts)
-    by_test true same rest = by_name (pointwise nat_eq t.name name) refl same rest
-    by_test false different rest = ap (λ (o : Option ℕ). if pointwise nat_eq t.name name then Some t.epoch else o) rest
+other_without name other (t ∷ ts) apart = elim (cases_Bool (pointwise nat_eq t.name other)) [
+  | inl is ↦ (let different = false_from_ne_true (pointwise nat_eq t.name name) (λ same.
+      apart (sym (name_is t.name other is) ∙ name_is t.name name same)) in rw (is, different) (other_without name other ts apart))
+  | inr is ↦ rw (is, other_without name other ts apart)
+]
 
 behind_other : (name : Name) (ts : List Told) (last : Told) → (last.name ≡ name → ⊥) → told_of name (ts ++ last ∷ []) ≡ told_of name ts
-behind_other name [] last apart = by_test (pointwise nat_eq last.name name) refl
-  where
-    by_test : (b : Bool) → pointwise nat_eq last.name name ≡ b → (if b then Some last.epoch else None) ≡ None
-    by_test true is = absurd (apart (name_is last.name name is))
-    by_test false is = refl
-behind_other name (t ∷ ts) last apart = ap (λ (o : Option ℕ). if pointwise nat_eq t.name name then Some t.epoch else o)
-    (behind_other name ts last apart)
+behind_other name [] last apart = rw (false_from_ne_true (pointwise nat_eq last.name name) (λ is. apart (name_is last.name name is)))
+behind_other name (t ∷ ts) last apart = rw (behind_other name ts last apart)
 
 -- a line of another name changes nothing
 told_still : (name : Name) (ts : List Told) (row : Row) → (IsAbout name row → ⊥) → told_of name (told_row ts row) ≡ told_of name ts
-told_still name ts (send to message bytes) apart = refl
 told_still name ts (held other user epoch until) apart =
     behind_other name (without other ts) (record { name = other; user = user; epoch = epoch; until = until }) apart
     ∙ other_without name other ts apart
 told_still name ts (lost other epoch) apart = other_without name other ts apart
-told_still name ts (refused why) apart = refl
-told_still name ts (unserved why other user) apart = refl
-told_still name ts (next time) apart = refl
-told_still name ts fault apart = refl
+told_still name ts (send to message bytes) apart = refl
+told_still name ts _ apart = refl
 
 told_behind : (name : Name) (ts : List Told) (marks : List Mark) → SaysNothing name marks
     → told_of name (told_after ts marks) ≡ told_of name ts
@@ -119,13 +96,9 @@ careful_behind ts (wrote row ∷ xs) ys h = careful_behind (told_row ts row) xs 
 said_lost : (name : Name) (marks : List Mark) → SaysLost name marks → SaysNothing name marks → ⊥
 said_lost name [] says quiet = says
 said_lost name (did by what ∷ marks) says quiet = says
-said_lost name (wrote (send to message bytes) ∷ marks) says quiet = says
-said_lost name (wrote (held other user epoch until) ∷ marks) says quiet = says
 said_lost name (wrote (lost other epoch) ∷ marks) says quiet = quiet (lost other epoch) (inl refl) says
-said_lost name (wrote (refused why) ∷ marks) says quiet = says
-said_lost name (wrote (unserved why other user) ∷ marks) says quiet = says
-said_lost name (wrote (next time) ∷ marks) says quiet = says
-said_lost name (wrote fault ∷ marks) says quiet = says
+said_lost name (wrote (send to message bytes) ∷ marks) says quiet = says
+said_lost name (wrote row ∷ marks) says quiet = says
 
 what_of : Mark → Event → Event
 what_of (did by what) other = what
@@ -195,7 +168,7 @@ told_by : (terms : Terms) (rest : List Moment) (n p at : ℕ) (name : Name) (epo
     → (left_by what).process.start.process ≡ p → SaysNothing name (marks_of what)
     → told_of name (left_by what).process.told.items ≡ Some epoch
 told_by terms rest n p at name epoch (begins new) turn begun before same quiet =
-    absurd (turn.own_number (subst (λ (q : ℕ). HasBegun rest n q) (sym same) begun))
+    absurd (turn.own_number (rw same begun))
 told_by terms rest n p at name epoch (told line old marks new) t begun before same quiet =
     ap (λ (ts : List Told). told_of name ts) t.answered.told
     ∙ (told_behind name old.process.told.items marks quiet ∙ old_told terms rest n p at name epoch line old marks new t before same)
@@ -204,19 +177,15 @@ told_kept : (terms : Terms) (rest : List Moment) (n p : ℕ) (name : Name) (epoc
     → HasBegun rest n p → IsToldSo rest n p name epoch
     → (k ≡ n → (left_by what).process.start.process ≡ p → SaysNothing name (marks_of what))
     → IsToldSo (record { at = at; machine = k; what = what } ∷ rest) n p name epoch
-told_kept terms rest n p name epoch at k what turn begun before quiet a is same = by_test (k == n) refl is
+told_kept terms rest n p name epoch at k what turn begun before quiet a is same =
+    cond_both (k == n) (Some (left_by what)) (here rest n) (λ (o : Option At). o ≡ Some a → told_of name a.process.told.items ≡ Some epoch)
+    (λ machine left. here_told (eqb-true k n machine) (some_at (left_by what) a left)) (λ other there. before a there same) is
   where
     here_told : k ≡ n → left_by what ≡ a → told_of name a.process.told.items ≡ Some epoch
     here_told machine left =
         let its : (left_by what).process.start.process ≡ p = ap (λ (b : At). b.process.start.process) left ∙ same in
         subst (λ (b : At). told_of name b.process.told.items ≡ Some epoch) left
-        (told_by terms rest n p at name epoch what (subst (λ (j : ℕ). MayTurn terms rest at j what) machine turn) begun before its
-        (quiet machine its))
-
-    by_test : (b : Bool) → (k == n) ≡ b → (if b then Some (left_by what) else here rest n) ≡ Some a
-        → told_of name a.process.told.items ≡ Some epoch
-    by_test true machine is = here_told (eqb-true k n machine) (some_at (left_by what) a is)
-    by_test false other is = before a is same
+        (told_by terms rest n p at name epoch what (rw machine at turn) begun before its (quiet machine its))
 
 -- a step by which the client, of this process, gives the epoch up
 record IsRelease (name : Name) (epoch n p : ℕ) (client : Client) (s : Step) : Type 0 where
@@ -262,8 +231,7 @@ begun_along base newer n p h = record {
   moment = h.moment;
   among = among_right h.moment newer base h.among;
   machine = h.machine;
-  numbered =
-      h.numbered;
+  numbered = h.numbered;
 }
 
 abbrev Since : List Moment → ℕ → ℕ → Name → ℕ → Type 0
@@ -329,70 +297,59 @@ record Word (terms : Terms) (past : List Moment) (at n : ℕ) (line : List ℕ) 
 abbrev moment : ℕ → ℕ → List ℕ → At → List Mark → At → Moment
 moment at n line old marks new = record { at = at; machine = n; what = told line old marks new }
 
-new_told : (terms : Terms) (past : List Moment) (at n : ℕ) (line : List ℕ) (old : At) (marks : List Mark) (new : At) (name : Name)
-    (epoch user until : ℕ) (front back : List Mark)
-    → Word terms past at n line old marks new name epoch user until front back → told_of name new.process.told.items ≡ Some epoch
-new_told terms past at n line old marks new name epoch user until front back w =
-    let row = held name user epoch until in
-    let ts = old.process.told.items in
-    ap (λ (x : List Told). told_of name x) (w.asked.answered.told
-    ∙ (ap (λ (ms : List Mark). told_after ts ms) w.parts ∙ told_both ts front (wrote row ∷ back)))
-    ∙ (told_behind name (told_row (told_after ts front) row) back w.quiet ∙ told_now name user epoch until (told_after ts front))
-
 same_true : (n : ℕ) → (n == n) ≡ true
 same_true n = eq-eqb n n refl
 
 first_told : (terms : Terms) (past : List Moment) (at n : ℕ) (line : List ℕ) (old : At) (marks : List Mark) (new : At) (name : Name)
     (epoch : ℕ) → told_of name new.process.told.items ≡ Some epoch
     → IsToldSo (moment at n line old marks new ∷ past) n new.process.start.process name epoch
-first_told terms past at n line old marks new name epoch is a there same = by_test (n == n) (same_true n) there
-  where
-    by_test : (b : Bool) → b ≡ true → (if b then Some new else here past n) ≡ Some a → told_of name a.process.told.items ≡ Some epoch
-    by_test true on there = subst (λ (b : At). told_of name b.process.told.items ≡ Some epoch) (some_at new a there) is
-    by_test false off there = absurd cc
+first_told terms past at n line old marks new name epoch is a there same =
+    subst (λ (b : At). told_of name b.process.told.items ≡ Some epoch) (some_at new a (rw (same_true n) at there)) is
 
--- no release that covers it was sent by its client, before the line or behind it
-none_first : (law : HolderSentNone) (terms : Terms) (past : List Moment) (at n : ℕ) (line : List ℕ) (old : At) (marks : List Mark)
-    (new : At) (name : Name) (epoch user until : ℕ)
-    (front back : List Mark) → (w : Word terms past at n line old marks new name epoch user until front back)
-    → (it : IsHolder terms (who old.process) at (steps_with at (steps_of past) front) name epoch until)
-    → AreSteps terms (steps_with at (steps_of past) marks)
-    → (s : Step) → IsAmong s (steps_with at (steps_of past) marks) → IsRelease name epoch n new.process.start.process it.client s → ⊥
-none_first law terms past at n line old marks new name epoch user until front back w it are s i r =
-    by_place (among_marks at kept back s (subst (λ (l : List Step). IsAmong s l) whole i))
-  where
-    kept : List Step
-    kept = steps_with at (steps_of past) front
+module _ {terms : Terms} {past : List Moment} {at n : ℕ} {line : List ℕ} {old : At} {marks : List Mark} {new : At} {name : Name}
+    {epoch user until : ℕ} {front back : List Mark} (w : Word terms past at n line old marks new name epoch user until front back) where
+  row : Row
+  row = held name user epoch until
 
-    row : Row
-    row = held name user epoch until
+  new_told : told_of name new.process.told.items ≡ Some epoch
+  unfolding row
+  new_told =
+      let ts = old.process.told.items in
+      ap (λ (x : List Told). told_of name x) (w.asked.answered.told
+      ∙ (ap (λ (ms : List Mark). told_after ts ms) w.parts ∙ told_both ts front (wrote row ∷ back)))
+      ∙ (told_behind name (told_row (told_after ts front) row) back w.quiet ∙ told_now name user epoch until (told_after ts front))
 
-    whole : steps_with at (steps_of past) marks ≡ steps_with at kept back
-    whole = ap (λ (ms : List Mark). steps_with at (steps_of past) ms) w.parts ∙ steps_both at (steps_of past) front (wrote row ∷ back)
+  -- no release that covers it was sent by its client, before the line or behind it
+  none_first : (law : HolderSentNone)
+      → (it : IsHolder terms (who old.process) at (steps_with at (steps_of past) front) name epoch until)
+      → AreSteps terms (steps_with at (steps_of past) marks)
+      → (s : Step) → IsAmong s (steps_with at (steps_of past) marks) → IsRelease name epoch n new.process.start.process it.client s → ⊥
+  unfolding row
+  none_first law it are s i r = by_place (among_marks at kept back s (rw whole at i))
+    where
+      kept : List Step
+      kept = steps_with at (steps_of past) front
 
-    are_kept : AreSteps terms kept
-    are_kept = (let over = steps_over at kept back in steps_kept terms over.0 kept (subst (λ (l : List Step). AreSteps terms l) (whole
-        ∙ over.1) are))
+      whole : steps_with at (steps_of past) marks ≡ steps_with at kept back
+      whole = ap (λ (ms : List Mark). steps_with at (steps_of past) ms) w.parts ∙ steps_both at (steps_of past) front (wrote row ∷ back)
 
-    no_later : last_time kept ≤ at
-    no_later = last_with at (steps_of past) front (let last = w.stands.last in let le = w.le in omega (arith, last, le))
+      are_kept : AreSteps terms kept
+      are_kept = (let over = steps_over at kept back in steps_kept terms over.0 kept (rw (whole ∙ over.1) at are))
 
-    by_place : IsAmong s kept ⊎ IsMarked at back s → ⊥
-    by_place (inl j) =
-        let same = it.of_epoch in
-        let covers = r.covers in
-        let less = law terms kept are_kept name at it.client it.ask it.holds s r.other r.given_up j r.by r.what (omega (
-          arith,
-          covers,
-          same,
-        )) in
-        let early = steps_before terms kept are_kept s j in
-        let last = no_later in absurd (omega (arith, less, early, last))
-    by_place (inr m) = not_given_up name epoch r.given_up (told_row (told_after old.process.told.items front) row) s.by r.other back
-        (careful_behind old.process.told.items front (wrote row ∷ back)
-        (subst (λ (ms : List Mark). AreTold old.process.told.items ms) w.parts w.asked.answered.careful))
-        (told_now name user epoch until (told_after old.process.told.items front)) w.quiet
-        (subst (λ (x : Event). IsAmong (did s.by x) back) r.what m.mark) r.covers
+      no_later : last_time kept ≤ at
+      no_later = last_with at (steps_of past) front (let last = w.stands.last in let le = w.le in omega (arith, last, le))
+
+      by_place : IsAmong s kept ⊎ IsMarked at back s → ⊥
+      by_place (inl j) =
+          let same = it.of_epoch in
+          let covers = r.covers in
+          let le : it.ask.epoch ≤ r.given_up = omega (arith, covers, same) in
+          let less = law terms kept are_kept name at it.client it.ask it.holds s r.other r.given_up j r.by r.what le in
+          let early = steps_before terms kept are_kept s j in
+          let last = no_later in absurd (omega (arith, less, early, last))
+      by_place (inr m) = not_given_up name epoch r.given_up (told_row (told_after old.process.told.items front) row) s.by r.other back
+          (careful_behind old.process.told.items front (wrote row ∷ back) (rw w.parts at w.asked.answered.careful))
+          (told_now name user epoch until (told_after old.process.told.items front)) w.quiet (rw r.what at m.mark) r.covers
 
 -- ---- the law
 
@@ -422,7 +379,7 @@ word_by law terms newer past at n (told line old marks new) are name epoch until
       (along.1 ∙ (ap (λ (l : List Step). along.0 ++ l) (whole ∙ over.1) ∙ sym (append_assoc along.0 over.0 kept))) adds.1 (sym numbered) it;
   behind = le;
   in_time = clock;
-  goes_on = λ s other given_up i by what covers. by_time s (leb s.at time) refl (λ early. none s i by other given_up what covers early);
+  goes_on = λ s other given_up i by what covers. by_time s (λ early. none s i by other given_up what covers early);
 }
   where
     base : List Moment
@@ -471,8 +428,7 @@ word_by law terms newer past at n (told line old marks new) are name epoch until
     none s i by other given_up what covers early = none_along terms base n new.process.start.process it.client name epoch time
         (record { moment = moment at n line old marks new; among = inl refl; machine = refl; numbered = refl })
         (first_told terms past at n line old marks new name epoch
-        (new_told terms past at n line old marks new name epoch h.user until h.front h.back w))
-        (λ x j y le. none_first law terms past at n line old marks new name epoch h.user until h.front h.back w it adds.0.are x j y)
+        (new_told w)) (λ x j y le. none_first w law it adds.0.are x j y)
         newer are since s i
         (record {
           machine = of_machine s by;
@@ -481,13 +437,14 @@ word_by law terms newer past at n (told line old marks new) are name epoch until
           other = other;
           given_up = given_up;
           what = what;
-          covers =
-              covers;
+          covers = covers;
         }) early
 
-    by_time : (s : Step) (b : Bool) → leb s.at time ≡ b → (s.at ≤ time → ⊥) → time < s.at
-    by_time s true early none = absurd (none (leb-true s.at time early))
-    by_time s false late none = leb-false s.at time late
+    by_time : (s : Step) → (s.at ≤ time → ⊥) → time < s.at
+    by_time s none = elim (cases_Bool (leb s.at time)) [
+      | inl early ↦ absurd (none (leb-true s.at time early))
+      | inr late ↦ leb-false s.at time late
+    ]
 
 pub last_word : HolderSentNone → LastWordHolds
 last_word law terms all are m name epoch until time h w le clock =

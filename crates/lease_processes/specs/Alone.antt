@@ -1,5 +1,5 @@
 -- The premises can be met: a machine that is alone.
-use Rattle.std.specs.Prelude.{ℕ, ◌≡◌, List, [], ◌∷◌}
+use Rattle.std.specs.Prelude.{ℕ, List, [], ◌∷◌}
 use Rattle.lease_runs.specs.Lists.{IsAmong}
 use Rattle.lease_network.specs.Network.{Name, Terms}
 use Rattle.lease_network.specs.Laws.{AreClocks}

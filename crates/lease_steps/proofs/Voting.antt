@@ -72,8 +72,7 @@ pub voted_one : Staying → Stepping → (old new : LeaseMachine) (terms : Terms
     → clock_of terms old at ≡ now → StandsFor terms now old m → IsStep (voter_at old name) (voter_at new name) now what
     → OthersStay now name old new → claim_at new name ≡ claim_at old name
     → GoesOn old new → MayVote terms by m at what name × StandsFor terms now new (record m {
-      voter =
-          at_name name (voter_then terms by m at what) m.voter;
+      voter = at_name name (voter_then terms by m at what) m.voter;
     })
 voted_one stay law old new terms now at m name by what own shows s step others claim goes =
     let h = voted law old new terms now at m name by what own shows s step in

@@ -6,6 +6,5 @@ pub returns : goal.returns
 returns c = record {
   told = fed_is_told c.lines_are_steps.ensures;
   floors = files_give_floors;
-  met =
-      premises_are_met c.lines_are_steps.ensures;
+  met = premises_are_met c.lines_are_steps.ensures;
 }
