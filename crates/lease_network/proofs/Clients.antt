@@ -232,8 +232,7 @@ clients terms all name client [] are =
       left_there = beginning;
       clients = record { follows = tt; leaves = refl; ends = omega arith };
       runs = λ running. refl;
-      unborn =
-          λ none. refl;
+      unborn = λ none. refl;
     }
 clients terms all name client (p ∷ past) are = step_acts terms all name client p past are.1 (clients terms all name client past are.0)
 

@@ -45,8 +45,7 @@ run = record {
   clock = λ machine boot t. t;
   grain = 5;
   history = λ voter. moments;
-  acts =
-      actions;
+  acts = actions;
 }
 
 follows : Follows 160 (λ boot t. t) 0 (opening (λ boot t. t)) moments

@@ -36,8 +36,7 @@ granted_later nodes client all now time ask le granted =
       own = granted.own;
       quorum = granted.quorum;
       most = granted.most;
-      heard =
-          λ voter is. heard_later all now time voter ask le (granted.heard voter is);
+      heard = λ voter is. heard_later all now time voter ask le (granted.heard voter is);
     }
 
 -- what the client keeps is so
@@ -150,7 +149,8 @@ module _ (nodes relies_for : ℕ) (clock : ℕ → ℕ) (client : Client) (all :
             at,
             omega arith,
             subst (λ (a : Ask). IsAmong (moment at (hears n a)) all)
-                (numbered ask.sent req.sent ask req (asked at voter ask here own below) opened.1 (sym same)) (rw (eqb-true n voter is) here),
+                (numbered ask.sent req.sent ask req (asked at voter ask here own below) opened.1 (sym same))
+                (rw (eqb-true n voter is) here),
           ))
           (λ other yes. heard_later all now at n req le (kept.voted req is_req n yes))
 
@@ -213,7 +213,8 @@ stopped_by : (nodes relies_for : ℕ) (clock : ℕ → ℕ) (c : Candidate) (ms 
     → IsAmong (moment at (stops epoch)) ms → epoch ≤ (left nodes relies_for clock c ms).given_up
 stopped_by nodes relies_for clock c [] at epoch i = absurd i
 stopped_by nodes relies_for clock c (m ∷ ms) at epoch (inl e) =
-    rw (← e) (let rest = all_given_up nodes relies_for clock (after_act nodes relies_for clock c at (stops epoch)) ms in omega (arith, rest))
+    rw (← e) (let rest = all_given_up nodes relies_for clock (after_act nodes relies_for clock c at (stops epoch)) ms in
+    omega (arith, rest))
 stopped_by nodes relies_for clock c (m ∷ ms) at epoch (inr i) =
     stopped_by nodes relies_for clock (after_act nodes relies_for clock c m.at m.what) ms at epoch i
 
@@ -270,8 +271,7 @@ holder_relies run is_run client time ask holds =
       later = holds.later;
       is_client = of;
       before = holds.before;
-      lease =
-          holds.lease;
+      lease = holds.lease;
     } in
     let lease = lease_is run is_run client time ask k in
     let own = lease.0.own in (

@@ -100,8 +100,7 @@ unheard old now voter number below other ask own numbered clock at v shows_now s
       by_same : (a : Ask) (x : Bool) → (a.number == ask.number) ≡ x → (a.number ≡ ask.number → ⊥)
           → Shows clock old (if x then record v {
             votes = with_vote voter v.votes;
-            lease =
-                taken old.voters old.relies_for clock at (with_vote voter v.votes) a v.lease;
+            lease = taken old.voters old.relies_for clock at (with_vote voter v.votes) a v.lease;
           } else v)
       by_same a true same not_it = absurd (not_it (eqb-true a.number ask.number same))
       by_same a false same not_it = shows
