@@ -1,10 +1,10 @@
-ghost use Rattle.std.specs.Prelude.{◌≡◌, ◌⊎◌, ◌≤◌, ◌+◌, IfOk, IsErrOf, IsSome};
+ghost use Rattle.std.specs.Prelude.{◌≡◌, ◌⊎◌, ◌≤◌, ◌+◌, IfOk, IsErrOf, IsSome, Ok};
 ghost use Rattle.console_text.specs.Input.{HoldsAll};
 ghost use Rattle.console_text.specs.declared.ends.IoTrouble.TheVariants.{Unread};
 
 use crate::ends::IoTrouble;
 use crate::source::{MAX_READS, Source};
-use std::alloc::Global;
+use std::alloc::{AllocError, Global};
 use std::io::Read;
 
 /// How many bytes one read may give.
@@ -33,4 +33,20 @@ pub fn read_source<R: Read>(alloc: Global, input: &mut Source<R>) -> Result<Vec<
         bytes.extend_from_slice(&piece[..count])?;
     }
     Err(IoTrouble::Unread)
+}
+
+/// What a command makes of a whole input.
+pub fn outcome_of<R: Read, T, F: FnOnce(Vec<u8>) -> Result<T, AllocError>>(
+    alloc: Global,
+    input: &mut Source<R>,
+    command: F,
+) -> Result<T, IoTrouble>
+    requires { F.IsAlwaysCallable command }
+    // Promise: What a command comes to is what it makes of all bytes of its input.
+    // Refuses: made_of_nothing.
+    ensures made { IfOk result (λ made. (bytes : _) × HoldsAll (R.remaining input.old.reader) bytes.items × F.post command bytes (Ok made)) }
+    ensures reads { input.old.left ≤ input.new.left + 16777216 }
+{
+    let bytes = read_source(alloc, input)?;
+    Ok(command(bytes)?)
 }

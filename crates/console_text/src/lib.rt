@@ -3,7 +3,7 @@
 //! ```
 //! let mut input = Source::new(rt.stdin());
 //! let mut output = Sink::new(rt.stdout());
-//! let outcome = read_source(alloc, &mut input).map(|bytes| answer_to(bytes));
+//! let outcome = outcome_of(alloc, &mut input, |bytes| answer_to(alloc, &bytes));
 //! let ending = print(&mut output, outcome);                        // one write; input.fault() and output.fault() say what failed
 //! ExitCode::from(ending.status())
 //! ```
@@ -20,7 +20,7 @@ mod source;
 mod words;
 
 pub use ends::{CommandError, Ended, ExitKind, IoTrouble, Output};
-pub use input::read_source;
+pub use input::{outcome_of, read_source};
 pub use pages::{Unprinted, new_page, print_full, print_page, print_part};
 pub use printing::{bad_line, print, print_explained};
 pub use reasons::{line_reason, push_unknown};

@@ -11,7 +11,7 @@ ghost use Rattle.invite_console.specs.Answer.{answer_text, answers_to, first_cou
 use crate::lines::hex_lines;
 use crate::reasons::{bad_hex, with_reason};
 use crate::session::Session;
-use console_text::{CommandError, Ended, IoTrouble, Output, Source, print_explained, read_source};
+use console_text::{CommandError, Ended, Output, Source, outcome_of, print_explained};
 use group_task::NodeId;
 use line_words::LineFault;
 use std::alloc::{AllocError, Global};
@@ -49,10 +49,7 @@ pub fn answer<R: Read, W: Write>(
     // Refuses: sim_reads_once_more, answer_reads_once_more, show_reads_once_more, store_console::store_reads_once_more.
     ensures reads { input.old.left ≤ input.new.left + 16777216 }
 {
-    let outcome = match read_source(alloc, input) {
-        Ok(bytes) => answer_to(alloc, id, nodes, bytes).map_err(IoTrouble::from),
-        Err(trouble) => Err(trouble),
-    };
+    let outcome = outcome_of(alloc, input, |bytes| answer_to(alloc, id, nodes, bytes));
     print_explained(alloc, output, outcome)
 }
 

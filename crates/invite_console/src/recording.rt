@@ -8,9 +8,7 @@ ghost use Rattle.schedule.specs.Text.{script};
 
 use crate::reasons::bad_schedule;
 use cluster_sim::record_of;
-use console_text::{
-    CommandError, Ended, IoTrouble, Output, Source, print_explained, push_text, read_source,
-};
+use console_text::{CommandError, Ended, Output, Source, outcome_of, print_explained, push_text};
 use line_words::LineFault;
 use schedule::{Schedule, read_schedule};
 use std::alloc::{AllocError, Global};
@@ -26,10 +24,7 @@ pub fn record<R: Read, W: Write>(alloc: Global, input: &mut Source<R>, output: &
     ensures why { IsWhy schedule_flaw (R.remaining input.old.reader) result.ending result.why.items }
     ensures reads { input.old.left ≤ input.new.left + 16777216 }
 {
-    let outcome = match read_source(alloc, input) {
-        Ok(bytes) => record_text(alloc, &bytes).map_err(IoTrouble::from),
-        Err(trouble) => Err(trouble),
-    };
+    let outcome = outcome_of(alloc, input, |bytes| record_text(alloc, &bytes));
     print_explained(alloc, output, outcome)
 }
 

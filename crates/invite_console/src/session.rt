@@ -1,9 +1,7 @@
 ghost use Rattle.std.specs.Prelude.{◌≡◌, ◌<◌, ◌≤◌, ◌++◌, [], IfOk, OnOk, IfSome, true, false, not, is_none, Ok, None};
 ghost use Rattle.group_task.specs.declared.node.TheConstants.{NODES};
 ghost use Rattle.node_core.specs.Start.{alone};
-ghost use Rattle.hex.specs.Hex.{encode_lower};
-ghost use Rattle.wire_msg.specs.Spelling.{spelling};
-ghost use Rattle.console_text.specs.Ends.{line, printout_of};
+ghost use Rattle.console_text.specs.Ends.{printout_of};
 ghost use Rattle.invite_console.specs.Answer.{is_strange, message_lines};
 ghost use Rattle.invite_console.specs.Session.{after_message, Delivers, SameButRoom, TakesNext};
 ghost use Rattle.node_core.specs.Quiet.{IsQuiet};
@@ -134,7 +132,7 @@ fn deliver(
     Ok(Some(core.commit_step(plan, NEXT_COUNT)))
 }
 
-/// Adds messages, a line of hex for each.
+/// Adds messages, a line of hex for each. A spelling is written in place of what `bytes` held.
 fn push_messages(
     text: &mut Vec<u8>,
     bytes: &mut Vec<u8>,
@@ -143,22 +141,11 @@ fn push_messages(
     ensures { OnOk result (text.new.items ≡ text.old.items ++ message_lines messages.now) }
 {
     for message in messages {
-        push_message(text, bytes, message)?;
+        if encode_into(bytes, message).is_err() {
+            return Err(AllocError);
+        }
+        push_hex(text, bytes)?;
+        text.push(b'\n')?;
     }
     Ok(())
-}
-
-/// Adds a message as a line of hex. Its spelling is written in place of what `bytes` held.
-fn push_message(
-    text: &mut Vec<u8>,
-    bytes: &mut Vec<u8>,
-    message: &Message,
-) -> Result<(), AllocError>
-    ensures { OnOk result (text.new.items ≡ text.old.items ++ line (encode_lower (spelling message.now))) }
-{
-    if encode_into(bytes, message).is_err() {
-        return Err(AllocError);
-    }
-    push_hex(text, bytes)?;
-    Ok(text.push(b'\n')?)
 }

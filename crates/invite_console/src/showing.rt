@@ -6,8 +6,8 @@ ghost use Rattle.invite_console.specs.Show.{body_text, fields_text, message_text
 use crate::lines::hex_lines;
 use crate::reasons::{bad_hex, with_reason};
 use console_text::{
-    CommandError, Ended, IoTrouble, Output, Source, print_explained, push_named_number,
-    push_number, push_text, read_source,
+    CommandError, Ended, Output, Source, outcome_of, print_explained, push_named_number,
+    push_number, push_text,
 };
 use line_words::LineFault;
 use node_words::{kind_word, push_answer, push_ids, push_named, push_work_of};
@@ -25,10 +25,7 @@ pub fn show<R: Read, W: Write>(alloc: Global, input: &mut Source<R>, output: &mu
     ensures why { IsWhy show_flaw (R.remaining input.old.reader) result.ending result.why.items }
     ensures reads { input.old.left ≤ input.new.left + 16777216 }
 {
-    let outcome = match read_source(alloc, input) {
-        Ok(bytes) => show_to(alloc, bytes).map_err(IoTrouble::from),
-        Err(trouble) => Err(trouble),
-    };
+    let outcome = outcome_of(alloc, input, |bytes| show_to(alloc, bytes));
     print_explained(alloc, output, outcome)
 }
 

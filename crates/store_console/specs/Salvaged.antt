@@ -1,7 +1,7 @@
 -- The jobs that can still be read of a store whose journal is damaged: in front of the damage and behind it.
 use Rattle.std.specs.Prelude.{◌≡◌, ℕ, ◌+◌, ◌*◌, ◌==◌, ◌||◌, ◌⊎◌, ◌<◌, ◌≤◌, max, nat_lt, not, zero, suc, Bool, true, false, List, [], ◌∷◌}
 use Rattle.std.specs.Prelude.{◌++◌, length, take, drop, replicate, get_or, count_by, flat_map, codes, decimal, if◌then◌else◌, Option, Some}
-use Rattle.std.specs.Prelude.{None, is_some, IsSome, IfSome, Result, Ok, Err}
+use Rattle.std.specs.Prelude.{None, is_some, IsSome, Result, Ok, Err}
 use Rattle.std.specs.List.{list_any}
 use Rattle.std.specs.Int.{from_be_bytes, w64}
 use Rattle.std.specs.Ordering.{nat_cmp}
@@ -14,9 +14,7 @@ use Rattle.sector_disk.specs.Disk.{Image, sector_at}
 use Rattle.slot_gate.specs.Slot.{slot_at}
 use Rattle.job_journal.specs.Areas.{area_of}
 use Rattle.job_journal.specs.Jobs.{Jobs}
-use Rattle.std.specs.Io.KnownBytes.{Appends}
-use Rattle.console_text.specs.Ends.{Printout, ending_of, line}
-use Rattle.console_text.specs.declared.ends.ExitKind.{ExitKind}
+use Rattle.console_text.specs.Ends.{Printout, line}
 use Rattle.node_store.specs.Store.{slots_for}
 use Rattle.store_console.specs.Explained.{apart}
 use Rattle.store_console.specs.Findings.{is_raised}
@@ -205,17 +203,3 @@ pub record IsSalvage (bytes : List ℕ) (printout : Printout) (why : List ℕ) :
 
 abbrev pub IsSalvagePrintout : List ℕ → Printout → Type 0
 IsSalvagePrintout bytes printout = (why : List ℕ) × IsSalvage bytes printout why
-
--- this is said of the bytes that were read, whose text is written; where the reader says its bytes, they are these
-abbrev pub IsSaidOf : Option (List ℕ) → Option (List ℕ) → Option (List ℕ) → ExitKind → List ℕ → Type 0
-IsSaidOf input old new ending why =
-    (bytes : List ℕ) × (printout : Printout) × IfSome input (λ known. known ≡ bytes) × IsSalvage bytes printout why
-    × (ending ≡ ending_of printout.good) × Appends old new printout.text
-
--- What standard error says belongs to what was printed.
-abbrev pub IsTold : Option (List ℕ) → Option (List ℕ) → Option (List ℕ) → ExitKind → List ℕ → Type 0
-IsTold input old new ExitKind.Done why = IsSaidOf input old new ExitKind.Done why
-IsTold input old new ExitKind.Refused why = IsSaidOf input old new ExitKind.Refused why
-IsTold input old new ExitKind.NoMemory why = Unit {0}
-IsTold input old new ExitKind.Unread why = Unit {0}
-IsTold input old new ExitKind.Unwritten why = Unit {0}

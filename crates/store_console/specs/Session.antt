@@ -33,19 +33,24 @@ IsSessionWith input printout why = AnswersRequests input (requests_of input) pri
 abbrev pub IsSession : List ℕ → Printout → Type 0
 IsSession input printout = (why : List ℕ) × IsSessionWith input printout why
 
--- this is said of a session of the bytes that were read, whose text is written; where the reader says its bytes, they are these
-abbrev pub IsSaidOf : Option (List ℕ) → Option (List ℕ) → Option (List ℕ) → ExitKind → List ℕ → Type 0
-IsSaidOf input old new ending why =
-    (bytes : List ℕ) × (printout : Printout) × IfSome input (λ known. known ≡ bytes) × IsSessionWith bytes printout why
+-- this is said of the bytes that were read, whose text is written; where the reader says its bytes, they are these
+abbrev pub Says : (List ℕ → Printout → List ℕ → Type 0) → Option (List ℕ) → Option (List ℕ) → Option (List ℕ) → ExitKind → List ℕ
+    → Type 0
+Says Is input old new ending why =
+    (bytes : List ℕ) × (printout : Printout) × IfSome input (λ known. known ≡ bytes) × Is bytes printout why
     × (ending ≡ ending_of printout.good) × Appends old new printout.text
 
 -- What standard error says belongs to what was printed.
+abbrev pub Tells : (List ℕ → Printout → List ℕ → Type 0) → Option (List ℕ) → Option (List ℕ) → Option (List ℕ) → ExitKind → List ℕ
+    → Type 0
+Tells Is input old new Done why = Says Is input old new Done why
+Tells Is input old new Refused why = Says Is input old new Refused why
+Tells Is input old new NoMemory why = Unit {0}
+Tells Is input old new Unread why = Unit {0}
+Tells Is input old new Unwritten why = Unit {0}
+
 abbrev pub IsTold : Option (List ℕ) → Option (List ℕ) → Option (List ℕ) → ExitKind → List ℕ → Type 0
-IsTold input old new Done why = IsSaidOf input old new Done why
-IsTold input old new Refused why = IsSaidOf input old new Refused why
-IsTold input old new NoMemory why = Unit {0}
-IsTold input old new Unread why = Unit {0}
-IsTold input old new Unwritten why = Unit {0}
+IsTold = Tells IsSessionWith
 
 -- the same, whatever the output
 abbrev pub IsWhyOfIt : Option (List ℕ) → List ℕ → Type 0

@@ -13,7 +13,7 @@ use crate::found::Owner;
 use crate::found_text::{described, jobs_alone, too_small};
 use crate::looking::{counter, journal, owner_of, used};
 use crate::verifying::findings;
-use console_text::{ExitKind, IoTrouble, Output, Source, print, read_source};
+use console_text::{ExitKind, Output, Source, outcome_of, print};
 use node_store::slots_of;
 use sector_disk::{MemDisk, SectorDisk};
 use std::alloc::{AllocError, Global};
@@ -57,10 +57,7 @@ pub fn inspect<R: Read, W: Write>(
     ensures prints { Prints (IsShown shown) (R.remaining file.old.reader) (W.contents output.old) (W.contents output.new) result }
     ensures reads { file.old.left ≤ file.new.left + 16777216 }
 {
-    let outcome = match read_source(alloc, file) {
-        Ok(bytes) => shown_of(alloc, shown, &bytes).map_err(IoTrouble::from),
-        Err(trouble) => Err(trouble),
-    };
+    let outcome = outcome_of(alloc, file, |bytes| shown_of(alloc, shown, &bytes));
     print(output, outcome)
 }
 

@@ -13,9 +13,7 @@ use crate::reasons::reason;
 use crate::reply::Reply;
 use crate::request::{Request, RequestLine};
 use crate::text::push_reply;
-use console_text::{
-    CommandError, Ended, IoTrouble, Output, Source, bad_line, print_explained, read_source,
-};
+use console_text::{CommandError, Ended, Output, Source, bad_line, outcome_of, print_explained};
 use file_disk::{FileDisk, OpenFault};
 use job_journal::JournalFault;
 use line_words::LineFault;
@@ -54,10 +52,7 @@ pub fn store<P: AsPath, R: Read, W: Write>(
     ensures why { IsSessionWhy (R.remaining input.old.reader) result.ending result.why.items }
     ensures reads { input.old.left ≤ input.new.left + 16777216 }
 {
-    let outcome = match read_source(alloc, input) {
-        Ok(bytes) => store_to(rt, alloc, &path, &bytes).map_err(IoTrouble::from),
-        Err(trouble) => Err(trouble),
-    };
+    let outcome = outcome_of(alloc, input, |bytes| store_to(rt, alloc, &path, &bytes));
     print_explained(alloc, output, outcome)
 }
 

@@ -5,8 +5,9 @@ ghost use Rattle.std.specs.Ordering.{nat_cmp};
 ghost use Rattle.std.specs.BTreeMap.{IsOrdered, get};
 ghost use Rattle.console_text.specs.Ends.{Prints, printout_of};
 ghost use Rattle.node_store.specs.Store.{slots_for};
-ghost use Rattle.store_console.specs.Salvaged.{AreSalvaged, IsSalvage, IsSalvagePrintout, IsSalvaged, IsTold, area_reason, content_reason, contents_reasons, entry_line, journal_reason, put_behind, reasoned, salvage_why};
+ghost use Rattle.store_console.specs.Salvaged.{AreSalvaged, IsSalvage, IsSalvagePrintout, IsSalvaged, area_reason, content_reason, contents_reasons, entry_line, journal_reason, put_behind, reasoned, salvage_why};
 ghost use Rattle.store_console.specs.Held.{found_in};
+ghost use Rattle.store_console.specs.Session.{Tells};
 
 use crate::copying::disk_of;
 use crate::explaining::push_apart;
@@ -15,8 +16,8 @@ use crate::looking::journal;
 use crate::salvage_reading::{contents, sure_area};
 use crate::slot_content::{Said, SlotContent};
 use console_text::{
-    CommandError, Ended, IoTrouble, Output, Source, print_explained, push_named_number, push_text,
-    push_work, read_source,
+    CommandError, Ended, Output, Source, outcome_of, print_explained, push_named_number, push_text,
+    push_work,
 };
 use job_journal::JobJournal;
 use job_model::Work;
@@ -36,13 +37,10 @@ pub fn salvage<R: Read, W: Write>(alloc: Global, file: &mut Source<R>, output: &
     // Promise: Standard error says of each slot that a mounting can't read whether it is lost, and why the journal can't be mounted; it ends
     // badly exactly where something is said.
     // Refuses: damage_taken_without_a_word.
-    ensures told { IsTold (R.remaining file.old.reader) (W.contents output.old) (W.contents output.new) result.ending result.why.items }
+    ensures told { Tells IsSalvage (R.remaining file.old.reader) (W.contents output.old) (W.contents output.new) result.ending result.why.items }
     ensures reads { file.old.left ≤ file.new.left + 16777216 }
 {
-    let outcome = match read_source(alloc, file) {
-        Ok(bytes) => salvage_of(alloc, &bytes).map_err(IoTrouble::from),
-        Err(trouble) => Err(trouble),
-    };
+    let outcome = outcome_of(alloc, file, |bytes| salvage_of(alloc, &bytes));
     print_explained(alloc, output, outcome)
 }
 

@@ -12,8 +12,7 @@ use crate::reading::{Setup, read_plans};
 use crate::reasons::bad_plans;
 use crate::writing::write_trace;
 use console_text::{
-    CommandError, Ended, IoTrouble, Output, Source, print_explained, push_named_number, push_text,
-    read_source,
+    CommandError, Ended, Output, Source, outcome_of, print_explained, push_named_number, push_text,
 };
 use group_task::NodeId;
 use line_words::LineFault;
@@ -60,10 +59,7 @@ pub fn threads<T: Threads + Wait + Sync, R: Read, W: Write>(
     ensures why { IsWhy plans_flaw (R.remaining input.old.reader) result.ending result.why.items }
     ensures reads { input.old.left ≤ input.new.left + 16777216 }
 {
-    let outcome = match read_source(alloc, input) {
-        Ok(bytes) => run_text(rt, alloc, kind, &bytes).map_err(IoTrouble::from),
-        Err(trouble) => Err(trouble),
-    };
+    let outcome = outcome_of(alloc, input, |bytes| run_text(rt, alloc, kind, &bytes));
     print_explained(alloc, output, outcome)
 }
 
