@@ -1,23 +1,22 @@
 -- Those that ask at a machine, by steps.
-use Rattle.std.proofs.Common.{◌≡◌, ◌≢◌, ℕ, ◌+◌, ◌<◌, ◌≤◌, Option, Some, None, refl, sym, ap, subst, ◌∙◌, inl, inr, arith}
+use Rattle.std.proofs.Common.{◌≡◌, ◌≢◌, ℕ, ◌+◌, ◌≤◌, Option, Some, None, refl, sym, ap, subst, ◌∙◌, arith}
 use Rattle.lease_runs.specs.declared.client_id.ClientId.{ClientId}
-use Rattle.lease_runs.specs.declared.candidate.LeaseCandidate.{LeaseCandidate}
 use Rattle.lease_runs.specs.Voter.{Client}
 use Rattle.lease_runs.specs.Run.{ClientEvent, asks, hears, stops}
 use Rattle.lease_runs.specs.Candidate.{Candidate, MayAct, after_act, beginning}
-use Rattle.lease_runs.specs.CandidateCode.{IsActed, Shows}
+use Rattle.lease_runs.specs.CandidateCode.{Shows}
 use Rattle.lease_runs.specs.Code.{ask_of, client_of}
-use Rattle.lease_network.specs.Network.{Name, Terms, Machine, MayAsk, acted, ask_at, at_client, at_name, candidate_then}
+use Rattle.lease_network.specs.Network.{Name, Terms, Machine, MayAsk, acted, ask_at, at_name, candidate_then}
 use Rattle.lease_machine.specs.declared.name_entry.Claim.{Claim}
 use Rattle.lease_machine.specs.declared.state.LeaseMachine.{LeaseMachine}
 use Rattle.lease_machine.specs.Kept.{IsOwn}
-use Rattle.lease_machine.specs.Machine.{GoesOn, OthersSame, OthersStay, Stays, claim_at, voter_at}
-use Rattle.lease_machine.specs.Claims.{IsSameClaim}
+use Rattle.lease_machine.specs.Machine.{GoesOn, OthersSame, claim_at, voter_at}
+use Rattle.lease_machine.specs.Claims.{Acts, IsSameClaim}
 use Rattle.lease_machine.specs.Standing.{Stands}
 use Rattle.lease_steps.specs.StandsFor.{StandsFor, clock_of}
 use Rattle.lease_steps.specs.Laws.{AsksBySteps, ClaimsByNone, HearsBySteps, StopsBySteps, WithdrawsByNone}
 use Rattle.lease_steps.proofs.Entries.{by_client, by_name, by_test, own_at}
-use Rattle.lease_steps.proofs.Voting.{Staying, are_still, same_clock, shows_still}
+use Rattle.lease_steps.proofs.Voting.{Staying, are_still, shows_still}
 
 the_claim : (a b : Claim) → Some a ≡ Some b → a ≡ b
 the_claim a b e = cc
@@ -34,8 +33,7 @@ voters_still old new terms now m name mine others goes s other =
     (λ same. turned (subst (λ (n : Name). voter_at new n ≡ voter_at old n) same mine)) (λ differ. turned (others other differ).0)
   where
     turned : voter_at new other ≡ voter_at old other → Stands new.process now (voter_at new other) (m.voter other)
-    turned is = subst (λ (p : ℕ). Stands p now (voter_at new other) (m.voter other)) (sym goes.process)
-        (subst (λ v. Stands old.process now v (m.voter other)) (sym is) (s.voters other))
+    turned is = rw (goes.process, is) (s.voters other)
 
 -- ---- what a client does for one name
 
@@ -102,11 +100,7 @@ did old new terms now at m name what shows s x voter others goes = (
 
     then : Shows (clock_of terms old) x.d.candidate (candidate_then terms self m at what name)
     then = subst (λ (k : ℕ → ℕ). Shows (clock_of terms old) x.d.candidate
-        (after_act terms.nodes terms.relies_for k (m.candidate self.number name) at what)) its_clock
-        (subst (λ (r : ℕ). Shows (clock_of terms old) x.d.candidate
-        (after_act terms.nodes r (clock_of terms old) (m.candidate self.number name) at what)) relies
-        (subst (λ (n : ℕ). Shows (clock_of terms old) x.d.candidate
-        (after_act n x.c.candidate.relies_for (clock_of terms old) (m.candidate self.number name) at what)) nodes h.1))
+        (after_act terms.nodes terms.relies_for k (m.candidate self.number name) at what)) its_clock (rw (nodes, relies) at h.1)
 
     -- the claim of the name is the one that acted
     the_one : (other : Name) (k : Claim) → name ≡ other → claim_at new other ≡ Some k → x.d ≡ k
@@ -134,34 +128,33 @@ did old new terms now at m name what shows s x voter others goes = (
 same_as : (old : LeaseMachine) (name : Name) (a b : Claim) → claim_at old name ≡ Some a → claim_at old name ≡ Some b → a ≡ b
 same_as old name a b first second = the_claim a b (sym first ∙ second)
 
+-- of the claim that acted
+abbrev acts_so : {what : ClientId → ℕ → ClientEvent} (old new : LeaseMachine) (now : ℕ) (name : Name) (at : ℕ)
+    → (acts : Acts (claim_at old name) (claim_at new name) now what)
+    → Doing old new now name at (what acts.c.candidate.client at)
+acts_so old new now name at acts = record {
+  c = acts.c;
+  d = acts.d;
+  was = acts.was;
+  is = acts.is;
+  same = acts.same;
+  acts = λ clock v shown showing. acts.acted clock at v shown showing;
+}
+
 pub asked : AsksBySteps
 asked old new now epoch number name c was acts voter others goes terms at m shows s =
-    let same = same_as old name acts.c c acts.was was in
     subst (λ (k : Claim). MayAsk terms (client_of k.candidate.client) m at (asks (ask_of k.candidate.client number epoch at)) name
     × StandsFor terms now new (acted terms (client_of k.candidate.client) m at name (asks (ask_of k.candidate.client number epoch at))))
-    same
-    (did old new terms now at m name (asks (ask_of acts.c.candidate.client number epoch at)) shows s (record {
-      c = acts.c;
-      d = acts.d;
-      was = acts.was;
-      is = acts.is;
-      same = acts.same;
-      acts = λ clock v shown showing. acts.acted clock at v shown showing;
-    }) voter others goes)
+    (same_as old name acts.c c acts.was was)
+    (did old new terms now at m name (asks (ask_of acts.c.candidate.client number epoch at)) shows s (acts_so old new now name at acts)
+    voter others goes)
 
 pub stopped : StopsBySteps
 stopped old new now epoch name c was acts voter others goes terms at m shows s =
-    let same = same_as old name acts.c c acts.was was in
     let h = subst (λ (k : Claim). MayAsk terms (client_of k.candidate.client) m at (stops epoch) name
-    × StandsFor terms now new (acted terms (client_of k.candidate.client) m at name (stops epoch))) same
-    (did old new terms now at m name (stops epoch) shows s (record {
-      c = acts.c;
-      d = acts.d;
-      was = acts.was;
-      is = acts.is;
-      same = acts.same;
-      acts = λ clock v shown showing. acts.acted clock at v shown showing;
-    }) voter others goes) in
+    × StandsFor terms now new (acted terms (client_of k.candidate.client) m at name (stops epoch)))
+    (same_as old name acts.c c acts.was was)
+    (did old new terms now at m name (stops epoch) shows s (acts_so old new now name at acts) voter others goes) in
     ((refl, h.0), h.1)
 
 pub heard : HearsBySteps
@@ -203,7 +196,7 @@ claimed stay old new now user name begun counts voter others goes terms m s = re
         let unused : m.candidate begun.c.candidate.client.number other ≡ beginning =
         s.unused begun.c.candidate.client.number other (omega (arith, number)) in
         subst (λ (y : Claim). Shows (clock_of terms new) y.candidate (m.candidate y.candidate.client.number other)) the_one
-        (subst (λ (v : Candidate). Shows (clock_of terms new) begun.c.candidate v) (sym unused) (begun.new.begins (clock_of terms new)))
+        (rw unused (begun.new.begins (clock_of terms new)))
 
 pub withdrawn : WithdrawsByNone
 withdrawn old new now name nobody voter others goes terms m s = record {

@@ -1,19 +1,17 @@
 -- What a machine shows as held.
-use Rattle.std.proofs.Common.{◌≡◌, ℕ, ◌+◌, ◌<◌, ◌≤◌, Bool, true, false, List, Option, Some, None, refl, sym, ap, subst, ◌∙◌, arith}
-use Rattle.std.specs.Prelude.{option_map, ltb}
+use Rattle.std.proofs.Common.{◌≡◌, ℕ, ◌+◌, ◌<◌, true, Option, Some, None, refl, sym, ap, subst, ◌∙◌, arith}
+use Rattle.std.specs.Prelude.{ltb}
 use Rattle.lease_runs.specs.declared.candidate.Request.{Request}
 use Rattle.lease_runs.specs.Voter.{Ask, Client}
-use Rattle.lease_runs.specs.Candidate.{Candidate, is_in_time}
+use Rattle.lease_runs.specs.Candidate.{is_in_time}
 use Rattle.lease_runs.specs.CandidateCode.{IsSent, by_clock, shown}
 use Rattle.lease_runs.specs.Code.{client_of}
-use Rattle.lease_network.specs.Network.{Name, Terms, Step, machines}
-use Rattle.lease_network.specs.Laws.{Holds, up_to}
+use Rattle.lease_network.specs.Network.{machines}
+use Rattle.lease_network.specs.Laws.{up_to}
 use Rattle.lease_machine.specs.declared.name_entry.Claim.{Claim}
-use Rattle.lease_machine.specs.declared.state.LeaseMachine.{LeaseMachine}
 use Rattle.lease_machine.specs.Kept.{IsOwn}
-use Rattle.lease_machine.specs.Machine.{claim_at}
-use Rattle.lease_steps.specs.StandsFor.{StandsFor, clock_of}
-use Rattle.lease_steps.specs.Laws.{HeldIsHeld, HoldsBy}
+use Rattle.lease_steps.specs.StandsFor.{clock_of}
+use Rattle.lease_steps.specs.Laws.{HeldIsHeld}
 use Rattle.lease_steps.proofs.Entries.{own_at}
 
 the_claim : (a b : Claim) → Some a ≡ Some b → a ≡ b

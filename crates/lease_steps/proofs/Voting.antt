@@ -1,17 +1,16 @@
 -- A machine as a voter, by steps.
-use Rattle.std.proofs.Common.{◌≡◌, ◌≢◌, ℕ, ◌+◌, ◌<◌, ◌≤◌, List, Option, Some, None, refl, sym, ap, subst, ◌∙◌, inl, inr, arith}
+use Rattle.std.proofs.Common.{◌≡◌, ℕ, ◌≤◌, Option, Some, None, refl, sym, ap, subst, ◌∙◌, inl, arith}
 use Rattle.lease_runs.specs.declared.voter.LeaseVoter.{LeaseVoter}
 use Rattle.lease_runs.specs.declared.candidate.LeaseCandidate.{LeaseCandidate}
-use Rattle.lease_runs.specs.declared.client_id.ClientId.{ClientId}
 use Rattle.lease_runs.specs.Voter.{Client, Voter, VoterEvent, IsPossible, after, grants, raises, releases, restarts}
-use Rattle.lease_runs.specs.Candidate.{Candidate, beginning}
+use Rattle.lease_runs.specs.Candidate.{Candidate}
 use Rattle.lease_runs.specs.CandidateCode.{Shows}
 use Rattle.lease_runs.specs.Code.{IsStep, ask_of, client_of, view}
-use Rattle.lease_network.specs.Network.{Name, Terms, Machine, MayVote, at_name, begins, done, voter_then}
+use Rattle.lease_network.specs.Network.{Name, Terms, Machine, MayVote, at_name, voter_then}
 use Rattle.lease_machine.specs.declared.name_entry.Claim.{Claim}
 use Rattle.lease_machine.specs.declared.state.LeaseMachine.{LeaseMachine}
 use Rattle.lease_machine.specs.declared.terms.LeaseTerms.{LeaseTerms}
-use Rattle.lease_machine.specs.Machine.{GoesOn, OthersSame, OthersStay, Stays, claim_at, voter_at}
+use Rattle.lease_machine.specs.Machine.{GoesOn, OthersStay, Stays, claim_at, voter_at}
 use Rattle.lease_machine.specs.Standing.{Stands}
 use Rattle.lease_steps.specs.StandsFor.{AreOf, StandsFor, clock_of}
 use Rattle.lease_steps.specs.Laws.{BeginsBySteps, RaisesBySteps, ReleasesBySteps, StandsOn, VotesBySteps}
@@ -32,7 +31,7 @@ Stepping = (boot now : ℕ) (c d : LeaseVoter) (what : VoterEvent) (v : Voter) (
 -- ---- what stays with the terms and the process
 
 pub are_still : (old new : LeaseMachine) (terms : Terms) → new.terms ≡ old.terms → AreOf old.terms terms → AreOf new.terms terms
-are_still old new terms same are = subst (λ (t : LeaseTerms). AreOf t terms) (sym same) are
+are_still old new terms same are = rw same are
 
 pub same_clock : (old new : LeaseMachine) (terms : Terms) → new.terms ≡ old.terms → new.process ≡ old.process
     → clock_of terms old ≡ clock_of terms new
@@ -63,8 +62,7 @@ voted law old new terms now at m name by what own shows s step =
     let h = law old.process now (voter_at old name) (voter_at new name) what (m.voter name)
     (terms.clock by.machine) at clock step (s.voters name) in
     let keeps : (voter_at old name).keeps ≡ terms.keeps = keeps_at old name ∙ sym s.are.keeps in
-    subst (λ (k : ℕ). IsPossible k (terms.clock by.machine) (m.voter name) at what
-    × Stands old.process now (voter_at new name) (after k (terms.clock by.machine) (m.voter name) at what)) keeps h
+    rw keeps at h
 
 -- and of no other name
 pub voted_one : Staying → Stepping → (old new : LeaseMachine) (terms : Terms) (now at : ℕ) (m : Machine) (name : Name) (by : Client)
@@ -147,9 +145,4 @@ begun new now floor bound by machine boot none_yet less begins_so nobody terms a
 
     is : (name : Name) → view new.process (voter_at new name) ≡ after terms.keeps (terms.clock by.machine)
         (after terms.keeps (terms.clock by.machine) (m.voter name) at (restarts by.boot floor)) at (raises bound)
-    is name =
-        subst (λ (b : ℕ). view new.process (voter_at new name) ≡ after terms.keeps (terms.clock by.machine)
-        (after terms.keeps (terms.clock by.machine) (m.voter name) at (restarts b floor)) at (raises bound)) (sym boot)
-        (subst (λ (k : ℕ). view new.process (voter_at new name) ≡ after k (terms.clock by.machine)
-        (after k (terms.clock by.machine) (m.voter name) at (restarts new.process floor)) at (raises bound)) (sym are.keeps)
-        (begins_so name (m.voter name) (terms.clock by.machine) new.process at clock))
+    is name = rw boot (begins_so name (m.voter name) (terms.clock by.machine) new.process at clock)
