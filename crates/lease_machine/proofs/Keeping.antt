@@ -172,8 +172,7 @@ asked_like v w now client epoch true granted same =
       keeps = h.2;
       began = ap (λ (x : Voter). x.began) h.1;
       bound = ap (λ (x : Voter). x.bound) h.1;
-      last =
-          λ _. omega (arith, h.0.1, ap (λ (x : Voter). x.last) h.1);
+      last = λ _. omega (arith, h.0.1, ap (λ (x : Voter). x.last) h.1);
     }
 
 pub released_like : (v w : LeaseVoter) (client : ClientId) (epoch : ℕ) (b : Bool)
@@ -185,8 +184,7 @@ released_like v w client epoch true freed same =
       keeps = h.2;
       began = ap (λ (x : Voter). x.began) h.1;
       bound = ap (λ (x : Voter). x.bound) h.1;
-      last =
-          λ less. omega (arith, less, ap (λ (x : Voter). x.last) h.1);
+      last = λ less. omega (arith, less, ap (λ (x : Voter). x.last) h.1);
     }
 
 -- ---- all voters are raised

@@ -102,8 +102,7 @@ find_step true test from place e es rest is h next = record {
   k = zero;
   d = e;
   place-is = omega (arith, the_place from place h);
-  at =
-      refl;
+  at = refl;
   passes = is;
 }
 find_step false test from place e es rest is h next = later from place e es test (next h)

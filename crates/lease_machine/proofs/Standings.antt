@@ -18,8 +18,7 @@ later boot now time c v less (inr b) =
       began = b.began;
       last = b.last;
       free = b.free;
-      over =
-          elim b.over [ inl none ↦ inl none | inr ends ↦ inr (omega (arith, ends, less)) ];
+      over = elim b.over [ inl none ↦ inl none | inr ends ↦ inr (omega (arith, ends, less)) ];
     })
 
 over_is : (holder : Option ClientId) (ends now : ℕ) → is_over holder ends now ≡ true → (option_map client_of holder ≡ None) ⊎ (ends ≤ now)
@@ -79,8 +78,7 @@ behind_steps boot now c d (grants ask) v clock at shows b possible is =
         began = began i;
         last = ask.epoch;
         holder = Some ask.client;
-        ends =
-            clock (booted i) at + c.keeps;
+        ends = clock (booted i) at + c.keeps;
       })),
     )
 behind_steps boot now c d passes v clock at shows b possible is = (

@@ -9,7 +9,6 @@ returns-in-Some-clause-asks c =
     let old = c.in-Some.claim in
     let new : Claim = record { user = old.user; candidate = c.ask.new.self } in
     asked_made c.args.self.now.claim (Some new) old new c.args.now c.args.epoch c.ask.result c.in-Some.is refl (record {
-      user =
-          refl;
+      user = refl;
       terms = c.ask.ensures.terms;
     }) c.ask.ensures.asks

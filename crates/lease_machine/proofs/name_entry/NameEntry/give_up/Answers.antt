@@ -12,6 +12,5 @@ returns-in-Some-clause-stops c = λ _ now.
       was = c.in-Some.is;
       is = refl;
       same = record { user = refl; terms = c.give_up.ensures.terms };
-      acted =
-          c.give_up.ensures.stops now;
+      acted = c.give_up.ensures.stops now;
     }

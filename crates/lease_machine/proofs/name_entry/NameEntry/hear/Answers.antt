@@ -12,7 +12,6 @@ returns-in-Some-clause-hears c = λ _.
       was = c.in-Some.is;
       is = refl;
       same = record { user = refl; terms = c.hear.ensures.terms };
-      own =
-          search rules;
+      own = search rules;
       heard = c.hear.ensures.hears;
     }

@@ -6,8 +6,7 @@ returns-then-place_claim-clause-claimed c = λ _. (
   search rules,
   record {
     c = c.in-Some.claim;
-    is =
-        c.place_claim.ensures.placed c.if-place_claim.true;
+    is = c.place_claim.ensures.placed c.if-place_claim.true;
     new = c.in-Some.ensures.new;
   },
 )

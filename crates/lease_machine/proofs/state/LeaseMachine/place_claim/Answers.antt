@@ -14,8 +14,7 @@ invariant_of-self c =
     let m = c.args.self.now in
     let e = c.index_mut.result.now in
     let r = name_read c.args.name.now c.deref.ensures.value c.place_of.ensures c.in-Some.is m.kept.apart e (record e {
-      claim =
-          Some c.args.claim;
+      claim = Some c.args.claim;
     }) c.index_mut.ensures.value refl in
     record {
       kept = kept_like m.kept r refl (like_same e.voter e.voter refl) (λ y h. rw (the_claim c.args.claim y h) at c.requires);
@@ -27,8 +26,7 @@ returns-in-Some c =
     let m = c.args.self.now in
     let e = c.index_mut.result.now in
     let r = name_read c.args.name.now c.deref.ensures.value c.place_of.ensures c.in-Some.is m.kept.apart e (record e {
-      claim =
-          Some c.args.claim;
+      claim = Some c.args.claim;
     }) c.index_mut.ensures.value refl in
     record {
       placed = λ _. ap claim_in r.new;

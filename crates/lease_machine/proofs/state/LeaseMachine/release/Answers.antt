@@ -12,8 +12,7 @@ invariant_of-self c =
     let m = c.args.self.now in
     let e = c.index_mut.result.now in
     let r = name_read c.args.name.now c.deref.ensures.value c.place_of.ensures c.in-Some.is m.kept.apart e (record e {
-      voter =
-          c.release.new.self;
+      voter = c.release.new.self;
     }) c.index_mut.ensures.value refl in
     record {
       kept = kept_like m.kept r refl (released_like e.voter c.release.new.self c.args.client c.args.epoch c.release.result
@@ -26,8 +25,7 @@ returns-in-Some c =
     let m = c.args.self.now in
     let e = c.index_mut.result.now in
     let r = name_read c.args.name.now c.deref.ensures.value c.place_of.ensures c.in-Some.is m.kept.apart e (record e {
-      voter =
-          c.release.new.self;
+      voter = c.release.new.self;
     }) c.index_mut.ensures.value refl in
     record {
       frees = λ freed now. rw (r.old, r.new) (c.release.ensures.frees freed now);

@@ -19,8 +19,7 @@ returns c =
       began = m.began;
       last = m.floor;
       holder = None;
-      ends =
-          0;
+      ends = 0;
     } in
     let view_is = c.restart-voter.ensures.begins (opening (λ boot at. 0)) (λ boot at. m.began) 0 0 refl in
     let is : c.restart-voter.result ≡ restarted = voter_same c.restart-voter.result restarted (c.restart-voter.ensures.keeps

@@ -72,8 +72,7 @@ invariant_of-self c =
     let m = c.args.self.now in
     let e = c.index_mut.result.now in
     let r = name_read c.args.name.now c.deref.ensures.value c.place_of.ensures c.in-Some.is m.kept.apart e (record e {
-      voter =
-          c.ask-2.new.self;
+      voter = c.ask-2.new.self;
     }) c.index_mut.ensures.value refl in
     record {
       kept = kept_like m.kept r refl (asked_like e.voter c.ask-2.new.self c.args.now c.args.client c.args.epoch c.ask-2.result
@@ -86,8 +85,7 @@ returns-then-ask c =
     let m = c.args.self.now in
     let e = c.index_mut.result.now in
     let r = name_read c.args.name.now c.deref.ensures.value c.place_of.ensures c.in-Some.is m.kept.apart e (record e {
-      voter =
-          c.ask-2.new.self;
+      voter = c.ask-2.new.self;
     }) c.index_mut.ensures.value refl in
     record {
       granted = λ _ number sent. rw (r.old, r.new) (c.ask-2.ensures.grants c.if-ask.true number sent);
@@ -105,8 +103,7 @@ returns-else-ask c =
     let m = c.args.self.now in
     let e = c.index_mut.result.now in
     let r = name_read c.args.name.now c.deref.ensures.value c.place_of.ensures c.in-Some.is m.kept.apart e (record e {
-      voter =
-          c.ask-2.new.self;
+      voter = c.ask-2.new.self;
     }) c.index_mut.ensures.value refl in
     record {
       granted = λ no. absurd cc;
