@@ -1,38 +1,26 @@
 -- The list of names, and what becomes of each when one entry is written, or one more is added.
 use Rattle.std.proofs.Common.{◌≡◌, ◌≢◌, ℕ, zero, suc, ◌+◌, ◌<◌, Bool, true, false, cond, List, [], ◌∷◌, ◌++◌, length, get_or, refl, sym, ap}
 use Rattle.std.proofs.Common.{subst, ◌∙◌, arith}
-use Rattle.std.specs.Prelude.{◌⊎◌, ◌&&◌, is_none, Option, Some, None, option_map, map, set, nat_eq}
+use Rattle.std.specs.Prelude.{◌⊎◌, ◌&&◌, is_none, Option, Some, None, option_map, map, set}
 use Rattle.std.proofs.Common.{inl, inr}
 use Rattle.std.specs.List.{AllByRecursion}
-use Rattle.std.proofs.lemmas.Bool.{eqb-true}
+use Rattle.std.proofs.lemmas.Bool.{false_from_ne_true}
+use Rattle.std.proofs.lemmas.Slice.Eq.{bytes_eq-Decides}
 use Rattle.std.proofs.lemmas.Cmp.{nat_list_eq_equiv}
 use Rattle.lease_machine.specs.declared.name_entry.NameEntry.{NameEntry}
 use Rattle.lease_machine.specs.Names.{is_same, entry_of, are_apart, is_dead, place_from, dead_from}
 
 pub same_name : (a b : List ℕ) → is_same a b ≡ true → a ≡ b
-same_name [] [] e = refl
-same_name [] (y ∷ b) e = absurd cc
-same_name (x ∷ a) [] e = absurd cc
-same_name (x ∷ a) (y ∷ b) e =
-    let both = parts (nat_eq x y) (is_same a b) e in
-    ap (λ (z : ℕ). z ∷ a) (eqb-true x y both.0) ∙ ap (λ (c : List ℕ). y ∷ c) (same_name a b both.1)
-  where
-    parts : (p q : Bool) → (p && q) ≡ true → (p ≡ true) × (q ≡ true)
-    parts true q h = (refl, h)
-    parts false q h = absurd cc
+same_name a b = (bytes_eq-Decides a b).0
 
 pub self_same : (a b : List ℕ) → a ≡ b → is_same a b ≡ true
-self_same a b e = subst (λ (c : List ℕ). is_same a c ≡ true) e (nat_list_eq_equiv.refl a)
+self_same a b = (bytes_eq-Decides a b).1
 
 turned : (a b : List ℕ) (v : Bool) → is_same a b ≡ v → is_same b a ≡ v
 turned a b v e = nat_list_eq_equiv.symm b a ∙ e
 
 pub unlike : (a b : List ℕ) → a ≢ b → is_same a b ≡ false
-unlike a b differ = by_test (is_same a b) refl
-  where
-    by_test : (v : Bool) → is_same a b ≡ v → v ≡ false
-    by_test false e = refl
-    by_test true e = absurd (differ (same_name a b e))
+unlike a b differ = false_from_ne_true (is_same a b) (λ e. differ (same_name a b e))
 
 -- no name stands twice
 abbrev pub AreApart : List NameEntry → Type 0
