@@ -1,5 +1,5 @@
 //! What decides, without a socket or a process: it is told the time with each turn, and reaches the world by its ports alone. The daemon runs it over sockets,
-//! and the simulation in memory. Leases alone read the clock themselves, for they go by the time at which a line of theirs is handed over.
+//! and the simulation in memory. Leases alone ask for the time themselves, for they go by that at which a line of theirs is handed over.
 
 use super::announcing::Announcing;
 use super::datagrams::Waiting;
@@ -10,6 +10,7 @@ use super::losses::Looking;
 use super::opening::Opening;
 use super::pages::PendingJobs;
 use super::{Asker, FIRST_CLIENT};
+use crate::boot_time::BootTime;
 use crate::clock::Clock;
 use crate::config::Config;
 use crate::fill::Fill;
@@ -35,6 +36,18 @@ pub(super) trait Ports {
     type Names: Names;
     type Pages: Pages;
     type Lease: LeasePort;
+
+    /// The time by which leases go.
+    fn boot_time(&self) -> BootTime;
+
+    /// Among how many machines this one voted for leases, where that was kept.
+    fn kept_voters(&self, config: &Config) -> Option<u8>;
+
+    /// Keeps that.
+    fn keep_voters(&self, config: &Config, count: u8) -> io::Result<()>;
+
+    /// Whether there is a file of leases.
+    fn has_lease_file(&self, config: &Config) -> bool;
 
     /// Starts the process of leases, which so many machines grant.
     fn start_lease(&self, config: &Config, voters: u8) -> io::Result<Self::Lease>;
@@ -132,10 +145,10 @@ impl<P: Ports> Core<P> {
         let Parts { ports, config, path, life, node, slots, link, is_ipv6, door, resolver, http, seal, cipher, metrics, notify } = parts;
         let (nodes, round_trip) = (config.nodes.len(), Duration::from_millis(config.round_trip_ms));
         Ok(Core {
+            leases: Leases::of(&config, &ports, now),
             ports,
             node,
             lives: vec![None; nodes],
-            leases: Leases::of(&config, now),
             holding: Holding::new(round_trip),
             clock: Clock::new(config.round_trip_ms, now),
             refusals: Refusals::new(nodes, round_trip),

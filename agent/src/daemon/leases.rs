@@ -51,7 +51,7 @@ pub(super) struct Leases<P: Ports> {
 
 impl<P: Ports> Leases<P> {
     /// Those of a configuration that has leases.
-    pub(super) fn of(config: &Config, now: Instant) -> Option<Leases<P>> {
+    pub(super) fn of(config: &Config, ports: &P, now: Instant) -> Option<Leases<P>> {
         (config.lease_ms > 0).then(|| Leases {
             process: None,
             claims: Claims::default(),
@@ -60,7 +60,7 @@ impl<P: Ports> Leases<P> {
             pause: Duration::ZERO,
             again: Vec::new(),
             again_at: now,
-            count_of_voters: Count::of(config, now),
+            count_of_voters: Count::of(config, ports.kept_voters(config), now),
             silence: Silence::new(config.nodes.len(), Duration::from_millis(config.lease_ms), now),
         })
     }
@@ -74,8 +74,7 @@ impl<P: Ports> Leases<P> {
     }
 
     /// How many leases this machine has.
-    pub(super) fn count(&self) -> usize {
-        let now = BootTime::now();
+    pub(super) fn count(&self, now: BootTime) -> usize {
         self.claims.all_held().filter(|(_, _, until)| *until > now).count()
     }
 
@@ -98,7 +97,7 @@ impl<P: Ports> Leases<P> {
         self.claims.gone(client);
     }
 
-    pub(super) fn sleep(&self, now: Instant) -> Duration {
+    pub(super) fn sleep(&self, now: Instant, boot: BootTime) -> Duration {
         let of_voters = self.count_of_voters.sleep(now).min(self.silence.sleep(now));
         let process = match &self.process {
             None if self.count_of_voters.now().is_none() => return of_voters,
@@ -111,13 +110,13 @@ impl<P: Ports> Leases<P> {
         let tick = self.due.filter(|_| process.is_quiet());
         let next = tick.into_iter().chain(self.claims.next_over()).min();
         let again = if self.again.is_empty() { Duration::MAX } else { self.again_at.saturating_duration_since(now) };
-        next.map_or(Duration::MAX, |next| next.since(BootTime::now())).min(again).min(of_voters)
+        next.map_or(Duration::MAX, |next| next.since(boot)).min(again).min(of_voters)
     }
 
     fn start(&mut self, config: &Config, voters: u8, ports: &P, now: Instant) {
         self.start = now;
         let (file, program) = (config.lease_file(), config.program.display());
-        let made = file.exists().then(|| ports.start_lease(config, voters));
+        let made = ports.has_lease_file(config).then(|| ports.start_lease(config, voters));
         let why = match made {
             Some(Ok(process)) => return self.process = Some(process),
             Some(Err(why)) => format!("{program} can't be run: {why}"),
@@ -153,8 +152,8 @@ impl<P: Ports> Leases<P> {
     }
 
     /// Tells the process the time, where it wants to know it and has answered all else.
-    fn tick(&mut self) {
-        let is_due = self.due.map_or(false, |due| due <= BootTime::now());
+    fn tick(&mut self, boot: BootTime) {
+        let is_due = self.due.map_or(false, |due| due <= boot);
         if let Some(process) = self.process.as_mut().filter(|process| is_due && process.is_ready() && process.is_quiet()) {
             self.due = None;
             process.say("tick", "");
@@ -171,8 +170,7 @@ impl<P: Ports> Leases<P> {
     }
 
     /// These, each with its epoch and what is left of it.
-    pub(super) fn rows(&self) -> Vec<Row> {
-        let now = BootTime::now();
+    pub(super) fn rows(&self, now: BootTime) -> Vec<Row> {
         let left = |until: BootTime| u64::try_from(until.since(now).as_millis()).unwrap_or(0);
         let rows = self.claims.all_held().map(|(name, epoch, until)| Row { name: name.to_string(), epoch, left_ms: left(until) });
         rows.filter(|row| row.left_ms > 0).collect()
@@ -200,10 +198,10 @@ impl<P: Ports> Core<P> {
             if !goes_on {
                 leases.restart(now);
             }
-            let orders = leases.claims.give_up_gone(BootTime::now());
+            let orders = leases.claims.give_up_gone(self.ports.boot_time());
             leases.tell(orders);
             leases.try_again(now);
-            leases.tick();
+            leases.tick(self.ports.boot_time());
         }
     }
 
@@ -228,7 +226,7 @@ impl<P: Ports> Core<P> {
             LeaseLine::Held { name, client: number, .. } if self.is_silent(&name, number, now) => self.leave(name, number),
             line => {
                 if let Some(leases) = &mut self.leases {
-                    let told = leases.take(line, now);
+                    let told = leases.take(line, now, self.ports.boot_time());
                     told.into_iter().for_each(|told| self.tell_of_lease(told));
                 }
             }
@@ -297,7 +295,7 @@ impl<P: Ports> Core<P> {
             self.came_from(of_leases::sender(message), from, now);
         }
         let process = self.leases.as_mut().and_then(|leases| leases.process.as_mut());
-        match process.filter(|process| process.has_room()) {
+        match process.filter(|process| process.has_room(now)) {
             Some(process) => {
                 process.say("deliver", &hex::encode(message));
                 self.metrics.lease_messages.with_label_values(&["in"]).inc();
@@ -318,7 +316,7 @@ impl<P: Ports> Core<P> {
         match leases.claims.acquire(client, name) {
             Ok(order) => {
                 leases.tell(order);
-                Reply::ok().with("now_ms", BootTime::now().ms())
+                Reply::ok().with("now_ms", self.ports.boot_time().ms())
             }
             Err(refusal) => refused(refusal),
         }
@@ -359,7 +357,7 @@ impl<P: Ports> Core<P> {
 
     /// The leases that this machine has.
     pub(super) fn list_leases(&self) -> Reply {
-        let rows = self.leases.as_ref().map_or_else(Vec::new, Leases::rows);
+        let rows = self.leases.as_ref().map_or_else(Vec::new, |leases| leases.rows(self.ports.boot_time()));
         Reply::ok().with("lease_ms", self.config.lease_ms).with("leases", rows).with("voters", self.voting().now)
     }
 }
@@ -373,12 +371,12 @@ enum TellsOfLease {
 
 impl<P: Ports> Leases<P> {
     /// What is to be told of a line of the process.
-    fn take(&mut self, line: LeaseLine, now: Instant) -> Vec<TellsOfLease> {
+    fn take(&mut self, line: LeaseLine, now: Instant, boot: BootTime) -> Vec<TellsOfLease> {
         match line {
             LeaseLine::Process { count } => {
                 info!("leases: process {count}");
                 // who begins grants nothing for a while, from when it is first told the time
-                self.due = Some(BootTime::now());
+                self.due = Some(boot);
                 let (told, orders) = self.claims.begin_anew();
                 self.tell(orders);
                 return told.into_iter().map(|told| TellsOfLease::Client(told, true)).collect();

@@ -29,10 +29,11 @@ use answers::NOT_IN_HAND;
 pub use asker::{Asker, Origin};
 pub use signals::Beginning;
 
+use crate::boot_time::BootTime;
 use crate::config::Config;
 use crate::forward::{self, read_keys, Seal};
 use crate::http::{Records, Server};
-use crate::lease::LeaseProcess;
+use crate::lease::{read_voters, write_voters, LeaseProcess};
 use crate::metrics::Metrics;
 use crate::net::{Cipher, Link, Network, News};
 use crate::node::{Exchange, Lane, NodeProcess};
@@ -110,6 +111,22 @@ impl Ports for Sockets {
     type Names = Resolver;
     type Pages = Server;
     type Lease = LeaseProcess;
+
+    fn boot_time(&self) -> BootTime {
+        BootTime::now()
+    }
+
+    fn kept_voters(&self, config: &Config) -> Option<u8> {
+        read_voters(&config.lease_file())
+    }
+
+    fn keep_voters(&self, config: &Config, count: u8) -> io::Result<()> {
+        write_voters(&config.lease_file(), count)
+    }
+
+    fn has_lease_file(&self, config: &Config) -> bool {
+        config.lease_file().exists()
+    }
 
     fn start_lease(&self, config: &Config, voters: u8) -> io::Result<LeaseProcess> {
         LeaseProcess::start(config, voters, &self.registry, LEASE_INPUT, LEASE_OUTPUT)
@@ -365,7 +382,7 @@ impl<P: Ports> Core<P> {
         };
         let wait = |next: Option<Instant>| next.map_or(Duration::MAX, |next| next.saturating_duration_since(now));
         let of_clients = wait(self.clients.next_beat()).min(wait(self.hand.next_due()));
-        let leases = self.leases.as_ref().map_or(Duration::MAX, |leases| leases.sleep(now));
+        let leases = self.leases.as_ref().map_or(Duration::MAX, |leases| leases.sleep(now, self.ports.boot_time()));
         let leases = leases.min(self.refusals.sleep(now)).min(self.unasked_in(now)).min(self.announcing.sleep(now)).min(self.looking.sleep(now)).min(self.notify.sleep(now));
         let clock = self.holding.left(now).unwrap_or_else(|| self.clock.sleep(now));
         clock.min(until).min(self.pace.sleep(now)).min(majority).min(of_clients).min(leases)

@@ -44,7 +44,7 @@ impl<P: Ports> Core<P> {
             "/state" => self.state(now),
             "/metrics" => {
                 self.metrics.lease_up.set(i64::from(self.leases.as_ref().map_or(false, Leases::is_up)));
-                self.metrics.leases_held.set(self.leases.as_ref().map_or(0, Leases::count) as i64);
+                self.metrics.leases_held.set(self.leases.as_ref().map_or(0, |leases| leases.count(self.ports.boot_time())) as i64);
                 self.metrics.pending.set(self.fill.pending() as i64);
                 self.metrics.pending_max.set(self.fill.most().unwrap_or(0) as i64);
                 self.metrics.in_hand.set(self.hand.count() as i64);
@@ -89,7 +89,7 @@ impl<P: Ports> Core<P> {
             "recorded": self.node.is_recorded(),
             "record_wanted": self.wants_record,
             "lease_ms": self.config.lease_ms,
-            "leases": self.leases.as_ref().map_or_else(Vec::new, Leases::rows),
+            "leases": self.leases.as_ref().map_or_else(Vec::new, |leases| leases.rows(self.ports.boot_time())),
         });
         Response::json(state.to_string())
     }

@@ -1,7 +1,6 @@
 //! What local services ask.
 
 use super::admin::what_is_changed;
-use super::leases::Leases;
 use super::core::{Core, Ports};
 use super::{busy, Asker, NOT_IN_HAND};
 use crate::forward::{Client, Submission};
@@ -191,7 +190,7 @@ impl<P: Ports> Core<P> {
             .with("keys", &self.seal.fingerprints)
             .with("encrypted", self.cipher.encrypts())
             .with("lease_ms", self.config.lease_ms)
-            .with("leases", self.leases.as_ref().map_or(0, Leases::count))
+            .with("leases", self.leases.as_ref().map_or(0, |leases| leases.count(self.ports.boot_time())))
     }
 
     /// What a watcher is told first: the state, or what it missed.

@@ -25,10 +25,9 @@ pub(super) struct Count {
 }
 
 impl Count {
-    pub(super) fn of(config: &Config, now: Instant) -> Count {
-        let mut path = config.lease_file().into_os_string();
-        path.push(".voters");
-        let voters = Voters::of(config.id, path.into(), config.nodes.len());
+    /// Of a machine that voted among so many, where that was kept.
+    pub(super) fn of(config: &Config, kept: Option<u8>, now: Instant) -> Count {
+        let voters = Voters::of(config.id, kept, config.nodes.len());
         Count { voters, asked: None, serial: 0, since: now, is_told: false }
     }
 
@@ -90,8 +89,11 @@ impl<P: Ports> Core<P> {
         };
         leases.stop(now);
         let count = &mut leases.count_of_voters;
-        match count.voters.go_on(next) {
-            Ok(()) => info!("leases: {next} machines vote from now on"),
+        match self.ports.keep_voters(&self.config, next) {
+            Ok(()) => {
+                count.voters.go_on(next);
+                info!("leases: {next} machines vote from now on");
+            }
             Err(why) => error!("leases: among how many machines this one votes can't be kept: {why}"),
         }
         // what the others said is of before

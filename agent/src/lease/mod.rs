@@ -3,16 +3,18 @@
 //! rely on it, and nobody is told of a lease but who asked for it under the number that the process was given.
 
 mod claims;
+mod exchange;
 mod line;
 mod process;
 mod silence;
 mod voters;
 
 pub use claims::{Claims, Order, Refusal, Told};
+pub use exchange::LeaseExchange;
 pub use line::LeaseLine;
 pub use process::{LeasePort, LeaseProcess};
 pub use silence::Silence;
-pub use voters::{Voters, Voting};
+pub use voters::{read_voters, write_voters, Voters, Voting};
 
 /// A name of a lease has so many bytes at most.
 const MAX_NAME: usize = 64;

@@ -1,30 +1,15 @@
 //! The process `invite lease`, asked and heard over pipes that never block.
 
-use super::LeaseLine;
+use super::{LeaseExchange, LeaseLine};
 use crate::boot_time::BootTime;
 use crate::config::Config;
 use crate::{own_session, piped};
-use log::warn;
 use mio::unix::pipe;
 use mio::{Interest, Registry, Token};
-use std::collections::VecDeque;
 use std::io::{self, ErrorKind, Read, Write};
 use std::process::{Child, Command, ExitStatus};
 use std::thread;
 use std::time::{Duration, Instant};
-
-/// So many bytes may wait for the process to read them; messages beyond that are lost.
-const ROOM: usize = 256 * 1024;
-
-/// Where it is behind with so many lines, and the oldest waits for longer than answers to a request are waited for, messages are lost: those that waited would
-/// come too late, and have all behind them come too late. Who sent them asks again.
-const MOST_BEHIND: usize = 16;
-
-/// It hangs where its oldest line waits for so many times as long: a quarter of the time for which it keeps a grant.
-const HANGS: u32 = 6;
-
-/// Its longest line is far shorter.
-const MAX_LINE: usize = 64 * 1024;
 
 /// So many bytes are read at a time.
 const MAX_AT_A_TIME: usize = 256 * 1024;
@@ -35,7 +20,7 @@ pub trait LeasePort {
     fn is_ready(&self) -> bool;
 
     /// Whether a message of another machine would be taken now.
-    fn has_room(&self) -> bool;
+    fn has_room(&self, now: Instant) -> bool;
 
     /// Whether it answers nothing for so long that its leases end.
     fn hangs(&self, now: Instant) -> bool;
@@ -69,14 +54,7 @@ pub struct LeaseProcess {
     is_waiting_for_room: bool,
     output: pipe::Receiver,
     is_readable: bool,
-    unwritten: Vec<u8>,
-    unread: Vec<u8>,
-    /// When those lines were said that have no `next` behind them yet.
-    unanswered: VecDeque<Instant>,
-    /// How long answers to a request are waited for at least: four round trips.
-    patience: Duration,
-    /// Whether it has its file: the first time may be told it.
-    is_ready: bool,
+    exchange: LeaseExchange,
 }
 
 /// The program as the process of leases, which so many machines grant. A lease is kept for a hundred of its round trips.
@@ -88,15 +66,6 @@ fn lease_command(config: &Config, voters: u8) -> Command {
         command.arg("--key").arg(key).arg("--cluster").arg(&config.cluster);
     }
     command
-}
-
-fn is_behind(unanswered: &VecDeque<Instant>, patience: Duration, now: Instant) -> bool {
-    let is_late = unanswered.front().map_or(false, |oldest| now.saturating_duration_since(*oldest) > patience);
-    is_late && unanswered.len() >= MOST_BEHIND
-}
-
-fn is_hung(unanswered: &VecDeque<Instant>, patience: Duration, now: Instant) -> bool {
-    unanswered.front().map_or(false, |oldest| now.saturating_duration_since(*oldest) > patience * HANGS)
 }
 
 impl LeaseProcess {
@@ -111,11 +80,7 @@ impl LeaseProcess {
             is_waiting_for_room: false,
             output: from,
             is_readable: false,
-            unwritten: Vec::new(),
-            unread: Vec::new(),
-            unanswered: VecDeque::new(),
-            patience: Duration::from_millis(config.lease_ms / 25),
-            is_ready: false,
+            exchange: LeaseExchange::new(config.lease_ms),
         })
     }
 
@@ -128,51 +93,34 @@ impl LeaseProcess {
             self.is_waiting_for_room = if done.is_ok() { waits } else { self.is_waiting_for_room };
         }
     }
-
-    fn cut_lines(&mut self, lines: &mut Vec<LeaseLine>) {
-        let whole = self.unread.iter().rposition(|byte| *byte == b'\n').map_or(0, |at| at + 1);
-        let rest = self.unread.split_off(whole);
-        let unread = std::mem::replace(&mut self.unread, rest);
-        for text in String::from_utf8_lossy(&unread).lines() {
-            let line = LeaseLine::read(text);
-            match &line {
-                Some(LeaseLine::Process { .. }) => self.is_ready = true,
-                Some(LeaseLine::Next { .. }) => drop(self.unanswered.pop_front()),
-                Some(_) => {}
-                None => warn!("a line of the process of leases can't be read: {text:.60}"),
-            }
-            lines.extend(line);
-        }
-    }
 }
 
 impl LeasePort for LeaseProcess {
     fn is_ready(&self) -> bool {
-        self.is_ready
+        self.exchange.is_ready()
     }
 
-    fn has_room(&self) -> bool {
-        self.is_ready && self.unwritten.len() < ROOM && !is_behind(&self.unanswered, self.patience, Instant::now())
+    fn has_room(&self, now: Instant) -> bool {
+        self.exchange.has_room(now)
     }
 
     fn hangs(&self, now: Instant) -> bool {
-        is_hung(&self.unanswered, self.patience, now)
+        self.exchange.hangs(now)
     }
 
     fn is_quiet(&self) -> bool {
-        self.unanswered.is_empty()
+        self.exchange.is_quiet()
     }
 
     fn say(&mut self, word: &str, rest: &str) {
-        let gap = if rest.is_empty() { "" } else { " " };
-        self.unwritten.extend_from_slice(format!("{word} {}{gap}{rest}\n", BootTime::now().ms()).as_bytes());
-        self.unanswered.push_back(Instant::now());
+        self.exchange.say(word, rest, BootTime::now(), Instant::now());
     }
 
     fn flush(&mut self) {
-        while let (Some(input), false) = (self.input.as_mut(), self.unwritten.is_empty()) {
-            match input.write(&self.unwritten) {
-                Ok(count) if count > 0 => drop(self.unwritten.drain(..count)),
+        let unwritten = self.exchange.unwritten();
+        while let (Some(input), false) = (self.input.as_mut(), unwritten.is_empty()) {
+            match input.write(unwritten) {
+                Ok(count) if count > 0 => drop(unwritten.drain(..count)),
                 Err(error) if error.kind() == ErrorKind::Interrupted => {}
                 Err(error) if error.kind() == ErrorKind::WouldBlock => return self.wait_for_room(true),
                 _ => self.input = None,
@@ -194,17 +142,13 @@ impl LeasePort for LeaseProcess {
         for _ in 0..MAX_AT_A_TIME / piece.len() {
             match self.output.read(&mut piece) {
                 Ok(0) => return false,
-                Ok(count) => self.unread.extend_from_slice(&piece[..count]),
-                Err(error) if error.kind() == ErrorKind::Interrupted => continue,
+                Ok(count) if self.exchange.hear(&piece[..count], lines) => {}
+                Ok(_) => return false,
+                Err(error) if error.kind() == ErrorKind::Interrupted => {}
                 Err(error) => {
                     self.is_readable = false;
                     return error.kind() == ErrorKind::WouldBlock;
                 }
-            }
-            self.cut_lines(lines);
-            if self.unread.len() > MAX_LINE {
-                warn!("the process of leases wrote a line of more than {MAX_LINE} bytes");
-                return false;
             }
         }
         true
@@ -223,29 +167,6 @@ impl LeasePort for LeaseProcess {
                 return self.child.try_wait();
             }
             thread::sleep(Duration::from_millis(5));
-        }
-    }
-}
-
-#[cfg(test)]
-mod tests {
-    use super::*;
-
-    #[test]
-    fn behind_are_many_lines_of_which_one_is_old() {
-        let (ms, now) = (Duration::from_millis, Instant::now());
-        for (count, age, is_so) in [(0, 0, false), (15, 900, false), (16, 81, true), (16, 80, false), (400, 10, false)] {
-            let unanswered = (0..count).map(|_| now).collect();
-            assert_eq!(is_behind(&unanswered, ms(80), now + ms(age)), is_so, "{count} {age}");
-        }
-    }
-
-    #[test]
-    fn one_hangs_whose_oldest_line_waits_for_a_quarter_of_a_lease() {
-        let (ms, now) = (Duration::from_millis, Instant::now());
-        for (lines, age, is_so) in [(vec![], 9_000, false), (vec![0], 480, false), (vec![0, 400], 481, true), (vec![400], 481, false)] {
-            let unanswered = lines.iter().map(|at| now + ms(*at)).collect();
-            assert_eq!(is_hung(&unanswered, ms(80), now + ms(age)), is_so, "{lines:?} {age}");
         }
     }
 }

@@ -19,18 +19,16 @@ pub struct Voting {
 
 pub struct Voters {
     own: u8,
-    path: PathBuf,
     voting: Voting,
     /// What the others answered to the last question.
     said: Vec<Option<Voting>>,
 }
 
 impl Voters {
-    /// Of machine `own`, whose number is kept at this path. A file that can't be read is as good as none: then all others are asked before it votes.
-    pub fn of(own: u8, path: PathBuf, places: usize) -> Voters {
-        let read = fs::read_to_string(&path).ok().and_then(|text| text.trim().parse::<u8>().ok());
-        let now = read.filter(|count| (1..=128).contains(count) && *count > own).unwrap_or(0);
-        Voters { own, path, voting: Voting { now, wanted: 0 }, said: vec![None; places] }
+    /// Of machine `own`, whose number was kept. One that it can't have is as good as none: then all others are asked before it votes.
+    pub fn of(own: u8, kept: Option<u8>, places: usize) -> Voters {
+        let now = kept.filter(|count| (1..=128).contains(count) && *count > own).unwrap_or(0);
+        Voters { own, voting: Voting { now, wanted: 0 }, said: vec![None; places] }
     }
 
     pub fn voting(&self) -> Voting {
@@ -92,12 +90,27 @@ impl Voters {
         (least <= most && next > self.own).then_some(next)
     }
 
-    /// Votes among so many from now on: no process of this machine by another number may run. The number is on the disk before it counts.
-    pub fn go_on(&mut self, count: u8) -> io::Result<()> {
-        write_whole(&self.path, &format!("{count}\n"))?;
+    /// Votes among so many from now on: no process of this machine by another number may run, and the number is on the disk.
+    pub fn go_on(&mut self, count: u8) {
         self.voting.now = count;
-        Ok(())
     }
+}
+
+/// The number is kept beside the file of leases.
+fn beside(lease_file: &Path) -> PathBuf {
+    let mut path = lease_file.as_os_str().to_os_string();
+    path.push(".voters");
+    path.into()
+}
+
+/// The number that was kept; None where it can't be read.
+pub fn read_voters(lease_file: &Path) -> Option<u8> {
+    fs::read_to_string(beside(lease_file)).ok()?.trim().parse().ok()
+}
+
+/// Keeps the number: it is on the disk behind this.
+pub fn write_voters(lease_file: &Path, count: u8) -> io::Result<()> {
+    write_whole(&beside(lease_file), &format!("{count}\n"))
 }
 
 /// Writes a file so that behind a crash it has the text of before or this one.
@@ -120,7 +133,7 @@ mod tests {
     use super::*;
 
     fn voters(own: u8, now: u8, wanted: u8, said: &[(u8, u8, u8)]) -> Voters {
-        let mut voters = Voters { own, path: PathBuf::new(), voting: Voting { now, wanted }, said: vec![None; 8] };
+        let mut voters = Voters { own, voting: Voting { now, wanted }, said: vec![None; 8] };
         said.iter().for_each(|(node, now, wanted)| voters.said(*node, Voting { now: *now, wanted: *wanted }));
         voters
     }
@@ -173,17 +186,18 @@ mod tests {
     #[test]
     fn the_number_is_on_the_disk() {
         let path = std::env::temp_dir().join(format!("dumgerok-voters-{}", std::process::id()));
-        let read = |own: u8| Voters::of(own, path.clone(), 8).voting().now;
+        let read = |own: u8| Voters::of(own, read_voters(&path), 8).voting().now;
         assert_eq!(read(0), 0);
-        let mut kept = Voters::of(0, path.clone(), 8);
+        let mut kept = Voters::of(0, None, 8);
         assert!(kept.want(4) && !kept.want(4) && !kept.is_settled());
-        kept.go_on(4).unwrap();
+        write_voters(&path, 4).unwrap();
+        kept.go_on(4);
         assert_eq!((read(3), read(4), kept.is_settled()), (4, 0, true));
         for text in ["", "x", "0", "129", "-1"] {
-            fs::write(&path, text).unwrap();
+            fs::write(beside(&path), text).unwrap();
             assert_eq!(read(0), 0, "{text}");
         }
-        fs::remove_file(&path).unwrap();
+        fs::remove_file(beside(&path)).unwrap();
     }
 
     /// A cluster of machines that come and go at its end, by whatever they were told in time.

@@ -1,9 +1,12 @@
-//! One machine: its core, its node and its disk.
+//! One machine: its core, its node and its process of leases, and their disks.
 
 use super::super::core::{Core, Parts};
 use super::super::{cipher_of, seal_of, Asker};
+use super::grantor::{Grantor, LeaseDisk};
+use super::memory::Memory;
 use super::node::{Disk, Key, Node};
-use super::ports::{Cable, Came, Connection, Memory, NoNames, Told};
+use super::pipes::Pipes;
+use super::ports::{Cable, Came, Connection, NoNames, Told};
 use crate::config::Config;
 use crate::metrics::Metrics;
 use crate::node::{Answer, Closing, Exchange, JobKey, Line};
@@ -15,6 +18,27 @@ use std::time::Instant;
 /// What the agents of all machines are told of a round trip.
 const ROUND_TRIP_MS: u64 = 20;
 
+/// A process of leases and its disk.
+#[derive(Default)]
+pub(super) struct LeaseSide {
+    pub(super) disk: LeaseDisk,
+    /// How many began or ended: what was to come of an earlier one comes to nothing.
+    pub(super) life: u64,
+    pub(super) pipes: Option<Pipes>,
+    pub(super) process: Option<Grantor>,
+    pub(super) is_reading: bool,
+    /// What it said, and the core didn't hear yet; and whether the core heard its first line.
+    pub(super) said: Vec<u8>,
+    pub(super) is_heard: bool,
+}
+
+impl LeaseSide {
+    /// The process is gone.
+    pub(super) fn end(&mut self) {
+        *self = LeaseSide { disk: std::mem::take(&mut self.disk), life: self.life + 1, ..LeaseSide::default() };
+    }
+}
+
 pub(super) struct Machine {
     pub(super) own: u8,
     /// How often it began: what is on its way for an earlier life comes to nothing.
@@ -22,6 +46,10 @@ pub(super) struct Machine {
     pub(super) core: Option<Core<Memory>>,
     pub(super) node: Node,
     pub(super) disk: Disk,
+    pub(super) memory: Memory,
+    /// For how long a grant of a lease is kept.
+    pub(super) lease_ms: u64,
+    pub(super) lease: LeaseSide,
     pub(super) came: Came,
     pub(super) told: Told,
     /// What the node is to read, and whether it is about to.
@@ -43,13 +71,16 @@ fn pair(key: JobKey) -> Key {
 }
 
 impl Machine {
-    pub(super) fn new(own: u8) -> Machine {
+    pub(super) fn new(own: u8, memory: Memory) -> Machine {
         Machine {
             own,
             life: 0,
             core: None,
             node: Node::new(own, 0, 0, false),
             disk: Disk::default(),
+            memory,
+            lease_ms: 0,
+            lease: LeaseSide::default(),
             came: Came::default(),
             told: Told::default(),
             unread: Vec::new(),
@@ -64,11 +95,12 @@ impl Machine {
 
     /// Begins anew over the same disk.
     pub(super) fn start(&mut self, node: Node, life: u64, key: Option<&Path>, metrics: &Metrics, now: Instant) {
-        let (own, disk) = (self.own, std::mem::take(&mut self.disk));
-        *self = Machine { life: self.life + 1, turn: self.turn + 1, node, disk, ..Machine::new(own) };
-        let config = config_of(own, key);
+        let (own, disk, lease_ms) = (self.own, std::mem::take(&mut self.disk), self.lease_ms);
+        let lease = std::mem::take(&mut self.lease);
+        *self = Machine { life: self.life + 1, turn: self.turn + 1, node, disk, lease, lease_ms, ..Machine::new(own, self.memory.clone()) };
+        let config = config_of(own, lease_ms, key);
         let parts = Parts {
-            ports: Memory,
+            ports: self.memory.clone(),
             path: PathBuf::new(),
             life,
             node: Exchange::new(own),
@@ -119,9 +151,9 @@ impl Machine {
     }
 }
 
-fn config_of(own: u8, key: Option<&Path>) -> Config {
+fn config_of(own: u8, lease_ms: u64, key: Option<&Path>) -> Config {
     let text = format!(
-        "cluster = \"simulated\"\nid = {own}\nnodes = [\"10.0.0.1:7000\", \"10.0.0.2:7000\", \"10.0.0.3:7000\"]\nfile = \"node\"\nround_trip_ms = {ROUND_TRIP_MS}\n"
+        "cluster = \"simulated\"\nid = {own}\nnodes = [\"10.0.0.1:7000\", \"10.0.0.2:7000\", \"10.0.0.3:7000\"]\nfile = \"node\"\nround_trip_ms = {ROUND_TRIP_MS}\nlease_ms = {lease_ms}\n"
     );
     let key = key.map_or(String::new(), |key| format!("key = {key:?}\n"));
     Config::parse(&(text + &key)).unwrap()

@@ -1,14 +1,20 @@
-//! Three cores in memory, each with a stand-in for its node, over a network and by a clock that a seed makes: what was acknowledged, refused, given and told is
-//! held to a model. Machines are killed and begin anew, nodes fail, groups change, datagrams are lost, late, doubled and out of order, and clients hang up.
+//! Three cores in memory, each with a stand-in for its node, and in a quarter of the runs for its process of leases, over a network and by clocks that a seed
+//! makes: what was acknowledged, refused, given and told is held to models. Machines are killed and begin anew, nodes and processes of leases fail, groups
+//! change, datagrams are lost, late, doubled and out of order, and clients hang up. Clocks go right to one part in 32, and wrong in an eighth of the runs with
+//! leases, where two may hold one at a time, and epochs rise all the same.
 //!
 //! `build test --release --lib simulation` makes 10,000 runs, by the seeds from 1 on. DUMGEROK_SEED and DUMGEROK_RUNS have others, and DUMGEROK_TRACE prints
 //! all that is said: with `--nocapture` and one run that is the story of a seed that failed.
 
+mod grantor;
+mod lease_model;
 mod machine;
+mod memory;
 mod model;
 mod node;
 mod odd;
 mod people;
+mod pipes;
 mod ports;
 mod world;
 
@@ -85,7 +91,7 @@ fn jobs_are_kept_given_and_told_whatever_befalls() {
     println!("{runs_made} runs: {tally:?}");
     if runs_made >= 100 {
         let counts = [tally.kept, tally.refused, tally.doubted, tally.given, tally.stopped, tally.keyed, tally.ends];
-        assert!(counts.iter().all(|count| *count > 0), "{tally:?}");
+        assert!(counts.iter().chain(&tally.leases.counts()).all(|count| *count > 0), "{tally:?}");
     }
 }
 
@@ -93,7 +99,7 @@ fn jobs_are_kept_given_and_told_whatever_befalls() {
 fn a_seed_makes_one_run() {
     let key = KeyFile::new("seeds");
     let bed = key.bed();
-    for seed in 24..32 {
+    for seed in (4..8).chain(24..32) {
         assert_eq!(World::run(seed, &bed).1, World::run(seed, &bed).1, "seed {seed}");
     }
 }

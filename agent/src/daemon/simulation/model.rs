@@ -1,5 +1,6 @@
 //! What holds of jobs, whatever befalls machines, nodes and the network: a model beside the world, which is told all that happens and panics where it mustn't.
 
+use super::lease_model::LeaseTally;
 use super::node::{Deed, Job, Key};
 use std::collections::{BTreeMap, BTreeSet};
 
@@ -35,6 +36,7 @@ pub(super) struct Tally {
     pub(super) stopped: usize,
     pub(super) keyed: usize,
     pub(super) ends: usize,
+    pub(super) leases: LeaseTally,
 }
 
 impl Tally {
@@ -46,6 +48,7 @@ impl Tally {
         self.stopped += other.stopped;
         self.keyed += other.keyed;
         self.ends += other.ends;
+        self.leases.add(other.leases);
     }
 }
 

@@ -1,11 +1,13 @@
-//! Whatever comes to a core it goes on: datagrams, lines of clients and answers of its node that nobody right would say, and right ones that are spoiled. A
+//! Whatever comes to a core it goes on: datagrams, lines of clients and answers of its processes that nobody right would say, and right ones that are spoiled. A
 //! client that asks meanwhile is answered, and what is held of all that has bounds.
 
 use super::super::core::Core;
+use super::super::leases::Leases;
 use super::machine::Machine;
+use super::memory::{Memory, Time, RIGHT};
 use super::node::Node;
 use super::people::{Asked, Person, Role};
-use super::ports::Memory;
+use super::pipes::Pipes;
 use super::KeyFile;
 use crate::chance::{Chance, TURNS};
 use crate::forward::{marked, of_leases, About, Datagram, Key, Knows, Leg, Outcome, Relayed, Seal, Submission, Token, What};
@@ -56,17 +58,24 @@ const LINES: [&str; 5] = [
 
 const ANSWERS: &str = "send 1 010101000000\ngroup Normal 1 1:5 0,1\ntake 1 7 3 6869 9\ndrop 1 7\ngone 5\nnext 1200\nok 3 id 8\nrefused 2 NotCoordinator 1\n";
 
+const LEASE_ANSWERS: &str = "process 7\nsend 1 010101\nheld lead 1 9 1800\nheld lead 2 11 18446744073709551615\nlost lead 9\nrefused Waiting lead 2\nrefused Full lead 3\nrefused Time\nnext 1900\nnext\n";
+
 /// A core, and clients of it.
 struct Odd {
     chance: Chance,
     machine: Machine,
+    /// To and from what it takes for its process of leases.
+    pipes: Option<Pipes>,
     now: Instant,
     right: Vec<Vec<u8>>,
 }
 
 impl Odd {
     fn new(seed: u64, key: Option<&Path>) -> Odd {
-        let (mut machine, now, metrics) = (Machine::new(0), Instant::now(), Metrics::new("simulated", &[]).unwrap());
+        let time = Time::begin();
+        let (mut machine, now, metrics) = (Machine::new(0, Memory::new(&time)), time.instant(), Metrics::new("simulated", &[]).unwrap());
+        machine.lease_ms = 2000;
+        machine.memory.votes(3);
         machine.start(Node::new(0, 9, 0, false), seed, key, &metrics, now);
         let seal = key.map_or_else(Seal::default, |key| Seal::read(key, "simulated", 3).unwrap());
         let mut right = right_datagrams(&seal);
@@ -74,7 +83,7 @@ impl Odd {
             let mut cipher = Cipher::begin(&crate::forward::read_keys(key).unwrap(), "simulated", 3, 1).unwrap().drawn_as(seed);
             right = right.iter().map(|clear| cipher.encrypt(clear).unwrap()).collect();
         }
-        Odd { chance: Chance::of(seed), machine, now, right }
+        Odd { chance: Chance::of(seed), machine, pipes: None, now, right }
     }
 
     fn core(&mut self) -> &mut Core<Memory> {
@@ -93,6 +102,26 @@ impl Odd {
         self.core().unusable = None;
         self.core().node.unwritten().clear();
         self.core().link.sent.borrow_mut().clear();
+        self.leases_go_on();
+    }
+
+    /// The process of leases says something, or ends.
+    fn leases_go_on(&mut self) {
+        self.machine.memory.set_clock(RIGHT, self.chance.below(50_000));
+        if let Some(pipes) = self.machine.memory.take_started() {
+            pipes.say(b"process 8\n");
+            self.pipes = Some(pipes);
+        }
+        if let Some(pipes) = &self.pipes {
+            let said = if self.chance.one_in(3) { self.chance.odd(&[LEASE_ANSWERS], 200) } else { b"next\n".to_vec() };
+            pipes.say(&said);
+            pipes.read();
+            if self.chance.one_in(60) {
+                pipes.close();
+            }
+        }
+        self.core().leases.iter_mut().for_each(Leases::flush);
+        self.core().leases.iter_mut().for_each(Leases::wake);
     }
 
     fn takes_anything(&mut self) {

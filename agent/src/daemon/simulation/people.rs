@@ -1,4 +1,4 @@
-//! The clients: those that submit, those that work, and one at each machine that watches.
+//! The clients: those that submit, those that work, those that ask for leases, and one at each machine that watches.
 
 use super::node::Key;
 use super::ports::Connection;
@@ -13,6 +13,9 @@ pub(super) enum Asked {
     /// Whether a job is said to be done, or is given back.
     Finish(Key, bool),
     Watch,
+    Acquire,
+    Release,
+    Leases,
     Other,
 }
 
@@ -21,6 +24,8 @@ pub(super) enum Role {
     Watcher,
     Submitter,
     Worker,
+    /// One that asks for leases.
+    Candidate,
     /// One that takes all queues, and does each job soon.
     Helper,
 }

@@ -1,9 +1,6 @@
-//! The ports of a core in memory.
+//! The ports of a core in memory, but for those of leases.
 
-use super::super::core::Ports;
-use crate::config::Config;
 use crate::http::{Page, Pages};
-use crate::lease::{LeaseLine, LeasePort};
 use crate::net::{Network, MAX_DATAGRAM};
 use crate::resolver::{Found, Names};
 use crate::service::{ClientId, Door, Peer, Stream};
@@ -11,9 +8,7 @@ use std::cell::RefCell;
 use std::collections::VecDeque;
 use std::io::{self, ErrorKind, Read, Write};
 use std::net::SocketAddr;
-use std::process::ExitStatus;
 use std::rc::Rc;
-use std::time::{Duration, Instant};
 
 /// A machine's end of the network: what came, and what it sent.
 #[derive(Default)]
@@ -161,65 +156,4 @@ impl Pages for NoPages {
     fn next(&self) -> Option<Page> {
         None
     }
-}
-
-/// There is no process of leases.
-pub(super) enum NoLease {}
-
-impl LeasePort for NoLease {
-    fn is_ready(&self) -> bool {
-        match *self {}
-    }
-
-    fn has_room(&self) -> bool {
-        match *self {}
-    }
-
-    fn hangs(&self, _now: Instant) -> bool {
-        match *self {}
-    }
-
-    fn is_quiet(&self) -> bool {
-        match *self {}
-    }
-
-    fn say(&mut self, _word: &str, _rest: &str) {
-        match *self {}
-    }
-
-    fn flush(&mut self) {
-        match *self {}
-    }
-
-    fn wake(&mut self) {
-        match *self {}
-    }
-
-    fn is_readable(&self) -> bool {
-        match *self {}
-    }
-
-    fn read_lines(&mut self, _lines: &mut Vec<LeaseLine>) -> bool {
-        match *self {}
-    }
-
-    fn end(&mut self, _within: Duration) -> io::Result<Option<ExitStatus>> {
-        match *self {}
-    }
-}
-
-pub(super) struct Memory;
-
-impl Ports for Memory {
-    type Network = Cable;
-    type Door = Came;
-    type Names = NoNames;
-    type Pages = NoPages;
-    type Lease = NoLease;
-
-    fn start_lease(&self, _config: &Config, _voters: u8) -> io::Result<NoLease> {
-        Err(ErrorKind::Unsupported.into())
-    }
-
-    fn give_back_memory(&self) {}
 }

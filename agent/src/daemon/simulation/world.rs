@@ -1,13 +1,17 @@
 //! The world: what happens, by a seed, and in which order.
 
 mod acts;
+mod leases;
 
+use super::lease_model::LeaseModel;
 use super::machine::Machine;
+use super::memory::{Memory, Time};
 use super::model::{Model, Tally};
 use super::node::{Group, Key, Node};
 use super::people::{Asked, Person, Role};
 use crate::chance::Chance;
 use crate::metrics::Metrics;
+use leases::{LeaseEvent, LeasePlan};
 use std::collections::hash_map::DefaultHasher;
 use std::collections::{BTreeMap, VecDeque};
 use std::hash::{Hash, Hasher};
@@ -36,6 +40,10 @@ const OVERHEARD: usize = 300;
 
 const SUBMITTERS: usize = 5;
 const WORKERS: usize = 5;
+const CANDIDATES: usize = 4;
+
+/// By then somebody of each machine had each name who asked once nothing went wrong any more: a process that hangs has gone on, and one that ended votes again.
+const LEADS: u64 = HEALS + 15_000 * MS;
 
 /// What all runs of a thread share.
 #[derive(Clone)]
@@ -61,6 +69,15 @@ struct Plan {
 }
 
 impl Plan {
+    /// One of four runs has leases; in one of eight of these clocks go wrong.
+    fn of_leases(seed: u64) -> LeasePlan {
+        let plan = Plan::of(seed);
+        let (has_leases, is_wrong) = (seed / 32 % 4 == 0, seed / 8 % 32 == 1);
+        let keeps = [300, 600, 1000, 2000][((seed / 8 + seed / 128) % 4) as usize];
+        let is_calm = !plan.is_lossy && !plan.regroups && !is_wrong;
+        LeasePlan { keeps: if has_leases { keeps } else { 0 }, kills: plan.ends || plan.fails > 0, is_wrong, is_calm }
+    }
+
     fn of(seed: u64) -> Plan {
         let has_key = seed / 8 % 4 == 3;
         let calm = Plan { is_lossy: false, regroups: false, ends: false, cuts: false, drains: false, fails: 0, slots: 400, has_key };
@@ -99,6 +116,7 @@ enum Event {
     Kick,
     /// Somebody without the key sends something.
     Enemy,
+    Lease(LeaseEvent),
 }
 
 pub(super) struct World {
@@ -107,7 +125,7 @@ pub(super) struct World {
     bed: Bed,
     /// What was sent last.
     overheard: VecDeque<Vec<u8>>,
-    begin: Instant,
+    time: Time,
     now: u64,
     /// What is to come, by its time and in the order in which it was put there.
     later: BTreeMap<(u64, u64), Event>,
@@ -115,6 +133,8 @@ pub(super) struct World {
     machines: Vec<Machine>,
     people: Vec<Person>,
     model: Model,
+    lease_plan: LeasePlan,
+    lease_model: LeaseModel,
     /// Which group is the last one.
     epoch: u64,
     is_cut: [[bool; MACHINES]; MACHINES],
@@ -135,37 +155,44 @@ impl World {
         while let Some(at) = world.later.keys().next().copied() {
             if let Some(event) = world.later.remove(&at) {
                 world.now = at.0;
+                world.time.set(at.0);
                 world.step(event);
             }
-            if world.is_healed && world.model.is_over() && world.now > HEALS + PATIENCE {
+            let has_leases = world.lease_plan.keeps > 0;
+            let is_led = !has_leases || world.lease_model.is_over(MACHINES);
+            if world.is_healed && world.model.is_over() && is_led && world.now > HEALS + PATIENCE {
                 break;
             }
+            assert!(is_led || world.now < LEADS, "seed {seed}: some machine gets no lease");
             assert!(world.now < END, "seed {seed}: {}", world.left());
         }
         world.check_end();
-        (world.model.tally, world.hash.finish())
+        (Tally { leases: world.lease_model.tally, ..world.model.tally }, world.hash.finish())
     }
 
     fn new(seed: u64, bed: &Bed) -> World {
-        let plan = Plan::of(seed);
+        let (plan, lease_plan, time) = (Plan::of(seed), Plan::of_leases(seed), Time::begin());
         let mut world = World {
             chance: Chance::of(seed),
             plan,
             bed: bed.clone(),
             overheard: VecDeque::new(),
-            begin: Instant::now(),
             now: 0,
             later: BTreeMap::new(),
             count: 0,
-            machines: (0..MACHINES as u8).map(Machine::new).collect(),
+            machines: (0..MACHINES as u8).map(|own| Machine::new(own, Memory::new(&time))).collect(),
+            time,
             people: Vec::new(),
             model: Model::new(!plan.is_lossy && !plan.regroups, !plan.is_lossy && !plan.ends),
+            lease_plan,
+            lease_model: lease_plan.model(),
             epoch: 0,
             is_cut: Default::default(),
             is_healed: false,
             hash: DefaultHasher::new(),
             is_traced: std::env::var_os("DUMGEROK_TRACE").is_some(),
         };
+        world.begin_leases();
         (0..MACHINES).for_each(|at| world.put(0, Event::Start(at)));
         world.put(300 * MS, Event::Regroup);
         world.put(HEALS, Event::Heal);
@@ -175,7 +202,8 @@ impl World {
         if plan.has_key {
             world.put(BEGINS, Event::Enemy);
         }
-        let roles = [(Role::Watcher, MACHINES), (Role::Submitter, SUBMITTERS), (Role::Worker, WORKERS)];
+        let candidates = if lease_plan.keeps > 0 { CANDIDATES } else { 0 };
+        let roles = [(Role::Watcher, MACHINES), (Role::Submitter, SUBMITTERS), (Role::Worker, WORKERS), (Role::Candidate, candidates)];
         for (role, count) in roles {
             (0..count).for_each(|at| world.comes(role, at % MACHINES, if role == Role::Watcher { 0 } else { BEGINS }));
         }
@@ -204,7 +232,7 @@ impl World {
     }
 
     fn instant(&self) -> Instant {
-        self.begin + Duration::from_micros(self.now)
+        self.time.instant()
     }
 
     fn step(&mut self, event: Event) {
@@ -242,6 +270,7 @@ impl World {
             Event::Heal => self.heal(),
             Event::Kick => self.kick(),
             Event::Enemy => self.enemy(),
+            Event::Lease(event) => self.lease_event(event),
         }
     }
 
@@ -290,6 +319,7 @@ impl World {
                 }
             }
         }
+        self.collect_leases(at);
         let told = std::mem::take(&mut *self.machines[at].told.borrow_mut());
         for (person, bytes) in told {
             bytes.hash(&mut self.hash);
@@ -446,7 +476,11 @@ impl World {
         self.machines[at].life += 1;
         let delay = 50 * MS + self.chance.below(1500 * MS);
         self.put(delay, Event::Start(at));
-        self.people.iter_mut().filter(|person| person.at == at).for_each(Person::end);
+        self.machines[at].lease.end();
+        for person in (0..self.people.len()).filter(|person| self.people[*person].at == at).collect::<Vec<_>>() {
+            self.people[person].end();
+            self.lease_model.leaves(person);
+        }
         self.put(100 * MS, Event::Regroup);
     }
 
@@ -526,7 +560,9 @@ impl World {
         for at in 0..MACHINES {
             self.machines[at].node.heal();
             self.comes(Role::Helper, at, 10 * MS);
+            self.sets_clock_right(at);
         }
+        self.lease_model.heals();
         self.put(50 * MS, Event::Regroup);
         self.put(2000 * MS, Event::Regroup);
         self.put(500 * MS, Event::Kick);

@@ -23,6 +23,10 @@ impl World {
                 Role::Watcher => {}
                 Role::Submitter => self.submits(person),
                 Role::Worker | Role::Helper => self.works(person),
+                Role::Candidate => {
+                    let next = self.leads(person);
+                    return self.put(next, Event::Act(person));
+                }
             }
         }
         let is_over = self.is_healed && matches!(role, Role::Submitter) && self.people[person].asked.is_empty();
@@ -82,7 +86,7 @@ impl World {
     }
 
     /// Ends its connection, or says by half of it that it asks for nothing more.
-    fn hangs_up(&mut self, person: usize, by_half: bool) {
+    pub(super) fn hangs_up(&mut self, person: usize, by_half: bool) {
         let at = self.people[person].at;
         let id = match &self.people[person].connection {
             Some(connection) => {
@@ -96,6 +100,7 @@ impl World {
         if !by_half {
             self.machines[at].holders.retain(|_, holder| *holder != person);
             self.people[person].end();
+            self.lease_model.leaves(person);
         }
         if let (Some(core), Some(id)) = (&mut self.machines[at].core, id) {
             core.clients.wake(id, !by_half);
@@ -228,6 +233,7 @@ impl World {
                 self.people[person].change = said["change"].as_u64();
                 self.people[person].seen = self.machines[at].lines.len();
             }
+            Some(asked @ (Asked::Acquire | Asked::Release | Asked::Leases)) => self.is_answered_of_lease(person, &asked, said),
             Some(Asked::Take | Asked::Other) => {}
             None => self.is_told_of(person, said),
         }
@@ -246,6 +252,9 @@ impl World {
     /// An event.
     fn is_told_of(&mut self, person: usize, said: &Value) {
         let (at, event) = (self.people[person].at, said["event"].as_str().unwrap_or_default());
+        if self.people[person].role == Role::Candidate {
+            return self.is_told_of_lease(person, said);
+        }
         if event == "stop" {
             self.model.tally.stopped += 1;
             return self.let_go(at, person, key_of(said));
