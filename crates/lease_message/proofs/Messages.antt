@@ -157,8 +157,7 @@ message_takes bytes m fits e =
       voter = v.0.0;
       epoch = x.0.0;
       body = b.0.0;
-      name =
-          n.0;
+      name = n.0;
     }) m n.2)
     (record { message = record { client = t1.1; voter = t2.1; epoch = t3.1; body = t4.fits; name = t5.1 }; spelled = whole })
 
