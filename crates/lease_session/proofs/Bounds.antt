@@ -5,7 +5,7 @@ use Rattle.lease_machine.specs.declared.state.LeaseMachine.{LeaseMachine}
 use Rattle.lease_session.specs.declared.process.LeaseProcess.{LeaseProcess}
 use Rattle.lease_session.specs.declared.process.Start.{Start}
 use Rattle.lease_session.specs.Own.{IsWithin, bound_by}
-use Rattle.lease_session.specs.Turns.{AllowsNoMore, AllowsUpTo, IsQuiet, IsStill}
+use Rattle.lease_session.specs.Turns.{AllowsNoMore, AllowsUpTo, IsQuiet}
 
 pub bound_kept : {a b : LeaseProcess} {x y : LeaseMachine} → b.start ≡ a.start → a.machine ≡ Some x → b.machine ≡ Some y → y.bound ≡ x.bound
     → AllowsNoMore a b

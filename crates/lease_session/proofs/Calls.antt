@@ -25,7 +25,6 @@ use Rattle.lease_machine.specs.declared.terms.LeaseTerms.{LeaseTerms}
 use Rattle.lease_machine.specs.Kept.{IsOwn}
 use Rattle.lease_machine.specs.Machine.{AllStay, GoesOn, OthersSame, claim_at, voter_at}
 use Rattle.lease_machine.specs.Claims.{Hears, Relies}
-use Rattle.lease_machine.specs.Standing.{Stands}
 use Rattle.lease_steps.specs.StandsFor.{AreOf, Did, DidNothing, StandsFor, clock_of}
 use Rattle.lease_session.specs.declared.process.LeaseProcess.{LeaseProcess}
 use Rattle.lease_session.specs.declared.process.Start.{Start}
@@ -34,15 +33,15 @@ use Rattle.lease_session.specs.Telling.{NoneUpTo, told_of, told_row, without}
 use Rattle.lease_session.specs.declared.told.Told.{Told}
 use Rattle.lease_session.specs.declared.refusing.Halt.TheVariants.{NoMemory}
 use Rattle.std.specs.Global.{Vec}
-use Rattle.lease_session.specs.Holding.{AreHoldersTold, IsHolderTold, IsToldNow, last_told, news_of}
+use Rattle.lease_session.specs.Holding.{AreHoldersTold, IsHolderTold, last_told, news_of}
 use Rattle.lease_session.specs.Marks.{did, wrote}
 use Rattle.lease_session.specs.Turns.{claim_of, Follow, GaveUp, GoesTo, IsClientOf, Requested, IsAt, IsBefore, IsHeld, IsTheClients, Stood}
 use Rattle.lease_session.specs.Turns.{TellsUser, SaysHeld, IsOut, IsQuiet, Turn, Voted, Who, key_of, sent_in, who}
 use Rattle.lease_session.proofs.Machines.{by_client, by_name, own_at, shows_still}
-use Rattle.lease_session.proofs.Leases.{Keeps, LeasesKept, keeps_news, kept_told, leases_same, same_name}
+use Rattle.lease_session.proofs.Leases.{Keeps, LeasesKept, same_name}
 use Rattle.lease_session.proofs.News.{epoch_told, other_without, told_now, told_other}
 use Rattle.lease_session.proofs.Turns.{Rest, action, action_told, is_at_quiet, is_there, itself, its_machine, no_action, nothing_had}
-use Rattle.lease_session.proofs.Turns.{quiet_self, failed, sends_still, sent_still, shows, stands, stay, text_same, then_had, to_same}
+use Rattle.lease_session.proofs.Turns.{sends_still, sent_still, stands, text_same, then_had}
 use Rattle.lease_session.proofs.Turns.{who_is}
 
 pub by_bool : {P : Type 0} (b : Bool) → (b ≡ true → P) → (b ≡ false → P) → P
@@ -57,10 +56,9 @@ none_is (Some x) is none = absurd cc
 
 pub all_still : {x y : LeaseMachine} {now : ℕ} → AllStay x y → GoesOn x y → DidNothing x y now
 all_still {x = x} {y = y} {now = now} still goes terms m s = record {
-  are = subst (λ (t : LeaseTerms). AreOf t terms) (sym goes.terms) s.are;
+  are = rw goes.terms s.are;
   process = s.process ∙ ap (λ (p : ℕ). Some p) (sym goes.process);
-  voters = λ name. subst (λ (p : ℕ). Stands p now (voter_at y name) (m.voter name)) (sym goes.process)
-      (subst (λ v. Stands x.process now v (m.voter name)) (sym (still name).0) (s.voters name));
+  voters = λ name. rw (goes.process, (still name).0) (s.voters name);
   clients = λ name claim is. shows_still x y terms claim.candidate (m.candidate claim.candidate.client.number name) goes.terms goes.process
       (s.clients name claim (sym (still name).1 ∙ is));
   unused = λ number name less. s.unused number name (let more = goes.claims in omega (arith, less, more));
@@ -312,21 +310,11 @@ lost_holders {told = told} {epoch = epoch} x y ts name was covers keeps others h
   | inr differ ↦ λ d r is lease. other_without other name ts (λ e. differ (sym e)) ∙ h other d r (sym (others other differ).1 ∙ is) lease
 ]
   where
-    some_same : (p q : ℕ) → Some p ≡ Some q → p ≡ q
-    some_same p q e = cc
-
     gone : (d : Claim) (r : Request) → Keeps x name d.user d.candidate.relies_for r × (epoch < r.epoch) → ⊥
     gone d r k =
         let said = epoch_told name ts (news_of name k.0.claim r) (h name k.0.claim r k.0.is k.0.lease) in
-        let same = some_same told r.epoch (sym was ∙ said) in
+        let same : told ≡ r.epoch = cc in
         absurd (let above = k.1 in omega (arith, covers, same, above))
-
-the_client : ℕ → ℕ → ℕ → Client
-the_client machine boot number = record { machine = machine; boot = boot; number = number }
-
-same_parts : (m n b o k l : ℕ) → m ≡ n → b ≡ o → k ≡ l → the_client m b k ≡ the_client n o l
-same_parts m n b o k l e f g = ap (λ (x : ℕ). the_client x b k) e
-    ∙ (ap (λ (x : ℕ). the_client n x k) f ∙ ap (λ (x : ℕ). the_client n o x) g)
 
 pub of_machine : (p : LeaseProcess) (x : LeaseMachine) (name : Name) (k : Claim) → p.machine ≡ Some x → claim_at x name ≡ Some k
     → k.candidate.client.machine ≡ p.terms.machine
@@ -340,10 +328,10 @@ pub client_same : (p : LeaseProcess) (x : LeaseMachine) (name : Name) (k : Claim
     → (client : Client)
     → client.machine ≡ p.terms.machine → client.boot ≡ p.start.process → k.candidate.client.number ≡ client.number
     → client_of k.candidate.client ≡ client
-unfolding the_client
 client_same p x name k has is client machine process number =
-    same_parts k.candidate.client.machine client.machine k.candidate.client.boot client.boot k.candidate.client.number client.number
-    (of_machine p x name k has is ∙ sym machine) (of_process p x name k has is ∙ sym process) number
+    let m = of_machine p x name k has is ∙ sym machine in
+    let b = of_process p x name k has is ∙ sym process in
+    λ i. record { machine = m i; boot = b i; number = number i }
 
 -- who doesn't ask any more gives up without a call
 pub stop_unasked : {now : ℕ} (x : LeaseMachine) (client : Client) (name : Name) (epoch : ℕ) → client.number ≤ x.claims
@@ -437,17 +425,13 @@ the_claim a b e = cc
 
 -- ---- who holds is told
 
-abbrev the_news : Name → ℕ → ℕ → ℕ → Told
-the_news name user epoch until = record { name = name; user = user; epoch = epoch; until = until }
-
 said_news : {now : ℕ} {b c : LeaseProcess} {x : LeaseMachine} {name : Name} → SaysHeld now name b c → b.machine ≡ Some x
     → IsHolderTold name x c.told.items
 said_news {c = c} {name = name} t is d r claimed lease =
     let s = t.is_so _ d r is claimed lease in
     ap (λ (ts : List Told). last_told name ts) t.told
     ∙ (told_now _ (record { name = name; user = t.user; epoch = t.epoch; until = t.until })
-    ∙ (ap (λ (n : ℕ). Some (the_news name n t.epoch t.until)) s.0
-    ∙ (ap (λ (n : ℕ). Some (the_news name d.user n t.until)) s.1 ∙ ap (λ (n : ℕ). Some (the_news name d.user r.epoch n)) s.2)))
+    ∙ (λ i. Some (record { name = name; user = s.0 i; epoch = s.1 i; until = s.2 i })))
 
 -- of the name by the line, of others as before
 said_all : {now : ℕ} {b c : LeaseProcess} (x : LeaseMachine) {y : LeaseMachine} {name : Name} → SaysHeld now name b c → b.machine ≡ Some y

@@ -1,26 +1,25 @@
 -- The leases that clients of a machine keep, behind its calls.
-use Rattle.std.proofs.Common.{◌≡◌, ◌≢◌, ◌⊎◌, ℕ, ◌+◌, ◌<◌, ◌≤◌, Bool, true, false, List, [], ◌∷◌, ◌++◌, Option, Some, None, refl, sym, ◌∙◌}
+use Rattle.std.proofs.Common.{◌≡◌, ◌≢◌, ◌⊎◌, ℕ, ◌+◌, ◌<◌, Bool, true, false, List, Option, Some, None, refl, sym, ◌∙◌}
 use Rattle.std.proofs.Common.{ap, subst, inl, inr, arith}
-use Rattle.std.specs.Prelude.{◌==◌, ◌&&◌, not, get_or, if◌then◌else◌, leb, ltb, nat_eq, option_map}
+use Rattle.std.specs.Prelude.{◌==◌, ◌&&◌, not, get_or, if◌then◌else◌, leb, option_map}
 use Rattle.std.specs.Str.{bytes_eq}
-use Rattle.std.specs.Cmp.Lexicographic.{pointwise}
 use Rattle.std.proofs.lemmas.Slice.Eq.{bytes_eq-Decides}
 use Rattle.lease_runs.specs.declared.client_id.ClientId.{ClientId}
 use Rattle.lease_runs.specs.declared.candidate.LeaseCandidate.{LeaseCandidate}
 use Rattle.lease_runs.specs.declared.candidate.Request.{Request}
 use Rattle.lease_runs.specs.Voter.{Ask, Client}
-use Rattle.lease_runs.specs.Candidate.{Candidate, above, after_act, beginning, is_in_time, is_most, is_taken, is_too_late, taken, voted}
+use Rattle.lease_runs.specs.Candidate.{Candidate, above, beginning, is_in_time, is_most, is_taken, is_too_late, taken, voted}
 use Rattle.lease_runs.specs.Candidate.{with_vote}
 use Rattle.lease_runs.specs.CandidateCode.{IsActed, IsSent, Shows, by_clock, shown}
 use Rattle.lease_runs.specs.Code.{ask_of, client_of}
-use Rattle.lease_runs.specs.Run.{ClientEvent, asks, hears, stops}
+use Rattle.lease_runs.specs.Run.{asks, hears, stops}
 use Rattle.lease_network.specs.Network.{Name, ask_at}
 use Rattle.lease_machine.specs.declared.name_entry.Claim.{Claim}
 use Rattle.lease_machine.specs.declared.state.LeaseMachine.{LeaseMachine}
 use Rattle.lease_machine.specs.Machine.{AllStay, OthersSame, OthersStay, claim_at}
 use Rattle.lease_machine.specs.Claims.{Acts, Hears, IsBegun}
 use Rattle.lease_session.specs.declared.told.Told.{Told}
-use Rattle.lease_session.specs.Holding.{AreHoldersTold, IsHolderTold, last_told, news_of}
+use Rattle.lease_session.specs.Holding.{IsHolderTold, last_told}
 use Rattle.lease_session.proofs.Machines.{not_name}
 
 -- ---- what they keep

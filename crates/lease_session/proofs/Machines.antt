@@ -1,8 +1,8 @@
 -- What is true of each client of a machine, and what stays with its terms and its process.
-use Rattle.std.proofs.Common.{◌≡◌, ◌≢◌, ℕ, Bool, true, false, cond, List, [], ◌∷◌, Option, Some, None, refl, sym, ap, subst, ◌∙◌}
-use Rattle.std.specs.Prelude.{All, ◌==◌, if◌then◌else◌}
+use Rattle.std.proofs.Common.{◌≡◌, ◌≢◌, ℕ, false, List, [], ◌∷◌, Option, Some, None, refl, sym, ap, subst, ◌∙◌}
+use Rattle.std.specs.Prelude.{All, ◌==◌}
 use Rattle.std.specs.Str.{bytes_eq}
-use Rattle.std.proofs.lemmas.Bool.{eqb-true, eq-eqb}
+use Rattle.std.proofs.lemmas.Bool.{both_ways, cond_both, eqb-true, eq-eqb}
 use Rattle.std.proofs.lemmas.Slice.Eq.{bytes_eq-Decides}
 use Rattle.std.proofs.lemmas.List.Elements.{All-head, All-tail}
 use Rattle.lease_runs.specs.declared.candidate.LeaseCandidate.{LeaseCandidate}
@@ -24,11 +24,9 @@ the_entry a b e = cc
 -- what is true of all is true of the one that is found
 pub of_found : (P : NameEntry → Type 0) (name : List ℕ) (es : List NameEntry) (d : NameEntry) → All P es → entry_of name es ≡ Some d → P d
 of_found P name [] d all h = absurd cc
-of_found P name (e ∷ es) d all h = by_test (is_same e.name name) (All-head P e es all) (λ g. of_found P name es d (All-tail P e es all) g) h
-  where
-    by_test : (b : Bool) → P e → (entry_of name es ≡ Some d → P d) → cond b (Some e) (entry_of name es) ≡ Some d → P d
-    by_test true mine rest g = subst P (the_entry e d g) mine
-    by_test false mine rest g = rest g
+of_found P name (e ∷ es) d all h = cond_both (is_same e.name name) (Some e) (entry_of name es)
+    (λ (o : Option NameEntry). o ≡ Some d → P d) (λ same is. subst P (the_entry e d is) (All-head P e es all))
+    (λ other. of_found P name es d (All-tail P e es all)) h
 
 pub own_at : (c : LeaseMachine) (name : Name) (k : Claim) → claim_at c name ≡ Some k → IsOwn c.terms c.process c.claims k.candidate
 own_at c name k = by_entry (entry_of name c.names.items) refl
@@ -51,25 +49,19 @@ shows_still old new terms c v same process shows = subst (λ (k : ℕ → ℕ). 
 -- ---- of the name and the client, and of others
 
 pub not_same : (a b : ℕ) → (a == b) ≡ false → a ≡ b → ⊥
-not_same a b differ same = absurd (let bad : true ≡ false = sym (eq-eqb a b same) ∙ differ in cc)
+not_same a b differ same = both_ways (a == b) differ (eq-eqb a b same)
 
 pub not_name : (n name : Name) → bytes_eq n name ≡ false → name ≢ n
-not_name n name other is = absurd (let bad : true ≡ false = sym ((bytes_eq-Decides n name).1 (sym is)) ∙ other in cc)
+not_name n name other is = both_ways (bytes_eq n name) other ((bytes_eq-Decides n name).1 (sym is))
 
 pub by_name : {A : Type 0} (P : A → Type 0) (name other : Name) (new old : Name → A) → (name ≡ other → P (new other))
     → (other ≢ name → P (old other))
     → P (at_name name new old other)
-by_name P name other new old same different = test (bytes_eq name other) refl
-  where
-    test : (b : Bool) → bytes_eq name other ≡ b → P (if b then new other else old other)
-    test true is = same ((bytes_eq-Decides name other).0 is)
-    test false is = different (not_name name other is)
+by_name P name other new old same different = cond_both (bytes_eq name other) (new other) (old other) P
+    (λ is. same ((bytes_eq-Decides name other).0 is)) (λ is. different (not_name name other is))
 
 pub by_client : (P : Candidate → Type 0) (number other : ℕ) (new : Name → Candidate) (old : ℕ → Name → Candidate) (name : Name)
     → (number ≡ other → P (new name))
     → ((number ≡ other → ⊥) → P (old other name)) → P (at_client number new old other name)
-by_client P number other new old name same different = test (number == other) refl
-  where
-    test : (b : Bool) → (number == other) ≡ b → P (if b then new name else old other name)
-    test true is = same (eqb-true number other is)
-    test false is = different (not_same number other is)
+by_client P number other new old name same different = cond_both (number == other) (new name) (old other name) P
+    (λ is. same (eqb-true number other is)) (λ is. different (not_same number other is))

@@ -3,14 +3,14 @@ use Rattle.std.proofs.Common.{◌≡◌, ◌⊎◌, ℕ, List, [], ◌∷◌, �
 use Rattle.std.proofs.lemmas.List.{append-nil}
 use Rattle.lease_runs.specs.Lists.{IsAmong}
 use Rattle.lease_runs.specs.Voter.{Client}
-use Rattle.lease_network.specs.Network.{Message, request, grant, release, Event, begins, reserves, sends, takes, Terms, Machine, done}
+use Rattle.lease_network.specs.Network.{Message, request, release, Event, begins, reserves, sends, takes, Terms, Machine, done}
 use Rattle.lease_machine.specs.declared.terms.LeaseTerms.{LeaseTerms}
 use Rattle.lease_machine.specs.declared.state.LeaseMachine.{LeaseMachine}
 use Rattle.lease_steps.specs.StandsFor.{Did, DidNothing, StandsFor, clock_of}
 use Rattle.lease_session.specs.declared.process.LeaseProcess.{LeaseProcess}
 use Rattle.lease_session.specs.declared.process.Start.{Start}
 use Rattle.lease_session.specs.declared.refusing.Halt.TheVariants.{NoMemory}
-use Rattle.lease_session.specs.Rows.{Row, send, held, lost, refused, unserved, next, fault, row_text}
+use Rattle.lease_session.specs.Rows.{Row, send, held, lost, refused, row_text}
 use Rattle.lease_session.specs.Telling.{AreTold, IsTold, SaysLost, told_after, told_row}
 use Rattle.lease_session.specs.declared.told.Told.{Told}
 use Rattle.lease_session.specs.declared.seals.LeaseSeal.{LeaseSeal}
@@ -94,12 +94,9 @@ says_more name (did by what ∷ xs) ys h = absurd h
 says_more name (wrote row ∷ xs) ys h = h
 
 is_told_more : (ts : List Told) (what : Event) (xs ys : List Mark) → IsTold ts what xs → IsTold ts what (xs ++ ys)
-is_told_more ts (begins floor) xs ys h = tt
-is_told_more ts (reserves bound) xs ys h = tt
-is_told_more ts (sends (request name client number epoch)) xs ys h = tt
-is_told_more ts (sends (grant name client number voter)) xs ys h = tt
 is_told_more ts (sends (release name client epoch)) xs ys h = elim h [ inl none ↦ inl none | inr says ↦ inr (says_more name xs ys says) ]
-is_told_more ts (takes message) xs ys h = tt
+is_told_more ts (sends (request name client number epoch)) xs ys h = tt
+is_told_more ts _ xs ys h = tt
 
 pub careful_both : (ts : List Told) (xs ys : List Mark) → AreTold ts xs → AreTold (told_after ts xs) ys → AreTold ts (xs ++ ys)
 careful_both ts [] ys a b = b
@@ -128,9 +125,7 @@ tells_more terms w at m sent more (held name user epoch until) wider t = t
 tells_more terms w at m sent more (lost name epoch) wider t =
     record { client = t.client; up_to = t.up_to; covers = t.covers; released = wider (release name t.client t.up_to) t.released }
 tells_more terms w at m sent more (refused why) wider t = tt
-tells_more terms w at m sent more (unserved why name user) wider t = tt
-tells_more terms w at m sent more (next time) wider t = tt
-tells_more terms w at m sent more fault wider t = tt
+tells_more terms w at m sent more _ wider t = tt
 
 -- marks that follow where less was sent follow where more was
 pub follow_more : (terms : Terms) (w : Who) (at : ℕ) (brought sent wider more : List Message) (m : Machine) (marks : List Mark)
@@ -164,15 +159,8 @@ follow_both terms w at brought sent m (wrote row ∷ xs) ys f g = (f.0, follow_b
 -- ---- one turn behind another
 
 pub who_is : (a b : LeaseProcess) → b.terms ≡ a.terms → b.start ≡ a.start → key_of b.seal ≡ key_of a.seal → who b ≡ who a
-who_is a b terms start key = by_parts b.terms.machine a.terms.machine b.start.process a.start.process (key_of b.seal) (key_of a.seal)
-    (ap (λ (t : LeaseTerms). t.machine) terms) (ap (λ (s : Start). s.process) start) key
-  where
-    the_who : ℕ → ℕ → Option (List ℕ) → Who
-    the_who machine boot key = record { self = record { machine = machine; boot = boot; number = 0 }; key = key }
-
-    by_parts : (m n p q : ℕ) (k l : Option (List ℕ)) → m ≡ n → p ≡ q → k ≡ l → the_who m p k ≡ the_who n q l
-    by_parts m n p q k l e f g = ap (λ (x : ℕ). the_who x p k) e
-        ∙ (ap (λ (x : ℕ). the_who n x k) f ∙ ap (λ (x : Option (List ℕ)). the_who n q x) g)
+who_is a b terms start key =
+    λ i. record { self = record { machine = (terms i).machine; boot = (start i).process; number = 0 }; key = key i }
 
 abbrev pub then_had : {sent brought more took : List Message} {now : ℕ} {a b c : LeaseProcess} (t : Turn sent brought now a b)
     → Turn more took now b c
@@ -239,17 +227,14 @@ quiet_of s = record { machine = s.machine; terms = s.terms; start = s.start; key
 
 pub is_at_quiet : (a b : LeaseProcess) (terms : Terms) (now : ℕ) (m : Machine) → IsQuiet a b → IsAt terms now a m → IsAt terms now b m
 is_at_quiet a b terms now m s is =
-    subst (λ (x : Option LeaseMachine). Stood b.terms b.start x terms now m) (sym s.machine)
-    (subst (λ (x : Start). Stood b.terms x a.machine terms now m) (sym s.start)
-    (subst (λ (x : LeaseTerms). Stood x a.start a.machine terms now m) (sym s.terms) is))
+    rw (s.machine, s.start, s.terms) is
 
 pub is_at_same : (a b : LeaseProcess) (terms : Terms) (now : ℕ) (m : Machine) → IsStill a b → IsAt terms now a m → IsAt terms now b m
 is_at_same a b terms now m s is = is_at_quiet a b terms now m (quiet_of s) is
 
 pub holders_still : (a b : LeaseProcess) → b.machine ≡ a.machine → b.told.items ≡ a.told.items → AreHoldersTold a.machine a.told.items
     → AreHoldersTold b.machine b.told.items
-holders_still a b machine told h = subst (λ (o : Option LeaseMachine). AreHoldersTold o b.told.items) (sym machine)
-    (subst (λ (ts : List Told). AreHoldersTold a.machine ts) (sym told) h)
+holders_still a b machine told h = rw (machine, told) h
 
 pub stayed : {sent brought : List Message} {now : ℕ} {a b : LeaseProcess} → IsStill a b → (IsOut a → IsOut b)
     → (b.halt ≡ None → a.halt ≡ None) → b.text.items ≡ a.text.items

@@ -1,9 +1,8 @@
-use Rattle.std.proofs.Common.{refl, inl}
+use Rattle.std.proofs.Common.{refl}
 use Rattle.lease_session.proofs.Calls.{all_still, by_bool, hears_of_machine, hears_of_process}
 use Rattle.lease_session.proofs.Leases.{kept_hearing, leases_still}
 use Rattle.lease_session.proofs.Saying.{heard_so, told_so}
 use Rattle.lease_session.proofs.Turns.{no_action, then}
-use Rattle.lease_session.proofs.Votes.{as_brought}
 use Rattle.lease_session.proofs.Bounds.{bound_kept, bound_quiet, bound_then}
 use Rattle.lease_session.proofs.process.LeaseProcess.hear.Goals as goal
 
