@@ -16,8 +16,7 @@ use crate::node_states::push_node_state;
 use crate::ongoing::first_stopped;
 use crate::told::Told;
 use console_text::{
-    CommandError, Ended, IoTrouble, Output, Source, print_explained, push_named_number, push_text,
-    read_source,
+    CommandError, Ended, Output, Source, outcome_of, print_explained, push_named_number, push_text,
 };
 use std::alloc::{AllocError, Global};
 use std::io::{Read, Write};
@@ -47,10 +46,7 @@ pub fn contradiction<R: Read, W: Write>(
     ensures why { IsVerdictTold (R.remaining input.old.reader) result.ending result.why.items }
     ensures reads { input.old.left ≤ input.new.left + 16777216 }
 {
-    let outcome = match read_source(alloc, input) {
-        Ok(bytes) => show_text(alloc, &bytes).map_err(IoTrouble::from),
-        Err(trouble) => Err(trouble),
-    };
+    let outcome = outcome_of(alloc, input, |bytes| show_text(alloc, &bytes));
     print_explained(alloc, output, outcome)
 }
 

@@ -8,8 +8,7 @@ use crate::comparing::{compare, printout_as_told, report_as_told};
 use crate::ongoing::ongoing_printout;
 use crate::told::Told;
 use console_text::{
-    CommandError, Ended, IoTrouble, Output, Source, print_explained, push_number, push_text,
-    read_source,
+    CommandError, Ended, Output, Source, outcome_of, print_explained, push_number, push_text,
 };
 use group_task::NodeId;
 use std::alloc::{AllocError, Global};
@@ -51,10 +50,7 @@ pub fn trace<R: Read, W: Write>(
     ensures why { IsVerdictTold (R.remaining input.old.reader) result.ending result.why.items }
     ensures reads { input.old.left ≤ input.new.left + 16777216 }
 {
-    let outcome = match read_source(alloc, input) {
-        Ok(bytes) => judge_text(alloc, stage, &bytes).map_err(IoTrouble::from),
-        Err(trouble) => Err(trouble),
-    };
+    let outcome = outcome_of(alloc, input, |bytes| judge_text(alloc, stage, &bytes));
     print_explained(alloc, output, outcome)
 }
 

@@ -14,9 +14,7 @@ use crate::reporting::push_leftovers;
 use crate::told::Told;
 use crate::turn::{Stand, Turn};
 use crate::walk::walk;
-use console_text::{
-    CommandError, Ended, IoTrouble, Output, Source, print_explained, push_text, read_source,
-};
+use console_text::{CommandError, Ended, Output, Source, outcome_of, print_explained, push_text};
 use group_task::NodeId;
 use node_words::{phase_word, push_group, push_ids};
 use std::alloc::{AllocError, Global};
@@ -41,10 +39,7 @@ pub fn turns<R: Read, W: Write>(alloc: Global, input: &mut Source<R>, output: &m
     ensures why { IsVerdictTold (R.remaining input.old.reader) result.ending result.why.items }
     ensures reads { input.old.left ≤ input.new.left + 16777216 }
 {
-    let outcome = match read_source(alloc, input) {
-        Ok(bytes) => tell_text(alloc, &bytes).map_err(IoTrouble::from),
-        Err(trouble) => Err(trouble),
-    };
+    let outcome = outcome_of(alloc, input, |bytes| tell_text(alloc, &bytes));
     print_explained(alloc, output, outcome)
 }
 
