@@ -1,6 +1,6 @@
 -- The JSON value that is written for a trace stands for that trace.
 use Rattle.std.proofs.Common.{◌≡◌, ◌<◌, ◌≤◌, ◌+◌, ◌^◌, ℕ, suc, Bool, true, false, List, [], ◌∷◌, length, map, Option, Some, None, Result}
-use Rattle.std.proofs.Common.{Ok, codes, refl, ap, ◌∙◌, arith, lt-ltb, le-leb, eq-eqb}
+use Rattle.std.proofs.Common.{Ok, codes, refl, ap, ap₂, ◌∙◌, arith, lt-ltb, le-leb, eq-eqb}
 use Rattle.std.specs.Prelude.{if◌then◌else◌, ◌==◌, option_map, option_and_then}
 use Rattle.std.specs.Result.{result_ok}
 use Rattle.hex.specs.Hex.{encode_lower, decode_of}
@@ -25,7 +25,6 @@ use Rattle.trace_check.specs.declared.trace.TraceAction.{TraceAction}
 use Rattle.trace_check.specs.declared.trace.TraceAction.TheVariants as action
 use Rattle.trace_check.specs.declared.trace.RecoverFault.TheVariants as recover
 use Rattle.trace_check.specs.Claims.{Claim}
-use Rattle.trace_text.specs.declared.fault.Location.{Location}
 use Rattle.trace_text.specs.Fields.{fields_in}
 use Rattle.trace_text.specs.Entries.{message_in, with_first, messages_in, below, short, priority_in, submitted, done_in, action_in}
 use Rattle.trace_text.specs.Entries.{claim_in}
@@ -43,9 +42,7 @@ message_back m fits =
 
 messages_back : (ms : List Envelope) → Each IsMessage ms → messages_in (items_of (map message_data ms)) ≡ Some ms
 messages_back [] fits = refl
-messages_back (m ∷ ms) fits =
-    ap (λ (x : Option Envelope). with_first x (messages_in (items_of (map message_data ms)))) (message_back m fits.0)
-    ∙ ap (λ (xs : Option (List Envelope)). with_first (Some m) xs) (messages_back ms fits.1)
+messages_back (m ∷ ms) fits = ap₂ with_first (message_back m fits.0) (messages_back ms fits.1)
 
 -- ---- numbers
 
@@ -100,14 +97,12 @@ submit_back failed b w ms is fits = parts_back failed w _ _ _ (below_back QUEUES
 deliver_back : (failed : Bool) (m : Envelope) → IsMessage m
     → option_and_then (λ (event : Event). Some (done_in event failed))
     (option_map (λ (x : Envelope). on.Deliver x) (message_in (Some (message_data m)))) ≡ Some (done_in (on.Deliver m) failed)
-deliver_back failed m fits = ap (λ (o : Option Envelope).
-    option_and_then (λ (event : Event). Some (done_in event failed)) (option_map (λ (x : Envelope). on.Deliver x) o)) (message_back m fits)
+deliver_back failed m fits = rw (message_back m fits) refl
 
 finish_back : (failed : Bool) (origin id : ℕ) → origin < NODES
     → option_and_then (λ (event : Event). Some (done_in event failed))
     (option_and_then (λ (o : ℕ). Some (on.Finish o id)) (below NODES origin)) ≡ Some (done_in (on.Finish origin id) failed)
-finish_back failed origin id h = ap (λ (x : Option ℕ). option_and_then (λ (event : Event). Some (done_in event failed))
-    (option_and_then (λ (o : ℕ). Some (on.Finish o id)) x)) (below_back NODES origin h)
+finish_back failed origin id h = rw (below_back NODES origin h) refl
 
 abbrev pub claim_with : TraceAction → List Envelope → Claim
 claim_with d ms = record { action = d; sent = ms }
@@ -127,13 +122,10 @@ event_back failed on.Recover ms fits named = absurd named
 
 action_back : (d : TraceAction) (ms : List Envelope) → ActionFits d → HasName d
     → action_in (fields_in (entry_data (claim_with d ms))) ≡ Some d
-action_back action.Nothing ms fits named = refl
 action_back (action.Done event) ms fits named = event_back false event ms fits named
 action_back (action.Faulted event) ms fits named = event_back true event ms fits named
-action_back action.Crashed ms fits named = refl
-action_back (action.Recovered kept) ms fits named = refl
 action_back (action.NotRecovered kept recover.Mount) ms fits named = refl
-action_back (action.NotRecovered kept recover.Raise) ms fits named = refl
+action_back _ ms fits named = refl
 
 -- ---- entries
 
@@ -168,16 +160,13 @@ entries_back : (node i : ℕ) (h : List Claim) → Each ClaimFits h → Each (λ
     → entries_from node i (items_of (map entry_data h)) ≡ Ok h
 entries_back node i [] fits named = refl
 entries_back node i (c ∷ h) fits named =
-    ap (λ (o : Option Claim). first_entry node i o (entries_from node (i + 1) (items_of (map entry_data h)))) (claim_back c fits.0 named.0)
-    ∙ ap (λ (r : Result (List Claim) (Option Location)). first_entry node i (Some c) r) (entries_back node (i + 1) h fits.1 named.1)
+    ap₂ (first_entry node i) (claim_back c fits.0 named.0) (entries_back node (i + 1) h fits.1 named.1)
 
 pub histories_back : (node : ℕ) (hs : List (List Claim)) → TraceFits hs
     → Each (λ (h : List Claim). Each (λ (c : Claim). HasName c.action) h) hs → histories_from node (items_of (map history_data hs)) ≡ Ok hs
 histories_back node [] fits named = refl
 histories_back node (h ∷ hs) fits named =
-    ap (λ (r : Result (List Claim) (Option Location)). first_history r (histories_from (node + 1) (items_of (map history_data hs))))
-    (entries_back node 0 h fits.0 named.0)
-    ∙ ap (λ (r : Result (List (List Claim)) (Option Location)). first_history (Ok h) r) (histories_back (node + 1) hs fits.1 named.1)
+    ap₂ first_history (entries_back node 0 h fits.0 named.0) (histories_back (node + 1) hs fits.1 named.1)
 
 -- ---- the whole
 

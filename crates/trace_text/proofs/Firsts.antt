@@ -21,24 +21,22 @@ use Rattle.trace_text.proofs.Walks.{behind_some, in_list, in_object}
 
 module _ (depth : ℕ) (ts : List Token) where
   pub text_there : (text : List ℕ) → parse_map plain (data_at depth (Token.string text ∷ ts)) ≡ Some (string text, ts)
-  text_there text = ap (λ (o : Option (json.Json × List Token)). parse_map plain (converted of_json o))
-      (value_is depth (Token.string text ∷ ts))
+  text_there text = rw (value_is depth (Token.string text ∷ ts)) refl
 
   pub flag_there : (b : Bool) → parse_map plain (data_at depth (Token.boolean b ∷ ts)) ≡ Some (boolean b, ts)
-  flag_there b = ap (λ (o : Option (json.Json × List Token)). parse_map plain (converted of_json o)) (value_is depth (Token.boolean b ∷ ts))
+  flag_there b = rw (value_is depth (Token.boolean b ∷ ts)) refl
 
   pub null_there : parse_map plain (data_at depth (Token.null ∷ ts)) ≡ Some (null, ts)
-  null_there = ap (λ (o : Option (json.Json × List Token)). parse_map plain (converted of_json o)) (value_is depth (Token.null ∷ ts))
+  null_there = rw (value_is depth (Token.null ∷ ts)) refl
 
   number_is : (text : List ℕ) (o : Option Num) → number_of text ≡ o
       → data_at depth (Token.number text ∷ ts) ≡ option_map (λ (d : Data). (d, ts)) (option_map number o)
-  number_is text o is = ap (converted of_json) (value_is depth (Token.number text ∷ ts))
-      ∙ ap (λ (x : Option Num). option_map (λ (d : Data). (d, ts)) (option_map number x)) is
+  number_is text o is = rw (value_is depth (Token.number text ∷ ts), is) refl
 
   number_by : (text : List ℕ) (o : Option Num) (d : Data) → number_of text ≡ o → Some d ≡ option_map (λ (n : Num). plain (number n)) o
       → parse_map plain (data_at depth (Token.number text ∷ ts)) ≡ Some (d, ts)
   number_by text None d is said = absurd (cc)
-  number_by text (Some n) d is said = ap (parse_map plain) (number_is text (Some n) is) ∙ ap (option_map (λ (x : Data). (x, ts))) (sym said)
+  number_by text (Some n) d is said = rw (number_is text (Some n) is) (ap (option_map (λ (x : Data). (x, ts))) (sym said))
 
   number_there : (text : List ℕ) (d : Data) → Some d ≡ option_map (λ (n : Num). plain (number n)) (number_of text)
       → parse_map plain (data_at depth (Token.number text ∷ ts)) ≡ Some (d, ts)
@@ -89,15 +87,8 @@ too_deep_object depth ts all none is = ap₂ data_at none is
 
 -- ---- a value that begins with another token is no list, or no object
 
-abbrev Front : Type 0
-Front = Option (Data × List Token)
-
 abbrev none_of : {A : Type 0} → Data → Option A
 none_of d = None
-
-scalar : {A : Type 0} (f : Data → Option A) (depth : ℕ) (ts : List Token) (o : Front) → data_at depth ts ≡ o
-    → parse_map f o ≡ parse_map none_of o → parse_map f (data_at depth ts) ≡ parse_map none_of (data_at depth ts)
-scalar f depth ts o is same = ap (parse_map f) is ∙ same ∙ ap (parse_map none_of) (sym is)
 
 numbers : {A : Type 0} (f : Data → Option A) (ts : List Token) (o : Option Num) → ((n : Num) → f (number n) ≡ None)
     → parse_map f (option_map (λ (d : Data). (d, ts)) (option_map number o))
@@ -137,26 +128,15 @@ module _ (depth : ℕ) (ts : List Token) where
     other_than : (t : Read) → (t ≡ front.BeginArray → FindsNone front.BeginArray) → (t ≡ front.BeginObject → FindsNone front.BeginObject)
         → FindsNone t
     other_than front.BeginObject at_list at_object = at_object refl
-    other_than front.EndObject at_list at_object = scalar f depth (Token.end_object ∷ ts) _
-        (ap (converted of_json) (value_is depth (Token.end_object ∷ ts))) refl
     other_than front.BeginArray at_list at_object = at_list refl
-    other_than front.EndArray at_list at_object = scalar f depth (Token.end_array ∷ ts) _
-        (ap (converted of_json) (value_is depth (Token.end_array ∷ ts))) refl
-    other_than (front.Key s) at_list at_object = scalar f depth (Token.key s.now ∷ ts) _
-        (ap (converted of_json) (value_is depth (Token.key s.now ∷ ts))) refl
-    other_than (front.String s) at_list at_object = scalar f depth (Token.string s.now ∷ ts) _
-        (ap (converted of_json) (value_is depth (Token.string s.now ∷ ts))) (ap (λ (a : Option A). Some (a, ts)) (of_string s.now))
-    other_than (front.Number s) at_list at_object = scalar f depth (Token.number s.now ∷ ts) _
-        (ap (converted of_json) (value_is depth (Token.number s.now ∷ ts))) (numbers f ts (number_of s.now) of_number)
-    other_than (front.Bool b) at_list at_object = scalar f depth (Token.boolean b ∷ ts) _
-        (ap (converted of_json) (value_is depth (Token.boolean b ∷ ts))) (ap (λ (a : Option A). Some (a, ts)) (of_boolean b))
-    other_than front.Null at_list at_object = scalar f depth (Token.null ∷ ts) _ (ap (converted of_json) (value_is depth (Token.null ∷ ts)))
-        (ap (λ (a : Option A). Some (a, ts)) of_null)
-    other_than front.Bad at_list at_object = scalar f depth (Token.bad ∷ ts) _ (ap (converted of_json) (value_is depth (Token.bad ∷ ts)))
-        refl
+    other_than (front.String s) at_list at_object = rw (value_is depth (Token.string s.now ∷ ts), of_string s.now) refl
+    other_than (front.Number s) at_list at_object = rw (value_is depth (Token.number s.now ∷ ts)) (numbers f ts (number_of s.now) of_number)
+    other_than (front.Bool b) at_list at_object = rw (value_is depth (Token.boolean b ∷ ts), of_boolean b) refl
+    other_than front.Null at_list at_object = rw (value_is depth (Token.null ∷ ts), of_null) refl
+    other_than t at_list at_object = rw (value_is depth (token_of t ∷ ts)) refl
 
-  passed : {A B : Type 0} (f : Data → Option A) (g : Data → B) (b : B) (r : List Token) (o : Front) → parse_map f o ≡ parse_map none_of o
-      → parse_map g o ≡ Some (b, r) → parse_map f o ≡ Some (None, r)
+  passed : {A B : Type 0} (f : Data → Option A) (g : Data → B) (b : B) (r : List Token) (o : Option (Data × List Token))
+      → parse_map f o ≡ parse_map none_of o → parse_map g o ≡ Some (b, r) → parse_map f o ≡ Some (None, r)
   passed f g b r None same there = absurd (cc)
   passed f g b r (Some p) same there = same ∙ ap (λ o. option_map (λ q. (None, q)) (behind o)) there
 
@@ -167,14 +147,12 @@ module _ (depth : ℕ) (ts : List Token) where
         ap (λ xs. parse_map as_array (data_at depth xs)) is
         ∙ passed as_array plain d r (data_at depth (token_of t ∷ ts))
         (other_than as_array refl (λ b. refl) (λ n. refl) (λ s. refl) t (λ same. absurd (other same))
-        (λ same. scalar as_array depth (Token.begin_object ∷ ts) _ object_is
-        (under as_array object (of_object (inner_members depth ts)) (λ ms. refl)))) there
+        (λ same. rw object_is (under as_array object (of_object (inner_members depth ts)) (λ ms. refl)))) there
 
     pub no_object : (t ≡ front.BeginObject → ⊥) → parse_map as_object (data_at depth all) ≡ Some (None, r)
     no_object other =
         ap (λ xs. parse_map as_object (data_at depth xs)) is
         ∙ passed as_object plain d r (data_at depth (token_of t ∷ ts))
-        (other_than as_object refl (λ b. refl) (λ n. refl) (λ s. refl) t (λ same.
-        scalar as_object depth (Token.begin_array ∷ ts) _ list_is
-        (under as_object array (converted of_items (inner_items depth ts)) (λ ds. refl)))
+        (other_than as_object refl (λ b. refl) (λ n. refl) (λ s. refl) t
+        (λ same. rw list_is (under as_object array (converted of_items (inner_items depth ts)) (λ ds. refl)))
         (λ same. absurd (other same))) there

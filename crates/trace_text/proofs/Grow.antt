@@ -1,6 +1,7 @@
 -- What a parse takes from the front of some tokens it takes from the front of more, and the count that bounds its turns plays no part.
 use Rattle.std.proofs.Common.{◌≡◌, ℕ, zero, suc, ◌-◌, ◌<◌, ◌≤◌, Bool, true, cond, List, [], ◌∷◌, length, Option, Some, None, option_map}
 use Rattle.std.proofs.Common.{option_and_then, refl, sym, ap, ◌∙◌, arith}
+use Rattle.std.proofs.lemmas.Option.{some_pair_parts}
 use Rattle.json.specs.Token.{Token}
 use Rattle.json.specs.Json as json
 use Rattle.json.specs.Json.{Json, Parse, parse_map, after_end_array, read_key, items_step, members_step, items, members, value_with, value}
@@ -27,32 +28,21 @@ GrowsBy {A} p n = (m : ℕ) (ts r more : List Token) (a : A) → length (joined 
     → p m (joined ts more) ≡ Some (a, joined r more)
 
 still_open : (ts more : List Token) → 0 < length ts → after_end_array ts ≡ None → after_end_array (joined ts more) ≡ None
-still_open [] more some e = let never : ⊥ = omega (arith, some) in absurd never
-still_open (Token.begin_object ∷ ts) more some e = refl
-still_open (Token.end_object ∷ ts) more some e = refl
-still_open (Token.begin_array ∷ ts) more some e = refl
+still_open [] more some e = absurd (omega (arith, some))
 still_open (Token.end_array ∷ ts) more some e = absurd (cc)
-still_open (Token.key s ∷ ts) more some e = refl
-still_open (Token.string s ∷ ts) more some e = refl
-still_open (Token.number s ∷ ts) more some e = refl
-still_open (Token.boolean b ∷ ts) more some e = refl
-still_open (Token.null ∷ ts) more some e = refl
-still_open (Token.bad ∷ ts) more some e = refl
+still_open (_ ∷ ts) more some e = refl
 
 closes_still : (ts r more : List Token) → after_end_array ts ≡ Some r → after_end_array (joined ts more) ≡ Some (joined r more)
-closes_still ts r more e = ap (λ (x : List Token). after_end_array (joined x more)) (closed_array ts r e)
+closes_still ts r more e = rw (closed_array ts r e) refl
 
 keys_still : (ts r more : List Token) (k : Option (List ℕ)) → read_key ts ≡ Some (k, r)
     → read_key (joined ts more) ≡ Some (k, joined r more)
-keys_still ts r more None e = ap (λ (x : List Token). read_key (joined x more)) (read_key_is ts None r e)
-keys_still ts r more (Some k) e = ap (λ (x : List Token). read_key (joined x more)) (read_key_is ts (Some k) r e)
+keys_still ts r more None e = rw (read_key_is ts None r e) refl
+keys_still ts r more (Some k) e = rw (read_key_is ts (Some k) r e) refl
 
-abbrev after_joined : {A : Type 0} → List Token → Option (A × List Token) → Option (A × List Token)
-after_joined more o = option_map (λ q. (q.0, joined q.1 more)) o
-
-rest_joined : {A : Type 0} (q : A × List Token) (b : A) (r more : List Token) → Some q ≡ Some (b, r)
-    → after_joined more (Some q) ≡ Some (b, joined r more)
-rest_joined q b r more e = ap (after_joined more) e
+rest_joined : {A : Type 0} (a b : A) (r s more : List Token) → ◌≡◌ {A = Option (A × List Token)} (Some (a, r)) (Some (b, s))
+    → ◌≡◌ {A = Option (A × List Token)} (Some (a, joined r more)) (Some (b, joined s more))
+rest_joined a b r s more e = let same = some_pair_parts a b r s e in rw (same.0, same.1) refl
 
 module _ (p : Parse Json) (takes : Takes p) where
   shorter : (ts r : List Token) (j : Json) → p ts ≡ Some (j, r) → length r < length ts
@@ -63,7 +53,7 @@ module _ (p : Parse Json) (takes : Takes p) where
     where
       by : (o : Option (Json × List Token)) → p [] ≡ o → p [] ≡ None
       by None e = e
-      by (Some q) e = let less = shorter [] q.1 q.0 e in let never : ⊥ = omega (arith, less) in absurd never
+      by (Some q) e = let less = shorter [] q.1 q.0 e in absurd (omega (arith, less))
 
   module _ (grows : Grows p) where
     item_grown : (n m : ℕ) (ts r more : List Token) (js : json.Items) (o : Option (Json × List Token)) → GrowsBy (items p) n
@@ -76,16 +66,17 @@ module _ (p : Parse Json) (takes : Takes p) where
         let there = grows ts q.1 more q.0 is in
         let less = shorter (joined ts more) (joined q.1 more) q.0 there in
         let some = shorter ts q.1 q.0 is in
-        items_more p m (joined ts more) (joined q.1 more) q.0 (omega (arith, less, enough))
-        (still_open ts more (omega (arith, some)) going) there
-        ∙ ap (parse_map (json.item q.0)) (again (m - 1) q.1 r more ks.0 (omega (arith, less, enough)) ks.1)
-        ∙ ap (λ (k : json.Items). Some (k, joined r more)) ks.2
+        rw (
+          items_more p m (joined ts more) (joined q.1 more) q.0 (omega (arith, less, enough))
+              (still_open ts more (omega (arith, some)) going) there,
+          again (m - 1) q.1 r more ks.0 (omega (arith, less, enough)) ks.1,
+        ) (ap (λ (k : json.Items). Some (k, joined r more)) ks.2)
 
     list_grown : (n m : ℕ) (ts r more : List Token) (js : json.Items) (o : Option (List Token)) → GrowsBy (items p) n
         → length (joined ts more) ≤ m → after_end_array ts ≡ o
         → items_step p (items p n) ts o ≡ Some (js, r) → items p m (joined ts more) ≡ Some (js, joined r more)
     list_grown n m ts r more js (Some s) again enough is e =
-        items_end p m (joined ts more) (joined s more) enough (closes_still ts s more is) ∙ rest_joined (json.no_items, s) js r more e
+        items_end p m (joined ts more) (joined s more) enough (closes_still ts s more is) ∙ rest_joined json.no_items js s r more e
     list_grown n m ts r more js None again enough is e = item_grown n m ts r more js (p ts) again enough is refl e
 
     items_grow : (n : ℕ) → GrowsBy (items p) n
@@ -104,9 +95,10 @@ module _ (p : Parse Json) (takes : Takes p) where
         let key = keys_still ts s more (Some k) at in
         let less = shorter (joined s more) (joined q.1 more) q.0 there in
         let lesser = read_key-shorter (joined ts more) (Some k) (joined s more) key in
-        members_more p m k (joined ts more) (joined s more) (joined q.1 more) q.0 (omega (arith, lesser, enough)) key there
-        ∙ ap (parse_map (json.member k q.0)) (again (m - 1) q.1 r more ks.0 (omega (arith, less, lesser, enough)) ks.1)
-        ∙ ap (λ (x : json.Members). Some (x, joined r more)) ks.2
+        rw (
+          members_more p m k (joined ts more) (joined s more) (joined q.1 more) q.0 (omega (arith, lesser, enough)) key there,
+          again (m - 1) q.1 r more ks.0 (omega (arith, less, lesser, enough)) ks.1,
+        ) (ap (λ (x : json.Members). Some (x, joined r more)) ks.2)
 
     object_grown : (n m : ℕ) (ts r more : List Token) (ms : json.Members) (o : Option (Option (List ℕ) × List Token))
         → GrowsBy (members p) n → length (joined ts more) ≤ m → read_key ts ≡ o
@@ -115,7 +107,7 @@ module _ (p : Parse Json) (takes : Takes p) where
     object_grown n m ts r more ms None again enough is e = absurd (cc)
     object_grown n m ts r more ms (Some (None, s)) again enough is e =
         members_end p m (joined ts more) (joined s more) enough (keys_still ts s more None is)
-        ∙ rest_joined (json.no_members, s) ms r more e
+        ∙ rest_joined json.no_members ms s r more e
     object_grown n m ts r more ms (Some (Some k, s)) again enough is e = member_grown n m k ts s r more ms (p s) again enough is refl e
 
     members_grow : (n : ℕ) → GrowsBy (members p) n
@@ -141,8 +133,8 @@ module _ (p : Parse Json) (takes : Takes p) where
   same_items : (n m : ℕ) (ts : List Token) → length ts ≤ n → n ≤ m → items p n ts ≡ items p m ts
   unfolding items
   same_items zero m [] enough most = sym (items_fail p m [] refl nothing_of)
-  same_items zero m (t ∷ ts) enough most = let never : ⊥ = omega (arith, enough) in absurd never
-  same_items (suc n) zero ts enough most = let never : ⊥ = omega (arith, most) in absurd never
+  same_items zero m (t ∷ ts) enough most = absurd (omega (arith, enough))
+  same_items (suc n) zero ts enough most = absurd (omega (arith, most))
   same_items (suc n) (suc m) ts enough most = same_step n m ts (after_end_array ts) enough (λ s few.
       same_items n m s few (omega (arith, most)))
 
@@ -166,29 +158,23 @@ module _ (p : Parse Json) (takes : Takes p) where
   unfolding members
   same_members zero zero ts enough most = refl
   same_members zero (suc m) [] enough most = refl
-  same_members zero (suc m) (t ∷ ts) enough most = let never : ⊥ = omega (arith, enough) in absurd never
-  same_members (suc n) zero ts enough most = let never : ⊥ = omega (arith, most) in absurd never
+  same_members zero (suc m) (t ∷ ts) enough most = absurd (omega (arith, enough))
+  same_members (suc n) zero ts enough most = absurd (omega (arith, most))
   same_members (suc n) (suc m) ts enough most = same_key n m ts (read_key ts) refl enough (λ s few.
       same_members n m s few (omega (arith, most)))
 
 -- ---- values
 
 value_grown : (a : Parse json.Items) (o : Parse json.Members) → Grows a → Grows o → Grows (value_with a o)
-value_grown a o p q [] r more j e = absurd (cc)
-value_grown a o p q (Token.begin_object ∷ ts) r more j e =
-    let ms = mapped_some json.object (o ts) j r e in ap (parse_map json.object) (q ts r more ms.0 ms.1)
-    ∙ ap (λ (x : Json). Some (x, joined r more)) ms.2
-value_grown a o p q (Token.end_object ∷ ts) r more j e = absurd (cc)
-value_grown a o p q (Token.begin_array ∷ ts) r more j e =
-    let js = mapped_some json.array (a ts) j r e in ap (parse_map json.array) (p ts r more js.0 js.1)
-    ∙ ap (λ (x : Json). Some (x, joined r more)) js.2
-value_grown a o p q (Token.end_array ∷ ts) r more j e = absurd (cc)
-value_grown a o p q (Token.key s ∷ ts) r more j e = absurd (cc)
-value_grown a o p q (Token.string s ∷ ts) r more j e = rest_joined ((json.string s), ts) j r more e
-value_grown a o p q (Token.number s ∷ ts) r more j e = rest_joined ((json.number s), ts) j r more e
-value_grown a o p q (Token.boolean b ∷ ts) r more j e = rest_joined ((json.boolean b), ts) j r more e
-value_grown a o p q (Token.null ∷ ts) r more j e = rest_joined (json.null, ts) j r more e
-value_grown a o p q (Token.bad ∷ ts) r more j e = absurd (cc)
+value_grown a o p q (Token.begin_object ∷ ts) r more j e = let ms = mapped_some json.object (o ts) j r e in
+    rw (q ts r more ms.0 ms.1, ms.2) refl
+value_grown a o p q (Token.begin_array ∷ ts) r more j e = let js = mapped_some json.array (a ts) j r e in
+    rw (p ts r more js.0 js.1, js.2) refl
+value_grown a o p q (Token.string s ∷ ts) r more j e = rest_joined (json.string s) j ts r more e
+value_grown a o p q (Token.number s ∷ ts) r more j e = rest_joined (json.number s) j ts r more e
+value_grown a o p q (Token.boolean b ∷ ts) r more j e = rest_joined (json.boolean b) j ts r more e
+value_grown a o p q (Token.null ∷ ts) r more j e = rest_joined json.null j ts r more e
+value_grown a o p q _ r more j e = absurd (cc)
 
 value_grows : (depth : ℕ) → Grows (value depth)
 unfolding value
@@ -219,19 +205,14 @@ module _ {B : Type 0} (g : Items → B) (depth : ℕ) where
   turn_by n ts (Some q) is enough =
       let takes = skip_value-shorter depth in
       let less = shorter (value depth) takes ts q.1 q.0 is in
-      ap (λ (o : Option (json.Items × List Token)). parse_map g (converted of_items (parse_map (json.item q.0) o)))
-      (sym (same_items (value depth) takes (length q.1) n q.1 (omega arith) (omega (arith, less, enough))))
-      ∙ item_by q.0 q.1 (of_json q.0) refl
+      rw (← same_items (value depth) takes (length q.1) n q.1 (omega arith) (omega (arith, less, enough)))
+      (item_by q.0 q.1 (of_json q.0) refl)
 
   pub list_turn : (ts : List Token) → after_end_array ts ≡ None
       → parse_map g (items_at depth ts) ≡ option_and_then then_items (converted of_json (value depth ts))
   unfolding items
-  list_turn [] going = ap (λ (o : Option (Json × List Token)). option_and_then then_items (converted of_json o))
-      (sym (nothing_of (value depth) (skip_value-shorter depth)))
-  list_turn (t ∷ ts) going =
-      ap (λ (o : Option (List Token)). parse_map g (converted of_items
-      (items_step (value depth) (items (value depth) (length ts)) (t ∷ ts) o))) going
-      ∙ turn_by (length ts) (t ∷ ts) (value depth (t ∷ ts)) refl (omega arith)
+  list_turn [] going = rw (nothing_of (value depth) (skip_value-shorter depth)) refl
+  list_turn (t ∷ ts) going = rw going (turn_by (length ts) (t ∷ ts) (value depth (t ∷ ts)) refl (omega arith))
 
 -- ---- the members of the whole
 
@@ -256,19 +237,15 @@ key_by n s k ts None is enough = refl
 key_by n s k ts (Some q) is enough =
     let takes = skip_value-shorter 126 in
     let less = shorter (value 126) takes ts q.1 q.0 is in
-    ap (λ (o : Option (json.Members × List Token)). converted (parted_then s) (parse_map (json.member k q.0) o))
-    (sym (same_members (value 126) takes (length q.1) n q.1 (omega arith) (omega (arith, less, enough))))
-    ∙ member_by s k q.0 (of_json q.0) refl (members (value 126) (length q.1) q.1)
-    ∙ member_then s k q.1 (of_json q.0)
+    rw (← same_members (value 126) takes (length q.1) n q.1 (omega arith) (omega (arith, less, enough)))
+    (member_by s k q.0 (of_json q.0) refl (members (value 126) (length q.1) q.1) ∙ member_then s k q.1 (of_json q.0))
 
 pub object_turn : (s : Parted) (k : List ℕ) (ts r : List Token) → read_key ts ≡ Some (Some k, r)
     → parts_on s ts ≡ option_and_then then_parts (parse_map (parted_put s k) (data_at 126 r))
 unfolding members
 object_turn s k [] r key = absurd (cc)
 object_turn s k (t ∷ ts) r key =
-    let less = read_key-shorter (t ∷ ts) (Some k) r key in
-    ap (λ o. converted (parted_then s) (option_and_then (λ q. members_step (value 126) (members (value 126) (length ts)) q.0 q.1) o)) key
-    ∙ key_by (length ts) s k r (value 126 r) refl (omega (arith, less))
+    let less = read_key-shorter (t ∷ ts) (Some k) r key in rw key (key_by (length ts) s k r (value 126 r) refl (omega (arith, less)))
 
 pub object_over : (s : Parted) (ts r : List Token) → read_key ts ≡ Some (None, r) → parts_on s ts ≡ Some (s, r)
 object_over s ts r key = ap (converted (parted_then s)) (members_end (value 126) (length ts) ts r (omega arith) key)
@@ -311,7 +288,7 @@ More = Option (List Token)
 grown_by : (o : Option Data) (r s more : List Token) (d : Data) → option_map {U = Data × List Token} (λ (x : Data). (x, r)) o ≡ Some (d, s)
     → option_map {U = Data × List Token} (λ (x : Data). (x, joined r more)) o ≡ Some (d, joined s more)
 grown_by None r s more d e = absurd (cc)
-grown_by (Some x) r s more d e = rest_joined (x, r) d s more e
+grown_by (Some x) r s more d e = rest_joined x d r s more e
 
 json_grows : (depth : ℕ) (ts r more : List Token) (d : Data) (o : Option (Json × List Token)) → value depth ts ≡ o
     → converted of_json o ≡ Some (d, r) → data_at depth (joined ts more) ≡ Some (d, joined r more)

@@ -3,12 +3,13 @@ use Rattle.std.proofs.Common.{◌≡◌, ℕ, Bool, true, false, List, [], ◌�
 use Rattle.std.proofs.Common.{sym, ap, ◌∙◌, subst, append_assoc, option_and_then}
 use Rattle.std.specs.Prelude.{if◌then◌else◌}
 use Rattle.std.specs.Str.{is_utf8, IsUtf8}
+use Rattle.std.proofs.lemmas.Bool.{false_from_ne_true}
 use Rattle.std.proofs.lemmas.Str.{is_utf8-from_IsUtf8, IsUtf8-from_is_utf8}
 use Rattle.json.specs.Token.{Token}
 use Rattle.json.specs.Json as json
 use Rattle.json.specs.Json.{if_last, parse_map, value}
 use Rattle.json.specs.Lex.{tokens}
-use Rattle.serde_json.specs.Data.{Data, Members, put, null, boolean, number, unsigned, negative, float, string, array, object}
+use Rattle.serde_json.specs.Data.{Data, Members, put}
 use Rattle.serde_json.specs.Find.{as_str, get_member}
 use Rattle.serde_json.specs.Read.{converted, of_json}
 use Rattle.serde_json.specs.Read.{read as read_text}
@@ -18,6 +19,7 @@ use Rattle.trace_text.specs.Streams.{data_at}
 use Rattle.trace_text.specs.Tellings.{TellingData, TellingsData, if_histories, histories_told, telling_in, telling_put, telling_seen}
 use Rattle.trace_text.specs.Tellings.{tellings_of, text_under, told_put, told_seen, whole_put, whole_seen, whole_told}
 use Rattle.trace_text.proofs.Members.{either, get_put}
+use Rattle.trace_text.proofs.Plain.{plain_text}
 use Rattle.trace_text.proofs.Turns.{whole_read}
 use Rattle.trace_text.proofs.Walks.{mapped_some}
 
@@ -79,23 +81,13 @@ whole_law key d ms = ap if_histories (get_put (codes "histories") key d ms)
 
 -- ---- a member's value
 
-text_plain : (d : Data) → as_str (plain d) ≡ as_str d
-text_plain null = refl
-text_plain (boolean b) = refl
-text_plain (number (unsigned n)) = refl
-text_plain (number (negative z)) = refl
-text_plain (number (float x)) = refl
-text_plain (string s) = refl
-text_plain (array ds) = refl
-text_plain (object ms) = refl
-
 pub text_put : (t : TellingData) (key : List ℕ) (o : Option (Data × List Token)) (x : Data) (r : List Token) (text : Option (List ℕ))
     → parse_map plain o ≡ Some (x, r) → text ≡ as_str x
     → parse_map (put_text t key) o ≡ Some (telling_put t key text, r)
 text_put t key o x r text read is =
     let d = mapped_some plain o x r read in
     ap (parse_map (put_text t key)) d.1
-    ∙ ap (λ (s : Option (List ℕ)). Some (telling_put t key s, r)) (sym (text_plain d.0) ∙ ap as_str d.2 ∙ sym is)
+    ∙ ap (λ (s : Option (List ℕ)). Some (telling_put t key s, r)) (sym (plain_text d.0) ∙ ap as_str d.2 ∙ sym is)
 
 -- a value is put under the key, as it is read; another is passed
 module _ {S : Type 0} (name : List ℕ) (f : Data → S) (old : S) (key : List ℕ) (o : Option (Data × List Token)) (r : List Token) where
@@ -112,21 +104,16 @@ module _ {S : Type 0} (name : List ℕ) (f : Data → S) (old : S) (key : List �
 -- ---- an item more
 
 pub more_items : {A : Type 0} (old new rest : List A) (x y : A) → y ≡ x → new ≡ old ++ x ∷ [] → old ++ y ∷ rest ≡ new ++ rest
-more_items {A} old new rest x y is pushed = ap (λ (z : A). old ++ z ∷ rest) is ∙ sym (append_assoc old (x ∷ []) rest)
-    ∙ ap (λ (xs : List A). xs ++ rest) (sym pushed)
+more_items old new rest x y is pushed = rw (is, pushed, append_assoc old (x ∷ []) rest) refl
 
 -- ---- the text
 
-utf8_by : (b : Bool) (o : Option TellingsData) → (b ≡ true → ⊥) → (if b then o else None) ≡ None
-utf8_by true o never = absurd (never refl)
-utf8_by false o never = refl
-
 pub told_none : (text : List ℕ) → (IsUtf8 text → ⊥) → tellings_of text ≡ None
-told_none text bad = utf8_by (is_utf8 text) (option_map whole_told (read_text text)) (λ is. bad (IsUtf8-from_is_utf8 text is))
+told_none text bad = rw (false_from_ne_true (is_utf8 text) (λ is. bad (IsUtf8-from_is_utf8 text is))) refl
 
 module _ (text : List ℕ) (utf8 : IsUtf8 text) where
   of_utf8 : tellings_of text ≡ option_map whole_told (read_text text)
-  of_utf8 = ap (λ (b : Bool). if b then option_map whole_told (read_text text) else None) (is_utf8-from_IsUtf8 text utf8)
+  of_utf8 = rw (is_utf8-from_IsUtf8 text utf8) refl
 
   pub told_read : (ts : List Token) → ts ≡ tokens text → (told : TellingsData)
       → parse_map whole_told (data_at 127 ts) ≡ Some (told, []) → tellings_of text ≡ Some told

@@ -1,7 +1,7 @@
 -- What was read entry by entry is what the value of JSON stands for.
 use Rattle.std.proofs.Common.{◌≡◌, ℕ, suc, ◌+◌, Bool, true, false, ◌&&◌, List, [], ◌∷◌, ◌++◌, length, Option, Some, None, Result, Ok, Err}
 use Rattle.std.proofs.Common.{option_map, option_and_then, codes, refl, sym, ap, ap₂, ◌∙◌, arith, append_assoc, append-nil}
-use Rattle.std.specs.Prelude.{◌==◌, if◌then◌else◌, nat_lt, nat_le, is_some}
+use Rattle.std.specs.Prelude.{◌==◌, if◌then◌else◌, nat_lt, nat_le}
 use Rattle.std.specs.Option.{option_or}
 use Rattle.std.specs.Str.{bytes_eq, IsUtf8}
 use Rattle.json.specs.Token.{Token}
@@ -9,7 +9,7 @@ use Rattle.json.specs.Json.{parse_map, value}
 use Rattle.json.specs.Lex.{tokens}
 use Rattle.serde_json.specs.Data.{Data, array, object, Items, no_items, item, Members}
 use Rattle.serde_json.specs.Find.{as_array, get_member}
-use Rattle.trace_text.proofs.Turns.{pick, whole_read}
+use Rattle.trace_text.proofs.Turns.{whole_read}
 use Rattle.group_task.specs.declared.node.TheConstants.{NODES}
 use Rattle.wire_msg.specs.Envelope.{Envelope}
 use Rattle.trace_check.specs.declared.trace.TraceAction.{TraceAction}
@@ -18,7 +18,7 @@ use Rattle.trace_text.specs.declared.fault.Location.{Location}
 use Rattle.trace_text.specs.declared.stream.Entries.{Entries}
 use Rattle.trace_text.specs.Drafts.{listed_by, unless_bad}
 use Rattle.trace_text.specs.Fields.{fields_in, fields_put, plain}
-use Rattle.trace_text.specs.Entries.{message_in, messages_in, number_in, action_in, claim_in, with_first}
+use Rattle.trace_text.specs.Entries.{message_in, messages_in, number_in, action_in, claim_in}
 use Rattle.trace_text.specs.Streams.{Drafted, Judged, Listed, data_at, drafted_in, drafted_put, judged_in, judged_of, members_at, parted_in}
 use Rattle.trace_text.specs.Streams.{sent_in, shaped}
 use Rattle.trace_text.specs.Pieces.{after_good, entries_then, histories_then, lists_then, listed_then, list_then}
@@ -28,9 +28,6 @@ use Rattle.trace_text.proofs.Lists.{and_then, one_more}
 use Rattle.trace_text.proofs.Plain.{action_same}
 use Rattle.trace_text.proofs.Texts.{bad_text, good_text}
 use Rattle.trace_text.proofs.Walks.{in_object, mapped_some}
-
-some_is : {A : Type 0} (x y : A) → Some x ≡ Some y → x ≡ y
-some_is x y e = ap (pick x) e
 
 -- ---- messages
 
@@ -48,13 +45,12 @@ messages_begun ds = begun (messages_in ds)
 pub message_more : (all : Bool) (ms : List Envelope) (d : Data) (m : Envelope) (ds : Items) → message_in (Some d) ≡ Some m
     → messages_then all ms (item d ds) ≡ messages_then all (ms ++ m ∷ []) ds
 message_more false ms d m ds is = refl
-message_more true ms d m ds is = ap (λ (o : Option Envelope). and_then ms (with_first o (messages_in ds))) is
-    ∙ one_more ms m (messages_in ds)
+message_more true ms d m ds is = rw is (one_more ms m (messages_in ds))
 
 pub message_bad : (all : Bool) (ms new : List Envelope) (d : Data) (ds : Items) → message_in (Some d) ≡ None
     → messages_then all ms (item d ds) ≡ messages_then false new ds
 message_bad false ms new d ds is = refl
-message_bad true ms new d ds is = ap (λ (o : Option Envelope). and_then ms (with_first o (messages_in ds))) is
+message_bad true ms new d ds is = rw is refl
 
 pub messages_done : (all : Bool) (ms : List Envelope) → messages_then all ms no_items ≡ (if all then Some ms else None)
 messages_done false ms = refl
@@ -130,10 +126,8 @@ entry_by : (node : ℕ) (h new : List Claim) (bad : Option Location) (o : Option
     → after_good h (first_entry node (length h) o later) ≡ after_good new (entries_from node (length new) ds)
 entry_by node h new bad None ds is later same = absurd (cc)
 entry_by node h new bad (Some c) ds is later same =
-    let grown : h ++ c ∷ [] ≡ new = some_is _ _ is in
-    good_entry node (length h) h c later
-    ∙ ap (after_good (h ++ c ∷ [])) (same ∙ ap (λ (i : ℕ). entries_from node i ds) (sym (one_longer h c)))
-    ∙ ap (λ (xs : List Claim). after_good xs (entries_from node (length xs) ds)) grown
+    let grown : h ++ c ∷ [] ≡ new = cc in
+    rw (← grown, one_longer h c, same) (good_entry node (length h) h c (entries_from node (length h + 1) ds))
 
 pub entry_more : (node : ℕ) (h new : List Claim) (bad : Option Location) (d : Data) (ds : Items) → added_in h d ≡ Some new
     → entries_then node h bad (item d ds) ≡ entries_then node new bad ds
@@ -181,8 +175,7 @@ history_closed : (hs : List (List Claim)) (bad now : Option Location) (h : List 
 history_closed hs (Some location) now h ds = refl
 history_closed hs None (Some location) h ds = refl
 history_closed hs None None h ds =
-    good_history hs h (histories_from (length hs + 1) ds) ∙ ap (λ (i : ℕ). after_good (hs ++ h ∷ []) (histories_from i ds))
-    (sym (one_longer hs h))
+    rw (one_longer hs h) (good_history hs h (histories_from (length hs + 1) ds))
 
 pub list_closed : (all : Bool) (hs : List (List Claim)) (bad : Option Location) (e : Entries) (ds : Items)
     → list_then all hs bad (listed_by e) ds ≡ lists_then all (hs ++ e.history ∷ []) (option_or bad e.bad) ds
@@ -196,8 +189,7 @@ list_closed true hs bad e ds =
 pub lists_bad : (all : Bool) (hs : List (List Claim)) (bad : Option Location) (d : Data) (ds : Items) → as_array d ≡ None
     → lists_then all hs bad (item d ds) ≡ lists_then false hs bad ds
 lists_bad false hs bad d ds none = refl
-lists_bad true hs bad d ds none = ap (λ (x : Option Items). if is_some x && all_lists ds
-    then Some (length hs + suc (count_items ds), histories_then hs bad (item d ds)) else None) none
+lists_bad true hs bad d ds none = rw none refl
 
 pub lists_done : (all : Bool) (hs : List (List Claim)) (bad : Option Location)
     → lists_then all hs bad no_items ≡ (if all then Some (length hs, unless_bad bad hs) else None)

@@ -1,7 +1,6 @@
 -- What was kept of what nodes told stays so, whatever texts are kept behind it.
-use Rattle.std.proofs.Common.{◌≡◌, ℕ, ◌+◌, ◌≤◌, List, [], ◌∷◌, ◌++◌, length, take, drop, map, All, slice_get, Option, Some, None}
-use Rattle.std.proofs.Common.{option_map}
-use Rattle.std.proofs.Common.{refl, sym, ap, ◌∙◌, subst, arith, append_assoc, append-nil}
+use Rattle.std.proofs.Common.{◌≡◌, ℕ, ◌+◌, ◌≤◌, List, [], ◌∷◌, ◌++◌, length, map, All, Option, Some, None}
+use Rattle.std.proofs.Common.{refl, ap, ap₂, ◌∙◌, arith, append_assoc}
 use Rattle.std.proofs.lemmas.List.{map-append, length-append}
 use Rattle.std.proofs.lemmas.List.Elements.{All-head, All-tail, All-push, All-weaker}
 use Rattle.trace_text.specs.declared.telling.StoredText.{StoredText}
@@ -9,10 +8,7 @@ use Rattle.trace_text.specs.declared.telling.StoredText.TheVariants as stored
 use Rattle.trace_text.specs.declared.telling.StoredTelling.{StoredTelling}
 use Rattle.trace_text.specs.Tellings.{Grows, IsKept, SaidData, TellingData, TellingKept, TellingStands, TextStands, ToldStands}
 use Rattle.trace_text.specs.Tellings.{telling_stored, text_stored, told_stored}
-use Rattle.trace_check.proofs.PublicLaws.{part_same, part_again}
-
-pub grows_same : (texts : List ℕ) → Grows texts texts
-grows_same texts = ([], sym (append-nil texts))
+use Rattle.trace_check.proofs.PublicLaws.{part_same}
 
 pub grows_then : (a b c : List ℕ) → Grows a b → Grows b c → Grows a c
 grows_then a b c first then = (
@@ -24,29 +20,17 @@ pub longer : (a b : List ℕ) → Grows a b → length a ≤ length b
 longer a b grows = let is = ap length grows.1 in let all = length-append a grows.0 in omega (arith, is, all)
 
 text_longer : (m n : ℕ) (t : StoredText) → m ≤ n → TextStands m t → TextStands n t
-text_longer m n stored.Missing less h = tt
-text_longer m n stored.Other less h = tt
 text_longer m n (stored.Text start len) less h = omega (arith, less, h)
+text_longer m n _ less h = tt
 
 text_same : (texts more : List ℕ) (t : StoredText) → TextStands (length texts) t → text_stored (texts ++ more) t ≡ text_stored texts t
-text_same texts more stored.Missing h = refl
-text_same texts more stored.Other h = refl
 text_same texts more (stored.Text start len) h = ap (λ (xs : List ℕ). Some (Some xs)) (part_same texts more start len h)
+text_same texts more _ h = refl
 
 pub kept_more : (old new : List ℕ) (t : StoredText) (field : SaidData) → Grows old new → IsKept old t field → IsKept new t field
 kept_more old new t field grows kept = record {
   value = ap (λ (xs : List ℕ). text_stored xs t) grows.1 ∙ text_same old grows.0 t kept.stands ∙ kept.value;
   stands = text_longer (length old) (length new) t (longer old new grows) kept.stands;
-}
-
-pub kept_text : (texts new text : List ℕ) (start len : ℕ) → new ≡ texts ++ text → start ≡ length texts → len ≡ length text
-    → IsKept new (stored.Text start len) (Some (Some text))
-kept_text texts new text start len is first many = record {
-  value = ap (λ (xs : List ℕ). Some (Some (take len (drop start xs)))) is
-      ∙ ap (λ (n : ℕ). Some (Some (take len (drop n (texts ++ text))))) first
-      ∙ ap (λ (n : ℕ). Some (Some (take n (drop (length texts) (texts ++ text))))) many
-      ∙ ap (λ (xs : List ℕ). Some (Some xs)) (part_again texts text);
-  stands = let whole = ap length is in let all = length-append texts text in omega (arith, whole, all, first, many);
 }
 
 -- ---- a telling
@@ -107,11 +91,8 @@ all_longer old new es grows all =
 all_same : (texts more : List ℕ) (es : List (Option StoredTelling)) → All (ToldStands (length texts)) es
     → map (told_stored (texts ++ more)) es ≡ map (told_stored texts) es
 all_same texts more [] h = refl
-all_same texts more (e ∷ es) h =
-    ap (λ (t : Option TellingData). t ∷ map (told_stored (texts ++ more)) es)
-    (told_same texts more e (All-head (ToldStands (length texts)) e es h))
-    ∙ ap (λ (ts : List (Option TellingData)). told_stored texts e ∷ ts) (all_same texts more es
-    (All-tail (ToldStands (length texts)) e es h))
+all_same texts more (e ∷ es) h = ap₂ (λ t ts. t ∷ ts) (told_same texts more e (All-head (ToldStands (length texts)) e es h))
+    (all_same texts more es (All-tail (ToldStands (length texts)) e es h))
 
 -- an entry more, of which this is kept
 pub entry_more : (old new : List ℕ) (es all : List (Option StoredTelling)) (t : Option StoredTelling) (told : Option TellingData)
@@ -119,13 +100,11 @@ pub entry_more : (old new : List ℕ) (es all : List (Option StoredTelling)) (t 
     → All (ToldStands (length old)) es → told_stored new t ≡ told → all ≡ es ++ t ∷ []
     → map (told_stored new) all ≡ map (told_stored old) es ++ told ∷ []
 entry_more old new es all t told grows stand is whole =
-    ap (λ (xs : List (Option StoredTelling)). map (told_stored new) xs) whole ∙ map-append (told_stored new) es (t ∷ [])
-    ∙ ap (λ (xs : List (Option TellingData)). xs ++ told_stored new t ∷ []) (ap (λ (texts : List ℕ). map (told_stored texts) es) grows.1
-    ∙ all_same old grows.0 es stand)
-    ∙ ap (λ (x : Option TellingData). map (told_stored old) es ++ x ∷ []) is
+    ap (map (told_stored new)) whole ∙ map-append (told_stored new) es (t ∷ [])
+    ∙ ap₂ (λ (xs : List (Option TellingData)) (x : Option TellingData). xs ++ x ∷ [])
+    (ap (λ (texts : List ℕ). map (told_stored texts) es) grows.1 ∙ all_same old grows.0 es stand) is
 
 pub entry_stands : (old new : List ℕ) (es all : List (Option StoredTelling)) (t : Option StoredTelling) → Grows old new
     → All (ToldStands (length old)) es → ToldStands (length new) t → all ≡ es ++ t ∷ [] → All (ToldStands (length new)) all
 entry_stands old new es all t grows stand here whole =
-    subst (λ (xs : List (Option StoredTelling)). All (ToldStands (length new)) xs) (sym whole)
-    (All-push (ToldStands (length new)) es t (all_longer old new es grows stand) here)
+    rw whole (All-push (ToldStands (length new)) es t (all_longer old new es grows stand) here)

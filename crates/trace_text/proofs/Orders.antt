@@ -1,6 +1,7 @@
 -- The order that a text has beside its trace.
 use Rattle.std.proofs.Common.{◌≡◌, ◌<◌, ◌≤◌, ◌-◌, ℕ, Bool, true, false, List, [], ◌∷◌, ◌++◌, length, Option, Some, None, option_and_then}
 use Rattle.std.proofs.Common.{bytes_eq, codes, refl, sym, ap, ap₂, ◌∙◌, arith, append_assoc, append-nil, drop, get_or, lt-ltb, ◌+◌}
+use Rattle.std.proofs.lemmas.Bool.{false_from_ne_true}
 use Rattle.std.proofs.lemmas.List.{drop_more, length-drop}
 use Rattle.std.specs.Prelude.{MatchOption, cond, if◌then◌else◌, is_some, nat_lt}
 use Rattle.std.specs.Str.{is_utf8, IsUtf8}
@@ -14,11 +15,11 @@ use Rattle.json.specs.declared.token.Token.{Token as Read}
 use Rattle.json.specs.declared.token.Token.TheVariants as start
 use Rattle.json.specs.Find.{as_str, get_member, later_or}
 use Rattle.json.specs.declared.error.Error.{Error}
-use Rattle.json.specs.declared.error.Error.TheVariants.{Invalid, OutOfMemory, TooLong, DuplicateKey}
+use Rattle.json.specs.declared.error.Error.TheVariants.{OutOfMemory}
 use Rattle.json.proofs.Grammar.{value_is, value-begin_array, value-begin_object, members_end, members_fail, members_more, members_no_key}
-use Rattle.trace_text.specs.Ordered.{Ordered, IsLacking, MessageFits, TurnsFit, json_of, order_in, order_of, order_words, space_if}
+use Rattle.trace_text.specs.Ordered.{Ordered, IsLacking, MessageFits, TurnsFit, order_of, order_words, space_if}
 use Rattle.trace_text.specs.Ordered.{turn_text, turns_of, turns_text, with_turn, words_at, words_from, words_in}
-use Rattle.trace_text.proofs.Walks.{mapped_some}
+use Rattle.trace_text.proofs.Walks.{mapped_none, mapped_some}
 use Rattle.group_task.specs.declared.node.TheConstants.{NODES}
 
 -- ---- the text under the key
@@ -57,50 +58,41 @@ whole o = option_and_then order_words (option_and_then (λ p. if_last p.0 p.1) o
 
 at_object : (ts r : List Token) → ts ≡ Token.begin_object ∷ r
     → words_at ts ≡ whole (parse_map json.object (members (value 126) (length r) r))
-at_object ts r is = ap words_at is ∙ ap whole (value-begin_object 127 r (omega arith))
+at_object ts r is = rw (is, value-begin_object 127 r (omega arith)) refl
 
 pub words_whole : (ts r : List Token) (text : Option (List ℕ)) → ts ≡ Token.begin_object ∷ r
     → parse_map (words_from None) (members (value 126) (length r) r) ≡ Some (text, []) → text ≡ words_at ts
 words_whole ts r text is read =
     let ms = mapped_some (words_from None) (members (value 126) (length r) r) text [] read in
-    sym (at_object ts r is ∙ ap (λ (o : Option (json.Members × List Token)). whole (parse_map json.object o)) ms.1
-    ∙ sym (words_of_members ms.0) ∙ ms.2)
+    rw (at_object ts r is, ms.1, ← words_of_members ms.0, ms.2) refl
 
 pub words_more : (ts r more : List Token) (t : Token) (text : Option (List ℕ)) → ts ≡ Token.begin_object ∷ r
     → parse_map (words_from None) (members (value 126) (length r) r) ≡ Some (text, t ∷ more) → words_at ts ≡ None
 words_more ts r more t text is read =
-    let ms = mapped_some (words_from None) (members (value 126) (length r) r) text (t ∷ more) read in
-    at_object ts r is ∙ ap (λ (o : Option (json.Members × List Token)). whole (parse_map json.object o)) ms.1
+    let ms = mapped_some (words_from None) (members (value 126) (length r) r) text (t ∷ more) read in rw (at_object ts r is, ms.1) refl
 
 -- a token more behind the object, or none
 module _ (ts r rest new : List Token) (text : Option (List ℕ)) (o : Option Read) (is : ts ≡ Token.begin_object ∷ r)
     (read : parse_map (words_from None) (members (value 126) (length r) r) ≡ Some (text, rest))
     (next : MatchOption o ((rest ≡ []) × (new ≡ [])) (λ t. rest ≡ token_of t ∷ new)) where
+  by_next : (o : Option Read) → MatchOption o ((rest ≡ []) × (new ≡ [])) (λ t. rest ≡ token_of t ∷ new)
+      → (is_some o ≡ true → words_at ts ≡ None) × (is_some o ≡ false → text ≡ words_at ts)
+  by_next None next = (λ some. absurd cc, λ none. words_whole ts r text is (rw next.0 at read))
+  by_next (Some t) next = (λ some. words_more ts r new (token_of t) text is (rw next at read), λ none. absurd cc)
+
   pub behind : is_some o ≡ true → words_at ts ≡ None
-  behind some = by o next some
-    where
-      by : (o : Option Read) → MatchOption o ((rest ≡ []) × (new ≡ [])) (λ t. rest ≡ token_of t ∷ new) → is_some o ≡ true
-          → words_at ts ≡ None
-      by None next some = absurd cc
-      by (Some t) next some = words_more ts r new (token_of t) text is (read ∙ ap (λ (xs : List Token). Some (text, xs)) next)
+  behind = (by_next o next).0
 
   pub at_end : is_some o ≡ false → text ≡ words_at ts
-  at_end none = by o next none
-    where
-      by : (o : Option Read) → MatchOption o ((rest ≡ []) × (new ≡ [])) (λ t. rest ≡ token_of t ∷ new) → is_some o ≡ false
-          → text ≡ words_at ts
-      by None next none = words_whole ts r text is (read ∙ ap (λ (xs : List Token). Some (text, xs)) next.0)
-      by (Some t) next none = absurd cc
+  at_end = (by_next o next).1
 
 lacks_members : (ts r : List Token) → ts ≡ Token.begin_object ∷ r → members (value 126) (length r) r ≡ None → words_at ts ≡ None
-lacks_members ts r is none = at_object ts r is ∙ ap (λ (o : Option (json.Members × List Token)). whole (parse_map json.object o)) none
+lacks_members ts r is none = rw (at_object ts r is, none) refl
 
 -- what isn't read isn't there
 pub lacking : {A B : Type 0} (o : Option A) (p : Option B) (e : Error) → (o ≡ None → p ≡ None) → IsLacking o e → IsLacking p e
-lacking o p Invalid none is = none is
 lacking o p OutOfMemory none is = tt
-lacking o p TooLong none is = none is
-lacking o p DuplicateKey none is = none is
+lacking o p _ none is = none is
 
 pub words_lacking : (ts r : List Token) (e : Error) → ts ≡ Token.begin_object ∷ r → IsLacking (members (value 126) (length r) r) e
     → IsLacking (words_at ts) e
@@ -111,34 +103,16 @@ no_array None = refl
 no_array (Some (js, [])) = refl
 no_array (Some (js, t ∷ ts)) = refl
 
-no_scalar : (j : json.Json) (ts : List Token) → order_words j ≡ None → whole (Some (j, ts)) ≡ None
-no_scalar j [] none = none
-no_scalar j (t ∷ ts) none = refl
-
 pub no_words : words_at [] ≡ None
 no_words = ap whole (value_is 127 [])
 
 pub other_words : (t : Read) (ts r : List Token) → (t ≡ start.BeginObject → ⊥) → ts ≡ token_of t ∷ r → words_at ts ≡ None
 other_words start.BeginObject ts r other is = absurd (other refl)
-other_words start.EndObject ts r other is = ap words_at is ∙ ap whole (value_is 127 (Token.end_object ∷ r))
-other_words start.BeginArray ts r other is = ap words_at is ∙ ap whole (value-begin_array 127 r (omega arith))
-    ∙ no_array (items (value 126) (length r) r)
-other_words start.EndArray ts r other is = ap words_at is ∙ ap whole (value_is 127 (Token.end_array ∷ r))
-other_words (start.Key s) ts r other is = ap words_at is ∙ ap whole (value_is 127 (Token.key s.now ∷ r))
-other_words (start.String s) ts r other is = ap words_at is ∙ ap whole (value_is 127 (Token.string s.now ∷ r))
-    ∙ no_scalar (json.string s.now) r refl
-other_words (start.Number s) ts r other is = ap words_at is ∙ ap whole (value_is 127 (Token.number s.now ∷ r))
-    ∙ no_scalar (json.number s.now) r refl
-other_words (start.Bool b) ts r other is = ap words_at is ∙ ap whole (value_is 127 (Token.boolean b ∷ r))
-    ∙ no_scalar (json.boolean b) r refl
-other_words start.Null ts r other is = ap words_at is ∙ ap whole (value_is 127 (Token.null ∷ r)) ∙ no_scalar json.null r refl
-other_words start.Bad ts r other is = ap words_at is ∙ ap whole (value_is 127 (Token.bad ∷ r))
+other_words start.BeginArray ts r other is = rw (is, value-begin_array 127 r (omega arith)) (no_array (items (value 126) (length r) r))
+other_words t ts [] other is = rw (is, value_is 127 (token_of t ∷ [])) refl
+other_words t ts (x ∷ r) other is = rw (is, value_is 127 (token_of t ∷ x ∷ r)) refl
 
 -- ---- members, a turn at a time
-
-none_mapped : {A B : Type 0} (f : A → B) (o : Option (A × List Token)) → parse_map f o ≡ None → o ≡ None
-none_mapped f None none = refl
-none_mapped f (Some p) none = absurd cc
 
 with_member : (found : Option (List ℕ)) (k : List ℕ) (j : json.Json) (o : Option (json.Members × List Token))
     → parse_map (words_from found) (parse_map (json.member k j) o)
@@ -159,12 +133,12 @@ module _ (n : ℕ) (ts : List Token) (found : Option (List ℕ)) where
 
   pub no_key : (all : Option (json.Members × List Token)) → parse_map (words_from None) all ≡ parse_map (words_from found)
       (members (value 126) n ts) → read_key ts ≡ None → all ≡ None
-  no_key all same none = none_mapped (words_from None) all (same ∙ ap (parse_map (words_from found)) (members_no_key (value 126) n ts none))
+  no_key all same none = mapped_none (words_from None) all (same ∙ ap (parse_map (words_from found)) (members_no_key (value 126) n ts none))
 
   pub no_value : (all : Option (json.Members × List Token)) (k : List ℕ) (s : List Token)
       → parse_map (words_from None) all ≡ parse_map (words_from found) (members (value 126) n ts) → read_key ts ≡ Some (Some k, s)
       → value 126 s ≡ None → all ≡ None
-  no_value all k s same key none = none_mapped (words_from None) all (same
+  no_value all k s same key none = mapped_none (words_from None) all (same
       ∙ ap (parse_map (words_from found)) (members_fail (value 126) n k ts s key none))
 
 pub kept_found : (b : Bool) (text found : Option (List ℕ)) → b ≡ false → found ≡ (if b then text else found)
@@ -185,21 +159,12 @@ turn_joined nodes messages n m (Some rest) = ap₂ (λ (a : List ℕ) (b : List 
 
 -- ---- the text
 
-by_text : (b : Bool) (o : Option Ordered) → b ≡ false → (if b then o else None) ≡ None
-by_text true o bad = absurd cc
-by_text false o bad = refl
-
-not_text : (b : Bool) → (b ≡ true → ⊥) → b ≡ false
-not_text true none = absurd (none refl)
-not_text false none = refl
-
 pub no_order : (text : List ℕ) → (IsUtf8 text → ⊥) → order_of text ≡ None
-no_order text bad = by_text (is_utf8 text) (order_in (json_of text)) (not_text (is_utf8 text) (λ is. bad (IsUtf8-from_is_utf8 text is)))
+no_order text bad = rw (false_from_ne_true (is_utf8 text) (λ is. bad (IsUtf8-from_is_utf8 text is))) refl
 
 pub some_order : (text words : List ℕ) → IsUtf8 text → words_at (tokens text) ≡ Some words → order_of text ≡ turns_of (words_in words)
 some_order text words utf8 there =
-    ap (λ (b : Bool). if b then order_in (json_of text) else None) (is_utf8-from_IsUtf8 text utf8)
-    ∙ ap (λ (o : Option (List ℕ)). option_and_then (λ (t : List ℕ). turns_of (words_in t)) o) there
+    rw (is_utf8-from_IsUtf8 text utf8) (ap (option_and_then (λ (t : List ℕ). turns_of (words_in t))) there)
 
 -- ---- what is written
 
@@ -216,10 +181,8 @@ module _ (text new : List ℕ) (i : ℕ) (ns : List ℕ) (ms : List (Option ℕ)
   turns_more added =
       let positive : 0 < i + 1 = omega arith in
       let rest = turns_text true (drop (i + 1) ns) (drop (i + 1) ms) in
-      ap (λ (b : Bool). new ++ turns_text b (drop (i + 1) ns) (drop (i + 1) ms)) (lt-ltb 0 (i + 1) positive)
-      ∙ ap (λ (xs : List ℕ). xs ++ rest) added ∙ append_assoc text (space_if (nat_lt 0 i) ++ turn_text n m) rest
-      ∙ ap (λ (xs : List ℕ). text ++ xs) (append_assoc (space_if (nat_lt 0 i)) (turn_text n m) rest)
-      ∙ ap₂ (λ (xs : List ℕ) (ys : List (Option ℕ)). text ++ turns_text (nat_lt 0 i) xs ys) (sym first_node) (sym first_message)
+      rw (lt-ltb 0 (i + 1) positive, added, first_node, first_message) (append_assoc text (space_if (nat_lt 0 i) ++ turn_text n m) rest
+      ∙ ap (λ (xs : List ℕ). text ++ xs) (append_assoc (space_if (nat_lt 0 i)) (turn_text n m) rest))
 
   pub fits_more : n < NODES → MessageFits m → TurnsFit (drop (i + 1) ns) (drop (i + 1) ms) → TurnsFit (drop i ns) (drop i ms)
   fits_more first second rest = rw (first_node, first_message) (first, second, rest)
@@ -239,8 +202,7 @@ module _ (i : ℕ) (ns : List ℕ) (ms : List (Option ℕ)) (past : i < length n
   none_here a b = let left = length-drop i ns in let right = length-drop i ms in past (omega (arith, a, left)) (omega (arith, b, right))
 
   pub turns_all : (text all : List ℕ) → text ++ turns_text (nat_lt 0 i) (drop i ns) (drop i ms) ≡ all → text ≡ all
-  turns_all text all is = sym (append-nil text) ∙ ap (λ (xs : List ℕ). text ++ xs)
-      (sym (none_text (nat_lt 0 i) (drop i ns) (drop i ms) none_here)) ∙ is
+  turns_all text all is = rw (← is, none_text (nat_lt 0 i) (drop i ns) (drop i ms) none_here, append-nil text) refl
 
   pub fits_all : TurnsFit (drop i ns) (drop i ms)
   fits_all = none_fits (drop i ns) (drop i ms) none_here

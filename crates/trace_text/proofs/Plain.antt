@@ -1,8 +1,8 @@
 -- What an entry says rests on what is looked at of its fields.
-use Rattle.std.proofs.Common.{◌≡◌, ℕ, Bool, List, Option, Some, None, option_map, option_and_then, codes, refl, sym, ap, ◌∙◌}
-use Rattle.std.specs.Prelude.{if◌then◌else◌, ℤ, Float}
+use Rattle.std.proofs.Common.{◌≡◌, ℕ, Bool, List, Option, Some, None, option_map, option_and_then, codes, refl, sym, ap, ap₂, ◌∙◌}
+use Rattle.std.specs.Prelude.{if◌then◌else◌}
 use Rattle.std.specs.Str.{bytes_eq}
-use Rattle.serde_json.specs.Data.{Data, Items, Members, null, boolean, number, unsigned, negative, float, string, array, object}
+use Rattle.serde_json.specs.Data.{Data, number, unsigned}
 use Rattle.serde_json.specs.Find.{as_str, as_bool}
 use Rattle.node_core.specs.declared.event.Event.{Event}
 use Rattle.trace_check.specs.declared.trace.TraceAction.{TraceAction}
@@ -11,27 +11,17 @@ use Rattle.trace_text.specs.Fields.{FieldData, plain, plain_fields}
 use Rattle.trace_text.specs.Entries.{message_in, spelled_in, number_in, priority_in, submit_in, finish_in, deliver_in, event_in, device_in}
 use Rattle.trace_text.specs.Entries.{done_in, recovered_in, recover_in, action_named, action_in}
 
--- a reading that finds the same in all that isn't looked at finds in a value what is looked at of it
-looked : {A : Type 0} (f : Data → A) → ((z : ℤ) → f null ≡ f (number (negative z))) → ((x : Float) → f null ≡ f (number (float x)))
-    → ((ds : Items) → f null ≡ f (array ds)) → ((ms : Members) → f null ≡ f (object ms))
-    → (d : Data) → f (plain d) ≡ f d
-looked f signs floats lists objects null = refl
-looked f signs floats lists objects (boolean b) = refl
-looked f signs floats lists objects (number (unsigned n)) = refl
-looked f signs floats lists objects (number (negative z)) = signs z
-looked f signs floats lists objects (number (float x)) = floats x
-looked f signs floats lists objects (string s) = refl
-looked f signs floats lists objects (array ds) = lists ds
-looked f signs floats lists objects (object ms) = objects ms
-
-plain_text : (d : Data) → as_str (plain d) ≡ as_str d
-plain_text d = looked as_str (λ z. refl) (λ x. refl) (λ ds. refl) (λ ms. refl) d
+pub plain_text : (d : Data) → as_str (plain d) ≡ as_str d
+plain_text (number (unsigned n)) = refl
+plain_text _ = refl
 
 pub plain_number : (d : Data) → number_in (Some (plain d)) ≡ number_in (Some d)
-plain_number d = looked (λ x. number_in (Some x)) (λ z. refl) (λ x. refl) (λ ds. refl) (λ ms. refl) d
+plain_number (number (unsigned n)) = refl
+plain_number _ = refl
 
 plain_flag : (d : Data) → as_bool (plain d) ≡ as_bool d
-plain_flag d = looked as_bool (λ z. refl) (λ x. refl) (λ ds. refl) (λ ms. refl) d
+plain_flag (number (unsigned n)) = refl
+plain_flag _ = refl
 
 pub plain_message : (d x : Data) → plain d ≡ x → message_in (Some d) ≡ message_in (Some x)
 plain_message d x is = ap (option_and_then spelled_in) (sym (plain_text d) ∙ ap as_str is)
@@ -94,8 +84,7 @@ module _ (f : FieldData) where
   named_same : (name : List ℕ) → action_named (plain_fields f) name ≡ action_named f name
   named_same name =
       ap (λ (o : Option TraceAction). named o (event_in (plain_fields f) name) (device_in (option_map plain f.fault)) name) recover_same
-      ∙ ap (λ (o : Option Event). named (recover_in f) o (device_in (option_map plain f.fault)) name) (event_same name)
-      ∙ ap (λ (o : Option Bool). named (recover_in f) (event_in f name) o name) (device_same f.fault)
+      ∙ ap₂ (λ (o : Option Event) (b : Option Bool). named (recover_in f) o b name) (event_same name) (device_same f.fault)
 
   pub action_same : action_in (plain_fields f) ≡ action_in f
   action_same = ap (option_and_then (action_named (plain_fields f))) (text_same f.name) ∙ each (option_and_then as_str f.name)

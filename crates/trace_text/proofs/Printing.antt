@@ -1,6 +1,6 @@
 -- The tokens of a trace are those of its JSON value.
 use Rattle.std.proofs.Common.{◌≡◌, ◌≤◌, ◌+◌, ℕ, Bool, true, false, List, [], ◌∷◌, ◌++◌, length, drop, map, slice_get, Some, codes, decimal}
-use Rattle.std.proofs.Common.{refl, sym, ap, ◌∙◌, subst, append_assoc, arith}
+use Rattle.std.proofs.Common.{refl, sym, ap, ap₂, ◌∙◌, subst, append_assoc, arith}
 use Rattle.std.specs.Prelude.{OnOk, Result, Ok, Err, if◌then◌else◌, ◌==◌}
 use Rattle.std.specs.declared.alloc.AllocError.{AllocError}
 use Rattle.std.proofs.lemmas.Result.{on_ok_weaker}
@@ -46,25 +46,19 @@ priority_of priority rest = by_zero (priority == 0)
 
 event_of : (e : Event) (rest : Members) → members_tokens (members_outline (event_members e rest))
     ≡ event_tokens e ++ members_tokens (members_outline rest)
-event_of (on.Timer timer) rest = refl
-event_of (on.Deliver m) rest = refl
 event_of (on.Submit work) rest =
     ap (λ (ts : List Token). token.key (codes "payload") ∷ token.string (encode_lower work.payload) ∷ ts)
     (priority_of work.priority (member (codes "queue") (number (unsigned work.queue)) rest)
     ∙ sym (append_assoc (priority_tokens work.priority) (token.key (codes "queue") ∷ token.number (decimal work.queue) ∷ [])
     (members_tokens (members_outline rest))))
-event_of (on.Finish origin id) rest = refl
-event_of on.Recover rest = refl
+event_of _ rest = refl
 
 action_of : (d : TraceAction) (rest : Members) → members_tokens (members_outline (action_members d rest))
     ≡ action_tokens d ++ members_tokens (members_outline rest)
-action_of action.Nothing rest = refl
 action_of (action.Done event) rest = event_of event rest
 action_of (action.Faulted event) rest = ap (λ (ts : List Token). token.key (codes "fault") ∷ token.string (codes "device") ∷ ts)
     (event_of event rest)
-action_of action.Crashed rest = refl
-action_of (action.Recovered kept) rest = refl
-action_of (action.NotRecovered kept fault) rest = refl
+action_of _ rest = refl
 
 entry_of : (c : Claim) → json_tokens (outline (entry_data c)) ≡ entry_tokens c
 entry_of c =
@@ -82,8 +76,7 @@ entry_printed c = ap print (sym (entry_of c)) ∙ print-outline (entry_data c)
 entries_of : (h : List Claim) → items_tokens (items_outline (items_of (map entry_data h))) ≡ entries_tokens h ++ token.end_array ∷ []
 entries_of [] = refl
 entries_of (c ∷ h) =
-    ap (λ (ts : List Token). ts ++ items_tokens (items_outline (items_of (map entry_data h)))) (entry_of c)
-    ∙ ap (λ (ts : List Token). entry_tokens c ++ ts) (entries_of h)
+    ap₂ (λ (ts us : List Token). ts ++ us) (entry_of c) (entries_of h)
     ∙ sym (append_assoc (entry_tokens c) (entries_tokens h) (token.end_array ∷ []))
 
 history_of : (h : List Claim) → json_tokens (outline (history_data h)) ≡ history_tokens h
@@ -93,8 +86,7 @@ pub histories_of : (hs : List (List Claim)) → items_tokens (items_outline (ite
     ≡ histories_tokens hs ++ token.end_array ∷ []
 histories_of [] = refl
 histories_of (h ∷ hs) =
-    ap (λ (ts : List Token). ts ++ items_tokens (items_outline (items_of (map history_data hs)))) (history_of h)
-    ∙ ap (λ (ts : List Token). history_tokens h ++ ts) (histories_of hs)
+    ap₂ (λ (ts us : List Token). ts ++ us) (history_of h) (histories_of hs)
     ∙ sym (append_assoc (history_tokens h) (histories_tokens hs) (token.end_array ∷ []))
 
 pub trace_tokens_of : (hs : List (List Claim)) → json_tokens (outline (trace_data hs)) ≡ trace_tokens hs

@@ -1,6 +1,6 @@
 -- The text that is written for a trace is read as the JSON value of that trace.
 use Rattle.std.proofs.Common.{◌≡◌, ◌<◌, ◌≤◌, ◌^◌, ℕ, Bool, true, false, List, [], ◌∷◌, ◌++◌, length, map, Option, Some, Ok, codes, refl}
-use Rattle.std.proofs.Common.{sym, ap, ◌∙◌, arith, append-nil}
+use Rattle.std.proofs.Common.{sym, ap, ap₂, ◌∙◌, arith, append-nil}
 use Rattle.std.specs.Prelude.{if◌then◌else◌, ◌==◌, option_map, option_and_then}
 use Rattle.std.specs.Str.{IsUtf8}
 use Rattle.json.specs.Lex.{tokens}
@@ -65,21 +65,19 @@ entry_read (action.Done event) ms fits = event_read false event ms fits
 entry_read (action.Faulted event) ms fits = event_read true event ms fits
 entry_read _ ms fits = rw (sent_read ms) refl
 
+abbrev first_read : Option Data → Option Items → Option Items
+first_read first rest = option_and_then (λ (d : Data). option_map (item d) rest) first
+
 entries_read : (h : List Claim) → Each ClaimFits h → of_items (items_outline (items_of (map entry_data h)))
     ≡ Some (items_of (map entry_data h))
 entries_read [] fits = refl
-entries_read (c ∷ h) fits =
-    ap (λ (o : Option Data). option_and_then (λ (d : Data). option_map (item d) (of_items (items_outline (items_of (map entry_data h))))) o)
-    (entry_read c.action c.sent fits.0.0)
-    ∙ ap (λ (o : Option Items). option_map (item (entry_data c)) o) (entries_read h fits.1)
+entries_read (c ∷ h) fits = ap₂ first_read (entry_read c.action c.sent fits.0.0) (entries_read h fits.1)
 
 pub histories_read : (hs : List (List Claim)) → TraceFits hs
     → of_items (items_outline (items_of (map history_data hs))) ≡ Some (items_of (map history_data hs))
 histories_read [] fits = refl
-histories_read (h ∷ hs) fits =
-    ap (λ (o : Option Items). option_and_then (λ (d : Data).
-    option_map (item d) (of_items (items_outline (items_of (map history_data hs))))) (option_map array o)) (entries_read h fits.0)
-    ∙ ap (λ (o : Option Items). option_map (item (history_data h)) o) (histories_read hs fits.1)
+histories_read (h ∷ hs) fits = ap₂ (λ (o p : Option Items). first_read (option_map array o) p) (entries_read h fits.0)
+    (histories_read hs fits.1)
 
 trace_read : (hs : List (List Claim)) → length hs ≤ NODES → TraceFits hs → of_json (outline (trace_data hs)) ≡ Some (trace_data hs)
 trace_read hs most fits = let nodes : length hs < 2 ^ 64 = omega (arith, most) in
@@ -99,21 +97,15 @@ priority_flat false priority rest = omega arith
 
 event_flat : (e : Event) (rest : Members) → tree.members_depth (members_outline (event_members e rest)) ≤ tree.members_depth
     (members_outline rest)
-event_flat (on.Timer timer) rest = omega arith
-event_flat (on.Deliver m) rest = omega arith
 event_flat (on.Submit w) rest = let ranked = priority_flat (w.priority == 0) w.priority
     (member (codes "queue") (number (unsigned w.queue)) rest) in omega (arith, ranked)
-event_flat (on.Finish origin id) rest = omega arith
-event_flat on.Recover rest = omega arith
+event_flat _ rest = omega arith
 
 action_flat : (d : TraceAction) (rest : Members) → tree.members_depth (members_outline (action_members d rest)) ≤ tree.members_depth
     (members_outline rest)
-action_flat action.Nothing rest = omega arith
 action_flat (action.Done event) rest = event_flat event rest
 action_flat (action.Faulted event) rest = let flat = event_flat event rest in omega (arith, flat)
-action_flat action.Crashed rest = omega arith
-action_flat (action.Recovered kept) rest = omega arith
-action_flat (action.NotRecovered kept fault) rest = omega arith
+action_flat _ rest = omega arith
 
 entry_flat : (c : Claim) → tree.depth (outline (entry_data c)) ≤ 2
 entry_flat c =

@@ -3,9 +3,10 @@ use Rattle.std.proofs.Common.{◌≡◌, ℕ, ◌<◌, Bool, true, false, MatchB
 use Rattle.std.proofs.Common.{option_and_then, codes, bytes_eq, refl, sym, ap, ap₂, ◌∙◌, arith}
 use Rattle.json.specs.Token.{Token, begin_array, begin_object}
 use Rattle.json.specs.Json.{parse_map, after_end_array, read_key, value}
-use Rattle.serde_json.specs.Data.{Data, null, boolean, number, string, array, object, Items, no_items, item, Members}
+use Rattle.serde_json.specs.Data.{Data, array, object, Items, no_items, item, Members}
 use Rattle.serde_json.specs.Find.{as_array, as_object}
 use Rattle.std.specs.Option.{option_or}
+use Rattle.std.proofs.lemmas.Bool.{MatchBool-at_false}
 use Rattle.std.proofs.lemmas.Slice.Eq.{bytes_eq-Decides}
 use Rattle.trace_text.specs.Entries.{number_in}
 use Rattle.trace_text.specs.Fields.{plain}
@@ -38,8 +39,7 @@ leads_then first then = record { at = λ more. first.at more ∙ then.at more }
 
 -- the test that it gave was false
 pub shut : (A B : Type 0) (b : Bool) → b ≡ false → MatchBool b A B → B
-shut A B false is said = said
-shut A B true is said = absurd cc
+shut A B b is said = MatchBool-at_false A B is said
 
 pub leads_both : {A : Type 0} {old next : List Token → Option A} {before now : List Token} (done paused : List Token → Option A)
     (behind : List Token) → Leads old next before now
@@ -77,26 +77,25 @@ module _ {B : Type 0} (g : Items → B) (depth : ℕ) (left : List Token) where
     at = λ more.
         let same = ap length going.1 in
         let some : 0 < length left = omega (arith, more_than, same) in
-        list_turn g depth (with_more more left) (open_with more left some going.0)
-        ∙ ap (λ (ts : List Token). option_and_then (then_items g depth) (data_at depth (with_more more ts))) (sym going.1);
+        rw (list_turn g depth (with_more more left) (open_with more left some going.0), ← going.1) refl;
   }
 
   pub items_done : (next : List Token) {b : B} → after_end_array left ≡ Some next → g no_items ≡ b → Leads items_on (over b) left next
   items_done next e is = record {
     at = λ more.
-        ap (parse_map g) (items_over (value depth) (length (with_more more left)) (with_more more left) (with_more more next) (omega arith)
-        (closed_with more left next e))
-        ∙ ap (λ (x : B). Some (x, with_more more next)) is;
+        rw (
+          items_over (value depth) (length (with_more more left)) (with_more more left) (with_more more next) (omega arith)
+              (closed_with more left next e),
+          is,
+        ) refl;
   }
 
   pub item_stops : (next : List Token) → Going next → option_and_then (then_items g depth) (data_at depth next) ≡ None
       → items_on left ≡ None
-  item_stops next going none = list_turn g depth left going.0
-      ∙ ap (λ (ts : List Token). option_and_then (then_items g depth) (data_at depth ts)) (sym going.1) ∙ none
+  item_stops next going none = rw (list_turn g depth left going.0, ← going.1) none
 
   pub item_wrong : (next : List Token) → Going next → data_at depth next ≡ None → items_on left ≡ None
-  item_wrong next going none = list_turn g depth left going.0
-      ∙ ap (option_and_then (then_items g depth)) (ap (data_at depth) (sym going.1) ∙ none)
+  item_wrong next going none = item_stops next going (ap (option_and_then (then_items g depth)) none)
 
 -- ---- a list among the lists
 
@@ -130,22 +129,15 @@ module _ (all : Bool) (hs : List (List Claim)) (bad : Option Location) where
   no_list_leads ts r there = record {
     at = λ more.
         let d = mapped_some as_array (data_at 125 ts) None r there in
-        ap (option_and_then (then_items (lists_then all hs bad) 125)) (data_grows more 125 ts r d.0 d.1)
-        ∙ same_map (λ (ds : Items). lists_then all hs bad (item d.0 ds)) (lists_then false hs bad) (items_at 125 (with_more more r))
-        (λ ds. lists_bad all hs bad d.0 ds d.2);
+        rw (data_grows more 125 ts r d.0 d.1) (same_map _ (lists_then false hs bad) (items_at 125 (with_more more r))
+        (λ ds. lists_bad all hs bad d.0 ds d.2));
   }
 
 pub list_begun : (h : Histories) (e : Entries) (before r : List Token) → e.history ≡ [] → e.bad ≡ None → before ≡ begin_array ∷ r
     → Leads (list_on h) (open_on (record h { entries = e })) before r
 list_begun h e before r none good is = record {
   at = λ more.
-      let hs = h.histories.items in
-      ap (λ (ts : List Token). list_on h (with_more more ts)) is
-      ∙ ap (list_on h) (good_with more begin_array r refl)
-      ∙ list_at h.all_lists hs h.bad (with_more more r)
-      ∙ ap₂ (λ (cs : List Claim) (bad : Option Location). option_and_then (λ (q : Listed × List Token).
-      parse_map (list_then h.all_lists hs h.bad q.0) (items_at 125 q.1)) (parse_map (entries_then (length hs) cs bad)
-      (items_at 124 (with_more more r)))) (sym none) (sym good);
+      rw (is, good_with more begin_array r refl, none, good) (list_at h.all_lists h.histories.items h.bad (with_more more r));
 }
 
 -- a list more
@@ -153,10 +145,7 @@ pub list_ended : (h new : Histories) (e : Entries) (r : List Token) → new.all_
     → new.histories.items ≡ h.histories.items ++ e.history ∷ [] → new.bad ≡ option_or h.bad e.bad
     → parse_map (list_then h.all_lists h.histories.items h.bad (listed_by e)) (items_at 125 r) ≡ lists_on new r
 list_ended h new e r same pushed first =
-    same_map _ (lists_then new.all_lists new.histories.items new.bad) (items_at 125 r)
-    (λ ds. list_closed h.all_lists h.histories.items h.bad e ds
-    ∙ ap (λ (b : Bool). lists_then b (h.histories.items ++ e.history ∷ []) (option_or h.bad e.bad) ds) (sym same)
-    ∙ ap₂ (λ (hs : List (List Claim)) (bad : Option Location). lists_then new.all_lists hs bad ds) (sym pushed) (sym first))
+    rw (same, pushed, first) (same_map _ _ (items_at 125 r) (list_closed h.all_lists h.histories.items h.bad e))
 
 -- ---- the lists of the whole
 
@@ -165,22 +154,15 @@ pub histories_begun : (h : Histories) (before r : List Token) → h.all_lists �
     → Leads (λ ts. parse_map judged_in (data_at 126 ts)) (lists_on h) before r
 histories_begun h before r all none good is = record {
   at = λ more.
-      ap (λ (ts : List Token). parse_map judged_in (data_at 126 (with_more more ts))) is
-      ∙ ap (λ (ts : List Token). parse_map judged_in (data_at 126 ts)) (good_with more begin_array r refl)
-      ∙ in_list 126 (omega arith) refl judged_in judged_of (λ ds. refl)
-      ∙ same_map judged_of (lists_then h.all_lists h.histories.items h.bad) (items_at 125 (with_more more r))
-      (λ ds. lists_begun ds
-      ∙ ap (λ (b : Bool). lists_then b [] None ds) (sym all)
-      ∙ ap₂ (λ (hs : List (List Claim)) (bad : Option Location). lists_then h.all_lists hs bad ds) (sym none) (sym good));
+      rw (is, good_with more begin_array r refl, all, none, good) (in_list 126 (omega arith) refl judged_in judged_of (λ ds. refl)
+      ∙ same_map judged_of (lists_then true [] None) (items_at 125 (with_more more r)) lists_begun);
 }
 
 pub no_histories : (before r : List Token) → parse_map as_array (data_at 126 before) ≡ Some (None, r)
     → Leads (λ ts. parse_map judged_in (data_at 126 ts)) (over None) before r
 no_histories before r there = record {
   at = λ more.
-      let d = mapped_some as_array (data_at 126 before) None r there in
-      ap (parse_map judged_in) (data_grows more 126 before r d.0 d.1)
-      ∙ ap (λ (o : Option Items). Some (option_and_then judged_of o, with_more more r)) d.2;
+      let d = mapped_some as_array (data_at 126 before) None r there in rw (data_grows more 126 before r d.0 d.1, d.2) refl;
 }
 
 pub put_leads : (s : Parted) (k : List ℕ) (p : Data → Data) (x : Data) (new : Parted) (before r : List Token)
@@ -189,8 +171,7 @@ pub put_leads : (s : Parted) (k : List ℕ) (p : Data → Data) (x : Data) (new 
 put_leads s k p x new before r there law = record {
   at = λ more.
       let d = mapped_some p (data_at 126 before) x r there in
-      ap (parse_map (parted_put s k)) (data_grows more 126 before r d.0 d.1)
-      ∙ ap (λ (y : Parted). Some (y, with_more more r)) (law d.0 d.2);
+      rw (data_grows more 126 before r d.0 d.1) (ap (λ (y : Parted). Some (y, with_more more r)) (law d.0 d.2));
 }
 
 -- ---- members
@@ -254,12 +235,8 @@ histories_both s key new before behind is kept false said = record {
 -- ---- the whole
 
 no_shape : (d : Data) → as_object d ≡ None → in_shape (shape_in d) ≡ Err None
-no_shape null e = refl
-no_shape (boolean b) e = refl
-no_shape (number n) e = refl
-no_shape (string s) e = refl
-no_shape (array ds) e = refl
 no_shape (object ms) e = absurd (cc)
+no_shape _ e = refl
 
 pub no_whole : (p : Parts) (before r : List Token) → p.nodes ≡ None → p.histories ≡ None
     → parse_map as_object (data_at 127 before) ≡ Some (None, r) → Leads (begun_on None None) (over (shaped (parted_by p))) before r
@@ -277,13 +254,10 @@ pub whole_leads : (p : Parts) (before r : List Token) → p.nodes ≡ None → p
 whole_leads p before r none empty is = record {
   at = λ more.
       let ts = with_more more r in
-      ap (λ (xs : List Token). begun_on None None (with_more more xs)) is
-      ∙ ap (begun_on None None) (good_with more begin_object r refl)
-      ∙ in_object 127 (omega arith) refl trace_in (λ (ms : Members). shaped (parted_in ms)) whole_law
+      rw (is, good_with more begin_object r refl, none, empty)
+      (in_object 127 (omega arith) refl trace_in (λ (ms : Members). shaped (parted_in ms)) whole_law
       ∙ sym (mapped_twice shaped parted_in (λ (ms : Members). shaped (parted_in ms)) (members_at 126 ts) (λ ms. refl))
-      ∙ ap (parse_map shaped) (parts_begun ts)
-      ∙ ap₂ (λ (n : Option ℕ) (h : Option Histories). parse_map shaped (parts_on (n, option_and_then judged_by h) ts)) (sym none)
-      (sym empty);
+      ∙ ap (parse_map shaped) (parts_begun ts));
 }
 
 pub shaped_both : {old : List Token → Option (Judgement × List Token)} {before now : List Token} (next paused : List Token

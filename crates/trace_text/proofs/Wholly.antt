@@ -1,6 +1,6 @@
 -- A text piece by piece: what is read of each leads to what its rest is.
-use Rattle.std.proofs.Common.{◌≡◌, ℕ, true, List, [], ◌∷◌, ◌++◌, ◌<◌, length, Option, Some, None, is_some, Err, option_map, option_and_then}
-use Rattle.std.proofs.Common.{inl, inr, refl, sym, ap, ◌∙◌, subst, arith, length-append}
+use Rattle.std.proofs.Common.{◌≡◌, ℕ, true, List, [], ◌∷◌, ◌++◌, length, Option, Some, None, is_some, Err, option_map, option_and_then}
+use Rattle.std.proofs.Common.{inl, inr, refl, sym, ap, ◌∙◌, arith}
 use Rattle.std.proofs.lemmas.Bool.{false≢true}
 use Rattle.std.specs.Prelude.{IsSome}
 use Rattle.json.specs.Token.{Token, end_array, end_object}
@@ -44,19 +44,13 @@ module _ (nodes : Option ℕ) (h : Histories) where
 
   whole_ends : is_some (whole_on nodes h ending) ≡ true
   whole_ends =
-      ap (λ (o : Option (Items × List Token)). is_some (option_and_then after_lists (option_and_then after_list (parse_map entries o))))
-      (list_ends 124 (end_array ∷ end_object ∷ []))
-      ∙ ap (λ (o : Option (Items × List Token)). is_some (option_and_then after_lists (parse_map (lists (entries no_items)) o)))
-      (list_ends 125 (end_object ∷ []))
-      ∙ ap (λ (o : Option (Parted × List Token)). is_some o) (object_over (
+      rw (list_ends 124 (end_array ∷ end_object ∷ []), list_ends 125 (end_object ∷ [])) (ap is_some (object_over (
         nodes,
         lists (entries no_items) no_items,
-      ) (end_object ∷ []) [] refl)
+      ) (end_object ∷ []) [] refl))
 
   whole_goes : whole_on nodes h [] ≡ None
-  whole_goes =
-      ap (λ (o : Option (Items × List Token)). option_and_then after_lists (option_and_then after_list (parse_map entries o)))
-      (item_refused (value 124) 0 [] refl (nothing_there 124 [] refl))
+  whole_goes = rw (item_refused (value 124) 0 [] refl (nothing_there 124 [] refl)) refl
 
 some_mapped : {A B : Type 0} (f : A → B) (o : Option (A × List Token)) → is_some (parse_map f o) ≡ is_some o
 some_mapped f None = refl
@@ -72,11 +66,8 @@ not_over nodes (Some h) some same =
 
 piece_follows : (text piece behind : List ℕ) → IsCut text piece behind → Follows (tokens piece) (tokens text) (tokens behind)
 piece_follows text piece behind c =
-    let whole = c.front ++ 125 ∷ 44 ∷ 123 ∷ c.back in
-    subst (λ (t : List ℕ). Follows (tokens piece) (tokens t) (tokens behind)) (sym c.whole)
-    (subst (λ (t : List ℕ). Follows (tokens t) (tokens whole) (tokens behind)) (sym c.first)
-    (subst (λ (t : List ℕ). Follows (tokens (c.front ++ 125 ∷ [])) (tokens whole) (tokens t)) (sym c.later)
-    (cut_tokens c.front c.back c.plain)))
+    let follows : Follows (tokens (c.front ++ 125 ∷ [])) (tokens (c.front ++ 125 ∷ 44 ∷ 123 ∷ c.back)) (tokens (123 ∷ c.back)) =
+    cut_tokens c.front c.back c.plain in rw (← c.whole, ← c.first, ← c.later) at follows
 
 as_text : (nodes : Option ℕ) (lists : Option Histories) (ts : List Token) → IsSome lists
     → parse_map shaped (option_and_then (λ (h : Histories). whole_on nodes h ts) lists) ≡ begun_on nodes lists ts
@@ -95,11 +86,6 @@ piece_on old new text piece behind cut paused some = by (piece_follows text piec
     by (inl e) = ap (text_on old) e ∙ leads.at (Some (tokens behind))
     by (inr same) = absurd (not_over new.nodes new.histories some (sym (leads.at (Some ending)) ∙ ap (text_on old) (same ending)
         ∙ leads.at (Some [])))
-
-pub cut_shorter : (text piece behind : List ℕ) → IsCut text piece behind → length behind < length text
-cut_shorter text piece behind c =
-    let whole = ap length c.whole in let later = ap length c.later in let all = length-append c.front (125 ∷ 44 ∷ 123 ∷ c.back) in
-    omega (arith, whole, later, all)
 
 -- ---- the last piece
 
