@@ -7,7 +7,7 @@ use Rattle.hex.specs.Hex.{encode_lower, decode_of}
 use Rattle.hex.specs.declared.error.FromHexError.{FromHexError}
 use Rattle.hex.proofs.HexLemmas.{decode_of-encode_lower}
 use Rattle.serde_json.specs.Data.{Data, Members, number, unsigned, string, array, object, no_members, member}
-use Rattle.serde_json.specs.Find.{get, as_array}
+use Rattle.serde_json.specs.Find.{get}
 use Rattle.serde_json.specs.View.{items_of}
 use Rattle.group_task.specs.declared.node.TheConstants.{NODES}
 use Rattle.job_model.specs.declared.payload.TheConstants.{PAYLOAD_CAPACITY}
@@ -148,13 +148,7 @@ sent_there _ ms = refl
 
 claim_back : (c : Claim) → ClaimFits c → HasName c.action → claim_in (entry_data c) ≡ Some c
 claim_back c fits named =
-    ap (λ (o : Option Data). option_and_then (λ (done : TraceAction).
-    option_map (λ (sent : List Envelope). claim_with done sent)
-    (option_and_then messages_in (option_and_then as_array o))) (action_in (fields_in (entry_data c)))) (sent_there c.action c.sent)
-    ∙ ap (λ (o : Option TraceAction). option_and_then (λ (done : TraceAction).
-    option_map (λ (sent : List Envelope). claim_with done sent) (messages_in (items_of (map message_data c.sent)))) o)
-    (action_back c.action c.sent fits.0 named)
-    ∙ ap (λ (o : Option (List Envelope)). option_map (λ (sent : List Envelope). claim_with c.action sent) o) (messages_back c.sent fits.1)
+    rw (action_back c.action c.sent fits.0 named, sent_there c.action c.sent, messages_back c.sent fits.1) refl
 
 entries_back : (node i : ℕ) (h : List Claim) → Each ClaimFits h → Each (λ (c : Claim). HasName c.action) h
     → entries_from node i (items_of (map entry_data h)) ≡ Ok h

@@ -1,8 +1,8 @@
 -- A text cut behind an object that a comma follows: the tokens of the first part are the first ones of the whole.
 use Rattle.std.proofs.Common.{◌≡◌, ℕ, suc, ◌+◌, ◌-◌, Bool, true, false, cond, ◌&&◌, ◌||◌, ◌==◌, nat_lt, nat_eq, List, [], ◌∷◌, ◌++◌, length}
-use Rattle.std.proofs.Common.{take, drop, Option, Some, None, is_some, option_map, option_and_then, inl, inr, ◌⊎◌, refl, sym, ap, ap₂, ◌∙◌}
+use Rattle.std.proofs.Common.{drop, Option, Some, None, is_some, option_map, option_and_then, inl, inr, ◌⊎◌, refl, sym, ap, ◌∙◌}
 use Rattle.std.proofs.Common.{subst, arith, length-append}
-use Rattle.std.proofs.lemmas.Bool.{true≢false, false≢true}
+use Rattle.std.proofs.lemmas.Bool.{true≢false, false≢true, and_left}
 use Rattle.std.proofs.lemmas.List.{take-append-le}
 use Rattle.std.specs.Prelude.{⊤}
 use Rattle.std.specs.List.{prefix_len, starts_with}
@@ -37,15 +37,6 @@ module _ (r : List ℕ) where
   run_dropped [] = refl
   run_dropped (x ∷ xs) = dropped_by (is_ascii_digit x) x (prefix_len is_ascii_digit xs) xs (run_dropped xs)
 
-  some_digits : (b : Bool) (t u : List ℕ) → u ≡ t ++ 125 ∷ r → cond b None (Some u) ≡ onto (cond b None (Some t))
-  some_digits true t u e = refl
-  some_digits false t u e = ap (λ (v : List ℕ). Some v) e
-
-  digits_same : (t : List ℕ) → after_digits (t ++ 125 ∷ r) ≡ onto (after_digits t)
-  digits_same t =
-      ap (λ (n : ℕ). cond (n == 0) None (Some (drop n (t ++ 125 ∷ r)))) (run_same t)
-      ∙ some_digits (prefix_len is_ascii_digit t == 0) (drop (prefix_len is_ascii_digit t) t) _ (run_dropped t)
-
   cond_same : (b : Bool) (u v : List ℕ) → cond b (u ++ 125 ∷ r) (v ++ 125 ∷ r) ≡ cond b u v ++ 125 ∷ r
   cond_same true u v = refl
   cond_same false u v = refl
@@ -53,6 +44,9 @@ module _ (r : List ℕ) where
   cond_onto : (b : Bool) (p q o s : Option (List ℕ)) → p ≡ onto o → q ≡ onto s → cond b p q ≡ onto (cond b o s)
   cond_onto true p q o s e f = e
   cond_onto false p q o s e f = f
+
+  digits_same : (t : List ℕ) → after_digits (t ++ 125 ∷ r) ≡ onto (after_digits t)
+  digits_same t = rw (run_same t, run_dropped t) (cond_onto (prefix_len is_ascii_digit t == 0) _ _ None _ refl refl)
 
   minus_same : (t : List ℕ) → after_minus (t ++ 125 ∷ r) ≡ after_minus t ++ 125 ∷ r
   minus_same [] = refl
@@ -94,16 +88,11 @@ module _ (r : List ℕ) where
   before_same t (Some u) =
       let size : length (t ++ 125 ∷ r) - length (u ++ 125 ∷ r) ≡ length t - length u =
       omega (arith, length-append t (125 ∷ r), length-append u (125 ∷ r)) in
-      ap₂ (λ (b : Bool) (n : ℕ). cond b (number (take n (t ++ 125 ∷ r))) bad) (end_same u) size
-      ∙ ap (λ (s : List ℕ). cond (ends_word u) (number s) bad) (take-append-le (length t - length u) t (125 ∷ r) (omega arith))
+      rw (end_same u, size, take-append-le (length t - length u) t (125 ∷ r) (omega arith)) refl
 
   abbrev NoBrace : List ℕ → Type 0
   NoBrace [] = ⊤
   NoBrace (n ∷ ns) = (nat_eq n 125 ≡ false) × NoBrace ns
-
-  and_false : (a b : Bool) → a ≡ false → (a && b) ≡ false
-  and_false true b e = absurd (true≢false e)
-  and_false false b e = refl
 
   both_same : (a b c d e : Bool) → (b && c) ≡ (d && e) → ((a && b) && c) ≡ ((a && d) && e)
   both_same true b c d e h = h
@@ -113,28 +102,23 @@ module _ (r : List ℕ) where
       → (starts_with nat_eq (t ++ 125 ∷ r) name && ends_word (drop (length name) (t ++ 125 ∷ r)))
       ≡ (starts_with nat_eq t name && ends_word (drop (length name) t))
   name_same [] h t = end_same t
-  name_same (n ∷ ns) h [] = and_false _ _ (and_false (nat_eq n 125) _ h.0)
+  name_same (n ∷ ns) h [] = and_left _ _ (and_left (nat_eq n 125) _ h.0)
   name_same (n ∷ ns) h (x ∷ xs) = both_same (nat_eq n x) _ _ _ _ (name_same ns h.1 xs)
 
   literal_same : (name : List ℕ) (w : Token) → NoBrace name → (t : List ℕ) → literal name w (t ++ 125 ∷ r) ≡ literal name w t
   literal_same name w h t = ap (λ (b : Bool). cond b w bad) (name_same name h t)
 
-  pick_same : (a b c : Bool) (p q s z p' q' s' z' : Token) → p ≡ p' → q ≡ q' → s ≡ s' → z ≡ z'
-      → cond a p (cond b q (cond c s z)) ≡ cond a p' (cond b q' (cond c s' z'))
-  pick_same true b c p q s z p' q' s' z' e f g h = e
-  pick_same false true c p q s z p' q' s' z' e f g h = f
-  pick_same false false true p q s z p' q' s' z' e f g h = g
-  pick_same false false false p q s z p' q' s' z' e f g h = h
-
   word_same : (x : ℕ) (xs : List ℕ) → word (x ∷ (xs ++ 125 ∷ r)) ≡ word (x ∷ xs)
   unfolding word
   word_same x xs =
       let t = x ∷ xs in
-      pick_same (x == 116) (x == 102) (x == 110) _ _ _ _ _ _ _ _
-      (literal_same ascii.true_text (boolean true) (refl, (refl, (refl, (refl, tt)))) t)
-      (literal_same ascii.false_text (boolean false) (refl, (refl, (refl, (refl, (refl, tt))))) t)
-      (literal_same ascii.null_text null (refl, (refl, (refl, (refl, tt)))) t)
-      (ap (number_before (t ++ 125 ∷ r)) (number_same t) ∙ before_same t (after_number t))
+      rw (
+        literal_same ascii.true_text (boolean true) (refl, (refl, (refl, (refl, tt)))) t,
+        literal_same ascii.false_text (boolean false) (refl, (refl, (refl, (refl, (refl, tt))))) t,
+        literal_same ascii.null_text null (refl, (refl, (refl, (refl, tt)))) t,
+        number_same t,
+        before_same t (after_number t),
+      ) refl
 
 -- ---- lexemes: those of the part, and then the comma and what follows it; unless the part has a bad one
 
@@ -212,11 +196,9 @@ module _ (behind : List ℕ) where
   within_word : (c : Class) (x : ℕ) (xs : List ℕ) → ((m : Mode) → Ready m xs → Agrees m xs)
       → Agree (lex between behind) (lex_byte in_word c x (xs ++ 125 ∷ []) (λ m. lex m (xs ++ 125 ∷ [])))
       (lex_byte in_word c x (xs ++ 125 ∷ 44 ∷ behind) (λ m. lex m (xs ++ 125 ∷ 44 ∷ behind)))
-  within_word quote x xs again = again in_word tt
-  within_word backslash x xs again = again in_word tt
   within_word operator x xs again = inr (inr (_, refl, again between tt))
   within_word space x xs again = again between tt
-  within_word other x xs again = again in_word tt
+  within_word _ x xs again = again in_word tt
 
   within_string : (q b o s : Bool) (x : ℕ) (xs : List ℕ) → b ≡ false → (q ≡ false → Closed xs) → ((m : Mode) → Ready m xs → Agrees m xs)
       → Agree (lex between behind) (lex_byte in_string (cond q quote (cond b backslash (cond o operator (cond s space other)))) x (xs
@@ -287,16 +269,13 @@ last_one : (more : List Lexeme) (p : Place) → Follows (punctuate p (token end_
 unfolding punctuate
 last_one more fresh = inl refl
 last_one more after_value = inl refl
-last_one more after_comma = inr (λ later. refl)
-last_one more after_key = inr (λ later. refl)
+last_one more _ = inr (λ later. refl)
 
 bad_one : (ls : List Lexeme) (p : Place) (later : List Token)
     → joined (punctuate p (token bad ∷ ls)) later ≡ joined (punctuate p (token bad ∷ ls)) []
 unfolding punctuate
 bad_one ls fresh later = refl
-bad_one ls after_value later = refl
-bad_one ls after_comma later = refl
-bad_one ls after_key later = refl
+bad_one ls _ later = refl
 
 follows : (more ls all : List Lexeme) (p : Place) → Agree more ls all
     → Follows (punctuate p ls) (punctuate p all) (punctuate after_comma more)
@@ -304,12 +283,11 @@ unfolding punctuate
 follows more [] all p h = absurd h
 follows more (l ∷ ls) all p (inl h) = inr (λ later. rw h.0 (bad_one ls p later))
 follows more (l ∷ ls) all p (inr (inl h)) =
-    subst (λ (x : List Lexeme). Follows (punctuate p (l ∷ ls)) (punctuate p x) (punctuate after_comma more)) (sym h.1)
-    (subst (λ (x : List Lexeme). Follows (punctuate p x) (punctuate p (token end_object ∷ comma ∷ more)) (punctuate after_comma more))
+    rw h.1 (subst (λ (x : List Lexeme). Follows (punctuate p x) (punctuate p (token end_object ∷ comma ∷ more))
+    (punctuate after_comma more))
     (sym h.0) (last_one more p))
 follows more (l ∷ ls) all p (inr (inr h)) =
-    subst (λ (x : List Lexeme). Follows (punctuate p (l ∷ ls)) (punctuate p x) (punctuate after_comma more)) (sym h.1)
-    (by l p (λ n. follows more ls h.0 n h.2))
+    rw h.1 (by l p (λ n. follows more ls h.0 n h.2))
   where
     by : (k : Lexeme) (n : Place) → ((m : Place) → Follows (punctuate m ls) (punctuate m h.0) (punctuate after_comma more))
         → Follows (punctuate n (k ∷ ls)) (punctuate n (k ∷ h.0)) (punctuate after_comma more)
@@ -317,14 +295,9 @@ follows more (l ∷ ls) all p (inr (inr h)) =
         subst (λ (b : Bool). Follows (place_token n t (begins_colon ls) (λ m. punctuate m ls)) (place_token n t b (λ m. punctuate m h.0))
         (punctuate after_comma more)) (colon_same more ls h.0 h.2)
         (placed (punctuate after_comma more) n t (begins_colon ls) (λ m. punctuate m ls) (λ m. punctuate m h.0) again)
-    by comma fresh again = inr (λ later. refl)
     by comma after_value again = again after_comma
-    by comma after_comma again = inr (λ later. refl)
-    by comma after_key again = inr (λ later. refl)
-    by colon fresh again = inr (λ later. refl)
-    by colon after_value again = inr (λ later. refl)
-    by colon after_comma again = inr (λ later. refl)
     by colon after_key again = again fresh
+    by _ _ again = inr (λ later. refl)
 
 pub cut_tokens : (front behind : List ℕ) → NoBackslash front
     → Follows (tokens (front ++ 125 ∷ [])) (tokens (front ++ 125 ∷ 44 ∷ 123 ∷ behind)) (tokens (123 ∷ behind))

@@ -1,19 +1,15 @@
 -- Where a text is cut.
-use Rattle.std.proofs.Common.{◌≡◌, ℕ, suc, ◌+◌, ◌-◌, ◌<◌, ◌≤◌, Bool, true, false, ◌==◌, List, [], ◌∷◌, ◌++◌, length, take, drop, get_or}
-use Rattle.std.proofs.Common.{Option, Some, None, is_some, refl, sym, ap, ◌∙◌, subst, arith, length-drop, take-add, take-append-drop}
+use Rattle.std.proofs.Common.{◌≡◌, ℕ, suc, ◌+◌, ◌-◌, ◌<◌, ◌≤◌, true, false, ◌==◌, List, [], ◌∷◌, ◌++◌, length, take, drop, get_or}
+use Rattle.std.proofs.Common.{Option, Some, None, is_some, sym, ap, ◌∙◌, subst, arith, length-drop, take-add, take-append-drop}
 use Rattle.std.proofs.Common.{take_all}
-use Rattle.std.proofs.lemmas.Bool.{true≢false}
+use Rattle.std.proofs.lemmas.Bool.{true≢false, false_from_ne_true}
 use Rattle.std.proofs.lemmas.List.{drop-drop, drop_more, get_or-drop}
 use Rattle.memchr.specs.Find.{IsFirstByte, OccursAt, is_byte}
 use Rattle.trace_text.specs.Pieces.{IsCut, NoBackslash}
 
-is_not : (b : Bool) → (b ≡ true → ⊥) → b ≡ false
-is_not true h = absurd (h refl)
-is_not false h = refl
-
 pub no_backslash : (xs : List ℕ) → ((k : ℕ) → k < length xs → (get_or xs k 0 == 92) ≡ true → ⊥) → NoBackslash xs
 no_backslash [] h = tt
-no_backslash (x ∷ xs) h = (is_not (x == 92) (h 0 (omega arith)), no_backslash xs (λ k few e. h (suc k) (omega (arith, few)) e))
+no_backslash (x ∷ xs) h = (false_from_ne_true (x == 92) (h 0 (omega arith)), no_backslash xs (λ k few e. h (suc k) (omega (arith, few)) e))
 
 front_plain : (xs ys : List ℕ) → NoBackslash (xs ++ ys) → NoBackslash xs
 front_plain [] ys h = tt

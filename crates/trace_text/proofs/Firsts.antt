@@ -38,18 +38,10 @@ module _ (depth : ℕ) (ts : List Token) where
   number_by text None d is said = absurd (cc)
   number_by text (Some n) d is said = rw (number_is text (Some n) is) (ap (option_map (λ (x : Data). (x, ts))) (sym said))
 
-  number_there : (text : List ℕ) (d : Data) → Some d ≡ option_map (λ (n : Num). plain (number n)) (number_of text)
-      → parse_map plain (data_at depth (Token.number text ∷ ts)) ≡ Some (d, ts)
-  number_there text d said = number_by text (number_of text) d refl said
-
   no_number_by : (text : List ℕ) (o : Option Num) → number_of text ≡ o → None ≡ option_map (λ (n : Num). plain (number n)) o
       → data_at depth (Token.number text ∷ ts) ≡ None
   no_number_by text None is said = number_is text None is
   no_number_by text (Some n) is said = absurd (cc)
-
-  no_number : (text : List ℕ) → None ≡ option_map (λ (n : Num). plain (number n)) (number_of text)
-      → data_at depth (Token.number text ∷ ts) ≡ None
-  no_number text said = no_number_by text (number_of text) refl said
 
   pub list_there : (r : List Token) → 0 < depth → behind (items_at (depth - 1) ts) ≡ Some r
       → parse_map plain (data_at depth (Token.begin_array ∷ ts)) ≡ Some (null, r)
@@ -69,9 +61,8 @@ module _ (depth : ℕ) (ts : List Token) where
       → option_map data_of o ≡ option_map (λ (n : Num). plain (number n)) (number_of text)
       → MatchResult (ok_or o (record {})) (λ (field : Field). parse_map plain (data_at depth (t ∷ ts)) ≡ Some (data_of field, ts))
       (λ (e : Invalid). data_at depth (t ∷ ts) ≡ None)
-  number_first t text None is said = ap (λ (f : Token). data_at depth (f ∷ ts)) is ∙ no_number text said
-  number_first t text (Some field) is said = ap (λ (f : Token). parse_map plain (data_at depth (f ∷ ts))) is
-      ∙ number_there text (data_of field) said
+  number_first t text None is said = rw is (no_number_by text (number_of text) refl said)
+  number_first t text (Some field) is said = rw is (number_by text (number_of text) (data_of field) refl said)
 
 pub nothing_there : (depth : ℕ) (ts : List Token) → ts ≡ [] → data_at depth ts ≡ None
 nothing_there depth ts empty = ap (data_at depth) empty ∙ ap (converted of_json) (value_is depth [])

@@ -117,18 +117,17 @@ module _ (p : Parse Json) (takes : Takes p) where
 
   -- ---- the count of turns
 
-  same_turn : (n m : ℕ) (ts : List Token) (o : Option (Json × List Token)) → p ts ≡ o → length ts ≤ suc n
-      → ((s : List Token) → length s ≤ n → items p n s ≡ items p m s)
-      → option_and_then (λ q. parse_map (json.item q.0) (items p n q.1)) o
-      ≡ option_and_then (λ q. parse_map (json.item q.0) (items p m q.1)) o
-  same_turn n m ts None is enough again = refl
-  same_turn n m ts (Some q) is enough again = let less = shorter ts q.1 q.0 is in
-      ap (parse_map (json.item q.0)) (again q.1 (omega (arith, less, enough)))
+  same_turn : {A : Type 0} (with : Json → A → A) (rest other : Parse A) (n : ℕ) (ts : List Token) (o : Option (Json × List Token))
+      → p ts ≡ o → length ts ≤ suc n → ((s : List Token) → length s ≤ n → rest s ≡ other s)
+      → option_and_then (λ q. parse_map (with q.0) (rest q.1)) o ≡ option_and_then (λ q. parse_map (with q.0) (other q.1)) o
+  same_turn with rest other n ts None is enough again = refl
+  same_turn with rest other n ts (Some q) is enough again = let less = shorter ts q.1 q.0 is in
+      ap (parse_map (with q.0)) (again q.1 (omega (arith, less, enough)))
 
   same_step : (n m : ℕ) (ts : List Token) (o : Option (List Token)) → length ts ≤ suc n
       → ((s : List Token) → length s ≤ n → items p n s ≡ items p m s) → items_step p (items p n) ts o ≡ items_step p (items p m) ts o
   same_step n m ts (Some r) enough again = refl
-  same_step n m ts None enough again = same_turn n m ts (p ts) refl enough again
+  same_step n m ts None enough again = same_turn json.item (items p n) (items p m) n ts (p ts) refl enough again
 
   same_items : (n m : ℕ) (ts : List Token) → length ts ≤ n → n ≤ m → items p n ts ≡ items p m ts
   unfolding items
@@ -138,21 +137,13 @@ module _ (p : Parse Json) (takes : Takes p) where
   same_items (suc n) (suc m) ts enough most = same_step n m ts (after_end_array ts) enough (λ s few.
       same_items n m s few (omega (arith, most)))
 
-  same_member : (n m : ℕ) (k : List ℕ) (ts : List Token) (o : Option (Json × List Token)) → p ts ≡ o → length ts ≤ n
-      → ((s : List Token) → length s ≤ n → members p n s ≡ members p m s)
-      → option_and_then (λ q. parse_map (json.member k q.0) (members p n q.1)) o
-      ≡ option_and_then (λ q. parse_map (json.member k q.0) (members p m q.1)) o
-  same_member n m k ts None is enough again = refl
-  same_member n m k ts (Some q) is enough again = let less = shorter ts q.1 q.0 is in
-      ap (parse_map (json.member k q.0)) (again q.1 (omega (arith, less, enough)))
-
   same_key : (n m : ℕ) (ts : List Token) (o : Option (Option (List ℕ) × List Token)) → read_key ts ≡ o → length ts ≤ suc n
       → ((s : List Token) → length s ≤ n → members p n s ≡ members p m s)
       → option_and_then (λ q. members_step p (members p n) q.0 q.1) o ≡ option_and_then (λ q. members_step p (members p m) q.0 q.1) o
   same_key n m ts None is enough again = refl
   same_key n m ts (Some (None, s)) is enough again = refl
   same_key n m ts (Some (Some k, s)) is enough again = let less = read_key-shorter ts (Some k) s is in
-      same_member n m k s (p s) refl (omega (arith, less, enough)) again
+      same_turn (json.member k) (members p n) (members p m) n s (p s) refl (omega (arith, less, enough)) again
 
   same_members : (n m : ℕ) (ts : List Token) → length ts ≤ n → n ≤ m → members p n ts ≡ members p m ts
   unfolding members

@@ -18,7 +18,7 @@ use Rattle.trace_text.specs.Pieces.{IsNone}
 use Rattle.trace_text.specs.Streams.{data_at}
 use Rattle.trace_text.specs.Tellings.{TellingData, TellingsData, if_histories, histories_told, telling_in, telling_put, telling_seen}
 use Rattle.trace_text.specs.Tellings.{tellings_of, text_under, told_put, told_seen, whole_put, whole_seen, whole_told}
-use Rattle.trace_text.proofs.Members.{either, get_put}
+use Rattle.trace_text.proofs.Members.{either, get_put, mapped_if}
 use Rattle.trace_text.proofs.Plain.{plain_text}
 use Rattle.trace_text.proofs.Turns.{whole_read}
 use Rattle.trace_text.proofs.Walks.{mapped_some}
@@ -38,11 +38,6 @@ seen g = record {
 
 same_seen : (g h : List ℕ → Option (Option (List ℕ))) → ((q : List ℕ) → g q ≡ h q) → seen g ≡ seen h
 same_seen g h e = rw (e (codes "group"), e (codes "took"), e (codes "dropped"), e (codes "gone"), e (codes "id"), e (codes "kept")) refl
-
-mapped_if : {A B : Type 0} (f : A → B) (b : Bool) (a : A) (o : Option A)
-    → option_map f (if b then Some a else o) ≡ (if b then Some (f a) else option_map f o)
-mapped_if f true a o = refl
-mapped_if f false a o = refl
 
 abbrev seen_put : Data → Members → List ℕ → TellingData
 seen_put d ms key = seen (λ (q : List ℕ). if bytes_eq key q then Some (as_str d) else text_under q ms)

@@ -59,6 +59,12 @@ there P (m ∷ ms) (suc i) within holds = there P ms i (omega (arith, within)) h
 
 -- ---- the whole
 
+body_joined : (hs : List (List Claim)) (body last : List ℕ)
+    → body ++ 93 ∷ [] ≡ trace_head ++ items_text false (items_of (map history_data hs))
+    → body ++ 93 ∷ last ≡ trace_head ++ (items_text false (items_of (map history_data hs)) ++ last)
+body_joined hs body last is = sym (append_assoc body (93 ∷ []) last) ∙ ap (λ (xs : List ℕ). xs ++ last) is
+    ∙ append_assoc trace_head (items_text false (items_of (map history_data hs))) last
+
 -- what stands behind the bracket of the histories
 tail : ℕ → List ℕ
 tail n = print_from true (token.key (codes "nodes") ∷ token.number (decimal n) ∷ token.end_object ∷ [])
@@ -67,10 +73,7 @@ pub whole_text : (hs : List (List Claim)) (n : ℕ) (body : List ℕ) → n ≡ 
     → body ++ 93 ∷ [] ≡ trace_head ++ items_text false (items_of (map history_data hs)) → body ++ trace_end n ≡ compact_text (trace_data hs)
 unfolding print_from escape_byte tail
 whole_text hs n body many is =
-    let last = tail (length hs) in
-    let lists = items_text false (items_of (map history_data hs)) in
-    ap (λ (k : ℕ). body ++ trace_end k) many ∙ sym (append_assoc body (93 ∷ []) last) ∙ ap (λ (xs : List ℕ). xs ++ last) is
-    ∙ append_assoc trace_head lists last
+    rw many (body_joined hs body (tail (length hs)) is)
 
 ordered_tail : ℕ → List ℕ → List ℕ
 ordered_tail n words = print_from true (token.key (codes "nodes") ∷ token.number (decimal n) ∷ token.key (codes "order") ∷ token.string
@@ -81,7 +84,4 @@ pub ordered_whole : (hs : List (List Claim)) (o : Ordered) (n : ℕ) (body : Lis
     → body ++ ordered_end n (order_text o) ≡ compact_text (ordered_data hs o)
 unfolding print_from escape_byte ordered_tail
 ordered_whole hs o n body many is =
-    let last = ordered_tail (length hs) (order_text o) in
-    let lists = items_text false (items_of (map history_data hs)) in
-    ap (λ (k : ℕ). body ++ ordered_end k (order_text o)) many ∙ sym (append_assoc body (93 ∷ []) last) ∙ ap (λ (xs : List ℕ). xs ++ last) is
-    ∙ append_assoc trace_head lists last
+    rw many (body_joined hs body (ordered_tail (length hs) (order_text o)) is)

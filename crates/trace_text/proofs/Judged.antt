@@ -1,6 +1,6 @@
 -- What was read entry by entry is what the value of JSON stands for.
 use Rattle.std.proofs.Common.{◌≡◌, ℕ, suc, ◌+◌, Bool, true, false, ◌&&◌, List, [], ◌∷◌, ◌++◌, length, Option, Some, None, Result, Ok, Err}
-use Rattle.std.proofs.Common.{option_map, option_and_then, codes, refl, sym, ap, ap₂, ◌∙◌, arith, append_assoc, append-nil}
+use Rattle.std.proofs.Common.{option_map, option_and_then, codes, refl, sym, ap, ap₂, ◌∙◌, arith, length-append, append_assoc, append-nil}
 use Rattle.std.specs.Prelude.{◌==◌, if◌then◌else◌, nat_lt, nat_le}
 use Rattle.std.specs.Option.{option_or}
 use Rattle.std.specs.Str.{bytes_eq, IsUtf8}
@@ -117,8 +117,7 @@ good_entry node index old x (Ok cs) = ap (λ (ys : List Claim). Ok ys) (sym (app
 good_entry node index old x (Err location) = refl
 
 one_longer : {A : Type 0} (xs : List A) (x : A) → length (xs ++ x ∷ []) ≡ length xs + 1
-one_longer [] x = refl
-one_longer (y ∷ xs) x = let longer = one_longer xs x in omega (arith, longer)
+one_longer xs x = omega (arith, length-append xs (x ∷ []))
 
 entry_by : (node : ℕ) (h new : List Claim) (bad : Option Location) (o : Option Claim) (ds : Items)
     → option_map (λ (c : Claim). h ++ c ∷ []) o ≡ Some new

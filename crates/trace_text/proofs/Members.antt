@@ -2,6 +2,7 @@
 use Rattle.std.proofs.Common.{◌≡◌, ℕ, Bool, true, false, true≢false, List, Option, Some, option_map, option_and_then, codes, bytes_eq, refl}
 use Rattle.std.proofs.Common.{sym, ap, ap₂, ◌∙◌}
 use Rattle.std.specs.Prelude.{if◌then◌else◌}
+use Rattle.std.proofs.lemmas.Bool.{cond_both}
 use Rattle.std.proofs.lemmas.Slice.Eq.{bytes_eq-Decides}
 use Rattle.serde_json.specs.Data.{Data, Members, put, object}
 use Rattle.serde_json.specs.Find.{get_member}
@@ -17,23 +18,19 @@ get_by : (q k : List ℕ) (d : Data) (ms : Members) (b : Bool) → bytes_eq k q 
 get_by q k d ms true e = ap (λ (x : List ℕ). get_member x (put k d ms)) (sym ((bytes_eq-Decides k q).0 e)) ∙ get_member-put k d ms
 get_by q k d ms false e = get_member-put_other q k d ms (λ same. absurd (true≢false (sym ((bytes_eq-Decides k q).1 (sym same)) ∙ e)))
 
-plain_by : (q k : List ℕ) (d : Data) (ms : Members) (b : Bool) → bytes_eq k q ≡ b
-    → option_map plain (get_member q (put k d ms)) ≡ (if b then Some (plain d) else option_map plain (get_member q ms))
-plain_by q k d ms true e = ap (option_map plain) (get_by q k d ms true e)
-plain_by q k d ms false e = ap (option_map plain) (get_by q k d ms false e)
-
 pub get_put : (q k : List ℕ) (d : Data) (ms : Members) → get_member q (put k d ms) ≡ (if bytes_eq k q then Some d else get_member q ms)
 get_put q k d ms = get_by q k d ms (bytes_eq k q) refl
 
-by_key : {X : Type 0} (key name : List ℕ) (f : List ℕ → X) (a rest : X) (b : Bool) → bytes_eq key name ≡ b → f name ≡ a
-    → (bytes_eq key name ≡ false → f key ≡ rest) → f key ≡ (if b then a else rest)
-by_key key name f a rest true e is other = ap f ((bytes_eq-Decides key name).0 e) ∙ is
-by_key key name f a rest false e is other = other e
+pub mapped_if : {A B : Type 0} (f : A → B) (b : Bool) (a : A) (o : Option A)
+    → option_map f (if b then Some a else o) ≡ (if b then Some (f a) else option_map f o)
+mapped_if f true a o = refl
+mapped_if f false a o = refl
 
 -- the key is this one, or another
 pub either : {X : Type 0} (key name : List ℕ) (f : List ℕ → X) (a rest : X) → f name ≡ a → (bytes_eq key name ≡ false → f key ≡ rest)
     → f key ≡ (if bytes_eq key name then a else rest)
-either key name f a rest is other = by_key key name f a rest (bytes_eq key name) refl is other
+either {X} key name f a rest is = cond_both (bytes_eq key name) a rest (λ (x : X). f key ≡ x)
+    (λ e. ap f ((bytes_eq-Decides key name).0 e) ∙ is)
 
 -- ---- the fields of an entry
 
@@ -85,7 +82,7 @@ module _ (key : List ℕ) (d : Data) (ms : Members) where
   fields_law =
       same_seen (λ (q : List ℕ). option_map plain (get_member q (put key d ms)))
       (λ (q : List ℕ). if bytes_eq key q then Some (plain d) else option_map plain (get_member q ms))
-      (λ q. plain_by q key d ms (bytes_eq key q) refl)
+      (λ q. ap (option_map plain) (get_put q key d ms) ∙ mapped_if plain (bytes_eq key q) d (get_member q ms))
       ∙ seen_is
 
 fields_sent : (d : Data) (ms : Members) → plain_fields (fields_in (object (put (codes "sent") d ms))) ≡ plain_fields (fields_in (object ms))

@@ -195,8 +195,7 @@ with_nodes nodes lists = (nodes, lists)
 
 pub nodes_put : (s : Parted) (key : List ℕ) (n : Option ℕ) (d x : Data) → bytes_eq key (codes "nodes") ≡ true → n ≡ number_in (Some x)
     → plain d ≡ x → parted_put s key d ≡ (n, s.1)
-nodes_put s key n d x is from same = rw is (ap (λ (m : Option ℕ). with_nodes m s.1) (sym (plain_number d)
-    ∙ ap (λ (y : Data). number_in (Some y)) same ∙ sym from))
+nodes_put s key n d x is from same = rw (is, from, ← same, plain_number d) refl
 
 pub other_put : (s : Parted) (key : List ℕ) (d : Data) → bytes_eq key (codes "nodes") ≡ false → bytes_eq key (codes "histories") ≡ false
     → parted_put s key d ≡ s
@@ -222,14 +221,11 @@ pub histories_both : (s : Parted) (key : List ℕ) (new : Parts) (before behind 
     (Leads (λ ts. option_and_then then_parts (put_on s key ts)) (open_parts_on new) before [])
 histories_both s key new before behind is kept true said = record {
   at = λ more.
-      histories_put s key (with_more more before) is ∙ ap (parse_map (with_nodes s.0)) (said.at more)
-      ∙ ap (λ (n : Option ℕ). Some (with_nodes n (option_and_then judged_by new.histories), with_more more behind)) (sym kept);
+      rw (histories_put s key (with_more more before) is, said.at more, kept) refl;
 }
 histories_both s key new before behind is kept false said = record {
   at = λ more.
-      ap (option_and_then then_parts) (histories_put s key (with_more more before) is ∙ ap (parse_map (with_nodes s.0)) (said.at more))
-      ∙ open_parts s.0 new.histories (with_more more [])
-      ∙ ap (λ (n : Option ℕ). option_and_then (λ (h : Histories). whole_on n h (with_more more [])) new.histories) (sym kept);
+      rw (histories_put s key (with_more more before) is, said.at more, kept) (open_parts s.0 new.histories (with_more more []));
 }
 
 -- ---- the whole

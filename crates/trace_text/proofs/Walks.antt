@@ -93,8 +93,7 @@ pub items_begun : {B : Type 0} (depth : ℕ) (f g : Items → B) (start : List T
 items_begun depth f g start law = record {
   most = length start;
   within = omega arith;
-  same =
-      same_map f g (items_at depth start) law;
+  same = same_map f g (items_at depth start) law;
   before = omega arith;
 }
 
@@ -148,8 +147,7 @@ members_begun depth seen start is = record {
   within = omega arith;
   passed = no_members;
   read = is;
-  same =
-      refl;
+  same = refl;
   before = omega arith;
 }
 

@@ -27,8 +27,7 @@ returns-clause-ok c =
             all_lists = h.all_lists;
             histories = c.push_reserved.new.self;
             bad = c.first-histories.result;
-            entries =
-                c.replace-entries.new.dest;
+            entries = c.replace-entries.new.dest;
           }) e (with_more more c.read_entries.new.reader) refl
           (pushed ∙ ap (λ (x : Entries). hs ++ x.history ∷ []) same)
           (c.first-histories.ensures ∙ ap (λ (x : Entries). option_or h.bad x.bad) same);

@@ -9,6 +9,5 @@ returns-clause-fits c =
       queue = h.0;
       priority = h.1;
       payload = c.as_slice.ensures.fits;
-      bytes =
-          subst AreBytes c.as_slice.ensures.value c.in_ok-write_bytes.ensures.fits;
+      bytes = subst AreBytes c.as_slice.ensures.value c.in_ok-write_bytes.ensures.fits;
     }) c.write_rank.ensures.fits
