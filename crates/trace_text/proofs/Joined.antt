@@ -42,12 +42,9 @@ pub entry_written : (d : TraceAction) (ms : List Envelope) (a b c e : Written) (
     → items ≡ e.before ++ print e.tokens → items ≡ compact_text (entry_data (record { action = d; sent = ms }))
 entry_written d ms a b c e items none empty begun middle ended is =
     let tokens : e.tokens ≡ entry_tokens (record { action = d; sent = ms }) =
-    ended.tokens ∙ ap (λ (ts : List Token). ts ++ end_tokens)
-    (middle.tokens ∙ ap (λ (ts : List Token). ts ++ message_tokens ms) (begun.tokens
-    ∙ ap (λ (ts : List Token). ts ++ head_tokens d) empty))
-    ∙ append_assoc (head_tokens d) (message_tokens ms) end_tokens ∙ entry_joined d ms in
-    is ∙ ap (λ (xs : List ℕ). xs ++ print e.tokens) (ended.before ∙ middle.before ∙ begun.before ∙ none) ∙ ap print tokens
-    ∙ entry_printed (record { action = d; sent = ms })
+    rw (ended.tokens, middle.tokens, begun.tokens, empty) (append_assoc (head_tokens d) (message_tokens ms) end_tokens ∙ entry_joined d ms)
+    in
+    rw (is, ended.before, middle.before, begun.before, none, tokens) (entry_printed (record { action = d; sent = ms }))
 
 -- ---- a message that is spelled
 

@@ -165,5 +165,4 @@ if_ok (Err e) P p = tt
 pub written_text : (hs : List (List Claim)) (a b : Written) (items : List ℕ) → a.before ≡ [] → a.tokens ≡ [] → Adds a b (trace_tokens hs)
     → items ≡ b.before ++ print b.tokens → items ≡ compact_text (trace_data hs)
 written_text hs a b items none empty adds is =
-    is ∙ ap (λ (xs : List ℕ). xs ++ print b.tokens) (adds.before ∙ none)
-    ∙ ap print (adds.tokens ∙ ap (λ (ts : List Token). ts ++ trace_tokens hs) empty) ∙ trace_printed hs
+    rw (is, adds.before, none, adds.tokens, empty) (trace_printed hs)
