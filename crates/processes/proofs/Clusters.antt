@@ -46,7 +46,7 @@ printed_sent cluster are m printed = (
   printed.0,
   history_of printed.0 (length cluster) printed.1,
   history_at 0 (length cluster) cluster printed.0 printed.0 printed.1 printed.2 (omega arith),
-  handed_sent printed.0 (length cluster) printed.1.slots (at_first printed.0 printed.1.file) printed.1.processes m
+  handed_sent printed.0 (length cluster) printed.1.slots m (at_first printed.0 printed.1.file) printed.1.processes
       (are.processes printed.0 printed.1 printed.2) printed.3,
 )
 
@@ -63,7 +63,7 @@ are_a_cluster one cluster are = record {
       let here : IsAmong m (taken_in (entries_of n (length cluster) (at_first n it.node.file) it.node.processes)) =
       subst (λ (y : FileHistory). IsAmong m (taken_in y.entries)) (sym it.is) i in
       printed_sent cluster are m
-      (are.delivers n it.node it.at m (taken_delivered n (length cluster) it.node.slots (at_first n it.node.file) it.node.processes m
+      (are.delivers n it.node it.at m (taken_delivered n (length cluster) it.node.slots m (at_first n it.node.file) it.node.processes
       (are.processes n it.node it.at) here)));
 }
   where

@@ -8,7 +8,7 @@ use Rattle.job_model.specs.declared.node_command.NodeCommand.TheVariants.{Raise}
 use Rattle.job_model.specs.Durable.{Durable, formatted}
 use Rattle.wire_msg.specs.Envelope.{Envelope}
 use Rattle.node_core.specs.declared.event.Event.{Event}
-use Rattle.node_core.specs.declared.event.Event.TheVariants.{Timer, Deliver, Submit, Finish, Recover}
+use Rattle.node_core.specs.declared.event.Event.TheVariants.{Deliver}
 use Rattle.node_core.specs.declared.fault.CoreFault.TheVariants.{Stranger}
 use Rattle.node_core.specs.Refusals.{is_known, refusal_of}
 use Rattle.node_core.specs.Start.{down}
@@ -16,7 +16,7 @@ use Rattle.node_core.specs.State.{State, is_down}
 use Rattle.histories.specs.Lists.{IsAmong}
 use Rattle.histories.specs.NodeState.{NodeState, opening}
 use Rattle.histories.specs.declared.history_event.HistoryEvent.{HistoryEvent}
-use Rattle.histories.specs.declared.history_event.HistoryEvent.TheVariants.{Did, Refused, Faulted, NoOp, Crashed, Recovered, MountFailed}
+use Rattle.histories.specs.declared.history_event.HistoryEvent.TheVariants.{Did, Refused, Faulted, Crashed, Recovered}
 use Rattle.histories.specs.declared.history_event.HistoryEvent.TheVariants.{RaiseFailed, RaiseRefused}
 use Rattle.histories.specs.HistoryEvent.{Entry, event_of, brought}
 use Rattle.histories.specs.After.{after, sent_at}
@@ -24,7 +24,7 @@ use Rattle.histories.specs.Possible.{IsPossible}
 use Rattle.histories.specs.History.{Follows, brought_in, replay, sent_in, vectors}
 use Rattle.histories.proofs.PublicLaws.{among_either, among_left, among_right, at_down, eq_nat}
 use Rattle.processes.specs.Files.{IdsRise, IsFormatted, at_first, taken, taken_in}
-use Rattle.processes.proofs.Prelude.{Reached, file_reached, ids_end, opens, reached_next}
+use Rattle.processes.proofs.Prelude.{Reached, file_reached, follows_both, ids_end, opens, reached_next}
 
 -- a message that the history took, which is addressed to the node
 abbrev pub IsTaken : ℕ → List Entry → Envelope → Type 0
@@ -54,12 +54,9 @@ addressed nodes self (Deliver d) s m h i = elim i [
   | inl e ↦ ap (λ (x : Envelope). x.receiver) e ∙ eq_nat d.receiver self (and_left _ _ (unless (is_known nodes self d) h))
   | inr none ↦ absurd none
 ]
-addressed nodes self (Timer timer) s m h i = absurd i
-addressed nodes self (Submit work) s m h i = absurd i
-addressed nodes self (Finish origin id) s m h i = absurd i
-addressed nodes self Recover s m h i = absurd i
+addressed nodes self event s m h i = absurd i
 
-first_moment : (self nodes : ℕ) (s : NodeState) (es : List Entry) → IsAmong s.state (vectors self nodes s es)
+pub first_moment : (self nodes : ℕ) (s : NodeState) (es : List Entry) → IsAmong s.state (vectors self nodes s es)
 first_moment self nodes s [] = inl refl
 first_moment self nodes s (e ∷ es) = inl refl
 
@@ -79,7 +76,7 @@ abbrev calm : List Entry → List Entry
 calm [] = []
 calm (e ∷ es) = calm_by e.what e (calm es)
 
-abbrev entry : HistoryEvent → List Envelope → Entry
+abbrev pub entry : HistoryEvent → List Envelope → Entry
 entry what sent = record { what = what; sent = sent }
 
 keep_one : (self nodes : ℕ) (s : NodeState) (what : HistoryEvent) (sent : List Envelope) (es rest : List Entry)
@@ -94,11 +91,17 @@ keep_one self nodes s what sent es rest all may is c = record {
     | inr r ↦ among_right m sent (sent_in rest) (c.sends m r)
   ];
   takes = λ m i. elim (among_either m (brought (event_of what)) (brought_in rest) i) [
-    | inl l ↦ (let here : IsAmong m (taken what) = subst (λ (ms : List Envelope). IsAmong m ms) (sym all) l in
+    | inl l ↦ (let here : IsAmong m (taken what) = rw all l in
         (among_left m (taken what) (taken_in es) here, (entry_takes self nodes s what m may here).1))
     | inr r ↦ (let it = c.takes m r in (among_right m (taken what) (taken_in es) it.0, it.1))
   ];
 }
+
+-- what sends nothing is left out
+silent_one : (sent : List Envelope) (es rest : List Entry) → sent ≡ []
+    → ((m : Envelope) → IsAmong m (sent_in es) → IsAmong m (sent_in rest))
+    → (m : Envelope) → IsAmong m (sent ++ sent_in es) → IsAmong m (sent_in rest)
+silent_one sent es rest silent sends m i = sends m (rw silent at i)
 
 calm_one : (self nodes : ℕ) (s : NodeState) (what : HistoryEvent) (sent : List Envelope) (es rest : List Entry)
     → IsPossible self nodes s what → sent ≡ sent_at self nodes s what
@@ -106,15 +109,8 @@ calm_one : (self nodes : ℕ) (s : NodeState) (what : HistoryEvent) (sent : List
     → Covers self nodes s (entry what sent ∷ es) s (calm_by what (entry what sent) rest)
 calm_one self nodes s (Refused event fault) sent es rest may is c = record {
   follows = c.follows;
-  moments = λ v i up. elim i [
-    | inl e ↦ c.moments v (subst (λ (x : State). IsAmong x (vectors self nodes s es)) (sym e)
-        (first_moment self nodes s es)) up
-    | inr j ↦ c.moments v j up
-  ];
-  sends = λ m i. elim (among_either m sent (sent_in es) i) [
-    | inl l ↦ (let none : IsAmong m [] = subst (λ (ms : List Envelope). IsAmong m ms) is l in absurd none)
-    | inr r ↦ c.sends m r
-  ];
+  moments = λ v i up. elim i [ inl e ↦ c.moments v (rw e (first_moment self nodes s es)) up | inr j ↦ c.moments v j up ];
+  sends = silent_one sent es rest is c.sends;
   takes = c.takes;
 }
 calm_one self nodes s what sent es rest may is c = keep_one self nodes s what sent es rest refl may is c
@@ -125,15 +121,6 @@ calm_covers self nodes s (e ∷ es) follows =
     calm_one self nodes s e.what e.sent es (calm es) follows.0 follows.1 (calm_covers self nodes (after self nodes s e.what) es follows.2)
 
 -- ---- behind what was before
-
-follows_both : (self nodes : ℕ) (s : NodeState) (es fs : List Entry) → Follows self nodes s es
-    → Follows self nodes (replay self nodes s es) fs → Follows self nodes s (es ++ fs)
-follows_both self nodes s [] fs first second = second
-follows_both self nodes s (e ∷ es) fs first second = (
-  first.0,
-  first.1,
-  follows_both self nodes (after self nodes s e.what) es fs first.2 second,
-)
 
 moment_behind : (self nodes : ℕ) (s : NodeState) (es fs : List Entry) (v : State)
     → IsAmong v (vectors self nodes (replay self nodes s es) fs) → IsAmong v (vectors self nodes s (es ++ fs))
@@ -186,10 +173,7 @@ leave_out self nodes s what sent es fallen silent it = record {
       | inl e ↦ (let both : true ≡ false = sym fallen ∙ (ap (λ (x : State). is_down x.phase) (sym e) ∙ up) in absurd cc)
       | inr j ↦ it.covers.moments v j up
     ];
-    sends = λ m i. elim (among_either m sent (sent_in es) i) [
-      | inl l ↦ (let none : IsAmong m [] = subst (λ (ms : List Envelope). IsAmong m ms) silent l in absurd none)
-      | inr r ↦ it.covers.sends m r
-    ];
+    sends = silent_one sent es it.other silent it.covers.sends;
     takes = λ m i. (let t = it.covers.takes m i in (among_right m (taken what) (taken_in es) t.0, t.1));
   };
 }
@@ -202,66 +186,61 @@ doubted false = None
 abbrev low : ℕ → Bool → NodeState
 low self doubt = record { state = down self; durable = formatted; doubt = doubted doubt }
 
-again : (self nodes : ℕ) → Reached self nodes (after self nodes (opening self) Crashed)
-again self nodes = reached_next self nodes (opening self) _ Crashed (opens self nodes) tt refl refl
+module _ (self nodes : ℕ) where
+  again : Reached self nodes (after self nodes (opening self) Crashed)
+  again = reached_next self nodes (opening self) _ Crashed (opens self nodes) tt refl refl
 
-up_again : (self nodes : ℕ) → Reached self nodes (after self nodes (after self nodes (opening self) Crashed) (Recovered false))
-up_again self nodes = reached_next self nodes _ _ (Recovered false) (again self nodes) (refl, (λ e. absurd cc), omega arith) refl refl
+  up_again : Reached self nodes (after self nodes (after self nodes (opening self) Crashed) (Recovered false))
+  up_again = reached_next self nodes _ _ (Recovered false) again (refl, (λ e. absurd cc), omega arith) refl refl
 
-failed_again : (self nodes : ℕ) → Reached self nodes (after self nodes (after self nodes (opening self) Crashed) (RaiseFailed false))
-failed_again self nodes = reached_next self nodes _ _ (RaiseFailed false) (again self nodes) (refl, (λ e. absurd cc), omega arith) refl refl
+  failed_again : Reached self nodes (after self nodes (after self nodes (opening self) Crashed) (RaiseFailed false))
+  failed_again = reached_next self nodes _ _ (RaiseFailed false) again (refl, (λ e. absurd cc), omega arith) refl refl
 
-low_one : (self nodes : ℕ) (b : Bool) (what : HistoryEvent) (sent : List Envelope) (es : List Entry)
-    → IsPossible self nodes (low self b) what → sent ≡ sent_at self nodes (low self b) what
-    → Follows self nodes (after self nodes (low self b) what) es
-    → ((c : Bool) → Follows self nodes (low self c) es → Embedded self nodes (low self c) es)
-    → Embedded self nodes (low self b) (entry what sent ∷ es)
-low_one self nodes b (Did event) sent es may is follows rest =
-    let still = at_down self nodes (low self b) event refl may.0 may.1.by_core in
-    let same : after self nodes (low self b) (Did event) ≡ low self b = rw (still.state, still.wants) refl in
-    leave_out self nodes (low self b) (Did event) sent es refl (is ∙ still.sent)
-    (subst (λ (x : NodeState). Embedded self nodes x es) (sym same)
-    (rest b (subst (λ (x : NodeState). Follows self nodes x es) same follows)))
-low_one self nodes b (Faulted event) sent es may is follows rest =
-    let still = at_down self nodes (low self b) event refl may.0.0 may.0.1.by_core in
-    let none : IsSome (doubted false) = subst (λ (x : Option Command). IsSome x) still.wants may.1 in absurd cc
-low_one self nodes b (Refused event fault) sent es may is follows rest =
-    leave_out self nodes (low self b) (Refused event fault) sent es refl is (rest b follows)
-low_one self nodes b (NoOp why) sent es may is follows rest = leave_out self nodes (low self b) (NoOp why) sent es refl is (rest b follows)
-low_one self nodes b Crashed sent es may is follows rest = leave_out self nodes (low self b) Crashed sent es refl is (rest b follows)
-low_one self nodes b MountFailed sent es may is follows rest =
-    leave_out self nodes (low self b) MountFailed sent es refl is (rest b follows)
-low_one self nodes b (Recovered false) sent es may is follows rest =
-    leave_out self nodes (low self b) (Recovered false) sent es refl is
-    (reached_embedded self nodes (opening self) es (opens self nodes) follows)
-low_one self nodes true (Recovered true) sent es may is follows rest =
-    leave_out self nodes (low self true) (Recovered true) sent es refl is (reached_embedded self nodes _ es (up_again self nodes) follows)
-low_one self nodes false (Recovered true) sent es may is follows rest = absurd (let none : IsSome (doubted false) = may.1 refl in cc)
-low_one self nodes b (RaiseFailed false) sent es may is follows rest =
-    leave_out self nodes (low self b) (RaiseFailed false) sent es refl is (rest true follows)
-low_one self nodes true (RaiseFailed true) sent es may is follows rest =
-    leave_out self nodes (low self true) (RaiseFailed true) sent es refl is
-    (reached_embedded self nodes _ es (failed_again self nodes) follows)
-low_one self nodes false (RaiseFailed true) sent es may is follows rest = absurd (let none : IsSome (doubted false) = may.1 refl in cc)
-low_one self nodes b (RaiseRefused false) sent es may is follows rest = absurd (omega (arith, may.2))
-low_one self nodes true (RaiseRefused true) sent es may is follows rest = absurd (omega (arith, may.2))
-low_one self nodes false (RaiseRefused true) sent es may is follows rest = absurd (let none : IsSome (doubted false) = may.1 refl in cc)
+  no_doubt : {A : Type 0} → IsSome (doubted false) → A
+  no_doubt is = absurd cc
 
-low_embedded : (self nodes : ℕ) (b : Bool) (es : List Entry) → Follows self nodes (low self b) es → Embedded self nodes (low self b) es
-low_embedded self nodes b [] follows = record {
-  other = [];
-  covers = record {
-    follows = tt;
-    moments = λ v i up. elim i [
-      | inl e ↦ (let both : true ≡ false = ap (λ (x : State). is_down x.phase) (sym e) ∙ up in absurd cc)
-      | inr none ↦ absurd none
-    ];
-    sends = λ m i. absurd i;
-    takes = λ m i. absurd i;
-  };
-}
-low_embedded self nodes b (e ∷ es) follows = low_one self nodes b e.what e.sent es follows.0 follows.1 follows.2 (λ c h.
-    low_embedded self nodes c es h)
+  low_one : (b : Bool) (what : HistoryEvent) (sent : List Envelope) (es : List Entry) → IsPossible self nodes (low self b) what
+      → sent ≡ sent_at self nodes (low self b) what → Follows self nodes (after self nodes (low self b) what) es
+      → ((c : Bool) → Follows self nodes (low self c) es → Embedded self nodes (low self c) es)
+      → Embedded self nodes (low self b) (entry what sent ∷ es)
+  low_one b (Did event) sent es may is follows rest =
+      let still = at_down self nodes (low self b) event refl may.0 may.1.by_core in
+      let same : after self nodes (low self b) (Did event) ≡ low self b = rw (still.state, still.wants) refl in
+      leave_out self nodes (low self b) (Did event) sent es refl (is ∙ still.sent)
+      (subst (λ (x : NodeState). Embedded self nodes x es) (sym same)
+      (rest b (subst (λ (x : NodeState). Follows self nodes x es) same follows)))
+  low_one b (Faulted event) sent es may is follows rest = no_doubt (subst (λ (x : Option Command). IsSome x)
+      (at_down self nodes (low self b) event refl may.0.0 may.0.1.by_core).wants may.1)
+  low_one b (Recovered false) sent es may is follows rest = leave_out self nodes (low self b) (Recovered false) sent es refl is
+      (reached_embedded self nodes (opening self) es (opens self nodes) follows)
+  low_one true (Recovered true) sent es may is follows rest =
+      leave_out self nodes (low self true) (Recovered true) sent es refl is (reached_embedded self nodes _ es up_again follows)
+  low_one false (Recovered true) sent es may is follows rest = no_doubt (may.1 refl)
+  low_one b (RaiseFailed false) sent es may is follows rest =
+      leave_out self nodes (low self b) (RaiseFailed false) sent es refl is (rest true follows)
+  low_one true (RaiseFailed true) sent es may is follows rest =
+      leave_out self nodes (low self true) (RaiseFailed true) sent es refl is (reached_embedded self nodes _ es failed_again follows)
+  low_one false (RaiseFailed true) sent es may is follows rest = no_doubt (may.1 refl)
+  low_one b (RaiseRefused false) sent es may is follows rest = absurd (omega (arith, may.2))
+  low_one true (RaiseRefused true) sent es may is follows rest = absurd (omega (arith, may.2))
+  low_one false (RaiseRefused true) sent es may is follows rest = no_doubt (may.1 refl)
+  low_one b what sent es may is follows rest = leave_out self nodes (low self b) what sent es refl is (rest b follows)
+
+  low_embedded : (b : Bool) (es : List Entry) → Follows self nodes (low self b) es → Embedded self nodes (low self b) es
+  low_embedded b [] follows = record {
+    other = [];
+    covers = record {
+      follows = tt;
+      moments = λ v i up. elim i [
+        | inl e ↦ (let both : true ≡ false = ap (λ (x : State). is_down x.phase) (sym e) ∙ up in absurd cc)
+        | inr none ↦ absurd none
+      ];
+      sends = λ m i. absurd i;
+      takes = λ m i. absurd i;
+    };
+  }
+  low_embedded b (e ∷ es) follows =
+      low_one b e.what e.sent es follows.0 follows.1 follows.2 (λ c h. low_embedded c es h)
 
 -- ---- any file
 

@@ -109,8 +109,7 @@ all_because self nodes s (e ∷ es) id owned follows i = elim i [
         | inr told ↦ inr (record {
           by = told.by;
           taken = among_right told.by (taken e.what) (taken_in es) told.taken;
-          says =
-              told.says;
+          says = told.says;
           addressed = told.addressed;
         })
       ]

@@ -45,8 +45,7 @@ abbrev process : List (List ℕ) → List LineOutcome → Process
 process lines all = record {
   kept = false;
   keyed = false;
-  life =
-      record { own = []; other = None; drawn = []; unit = 0; lines = lines; all = all };
+  life = record { own = []; other = None; drawn = []; unit = 0; lines = lines; all = all };
 }
 
 abbrev one : NodeProcesses
@@ -61,8 +60,7 @@ abbrev other : NodeProcesses
 other = record {
   file = formatted;
   slots = 4;
-  processes =
-      process (codes "recover" ∷ codes "deliver 010100010000" ∷ []) (up ∷ hears question ∷ []) ∷ [];
+  processes = process (codes "recover" ∷ codes "deliver 010100010000" ∷ []) (up ∷ hears question ∷ []) ∷ [];
 }
 
 new : IsFormatted formatted

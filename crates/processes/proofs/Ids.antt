@@ -195,20 +195,17 @@ commands_are_whole cluster over n two what sent es is found mounted = by_what wh
     by_what : (what : HistoryEvent) → mounted_at (earlier cluster n two) what ≡ Some found → IsWhole cluster n two what found
     by_what (Recovered kept) at = (let same : settled kept (earlier cluster n two) ≡ found = cc at in
         subst (λ (d : Durable). IsWhole cluster n two (Recovered kept) d) same (record {
-          whole =
-              found_whole kept (earlier cluster n two);
+          whole = found_whole kept (earlier cluster n two);
           goes_on = λ k. refl;
         }))
     by_what (RaiseFailed kept) at = (let same : settled kept (earlier cluster n two) ≡ found = cc at in
         subst (λ (d : Durable). IsWhole cluster n two (RaiseFailed kept) d) same (record {
-          whole =
-              found_whole kept (earlier cluster n two);
+          whole = found_whole kept (earlier cluster n two);
           goes_on = λ k. refl;
         }))
     by_what (RaiseRefused kept) at = (let same : settled kept (earlier cluster n two) ≡ found = cc at in
         subst (λ (d : Durable). IsWhole cluster n two (RaiseRefused kept) d) same (record {
-          whole =
-              found_whole kept (earlier cluster n two);
+          whole = found_whole kept (earlier cluster n two);
           goes_on = λ k. absurd (k kept refl);
         }))
     by_what what at = absurd (let none : None ≡ Some found = at in cc)

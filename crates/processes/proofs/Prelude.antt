@@ -26,6 +26,12 @@ use Rattle.histories.specs.History.{Follows, brought_in, replay}
 use Rattle.histories.proofs.PublicLaws.{among_either, among_left, among_right, each_append, each_more, history_goes_on}
 use Rattle.processes.specs.Files.{IdsRise, IsFormatted, at_first}
 
+pub follows_both : (self nodes : ℕ) (s : NodeState) (es fs : List Entry) → Follows self nodes s es
+    → Follows self nodes (replay self nodes s es) fs → Follows self nodes s (es ++ fs)
+follows_both self nodes s [] fs first second = second
+follows_both self nodes s (e ∷ es) fs first second =
+    (first.0, first.1, follows_both self nodes (after self nodes s e.what) es fs first.2 second)
+
 -- some history from the opening leaves this state, and brings nothing
 pub record Reached (self nodes : ℕ) (s : NodeState) : Type 0 where
   pub before : List Entry
@@ -68,8 +74,7 @@ opens self nodes = record { before = []; follows = tt; leaves = refl; quiet = λ
 abbrev filled : ℕ → List InHand → ℕ → List Job → NodeState
 filled self hand next jobs = record {
   state = record (alone self 1) { hand = hand };
-  durable =
-      record { counter = 1; next = next; pending = jobs };
+  durable = record { counter = 1; next = next; pending = jobs };
   doubt = None;
 }
 

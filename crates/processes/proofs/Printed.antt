@@ -16,7 +16,7 @@ use Rattle.histories.proofs.PublicLaws.{among_either}
 use Rattle.durable_node.specs.Changes.{same_view, told_anew, view_of}
 use Rattle.durable_node.specs.declared.group_view.GroupView.{GroupView}
 use Rattle.node_session.specs.Changes.{group_line}
-use Rattle.node_session.specs.Turns.{Turn, Goes, Unmounted, Begins}
+use Rattle.node_session.specs.Turns.{Turn, Goes}
 use Rattle.node_session.specs.Chains.{LineOutcome, AreGoing, AllGoing, after_turns, entries_in}
 use Rattle.node_session.specs.Chains as chains
 use Rattle.node_session.specs.Serving.{OneHistory}
@@ -25,6 +25,7 @@ use Rattle.processes.specs.Processes.{NodeProcesses, Process, AreProcesses, AreP
 use Rattle.processes.specs.Processes.{found, histories_of, left, process_entries, settles, told_by, told_in, told_of}
 use Rattle.processes.specs.Printed.{NumberNamesLeader, OneCoordinatorEach, OneLeaderEach, OneLineEach}
 use Rattle.processes.proofs.Clusters.{are_a_cluster, as_many, history_at, history_of}
+use Rattle.processes.proofs.Embedding.{first_moment}
 use Rattle.processes.proofs.Following.{process_ends, process_simulates}
 use Rattle.processes.proofs.Groups.{creator_leads, one_task_each}
 use Rattle.processes.proofs.Settling.{Ended}
@@ -40,10 +41,6 @@ told_last old new view i = by_same (same_view old new) i where
   by_same : (b : Bool) → IsAmong view (option_to_list (if b then None else Some new)) → view ≡ new
   by_same true j = absurd j
   by_same false j = elim j [ inl e ↦ e | inr none ↦ absurd none ]
-
-first_vector : (self nodes : ℕ) (s : NodeState) (es : List Entry) → IsAmong s.state (vectors self nodes s es)
-first_vector self nodes s [] = inl refl
-first_vector self nodes s (e ∷ es) = inl refl
 
 more_seen : (v : State) (vs : List State) (view : GroupView) → IsSeen vs view → IsSeen (v ∷ vs) view
 more_seen v vs view it = record { state = it.state; among = inr it.among; seen = it.seen }
@@ -61,16 +58,14 @@ turns_seen self nodes s (Goes what ∷ ts) later view going i =
       | inl l ↦ elim (among_either view (option_to_list (told_anew (view_of s.state) (view_of next.state))) told l) [
         | inl k ↦ record {
           state = next.state;
-          among = first_vector self nodes next rest;
-          seen =
-              told_last (view_of s.state) (view_of next.state) view k;
+          among = first_moment self nodes next rest;
+          seen = told_last (view_of s.state) (view_of next.state) view k;
         }
         | inr k ↦ turns_seen self nodes next ts later view going.1 (inl k)
       ]
       | inr r ↦ turns_seen self nodes next ts later view going.1 (inr r)
     ])
-turns_seen self nodes s (Unmounted fault ∷ ts) later view going i = absurd going.0
-turns_seen self nodes s (Begins mounted what ∷ ts) later view going i = absurd going.0
+turns_seen self nodes s (t ∷ ts) later view going i = absurd going.0
 
 lines_seen : (self nodes : ℕ) (s : NodeState) (all : List LineOutcome) (view : GroupView) → AllGoing all
     → IsAmong view (told_in self nodes s all) → IsSeen (vectors self nodes s (entries_in self nodes s all)) view
@@ -86,15 +81,14 @@ lines_seen self nodes s (came ∷ all) view going i =
 seen_left : (self nodes : ℕ) (s : NodeState) (es fs : List Entry) (view : GroupView) → IsSeen (vectors self nodes s es) view
     → IsSeen (vectors self nodes s (es ++ fs)) view
 seen_left self nodes s [] fs view it = elim it.among [
-  | inl e ↦ record { state = s.state; among = first_vector self nodes s fs; seen = it.seen ∙ ap view_of e }
+  | inl e ↦ record { state = s.state; among = first_moment self nodes s fs; seen = it.seen ∙ ap view_of e }
   | inr none ↦ absurd none
 ]
 seen_left self nodes s (e ∷ es) fs view it = elim it.among [
   | inl is ↦ record { state = s.state; among = inl refl; seen = it.seen ∙ ap view_of is }
   | inr later ↦ more_seen s.state _ view (seen_left self nodes (after self nodes s e.what) es fs view (record {
     state = it.state;
-    among =
-        later;
+    among = later;
     seen = it.seen;
   }))
 ]
@@ -114,16 +108,15 @@ seen_from one self nodes slots kept t s (p ∷ ps) view ended are i =
     let es = process_entries self nodes s p in
     let k = kept || p.kept in
     let later = entries_from self nodes (carried k es) (left self nodes s p) ps in
-    let it = process_simulates one self nodes slots kept t s p ended are.0 are.1 are.2 in
-    let ends = process_ends one self nodes slots kept t s p ended are.0 are.1 are.2 in
+    let it = process_simulates one self nodes slots p ps ended are in
+    let ends = process_ends one self nodes slots p ps ended are in
     more_seen t.state (vectors self nodes down (settles k es ++ later)) view
     (elim (among_either view (told_in self nodes (found self s p) p.life.all) (told_of self nodes (left self nodes s p) ps) i) [
       | inl l ↦ (let here = lines_seen self nodes (found self s p) p.life.all view are.2 l in
           seen_left self nodes down (settles k es) later view (record {
             state = here.state;
             among = it.moments here.state here.among;
-            seen =
-                here.seen;
+            seen = here.seen;
           }))
       | inr r ↦ seen_right self nodes down (replay self nodes down (settles k es)) (settles k es) later view refl
           (seen_from one self nodes slots (carried k es) (replay self nodes down (settles k es)) (left self nodes s p) ps view ends are.3 r)

@@ -6,14 +6,13 @@ use Rattle.node_core.specs.State.{is_down}
 use Rattle.histories.specs.NodeState.{NodeState}
 use Rattle.histories.specs.HistoryEvent.{event_of}
 use Rattle.histories.specs.declared.history_event.HistoryEvent.{HistoryEvent}
-use Rattle.histories.specs.declared.history_event.HistoryEvent.TheVariants.{Did, Refused, Faulted, NoOp, Crashed, Recovered, MountFailed}
-use Rattle.histories.specs.declared.history_event.HistoryEvent.TheVariants.{RaiseFailed, RaiseRefused}
+use Rattle.histories.specs.declared.history_event.HistoryEvent.TheVariants.{Refused, Faulted, MountFailed, RaiseFailed, RaiseRefused}
 use Rattle.histories.specs.After.{after, sent_at}
 use Rattle.durable_node.specs.declared.fault.NodeFault.{NodeFault}
 use Rattle.durable_node.specs.declared.fault.NodeFault.TheVariants as fault
 use Rattle.node_session.specs.declared.asked.Asked.{Asked}
 use Rattle.node_session.specs.declared.asked.Asked.TheVariants as ask
-use Rattle.node_session.specs.Turns.{CallEnd, Turn, Goes, Unmounted, Begins, end_at, end_of}
+use Rattle.node_session.specs.Turns.{CallEnd, Turn, Goes, end_at, end_of}
 use Rattle.node_session.specs.Chains.{AreGoing, ComesOfEvent, IsWrittenAnew, MayCome, after_turns, behind_end, brought_up, event_line_end}
 use Rattle.node_session.specs.Chains.{is_device, is_failed, line_end}
 use Rattle.node_session.specs.Lines.{Comes}
@@ -40,13 +39,10 @@ denied_stays : (self nodes : ℕ) (s : NodeState) (event : Event) (what : Histor
     → (after self nodes s what ≡ s) × (sent_at self nodes s what ≡ [])
 denied_stays self nodes s event (Refused e reason) why other of is = (refl, refl)
 denied_stays self nodes s event (RaiseRefused kept) why other of is = (refl, refl)
-denied_stays self nodes s event (Did e) why other of is = absurd cc
-denied_stays self nodes s event (Recovered kept) why other of is = absurd cc
-denied_stays self nodes s event (NoOp rest) why other of is = absurd cc
-denied_stays self nodes s event Crashed why other of is = absurd cc
 denied_stays self nodes s event (Faulted e) why other of is = absurd (let same : fault.Device ≡ why = cc is in other (sym same))
 denied_stays self nodes s event MountFailed why other of is = absurd (let same : fault.Device ≡ why = cc is in other (sym same))
 denied_stays self nodes s event (RaiseFailed kept) why other of is = absurd (let same : fault.Device ≡ why = cc is in other (sym same))
+denied_stays self nodes s event what why other of is = absurd cc
 
 -- and no call is behind it
 none_anew : (self nodes slots : ℕ) (b : Bool) (s : NodeState) (ts : List Turn) → IsWrittenAnew (brought_up b b) self nodes slots s ts
@@ -67,8 +63,7 @@ turns_stay self nodes slots s event (Goes what ∷ ts) why other may going is =
     subst (λ (x : NodeState). IsWrittenAnew (brought_up (is_down s.state.phase) (is_down x.state.phase)) self nodes slots x ts) still.0
     may.1 in
     rw (none_anew self nodes slots (is_down s.state.phase) s ts anew, still.0, still.1) (refl, refl)
-turns_stay self nodes slots s event (Unmounted why' ∷ ts) why other may going is = absurd going.0
-turns_stay self nodes slots s event (Begins mounted what ∷ ts) why other may going is = absurd going.0
+turns_stay self nodes slots s event (t ∷ ts) why other may going is = absurd going.0
 
 pub refused_changes_nothing : RefusedChangesNothing
 refused_changes_nothing cluster are n node at x i event asked answered why other is =

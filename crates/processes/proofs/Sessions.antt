@@ -55,8 +55,7 @@ next_stands disks last node was now s stands at stopped fresh =
       λ p kept. subst (λ (b : Bool). Stands disks node (record {
         state = down node.id;
         durable = settled b s;
-        doubt =
-            None;
+        doubt = None;
       })) (sym kept) (fresh_stands disks node now (settled here.0 s) fresh left_so),
     )
 

@@ -2,6 +2,7 @@
 use Rattle.std.proofs.Common.{◌≡◌, ◌⊎◌, ℕ, Bool, true, false, ◌||◌, List, [], ◌∷◌, ◌++◌, refl, sym, ◌∙◌, ap, subst, inl, inr, Option, None}
 use Rattle.std.proofs.Common.{IsSome}
 use Rattle.std.specs.Prelude.{if◌then◌else◌}
+use Rattle.std.proofs.lemmas.Bool.{cond_both}
 use Rattle.job_model.specs.declared.node_command.NodeCommand.{NodeCommand as Command}
 use Rattle.job_model.specs.Durable.{Durable}
 use Rattle.wire_msg.specs.Envelope.{Envelope}
@@ -14,8 +15,8 @@ use Rattle.node_core.specs.State.{State}
 use Rattle.histories.specs.Lists.{IsAmong}
 use Rattle.histories.specs.NodeState.{NodeState, settled}
 use Rattle.histories.specs.declared.history_event.HistoryEvent.{HistoryEvent}
-use Rattle.histories.specs.declared.history_event.HistoryEvent.TheVariants.{Did, Refused, Faulted, NoOp, Crashed, Recovered, MountFailed}
-use Rattle.histories.specs.declared.history_event.HistoryEvent.TheVariants.{RaiseFailed, RaiseRefused}
+use Rattle.histories.specs.declared.history_event.HistoryEvent.TheVariants.{Did, Refused, Faulted, Crashed, Recovered, RaiseFailed}
+use Rattle.histories.specs.declared.history_event.HistoryEvent.TheVariants.{RaiseRefused}
 use Rattle.histories.specs.HistoryEvent.{Entry}
 use Rattle.histories.specs.After.{after, sent_at}
 use Rattle.histories.specs.Possible.{IsForNode, IsPossible, IsSettling}
@@ -23,6 +24,7 @@ use Rattle.histories.specs.History.{Follows, replay, sent_in, vectors}
 use Rattle.histories.proofs.PublicLaws.{at_down}
 use Rattle.processes.specs.Files.{taken, taken_in}
 use Rattle.processes.specs.Processes.{Process, carried, found, mounts, settled_as, settles}
+use Rattle.processes.proofs.Embedding.{entry}
 
 -- a node that is down, with this in doubt
 abbrev pub opened : ℕ → Durable → Option Command → NodeState
@@ -50,131 +52,96 @@ pub record SimulatesBy (self nodes : ℕ) (left : Bool) (t s : NodeState) (es ot
 abbrev pub Simulates : ℕ → ℕ → Bool → NodeState → NodeState → List Entry → Type 0
 Simulates self nodes kept t s es = SimulatesBy self nodes (carried kept es) t s es (settles kept es)
 
-abbrev entry : HistoryEvent → List Envelope → Entry
-entry what sent = record { what = what; sent = sent }
+module _ (self nodes : ℕ) (kept : Bool) (t s : NodeState) (what : HistoryEvent) (sent : List Envelope) (es : List Entry) where
+  by_test : (rest : List Entry) (left : Bool) → rest ≡ (if mounts what then es else settles kept es)
+      → left ≡ (if mounts what then false else carried kept es)
+      → SimulatesBy self nodes left t s (entry what sent ∷ es) (entry (settled_as kept what) sent ∷ rest)
+      → Simulates self nodes kept t s (entry what sent ∷ es)
+  by_test rest left is says it =
+      subst (λ (b : Bool). SimulatesBy self nodes b t s (entry what sent ∷ es) (settles kept (entry what sent ∷ es))) says
+      (subst (λ (x : List Entry). SimulatesBy self nodes left t s (entry what sent ∷ es) (entry (settled_as kept what) sent ∷ x)) is it)
 
-by_test : (self nodes : ℕ) (kept : Bool) (t s : NodeState) (what : HistoryEvent) (sent : List Envelope) (es rest : List Entry) (left : Bool)
-    → rest ≡ (if mounts what then es else settles kept es) → left ≡ (if mounts what then false else carried kept es)
-    → SimulatesBy self nodes left t s (entry what sent ∷ es) (entry (settled_as kept what) sent ∷ rest)
-    → Simulates self nodes kept t s (entry what sent ∷ es)
-by_test self nodes kept t s what sent es rest left is says it =
-    subst (λ (b : Bool). SimulatesBy self nodes b t s (entry what sent ∷ es) (settles kept (entry what sent ∷ es))) says
-    (subst (λ (x : List Entry). SimulatesBy self nodes left t s (entry what sent ∷ es) (entry (settled_as kept what) sent ∷ x)) is it)
+  -- an entry that leaves both as they are
+  stay : mounts what ≡ false → t.state ≡ s.state → IsPossible self nodes t (settled_as kept what)
+      → sent ≡ sent_at self nodes t (settled_as kept what) → after self nodes t (settled_as kept what) ≡ t → after self nodes s what ≡ s
+      → Simulates self nodes kept t s es → Simulates self nodes kept t s (entry what sent ∷ es)
+  stay quiet state may is same_t same_s it = by_test (settles kept es) (carried kept es) (rw quiet refl) (rw quiet refl) (record {
+    follows = (may, is, subst (λ (x : NodeState). Follows self nodes x (settles kept es)) (sym same_t) it.follows);
+    moments = λ v i. elim i [
+      | inl e ↦ inl (e ∙ sym state)
+      | inr j ↦ inr (subst (λ (x : NodeState). IsAmong v (vectors self nodes x (settles kept es))) (sym same_t)
+          (it.moments v (subst (λ (x : NodeState). IsAmong v (vectors self nodes x es)) same_s j)))
+    ];
+    ends = subst (λ (x : NodeState). Ended self (carried kept es) (replay self nodes x (settles kept es))
+        (replay self nodes (after self nodes s what) es)) (sym same_t)
+        (subst (λ (x : NodeState). Ended self (carried kept es) (replay self nodes t (settles kept es)) (replay self nodes x es))
+        (sym same_s) it.ends);
+  })
 
--- an entry that leaves both as they are
-stay : (self nodes : ℕ) (kept : Bool) (t s : NodeState) (what : HistoryEvent) (sent : List Envelope) (es : List Entry) → mounts what ≡ false
-    → t.state ≡ s.state → IsPossible self nodes t (settled_as kept what)
-    → sent ≡ sent_at self nodes t (settled_as kept what) → after self nodes t (settled_as kept what) ≡ t → after self nodes s what ≡ s
-    → Simulates self nodes kept t s es → Simulates self nodes kept t s (entry what sent ∷ es)
-stay self nodes kept t s what sent es quiet state may is same_t same_s it =
-    by_test self nodes kept t s what sent es (settles kept es) (carried kept es) (rw quiet refl) (rw quiet refl) (record {
-      follows = (may, is, subst (λ (x : NodeState). Follows self nodes x (settles kept es)) (sym same_t) it.follows);
-      moments = λ v i. elim i [
-        | inl e ↦ inl (e ∙ sym state)
-        | inr j ↦ inr (subst (λ (x : NodeState). IsAmong v (vectors self nodes x (settles kept es))) (sym same_t)
-            (it.moments v (subst (λ (x : NodeState). IsAmong v (vectors self nodes x es)) same_s j)))
-      ];
-      ends = subst (λ (x : NodeState). Ended self (carried kept es) (replay self nodes x (settles kept es))
-          (replay self nodes (after self nodes s what) es)) (sym same_t)
-          (subst (λ (x : NodeState). Ended self (carried kept es) (replay self nodes t (settles kept es)) (replay self nodes x es))
-          (sym same_s)
-          it.ends);
-    })
+  -- a mounting that settles the doubt
+  mount : mounts what ≡ true → t.state ≡ s.state → IsPossible self nodes t (settled_as kept what)
+      → sent ≡ sent_at self nodes t (settled_as kept what) → after self nodes t (settled_as kept what) ≡ after self nodes s what
+      → Follows self nodes (after self nodes s what) es → Simulates self nodes kept t s (entry what sent ∷ es)
+  mount settling state may is same follows = by_test es false (rw settling refl) (rw settling refl) (record {
+    follows = (may, is, subst (λ (x : NodeState). Follows self nodes x es) (sym same) follows);
+    moments = λ v i. elim i [
+      | inl e ↦ inl (e ∙ sym state)
+      | inr j ↦ inr (subst (λ (x : NodeState). IsAmong v (vectors self nodes x es)) (sym same) j)
+    ];
+    ends = inl (ap (λ (x : NodeState). replay self nodes x es) same, refl);
+  })
 
--- a mounting that settles the doubt
-mount : (self nodes : ℕ) (kept : Bool) (t s : NodeState) (what : HistoryEvent) (sent : List Envelope) (es : List Entry) → mounts what ≡ true
-    → t.state ≡ s.state → IsPossible self nodes t (settled_as kept what)
-    → sent ≡ sent_at self nodes t (settled_as kept what) → after self nodes t (settled_as kept what) ≡ after self nodes s what
-    → Follows self nodes (after self nodes s what) es → Simulates self nodes kept t s (entry what sent ∷ es)
-mount self nodes kept t s what sent es settling state may is same follows =
-    by_test self nodes kept t s what sent es es false (rw settling refl) (rw settling refl) (record {
-      follows = (may, is, subst (λ (x : NodeState). Follows self nodes x es) (sym same) follows);
-      moments = λ v i. elim i [
-        | inl e ↦ inl (e ∙ sym state)
-        | inr j ↦
-            inr (subst (λ (x : NodeState). IsAmong v (vectors self nodes x es)) (sym same) j)
-      ];
-      ends = inl (ap (λ (x : NodeState). replay self nodes x es) same, refl);
-    })
+module _ (self nodes : ℕ) (kept : Bool) (d : Durable) (doubt : Option Command) where
+  abbrev t : NodeState
+  t = opened self d doubt
 
--- a node that is down refuses for a reason of its state alone
-refuses : (self nodes : ℕ) (kept : Bool) (d : Durable) (doubt : Option Command) (event : Event) (fault : Refusal)
-    → IsForNode (down self) event → IsRefused nodes self (down self) (settled kept (opened self d doubt)) event fault
-    → IsRefused nodes self (down self) d event fault
-refuses self nodes kept d doubt event (Core fault) up may = may
-refuses self nodes kept d doubt event Exhausted up may =
-    let here = at_down self nodes (settled_down self kept (opened self d doubt)) event refl up may.0 in
-    absurd (let bad : IsSpent d None = subst (λ (w : Option Command). IsSpent (settled kept (opened self d doubt)) w) here.wants may.1 in
-    bad)
-refuses self nodes kept d doubt event Full up may =
-    let here = at_down self nodes (settled_down self kept (opened self d doubt)) event refl up may.0 in
-    absurd (let bad : CantTake (settled kept (opened self d doubt)) None Full =
-    subst (λ (w : Option Command). CantTake (settled kept (opened self d doubt)) w Full) here.wants may.1 in bad.1)
-refuses self nodes kept d doubt event AreaExhausted up may =
-    let here = at_down self nodes (settled_down self kept (opened self d doubt)) event refl up may.0 in
-    absurd (let bad : CantTake (settled kept (opened self d doubt)) None AreaExhausted =
-    subst (λ (w : Option Command). CantTake (settled kept (opened self d doubt)) w AreaExhausted) here.wants may.1 in bad.1)
+  abbrev s : NodeState
+  s = settled_down self kept t
 
-step : (self nodes : ℕ) (kept : Bool) (d : Durable) (doubt : Option Command) (what : HistoryEvent) (sent : List Envelope) (es : List Entry)
-    → IsSettling kept doubt → IsPossible self nodes (settled_down self kept (opened self d doubt)) what
-    → sent ≡ sent_at self nodes (settled_down self kept (opened self d doubt)) what
-    → Follows self nodes (after self nodes (settled_down self kept (opened self d doubt)) what) es
-    → (Follows self nodes (settled_down self kept (opened self d doubt)) es
-    → Simulates self nodes kept (opened self d doubt) (settled_down self kept (opened self d doubt)) es)
-    → Simulates self nodes kept (opened self d doubt) (settled_down self kept (opened self d doubt)) (entry what sent ∷ es)
-step self nodes kept d doubt (Did event) sent es settling may is follows rest =
-    let t = opened self d doubt in
-    let s = settled_down self kept t in
-    let here = at_down self nodes s event refl may.0 may.1.by_core in
-    let there = at_down self nodes t event refl may.0 may.1.by_core in
-    let same_s : after self nodes s (Did event) ≡ s = rw (here.state, here.wants) refl in
-    let same_t : after self nodes t (Did event) ≡ t = rw (there.state, there.wants) refl in
-    stay self nodes kept t s (Did event) sent es refl refl (may.0, record { by_core = may.1.by_core; not_spent = rw there.wants (λ e. e) })
-    (is ∙ (here.sent ∙ sym there.sent)) same_t same_s
-    (rest (subst (λ (x : NodeState). Follows self nodes x es) same_s follows))
-step self nodes kept d doubt (Faulted event) sent es settling may is follows rest =
-    let s = settled_down self kept (opened self d doubt) in
-    let here = at_down self nodes s event refl may.0.0 may.0.1.by_core in
-    let none : IsSome s.doubt = subst (λ (x : Option Command). IsSome x) here.wants may.1 in absurd cc
-step self nodes kept d doubt (Refused event fault) sent es settling may is follows rest =
-    let t = opened self d doubt in
-    let s = settled_down self kept t in
-    stay self nodes kept t s (Refused event fault) sent es refl refl (
-      may.0,
-      refuses self nodes kept d doubt event fault may.0 may.1,
-    ) is refl refl (rest follows)
-step self nodes kept d doubt (NoOp why) sent es settling may is follows rest =
-    stay self nodes kept (opened self d doubt) (settled_down self kept (opened self d doubt))
-    (NoOp why) sent es refl refl may is refl refl (rest follows)
-step self nodes kept d doubt Crashed sent es settling may is follows rest =
-    stay self nodes kept (opened self d doubt) (settled_down self kept (opened self d doubt)) Crashed sent es refl refl may is refl refl
-    (rest follows)
-step self nodes kept d doubt MountFailed sent es settling may is follows rest =
-    stay self nodes kept (opened self d doubt) (settled_down self kept (opened self d doubt)) MountFailed sent es refl refl may is refl refl
-    (rest follows)
-step self nodes kept d doubt (Recovered false) sent es settling may is follows rest =
-    mount self nodes kept (opened self d doubt) (settled_down self kept (opened self d doubt))
-    (Recovered false) sent es refl refl (refl, settling, may.2) is refl follows
-step self nodes kept d doubt (Recovered true) sent es settling may is follows rest =
-    absurd (let none : IsSome (settled_down self kept (opened self d doubt)).doubt = may.1 refl in cc)
-step self nodes kept d doubt (RaiseFailed false) sent es settling may is follows rest =
-    mount self nodes kept (opened self d doubt) (settled_down self kept (opened self d doubt))
-    (RaiseFailed false) sent es refl refl (refl, settling, may.2) is refl follows
-step self nodes kept d doubt (RaiseFailed true) sent es settling may is follows rest =
-    absurd (let none : IsSome (settled_down self kept (opened self d doubt)).doubt = may.1 refl in cc)
-step self nodes kept d doubt (RaiseRefused false) sent es settling may is follows rest =
-    stay self nodes kept (opened self d doubt) (settled_down self kept (opened self d doubt))
-    (RaiseRefused false) sent es refl refl (refl, settling, may.2) is refl refl (rest follows)
-step self nodes kept d doubt (RaiseRefused true) sent es settling may is follows rest =
-    absurd (let none : IsSome (settled_down self kept (opened self d doubt)).doubt = may.1 refl in cc)
+  -- a node that is down refuses for a reason of its state alone
+  refuses : (event : Event) (fault : Refusal) → IsForNode (down self) event
+      → IsRefused nodes self (down self) (settled kept t) event fault → IsRefused nodes self (down self) d event fault
+  refuses event (Core fault) up may = may
+  refuses event Exhausted up may = absurd (subst (IsSpent (settled kept t)) (at_down self nodes s event refl up may.0).wants may.1)
+  refuses event Full up may = absurd (let bad : CantTake (settled kept t) None Full =
+      subst (λ (w : Option Command). CantTake (settled kept t) w Full) (at_down self nodes s event refl up may.0).wants may.1 in bad.1)
+  refuses event AreaExhausted up may = absurd (let bad : CantTake (settled kept t) None AreaExhausted =
+      subst (λ (w : Option Command). CantTake (settled kept t) w AreaExhausted) (at_down self nodes s event refl up may.0).wants may.1 in
+      bad.1)
 
-all_steps : (self nodes : ℕ) (kept : Bool) (d : Durable) (doubt : Option Command) (es : List Entry) → IsSettling kept doubt
-    → Follows self nodes (settled_down self kept (opened self d doubt)) es
-    → Simulates self nodes kept (opened self d doubt) (settled_down self kept (opened self d doubt)) es
-all_steps self nodes kept d doubt [] settling follows = record { follows = tt; moments = λ v i. i; ends = inr (refl, settling, refl) }
-all_steps self nodes kept d doubt (e ∷ es) settling follows =
-    step self nodes kept d doubt e.what e.sent es settling follows.0 follows.1 follows.2 (λ h.
-    all_steps self nodes kept d doubt es settling h)
+  no_doubt : {A : Type 0} → IsSome s.doubt → A
+  no_doubt is = absurd cc
+
+  step : (what : HistoryEvent) (sent : List Envelope) (es : List Entry) → IsSettling kept doubt → IsPossible self nodes s what
+      → sent ≡ sent_at self nodes s what → Follows self nodes (after self nodes s what) es
+      → (Follows self nodes s es → Simulates self nodes kept t s es) → Simulates self nodes kept t s (entry what sent ∷ es)
+  step (Did event) sent es settling may is follows rest =
+      let here = at_down self nodes s event refl may.0 may.1.by_core in
+      let there = at_down self nodes t event refl may.0 may.1.by_core in
+      let same_s : after self nodes s (Did event) ≡ s = rw (here.state, here.wants) refl in
+      let same_t : after self nodes t (Did event) ≡ t = rw (there.state, there.wants) refl in
+      stay self nodes kept t s (Did event) sent es refl refl
+      (may.0, record { by_core = may.1.by_core; not_spent = rw there.wants (λ e. e) }) (is ∙ here.sent ∙ sym there.sent) same_t same_s
+      (rest (subst (λ (x : NodeState). Follows self nodes x es) same_s follows))
+  step (Faulted event) sent es settling may is follows rest =
+      no_doubt (subst (λ (x : Option Command). IsSome x) (at_down self nodes s event refl may.0.0 may.0.1.by_core).wants may.1)
+  step (Refused event fault) sent es settling may is follows rest =
+      stay self nodes kept t s (Refused event fault) sent es refl refl (may.0, refuses event fault may.0 may.1) is refl refl (rest follows)
+  step (Recovered false) sent es settling may is follows rest =
+      mount self nodes kept t s (Recovered false) sent es refl refl (refl, settling, may.2) is refl follows
+  step (Recovered true) sent es settling may is follows rest = no_doubt (may.1 refl)
+  step (RaiseFailed false) sent es settling may is follows rest =
+      mount self nodes kept t s (RaiseFailed false) sent es refl refl (refl, settling, may.2) is refl follows
+  step (RaiseFailed true) sent es settling may is follows rest = no_doubt (may.1 refl)
+  step (RaiseRefused false) sent es settling may is follows rest =
+      stay self nodes kept t s (RaiseRefused false) sent es refl refl (refl, settling, may.2) is refl refl (rest follows)
+  step (RaiseRefused true) sent es settling may is follows rest = no_doubt (may.1 refl)
+  step what sent es settling may is follows rest = stay self nodes kept t s what sent es refl refl may is refl refl (rest follows)
+
+  all_steps : (es : List Entry) → IsSettling kept doubt → Follows self nodes s es → Simulates self nodes kept t s es
+  all_steps [] settling follows = record { follows = tt; moments = λ v i. i; ends = inr (refl, settling, refl) }
+  all_steps (e ∷ es) settling follows =
+      step e.what e.sent es settling follows.0 follows.1 follows.2 (λ h. all_steps es settling h)
 
 -- ---- what is said with it
 
@@ -218,11 +185,8 @@ simulates self nodes kept t s p es ended may follows =
 
 pub settles_sends : (kept : Bool) (es : List Entry) → sent_in (settles kept es) ≡ sent_in es
 settles_sends kept [] = refl
-settles_sends kept (e ∷ es) = by_mount (mounts e.what) (settles_sends kept es) where
-  by_mount : (b : Bool) → sent_in (settles kept es) ≡ sent_in es
-      → e.sent ++ sent_in (if b then es else settles kept es) ≡ e.sent ++ sent_in es
-  by_mount true rest = refl
-  by_mount false rest = ap (λ (ms : List Envelope). e.sent ++ ms) rest
+settles_sends kept (e ∷ es) = cond_both (mounts e.what) _ _ (λ (xs : List Entry). e.sent ++ sent_in xs ≡ e.sent ++ sent_in es) (λ _. refl)
+    (λ _. ap (λ (ms : List Envelope). e.sent ++ ms) (settles_sends kept es))
 
 taken_same : (kept : Bool) (what : HistoryEvent) → taken (settled_as kept what) ≡ taken what
 taken_same kept (Recovered k) = refl
@@ -232,9 +196,6 @@ taken_same kept what = refl
 
 pub settles_takes : (kept : Bool) (es : List Entry) → taken_in (settles kept es) ≡ taken_in es
 settles_takes kept [] = refl
-settles_takes kept (e ∷ es) = by_mount (mounts e.what) (settles_takes kept es) where
-  by_mount : (b : Bool) → taken_in (settles kept es) ≡ taken_in es
-      → taken (settled_as kept e.what) ++ taken_in (if b then es else settles kept es) ≡ taken e.what ++ taken_in es
-  by_mount true rest = ap (λ (ms : List Envelope). ms ++ taken_in es) (taken_same kept e.what)
-  by_mount false rest = ap (λ (ms : List Envelope). ms ++ taken_in (settles kept es)) (taken_same kept e.what)
-      ∙ ap (λ (ms : List Envelope). taken e.what ++ ms) rest
+settles_takes kept (e ∷ es) =
+    cond_both (mounts e.what) _ _ (λ (xs : List Entry). taken (settled_as kept e.what) ++ taken_in xs ≡ taken e.what ++ taken_in es)
+    (λ _ i. taken_same kept e.what i ++ taken_in es) (λ _ i. taken_same kept e.what i ++ settles_takes kept es i)

@@ -8,7 +8,6 @@ returns c = record {
   above = numbers_are_above;
   leader = creator_leads;
   task = one_task_each;
-  worker =
-      one_worker_each;
+  worker = one_worker_each;
   rise = leader_counts_rise;
 }

@@ -10,7 +10,6 @@ returns c = record {
   whole = commands_are_whole;
   done = done_stays_done;
   new = ids_are_new;
-  finished =
-      done_was_finished;
+  finished = done_was_finished;
   work = work_is_job;
 }
