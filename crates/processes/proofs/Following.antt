@@ -87,7 +87,7 @@ module _ (one : OneHistory) (self nodes slots : ℕ) where
   all_follow s ps are = follow_from ps {kept = false} {t = s} (inl (refl, refl)) are
 
 -- a line leaves the state that its turns leave
-none_left : (self nodes : ℕ) (s : NodeState) (ts : List Turn) → IsNone ts → after_turns self nodes s ts ≡ s
+pub none_left : (self nodes : ℕ) (s : NodeState) (ts : List Turn) → IsNone ts → after_turns self nodes s ts ≡ s
 none_left self nodes s [] none = refl
 none_left self nodes s (t ∷ ts) none = absurd none
 

@@ -2,6 +2,7 @@
 use Rattle.std.proofs.Common.{◌≡◌, ◌≢◌, ◌⊎◌, ℕ, zero, suc, ◌+◌, ◌<◌, ◌≤◌, Bool, true, false, not, List, [], ◌∷◌, ◌++◌, length, slice_get}
 use Rattle.std.proofs.Common.{refl, sym, subst, inl, inr, arith, Option, Some, None}
 use Rattle.std.specs.Prelude.{◌==◌, ◌||◌, if◌then◌else◌}
+use Rattle.std.proofs.lemmas.Bool.{cases_Bool, cond_both, or_cases}
 use Rattle.std.proofs.lemmas.Bool.Decides.{nat_tests}
 use Rattle.job_model.specs.declared.job.Job.{Job}
 use Rattle.job_model.specs.declared.node_command.NodeCommand.{NodeCommand as Command}
@@ -46,10 +47,8 @@ stays P is self nodes s (e ∷ es) h = stays P is self nodes (after self nodes s
 
 each_without : (Q : Job → Type 0) (jobs : List Job) (id : ℕ) → Each Q jobs → Each Q (without_job jobs id)
 each_without Q [] id h = tt
-each_without Q (job ∷ jobs) id h = by_test (not (job.id == id)) (each_without Q jobs id h.1) where
-  by_test : (b : Bool) → Each Q (without_job jobs id) → Each Q (if b then job ∷ without_job jobs id else without_job jobs id)
-  by_test true k = (h.0, k)
-  by_test false k = k
+each_without Q (job ∷ jobs) id h =
+    let rest = each_without Q jobs id h.1 in cond_both (not (job.id == id)) _ _ (Each Q) (λ _. (h.0, rest)) (λ _. rest)
 
 -- the jobs have ids below the next one
 abbrev AreBelow : Durable → Type 0
@@ -86,18 +85,17 @@ gone_stable id = record { stable = by_command } where
 
 none_left : (jobs : List Job) (id : ℕ) → Each (λ (job : Job). job.id ≢ id) (without_job jobs id)
 none_left [] id = tt
-none_left (job ∷ jobs) id = by_test (job.id == id) refl (none_left jobs id) where
-  by_test : (b : Bool) → (job.id == id) ≡ b → Each (λ (x : Job). x.id ≢ id) (without_job jobs id)
-      → Each (λ (x : Job). x.id ≢ id) (if not b then job ∷ without_job jobs id else without_job jobs id)
-  by_test true is rest = rest
-  by_test false is rest = ((λ e. (let bad : false ≡ true = grind (arith, nat_tests) in cc)), rest)
+none_left (job ∷ jobs) id = elim (cases_Bool (job.id == id)) [
+  | inl is ↦ rw is (none_left jobs id)
+  | inr is ↦ rw is ((λ e. (let bad : false ≡ true = grind (arith, nat_tests) in cc)), none_left jobs id)
+]
 
 pending_below : (limit : ℕ) (jobs : List Job) (id : ℕ) → Each (λ (job : Job). job.id < limit) jobs → is_pending jobs id ≡ true → id < limit
 pending_below limit [] id below is = absurd cc
-pending_below limit (job ∷ jobs) id below is = by_test (job.id == id) refl is (λ found. pending_below limit jobs id below.1 found) where
-  by_test : (b : Bool) → (job.id == id) ≡ b → (b || is_pending jobs id) ≡ true → (is_pending jobs id ≡ true → id < limit) → id < limit
-  by_test true same found rest = omega (arith, below.0, eq_nat job.id id same)
-  by_test false same found rest = rest found
+pending_below limit (job ∷ jobs) id below is = elim (or_cases (job.id == id) (is_pending jobs id) is) [
+  | inl same ↦ omega (arith, below.0, eq_nat job.id id same)
+  | inr found ↦ pending_below limit jobs id below.1 found
+]
 
 file_below : (low : ℕ) (jobs : List Job) (next : ℕ) → IdsRise low jobs next → Each (λ (job : Job). job.id < next) jobs
 file_below low [] next rise = tt
@@ -192,20 +190,14 @@ found_whole false s = inl refl
 pub commands_are_whole : CommandsAreWhole
 commands_are_whole cluster over n two what sent es is found mounted = by_what what mounted
   where
+    as_found : (what : HistoryEvent) (kept : Bool) → Some (settled kept (earlier cluster n two)) ≡ Some found
+        → (((k : Bool) → what ≢ RaiseRefused k) → (after n (length cluster) (earlier cluster n two) what).durable.pending
+        ≡ (settled kept (earlier cluster n two)).pending) → IsWhole cluster n two what found
+    as_found what kept at goes = (let same : settled kept (earlier cluster n two) ≡ found = cc at in
+        subst (IsWhole cluster n two what) same (record { whole = found_whole kept (earlier cluster n two); goes_on = goes }))
+
     by_what : (what : HistoryEvent) → mounted_at (earlier cluster n two) what ≡ Some found → IsWhole cluster n two what found
-    by_what (Recovered kept) at = (let same : settled kept (earlier cluster n two) ≡ found = cc at in
-        subst (λ (d : Durable). IsWhole cluster n two (Recovered kept) d) same (record {
-          whole = found_whole kept (earlier cluster n two);
-          goes_on = λ k. refl;
-        }))
-    by_what (RaiseFailed kept) at = (let same : settled kept (earlier cluster n two) ≡ found = cc at in
-        subst (λ (d : Durable). IsWhole cluster n two (RaiseFailed kept) d) same (record {
-          whole = found_whole kept (earlier cluster n two);
-          goes_on = λ k. refl;
-        }))
-    by_what (RaiseRefused kept) at = (let same : settled kept (earlier cluster n two) ≡ found = cc at in
-        subst (λ (d : Durable). IsWhole cluster n two (RaiseRefused kept) d) same (record {
-          whole = found_whole kept (earlier cluster n two);
-          goes_on = λ k. absurd (k kept refl);
-        }))
+    by_what (Recovered kept) at = as_found (Recovered kept) kept at (λ k. refl)
+    by_what (RaiseFailed kept) at = as_found (RaiseFailed kept) kept at (λ k. refl)
+    by_what (RaiseRefused kept) at = as_found (RaiseRefused kept) kept at (λ k. absurd (k kept refl))
     by_what what at = absurd (let none : None ≡ Some found = at in cc)

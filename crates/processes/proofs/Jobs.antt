@@ -2,6 +2,7 @@
 use Rattle.std.proofs.Common.{◌≡◌, ◌⊎◌, ℕ, Bool, true, false, not, List, [], ◌∷◌, ◌++◌, length, refl, sym, ap, subst, inl, inr, Option}
 use Rattle.std.proofs.Common.{Some, None}
 use Rattle.std.specs.Prelude.{◌==◌, if◌then◌else◌}
+use Rattle.std.proofs.lemmas.Bool.{cases_Bool, cond_both}
 use Rattle.job_model.specs.declared.job.Job.{Job}
 use Rattle.job_model.specs.declared.node_command.NodeCommand.{NodeCommand as Command}
 use Rattle.job_model.specs.declared.node_command.NodeCommand.TheVariants.{Raise, Put, Done}
@@ -40,12 +41,9 @@ among_others : (id : ℕ) (jobs : List Job) (job : Job) → IsAmong job jobs →
 among_others id [] job i other = absurd i
 among_others id (x ∷ jobs) job i other = elim i [
   | inl e ↦ (let here : (x.id == id) ≡ false = subst (λ (y : Job). (y.id == id) ≡ false) e other in rw here (inl e))
-  | inr k ↦ by_test (x.id == id) (among_others id jobs job k other)
+  | inr k ↦ (let rest = among_others id jobs job k other in
+      cond_both (not (x.id == id)) _ _ (IsAmong job) (λ _. inr rest) (λ _. rest))
 ]
-  where
-    by_test : (b : Bool) → IsAmong job (without_job jobs id) → IsAmong job (if not b then x ∷ without_job jobs id else without_job jobs id)
-    by_test true k = k
-    by_test false k = inr k
 
 -- a command leaves a job, or takes it out
 command_keeps : (d : Durable) (wants : Option Command) (job : Job) → IsAmong job d.pending
@@ -53,10 +51,10 @@ command_keeps : (d : Durable) (wants : Option Command) (job : Job) → IsAmong j
 command_keeps d None job i = inl i
 command_keeps d (Some Raise) job i = inl i
 command_keeps d (Some (Put work)) job i = inl (among_left job d.pending (record { id = d.next; work = work } ∷ []) i)
-command_keeps d (Some (Done id)) job i = by_test (job.id == id) refl where
-  by_test : (b : Bool) → (job.id == id) ≡ b → IsAmong job (without_job d.pending id) ⊎ (Some (Done id) ≡ Some (Done job.id))
-  by_test true is = inr (ap (λ (k : ℕ). Some (Done k)) (sym (eq_nat job.id id is)))
-  by_test false is = inl (among_others id d.pending job i is)
+command_keeps d (Some (Done id)) job i = elim (cases_Bool (job.id == id)) [
+  | inl is ↦ inr (ap (λ (k : ℕ). Some (Done k)) (sym (eq_nat job.id id is)))
+  | inr is ↦ inl (among_others id d.pending job i is)
+]
 
 settled_keeps : (kept : Bool) (s : NodeState) (job : Job) → IsAmong job s.durable.pending
     → IsAmong job (settled kept s).pending ⊎ (s.doubt ≡ Some (Done job.id))

@@ -1,7 +1,8 @@
 -- What the `group` lines of processes tell are moments of their nodes.
 use Rattle.std.proofs.Common.{◌≡◌, ◌⊎◌, ℕ, Bool, true, false, ◌||◌, List, [], ◌∷◌, ◌++◌, length, refl, sym, ◌∙◌, ap, subst, inl, inr, arith}
-use Rattle.std.proofs.Common.{Some, None, option_to_list}
+use Rattle.std.proofs.Common.{Option, Some, None, option_to_list}
 use Rattle.std.specs.Prelude.{if◌then◌else◌}
+use Rattle.std.proofs.lemmas.Bool.{cond_both}
 use Rattle.group_task.specs.Group.{Group}
 use Rattle.node_core.specs.State.{State}
 use Rattle.node_core.specs.Words.{members_of}
@@ -37,90 +38,79 @@ record IsSeen (vs : List State) (view : GroupView) : Type 0 where
   seen : view ≡ view_of state
 
 told_last : (old new view : GroupView) → IsAmong view (option_to_list (told_anew old new)) → view ≡ new
-told_last old new view i = by_same (same_view old new) i where
-  by_same : (b : Bool) → IsAmong view (option_to_list (if b then None else Some new)) → view ≡ new
-  by_same true j = absurd j
-  by_same false j = elim j [ inl e ↦ e | inr none ↦ absurd none ]
+told_last old new view i = cond_both (same_view old new) _ _ (λ (o : Option GroupView). IsAmong view (option_to_list o) → view ≡ new)
+    (λ _ j. absurd j) (λ _ j. elim j [ inl e ↦ e | inr none ↦ absurd none ]) i
 
 more_seen : (v : State) (vs : List State) (view : GroupView) → IsSeen vs view → IsSeen (v ∷ vs) view
 more_seen v vs view it = record { state = it.state; among = inr it.among; seen = it.seen }
 
--- what turns tell is seen in them, or by what comes behind
-turns_seen : (self nodes : ℕ) (s : NodeState) (ts : List Turn) (later : List Entry) (view : GroupView) → AreGoing ts
-    → IsAmong view (told_by self nodes s ts) ⊎ IsSeen (vectors self nodes (after_turns self nodes s ts) later) view
-    → IsSeen (vectors self nodes s (chains.entries_of self nodes s ts later)) view
-turns_seen self nodes s [] later view going i = elim i [ inl l ↦ absurd l | inr r ↦ r ]
-turns_seen self nodes s (Goes what ∷ ts) later view going i =
-    let next = after self nodes s what in
-    let rest = chains.entries_of self nodes next ts later in
-    let told = told_by self nodes next ts in
-    more_seen s.state (vectors self nodes next rest) view (elim i [
-      | inl l ↦ elim (among_either view (option_to_list (told_anew (view_of s.state) (view_of next.state))) told l) [
-        | inl k ↦ record {
-          state = next.state;
-          among = first_moment self nodes next rest;
-          seen = told_last (view_of s.state) (view_of next.state) view k;
-        }
-        | inr k ↦ turns_seen self nodes next ts later view going.1 (inl k)
-      ]
-      | inr r ↦ turns_seen self nodes next ts later view going.1 (inr r)
-    ])
-turns_seen self nodes s (t ∷ ts) later view going i = absurd going.0
+module _ (self nodes : ℕ) (view : GroupView) where
+  -- what turns tell is seen in them, or by what comes behind
+  turns_seen : (s : NodeState) (ts : List Turn) (later : List Entry) → AreGoing ts
+      → IsAmong view (told_by self nodes s ts) ⊎ IsSeen (vectors self nodes (after_turns self nodes s ts) later) view
+      → IsSeen (vectors self nodes s (chains.entries_of self nodes s ts later)) view
+  turns_seen s [] later going i = elim i [ inl l ↦ absurd l | inr r ↦ r ]
+  turns_seen s (Goes what ∷ ts) later going i =
+      let next = after self nodes s what in
+      let rest = chains.entries_of self nodes next ts later in
+      more_seen s.state (vectors self nodes next rest) view (elim i [
+        | inl l ↦ elim (among_either view (option_to_list (told_anew (view_of s.state) (view_of next.state))) (told_by self nodes next ts)
+            l) [
+              | inl k ↦ record {
+                state = next.state;
+                among = first_moment self nodes next rest;
+                seen = told_last (view_of s.state) (view_of next.state) view k;
+              }
+              | inr k ↦ turns_seen next ts later going.1 (inl k)
+            ]
+        | inr r ↦ turns_seen next ts later going.1 (inr r)
+      ])
+  turns_seen s (t ∷ ts) later going i = absurd going.0
 
-lines_seen : (self nodes : ℕ) (s : NodeState) (all : List LineOutcome) (view : GroupView) → AllGoing all
-    → IsAmong view (told_in self nodes s all) → IsSeen (vectors self nodes s (entries_in self nodes s all)) view
-lines_seen self nodes s [] view going i = absurd i
-lines_seen self nodes s (came ∷ all) view going i =
-    let next = after_turns self nodes s came.turns in
-    turns_seen self nodes s came.turns (entries_in self nodes next all) view going.0
-    (elim (among_either view (told_by self nodes s came.turns) (told_in self nodes next all) i) [
-      | inl l ↦ inl l
-      | inr r ↦ inr (lines_seen self nodes next all view going.1 r)
-    ])
+  lines_seen : (s : NodeState) (all : List LineOutcome) → AllGoing all → IsAmong view (told_in self nodes s all)
+      → IsSeen (vectors self nodes s (entries_in self nodes s all)) view
+  lines_seen s [] going i = absurd i
+  lines_seen s (came ∷ all) going i =
+      let next = after_turns self nodes s came.turns in
+      turns_seen s came.turns (entries_in self nodes next all) going.0
+      (elim (among_either view (told_by self nodes s came.turns) (told_in self nodes next all) i) [
+        | inl l ↦ inl l
+        | inr r ↦ inr (lines_seen next all going.1 r)
+      ])
 
-seen_left : (self nodes : ℕ) (s : NodeState) (es fs : List Entry) (view : GroupView) → IsSeen (vectors self nodes s es) view
-    → IsSeen (vectors self nodes s (es ++ fs)) view
-seen_left self nodes s [] fs view it = elim it.among [
-  | inl e ↦ record { state = s.state; among = first_moment self nodes s fs; seen = it.seen ∙ ap view_of e }
-  | inr none ↦ absurd none
-]
-seen_left self nodes s (e ∷ es) fs view it = elim it.among [
-  | inl is ↦ record { state = s.state; among = inl refl; seen = it.seen ∙ ap view_of is }
-  | inr later ↦ more_seen s.state _ view (seen_left self nodes (after self nodes s e.what) es fs view (record {
-    state = it.state;
-    among = later;
-    seen = it.seen;
-  }))
-]
+  seen_left : (s : NodeState) (es fs : List Entry) → IsSeen (vectors self nodes s es) view → IsSeen (vectors self nodes s (es ++ fs)) view
+  seen_left s [] fs it = elim it.among [
+    | inl e ↦ record { state = s.state; among = first_moment self nodes s fs; seen = it.seen ∙ ap view_of e }
+    | inr none ↦ absurd none
+  ]
+  seen_left s (e ∷ es) fs it = elim it.among [
+    | inl is ↦ record { state = s.state; among = inl refl; seen = it.seen ∙ ap view_of is }
+    | inr later ↦ more_seen s.state _ view
+        (seen_left (after self nodes s e.what) es fs (record { state = it.state; among = later; seen = it.seen }))
+  ]
 
-seen_right : (self nodes : ℕ) (s t : NodeState) (es fs : List Entry) (view : GroupView) → replay self nodes s es ≡ t
-    → IsSeen (vectors self nodes t fs) view → IsSeen (vectors self nodes s (es ++ fs)) view
-seen_right self nodes s t [] fs view is it = subst (λ (x : NodeState). IsSeen (vectors self nodes x fs) view) (sym is) it
-seen_right self nodes s t (e ∷ es) fs view is it = more_seen s.state _ view
-    (seen_right self nodes (after self nodes s e.what) t es fs view is it)
+  seen_right : (s t : NodeState) (es fs : List Entry) → replay self nodes s es ≡ t → IsSeen (vectors self nodes t fs) view
+      → IsSeen (vectors self nodes s (es ++ fs)) view
+  seen_right s t [] fs is it = subst (λ (x : NodeState). IsSeen (vectors self nodes x fs) view) (sym is) it
+  seen_right s t (e ∷ es) fs is it = more_seen s.state _ view (seen_right (after self nodes s e.what) t es fs is it)
 
-seen_from : OneHistory → (self nodes slots : ℕ) (kept : Bool) (t s : NodeState) (ps : List Process) (view : GroupView) → Ended self kept t s
-    → AreProcesses self nodes slots s ps → IsAmong view (told_of self nodes s ps)
-    → IsSeen (vectors self nodes t (entries_from self nodes kept s ps)) view
-seen_from one self nodes slots kept t s [] view ended are i = absurd i
-seen_from one self nodes slots kept t s (p ∷ ps) view ended are i =
-    let down = after self nodes t Crashed in
-    let es = process_entries self nodes s p in
-    let k = kept || p.kept in
-    let later = entries_from self nodes (carried k es) (left self nodes s p) ps in
-    let it = process_simulates one self nodes slots p ps ended are in
-    let ends = process_ends one self nodes slots p ps ended are in
-    more_seen t.state (vectors self nodes down (settles k es ++ later)) view
-    (elim (among_either view (told_in self nodes (found self s p) p.life.all) (told_of self nodes (left self nodes s p) ps) i) [
-      | inl l ↦ (let here = lines_seen self nodes (found self s p) p.life.all view are.2 l in
-          seen_left self nodes down (settles k es) later view (record {
-            state = here.state;
-            among = it.moments here.state here.among;
-            seen = here.seen;
-          }))
-      | inr r ↦ seen_right self nodes down (replay self nodes down (settles k es)) (settles k es) later view refl
-          (seen_from one self nodes slots (carried k es) (replay self nodes down (settles k es)) (left self nodes s p) ps view ends are.3 r)
-    ])
+  seen_from : OneHistory → (slots : ℕ) (ps : List Process) {kept : Bool} {t s : NodeState} → Ended self kept t s
+      → AreProcesses self nodes slots s ps → IsAmong view (told_of self nodes s ps)
+      → IsSeen (vectors self nodes t (entries_from self nodes kept s ps)) view
+  seen_from one slots [] ended are i = absurd i
+  seen_from one slots (p ∷ ps) {kept} {t} {s} ended are i =
+      let down = after self nodes t Crashed in
+      let own = settles (kept || p.kept) (process_entries self nodes s p) in
+      more_seen t.state _ view
+      (elim (among_either view (told_in self nodes (found self s p) p.life.all) (told_of self nodes (left self nodes s p) ps) i) [
+        | inl l ↦ (let here = lines_seen (found self s p) p.life.all are.2 l in seen_left down own _ (record {
+          state = here.state;
+          among = (process_simulates one self nodes slots p ps ended are).moments here.state here.among;
+          seen = here.seen;
+        }))
+        | inr r ↦ seen_right down (replay self nodes down own) own _ refl
+            (seen_from one slots ps (process_ends one self nodes slots p ps ended are) are.3 r)
+      ])
 
 -- ---- moments
 
@@ -134,7 +124,7 @@ told_moment : OneHistory → (cluster : List NodeProcesses) → AreProcessesOf c
 told_moment one cluster are n view told =
     let node = told.0 in
     let s = at_first n node.file in
-    let it = seen_from one n (length cluster) node.slots false s s node.processes view (inl (refl, refl))
+    let it = seen_from n (length cluster) view one node.slots node.processes {kept = false} {t = s} (inl (refl, refl))
     (are.processes n node told.1) told.2 in
     let at = history_at 0 (length cluster) cluster n n node told.1 (omega arith) in record {
       state = it.state;

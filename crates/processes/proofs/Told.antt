@@ -18,6 +18,7 @@ use Rattle.node_session.specs.Text.{answer, event_closing, hand_line, jobs_by, n
 use Rattle.processes.specs.Files.{at_first}
 use Rattle.processes.specs.Answers.{AcceptedIsAnswered, AcceptedIsTold, HasPiece, lines_at, text_of}
 use Rattle.processes.proofs.Answers.{accepted_is_kept, all_come, last_among}
+use Rattle.processes.proofs.Following.{none_left}
 
 -- ---- the answer to what was taken
 
@@ -47,10 +48,6 @@ piece_of (first ∷ jobs) job i = elim i [
 piece_in_front : (text more piece : List ℕ) → HasPiece text piece → HasPiece (text ++ more) piece
 piece_in_front text more piece it = (it.0, it.1 ++ more, ap (λ (x : List ℕ). x ++ more) it.2 ∙ append_assoc (it.0 ++ piece) it.1 more)
 
-none_after : (self nodes : ℕ) (s : NodeState) (ts : List Turn) → IsNone ts → after_turns self nodes s ts ≡ s
-none_after self nodes s [] none = refl
-none_after self nodes s (t ∷ ts) none = absurd none
-
 up_jobs : (b : Bool) (s : NodeState) (job : Job) → b ≡ false → IsAmong job s.durable.pending → HasPiece (jobs_by b s) (pending_line job)
 up_jobs true s job up i = absurd cc
 up_jobs false s job up i = piece_in_front (flat_map pending_line s.durable.pending) (flat_map hand_line s.state.hand) (pending_line job)
@@ -65,7 +62,7 @@ accepted_is_told one cluster are n node at x y before job accepted asks =
     subst (λ (b : Bool). Comes n nodes node.slots b y.at.state (asked_under y.at.seal y.line) y.came) asks.answered line.comes in
     let none : MayCome n nodes node.slots y.at.state ask.Jobs y.came.turns =
     subst (λ (a : Asked). MayCome n nodes node.slots y.at.state a y.came.turns) asks.asked first.0 in
-    let same = none_after n nodes y.at.state y.came.turns none in
+    let same = none_left n nodes y.at.state y.came.turns none in
     let text : text_of n nodes y ≡ jobs_by (is_down y.at.state.state.phase) y.at.state ++ ok_line (y.at.count + 1) [] =
     ap (λ (a : Asked). answer n nodes (next y.at.count a) y.at.state y.at.waits a y.came) asks.asked in
     let either = accepted_is_kept one cluster are n node at x y before job accepted
