@@ -42,8 +42,7 @@ sent_next sent i m old mid new lt is s next =
       same = record {
         sender = next.same.sender ∙ s.same.sender;
         receiver = next.same.receiver ∙ s.same.receiver;
-        capacity =
-            next.same.capacity ∙ s.same.capacity;
+        capacity = next.same.capacity ∙ s.same.capacity;
       };
       messages = subst (λ (l : List Envelope). PutsSome old.capacity old.messages l new.messages)
           (sym (next_sent old.receiver sent i m lt is))
@@ -66,8 +65,7 @@ pub sent_here : (m : Envelope) (old new : Side) → m.receiver ≡ old.receiver 
     → PutsSome old.capacity old.messages (m ∷ []) new.messages → SentTo (m ∷ []) old new
 sent_here m old new to same put = record {
   same = same;
-  messages =
-      subst (λ (l : List Envelope). PutsSome old.capacity old.messages l new.messages) (sym (addressed_yes old.receiver m to)) put;
+  messages = subst (λ (l : List Envelope). PutsSome old.capacity old.messages l new.messages) (sym (addressed_yes old.receiver m to)) put;
 }
 
 -- and one to another node

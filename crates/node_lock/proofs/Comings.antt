@@ -25,7 +25,7 @@ use Rattle.node_lock.specs.Asking.{Asked, Hand, NoEvent, Arm, Crash, asked_in, a
 use Rattle.node_lock.specs.Doing.{Did, Gives, HasSectors, TurnDid}
 use Rattle.node_lock.specs.History.{listed}
 
-some_of : {A : Type 0} (o : Option A) → IsSome o → (a : A) × (o ≡ Some a)
+pub some_of : {A : Type 0} (o : Option A) → IsSome o → (a : A) × (o ≡ Some a)
 some_of (Some a) is = (a, refl)
 some_of None is = absurd cc
 

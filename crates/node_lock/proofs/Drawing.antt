@@ -1,13 +1,12 @@
 -- Each step keeps that each number is drawn once.
-use Rattle.std.proofs.Common.{◌≡◌, ℕ, zero, suc, ◌+◌, ◌%◌, ◌^◌, ◌<◌, ◌≤◌, ◌==◌, List, [], ◌∷◌, ◌++◌, slice_index, slice_set, set, refl, ap}
-use Rattle.std.proofs.Common.{sym, ◌∙◌, subst, inl, inr, arith}
+use Rattle.std.proofs.Common.{◌≡◌, ℕ, zero, suc, ◌+◌, ◌%◌, ◌^◌, ◌≤◌, ◌==◌, List, [], ◌∷◌, ◌++◌, slice_index, slice_set, set, refl, ap}
+use Rattle.std.proofs.Common.{sym, ◌∙◌, subst, arith}
 use Rattle.std.specs.Prelude.{if◌then◌else◌, nat_lt}
 use Rattle.std.specs.List.{AllByRecursion}
-use Rattle.std.proofs.lemmas.Bool.{cases_lt}
 use Rattle.std.proofs.lemmas.Bool.Decides.{nat_tests}
 use mathlib.Core.Option.{none, some, some-injective, some-ne-none}
 use lib.ListN.{get_elem?}
-use Rattle.atomic_table.specs.Table.{Allows, Me, Splits, State, keeps, opening, step}
+use Rattle.atomic_table.specs.Table.{Allows, Me, Splits, keeps, opening, step}
 use Rattle.atomic_table.proofs.Lists.{set_again}
 use Rattle.node_lock.specs.declared.turn_numbers.Drawn.{Drawn}
 use Rattle.node_lock.specs.Drawing.{AreDrawn, AreGiven, HaveNumbers, IsFalling, IsGiven, draws_next, nothing_drawn, times, times_by_all}

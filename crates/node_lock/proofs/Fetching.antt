@@ -36,8 +36,7 @@ side_with m was room new took = (
   record {
     sender = ap (λ (s : Side). s.sender) took.taken;
     receiver = ap (λ (s : Side). s.receiver) took.taken;
-    capacity =
-        ap (λ (s : Side). s.capacity) took.taken;
+    capacity = ap (λ (s : Side). s.capacity) took.taken;
   },
   ap (λ (s : Side). s.messages) took.taken,
 )
@@ -55,15 +54,11 @@ took_at place m sides was room new lt is took = record {
         let old : slice_index_or sides k d ≡ was = ap (λ (i : ℕ). slice_index_or sides i d) at
         ∙ sym (get_or_read sides place was lt is d) in
         let test : (k == place) ≡ true = grind (arith, nat_tests, at) in
-        subst (λ (s : Side). IsSideWith m s (slice_index_or (slice_set sides place new) k d) (k == place)) (sym old)
-        (subst (λ (s : Side). IsSideWith m was s (k == place)) (sym here)
-        (subst (IsSideWith m was new) (sym test) (side_with m was room new took))))
+        rw (here, old, test) (side_with m was room new took))
     | inr far ↦ (
         let there : slice_index_or (slice_set sides place new) k d ≡ slice_index_or sides k d = get_or-set_other sides place k new d far in
         let test : (k == place) ≡ false = grind (arith, nat_tests, far) in
-        subst (λ (s : Side). IsSideWith m (slice_index_or sides k d) s (k == place)) (sym there)
-        (subst (IsSideWith m (slice_index_or sides k d) (slice_index_or sides k d)) (sym test)
-        (side_same m (slice_index_or sides k d))))
+        rw (there, test) (side_same m (slice_index_or sides k d)))
   ];
   first = λ d within. subst (λ (s : Side). IsFirst m s.seen) (get_or_read sides place was lt is d) (new.seen, took.first);
 }
@@ -77,9 +72,6 @@ takes_at (Some m) place waiting sides was room mid new none lt is made took =
     inr (none, took_at place m sides was room new lt is (subst (λ (s : Side). TookNext m s new) made took))
 
 -- where none was taken, only room was made
-abbrev IsSideSame : Side → Side → Type 0
-IsSideSame old new = SameLink old new × (new.messages ≡ old.messages) × (new.seen ≡ old.seen)
-
 pub rooms_at : (place : ℕ) (sides : List Side) (was : Side) (room : ℕ) → place < length sides → was ≡ slice_index_or sides place was
     → SameSides sides (slice_set sides place (with_room was room))
 rooms_at place sides was room lt is =
@@ -91,13 +83,11 @@ rooms_at place sides was room lt is =
             let here : slice_index_or (slice_set sides place new) k d ≡ new = get_or-set_at sides place k new d at lt in
             let old : slice_index_or sides k d ≡ was = ap (λ (i : ℕ). slice_index_or sides i d) at
             ∙ sym (get_or_read sides place was lt is d) in
-            subst (λ (s : Side). IsSideSame s (slice_index_or (slice_set sides place new) k d)) (sym old)
-            (subst (IsSideSame was) (sym here) (record { sender = refl; receiver = refl; capacity = refl }, refl, refl)))
+            rw (here, old) (record { sender = refl; receiver = refl; capacity = refl }, refl, refl))
         | inr far ↦ (
             let there : slice_index_or (slice_set sides place new) k d ≡ slice_index_or sides k d =
             get_or-set_other sides place k new d far in
-            subst (IsSideSame (slice_index_or sides k d)) (sym there)
-            (record { sender = refl; receiver = refl; capacity = refl }, refl, refl))
+            rw there (record { sender = refl; receiver = refl; capacity = refl }, refl, refl))
       ];
     }
 

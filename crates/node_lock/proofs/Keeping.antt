@@ -1,6 +1,7 @@
 -- A turn keeps what is always true.
-use Rattle.std.proofs.Common.{◌≡◌, ℕ, ◌+◌, ◌*◌, ◌<◌, ◌==◌, IsSome, IfOk, IfErr, Result, Ok, Err, Bool, true, false, cond, List, [], ◌∷◌}
+use Rattle.std.proofs.Common.{◌≡◌, ℕ, ◌+◌, ◌*◌, ◌<◌, ◌==◌, IsSome, IfOk, IfErr, Result, Ok, Err, Bool, true, List, [], ◌∷◌}
 use Rattle.std.proofs.Common.{◌++◌, length, slice_index, slice_index_or, refl, ap, sym, ◌∙◌, subst, arith, append_assoc}
+use Rattle.std.proofs.lemmas.Bool.{cond_both}
 use Rattle.std.proofs.lemmas.List.{append-nil, map-append, length-append}
 use Rattle.wire_msg.specs.Envelope.{Envelope}
 use Rattle.sector_disk.specs.Memory.{Memory, state_of}
@@ -182,9 +183,9 @@ keeps h n asked e k run plans history id nodes plan did sent lost number area le
   few = rw history (let long = length-append h.history (e ∷ []) in omega (arith, long, few));
   lost = rw (history, lost.1) (lost_more h.history e h.lost lost.0 h.puts n.puts k.lost sent lost.2);
   numbers = more_numbers h.drawn n.drawn h.numbers n.numbers k.numbers number;
-  area = subst (λ (m : ℕ). AreaWithin m n.node.disk) (let long = length-append h.history (e ∷ []) in let same = ap length history in
-      let next : (2 + length h.history) + 1 ≡ 2 + length n.history = omega (arith, long, same) in
-      next) (area (2 + length h.history) k.area).0;
+  area = subst (λ (m : ℕ). AreaWithin m n.node.disk) (let long = length-append h.history (e ∷ []) in
+      let next : (2 + length h.history) + 1 ≡ 2 + length n.history = omega (arith, long, ap length history) in next)
+      (area (2 + length h.history) k.area).0;
   never_area_exhausted = rw (history, entries-snoc h.history e)
       (none_area_exhausted_more (entries_of h.history) e.entry k.never_area_exhausted
       ((area (2 + length h.history) k.area).1 (omega (arith, few))));
@@ -195,11 +196,7 @@ keeps h n asked e k run plans history id nodes plan did sent lost number area le
 }
 
 pub from_nothing : (plan : List ℕ) (j i : ℕ) (ms : List Envelope) → ms ≡ [] → from_link plan j i ms ≡ []
-from_nothing plan j i ms none = none_by (slice_index plan i == j) ∙ refl
-  where
-    none_by : (b : Bool) → cond b ms [] ≡ []
-    none_by true = none
-    none_by false = refl
+from_nothing plan j i ms none = cond_both (slice_index plan i == j) _ _ (λ l. l ≡ []) (λ _. none) (λ _. refl)
 
 -- a turn that polled nothing leaves what was taken as it was
 take_link_past : (h n : HeldView) (e : Turn) (t : Side) → IsTakeLink h t → n.run ≡ h.run → n.plans ≡ h.plans

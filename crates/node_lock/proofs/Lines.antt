@@ -98,8 +98,7 @@ what_longer n m le (kept.Quiet q) h = tt
 longer : (n n' m m' : ℕ) → n ≤ n' → m ≤ m' → (l : Line) → LineStands n m l → LineStands n' m' l
 longer n n' m m' le more l h = record {
   sent = (h.sent.0, let back = h.sent.1 in omega (arith, back, le));
-  what =
-      what_longer m m' more l.what h.what;
+  what = what_longer m m' more l.what h.what;
 }
 
 pub all_stand_more : (ls : List Line) (ms : List Envelope) (es : List Event) (worker : Worker) (index number : ℕ) (e : Event)
@@ -137,8 +136,7 @@ turns_quiet ls ms es worker index number q = map-append (turn_in ms es) ls (quie
 pub all_stand_quiet : (n m : ℕ) (ls : List Line) (worker : Worker) (index number : ℕ) (q : Quiet) → All (LineStands n m) ls
     → All (LineStands n m) (ls ++ quiet_line worker index number q ∷ [])
 all_stand_quiet n m ls worker index number q h = All-push (LineStands n m) ls (quiet_line worker index number q) h (record {
-  sent =
-      (omega arith, omega arith);
+  sent = (omega arith, omega arith);
   what = tt;
 })
 
@@ -160,12 +158,7 @@ is_quiet w = false
 
 came_of : (e : Event) (event_outcome : EventOutcome) → is_quiet (what_of e event_outcome) ≡ false
 came_of e event_outcome.Done = refl
-came_of e (event_outcome.Refused why) = refl
-came_of e event_outcome.Faulted = refl
-came_of e (event_outcome.Recovered kept) = refl
-came_of e event_outcome.MountFailed = refl
-came_of e (event_outcome.RaiseFailed kept) = refl
-came_of e (event_outcome.RaiseRefused kept) = refl
+came_of e o = refl
 
 came_in : (es : List Event) (place : ℕ) (f : EventOutcome) → place < length es → is_quiet (what_in es (kept.Handed f place)) ≡ false
 came_in [] place f within = absurd (omega (arith, within))

@@ -83,8 +83,7 @@ none_lost turn sides = record {
   went = [];
   many = refl;
   is_lost = refl;
-  put =
-      λ k d lt. sym (append-nil (slice_index_or sides k d).messages);
+  put = λ k d lt. sym (append-nil (slice_index_or sides k d).messages);
   led = tt;
 }
 
@@ -145,29 +144,26 @@ sent_nowhere m sides = record { put = λ k d lt. sym (append-nil (slice_index_or
 marked-snoc : (ws : List (List Bool)) (ts : List Turn) (w : List Bool) (t : Turn) → AreMarked ws ts → length w ≡ length t.entry.sent
     → AreMarked (ws ++ w ∷ []) (ts ++ t ∷ [])
 marked-snoc [] [] w t all same = (same, tt)
-marked-snoc [] (x ∷ ts) w t all same = absurd all
-marked-snoc (v ∷ ws) [] w t all same = absurd all
 marked-snoc (v ∷ ws) (x ∷ ts) w t all same = (all.0, marked-snoc ws ts w t all.1 same)
+marked-snoc ws ts w t all same = absurd all
 
 all_went-snoc : (ws : List (List Bool)) (ts : List Turn) (w : List Bool) (t : Turn) → AreMarked ws ts
     → all_went (ws ++ w ∷ []) (ts ++ t ∷ []) ≡ all_went ws ts ++ went_of w t.entry.sent
 all_went-snoc [] [] w t all = append-nil (went_of w t.entry.sent)
-all_went-snoc [] (x ∷ ts) w t all = absurd all
-all_went-snoc (v ∷ ws) [] w t all = absurd all
 all_went-snoc (v ∷ ws) (x ∷ ts) w t all =
     ap (λ (l : List Envelope). went_of v x.entry.sent ++ l) (all_went-snoc ws ts w t all.1)
     ∙ sym (append_assoc (went_of v x.entry.sent) (all_went ws ts) (went_of w t.entry.sent))
+all_went-snoc ws ts w t all = absurd all
 
 all_losses-snoc : (n : ℕ) (ws : List (List Bool)) (ts : List Turn) (w : List Bool) → AreMarked ws ts
     → all_losses n (ws ++ w ∷ []) ≡ all_losses n ws ++ losses_of (n + length ts) 0 w
 all_losses-snoc n [] [] w all = append-nil (losses_of n 0 w) ∙ ap (λ (k : ℕ). losses_of k 0 w) (let same : n ≡ n + 0 = omega arith in same)
-all_losses-snoc n [] (x ∷ ts) w all = absurd all
-all_losses-snoc n (v ∷ ws) [] w all = absurd all
 all_losses-snoc n (v ∷ ws) (x ∷ ts) w all =
     let next : (n + 1) + length ts ≡ n + length (x ∷ ts) = omega arith in
     ap (λ (l : List Loss). losses_of n 0 v ++ l) (all_losses-snoc (n + 1) ws ts w all.1
     ∙ ap (λ (k : ℕ). all_losses (n + 1) ws ++ losses_of k 0 w) next)
     ∙ sym (append_assoc (losses_of n 0 v) (all_losses (n + 1) ws) (losses_of (n + length (x ∷ ts)) 0 w))
+all_losses-snoc n ws ts w all = absurd all
 
 -- the links are to the same nodes
 links_stay : (old new : List Side) → length new ≡ length old

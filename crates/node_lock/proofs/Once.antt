@@ -1,8 +1,9 @@
 -- No event but a dispatch sends two messages to one node, and a dispatch sends no more than there are pending jobs.
-use Rattle.std.proofs.Common.{◌≡◌, ℕ, zero, suc, ◌+◌, ◌%◌, ◌<◌, ◌≤◌, ◌==◌, Bool, true, false, not, ◌&&◌, List, [], ◌∷◌, ◌++◌, map, length}
-use Rattle.std.proofs.Common.{get_or, Option, Some, None, refl, sym, ap, ◌∙◌, subst, arith}
+use Rattle.std.proofs.Common.{◌≡◌, ℕ, zero, suc, ◌+◌, ◌%◌, ◌<◌, ◌≤◌, ◌==◌, Bool, true, false, not, ◌&&◌, List, [], ◌∷◌, ◌++◌, length}
+use Rattle.std.proofs.Common.{get_or, Option, Some, None, refl, sym, ap, ◌∙◌, subst, inl, inr, arith}
 use Rattle.std.specs.Prelude.{if◌then◌else◌, nat_lt, ⊤}
 use Rattle.std.specs.List.{filter}
+use Rattle.std.proofs.lemmas.Bool.{cases_Bool, cond_both, eqb-true}
 use Rattle.std.proofs.lemmas.Bool.Decides.{nat_tests}
 use Rattle.std.proofs.lemmas.List.{length-append}
 use Rattle.std.proofs.lemmas.Nat.{mod_below}
@@ -32,6 +33,7 @@ use Rattle.node_core.specs.Messages.{delivered, takes_invitation, passed_on}
 use Rattle.node_core.specs.Effects.{effect_of}
 use Rattle.sector_disk.specs.Memory.{Memory}
 use Rattle.histories.specs.declared.event_outcome.EventOutcome.{EventOutcome}
+use Rattle.histories.specs.declared.history_event.HistoryEvent.TheVariants as what
 use Rattle.histories.specs.declared.event_outcome.EventOutcome.TheVariants as event_outcome
 use Rattle.histories.specs.NodeState.{NodeState, wants_at}
 use Rattle.job_model.specs.Answer.{answer_to}
@@ -53,32 +55,22 @@ times j ids = length (filter (λ (x : ℕ). x == j) ids)
 
 not_before : (j low limit : ℕ) (xs : List ℕ) → j < low → RisesWithin low limit xs → times j xs ≡ 0
 not_before j low limit [] lt r = refl
-not_before j low limit (x ∷ xs) lt r = by_test (x == j) refl (not_before j (x + 1) limit xs (let at = r.0 in omega (arith, lt, at)) r.2)
-  where
-    by_test : (b : Bool) → (x == j) ≡ b → times j xs ≡ 0 → length (if b then x ∷ filter (λ (y : ℕ). y == j) xs
-        else filter (λ (y : ℕ). y == j) xs) ≡ 0
-    by_test true is rest = absurd (let at = r.0 in let low' : low ≤ j = grind (arith, nat_tests, is, at) in
-        let no : ⊥ = omega (arith, lt, low') in no)
-    by_test false is rest = rest
+not_before j low limit (x ∷ xs) lt r = cond_both (x == j) _ _ (λ ids. length ids ≡ 0)
+    (λ is. absurd (let below = r.0 in let same : x ≡ j = eqb-true x j is in omega (arith, lt, below, same)))
+    (λ _. not_before j (x + 1) limit xs (let below = r.0 in omega (arith, lt, below)) r.2)
 
 once : (j low limit : ℕ) (xs : List ℕ) → RisesWithin low limit xs → times j xs ≤ 1
 once j low limit [] r = omega arith
-once j low limit (x ∷ xs) r = by_test (x == j) refl (once j (x + 1) limit xs r.2)
-  where
-    by_test : (b : Bool) → (x == j) ≡ b → times j xs ≤ 1 → length (if b then x ∷ filter (λ (y : ℕ). y == j) xs
-        else filter (λ (y : ℕ). y == j) xs) ≤ 1
-    by_test true is rest = let none = not_before j (x + 1) limit xs (grind (arith, nat_tests, is)) r.2 in omega (arith, none)
-    by_test false is rest = rest
+once j low limit (x ∷ xs) r = cond_both (x == j) _ _ (λ ids. length ids ≤ 1)
+    (λ is. (let none = not_before j (x + 1) limit xs (omega (arith, eqb-true x j is)) r.2 in omega (arith, none)))
+    (λ _. once j (x + 1) limit xs r.2)
 
 rises_with : (i low limit : ℕ) (xs : List ℕ) → low ≤ i → i < limit → RisesWithin low limit xs → RisesWithin low limit (with_id xs i)
 rises_with i low limit [] le lt r = (le, lt, tt)
-rises_with i low limit (x ∷ xs) le lt r = by_place (nat_lt i x) (i == x) refl refl (λ above. rises_with i (x + 1) limit xs above lt r.2)
-  where
-    by_place : (b c : Bool) → nat_lt i x ≡ b → (i == x) ≡ c → (x + 1 ≤ i → RisesWithin (x + 1) limit (with_id xs i))
-        → RisesWithin low limit (if b then i ∷ x ∷ xs else (if c then x ∷ xs else x ∷ with_id xs i))
-    by_place true c before is rest = (le, lt, (grind (arith, nat_tests, before), r.1, r.2))
-    by_place false true before is rest = r
-    by_place false false before is rest = (r.0, r.1, rest (grind (arith, nat_tests, before, is)))
+rises_with i low limit (x ∷ xs) le lt r = cond_both (nat_lt i x) _ _ (RisesWithin low limit)
+    (λ before. (le, lt, (grind (arith, nat_tests, before), r.1, r.2)))
+    (λ behind. cond_both (i == x) _ _ (RisesWithin low limit) (λ _. r)
+    (λ other. (r.0, r.1, rises_with i (x + 1) limit xs (grind (arith, nat_tests, behind, other)) lt r.2)))
 
 rises_either : (low limit : ℕ) (xs ys : List ℕ) → RisesWithin low limit xs → RisesWithin 0 limit ys → RisesWithin 0 limit (either_of xs ys)
 rises_either low limit [] ys r q = q
@@ -95,60 +87,33 @@ rises_below (suc n) = rises_with n 0 (suc n) (ids_below n) (omega arith) (omega 
 
 fewer_left : (j : ℕ) (keep : ℕ → Bool) (xs : List ℕ) → times j (filter keep xs) ≤ times j xs
 fewer_left j keep [] = omega arith
-fewer_left j keep (x ∷ xs) = by_test (keep x) (fewer_left j keep xs)
-  where
-    one_more : (d : Bool) → times j (filter keep xs) ≤ times j xs
-        → length (if d then x ∷ filter (λ (y : ℕ). y == j) (filter keep xs) else filter (λ (y : ℕ). y == j) (filter keep xs)) ≤ length (if d
-        then x ∷ filter (λ (y : ℕ). y == j) xs else filter (λ (y : ℕ). y == j) xs)
-    one_more true rest = omega (arith, rest)
-    one_more false rest = rest
-
-    none_more : (d : Bool) → times j (filter keep xs) ≤ times j xs
-        → times j (filter keep xs) ≤ length (if d then x ∷ filter (λ (y : ℕ). y == j) xs else filter (λ (y : ℕ). y == j) xs)
-    none_more true rest = omega (arith, rest)
-    none_more false rest = rest
-
-    by_test : (b : Bool) → times j (filter keep xs) ≤ times j xs
-        → length (filter (λ (y : ℕ). y == j) (if b then x ∷ filter keep xs else filter keep xs)) ≤ length (if x == j
-        then x ∷ filter (λ (y : ℕ). y == j) xs else filter (λ (y : ℕ). y == j) xs)
-    by_test true rest = one_more (x == j) rest
-    by_test false rest = none_more (x == j) rest
+fewer_left j keep (x ∷ xs) =
+    let rest = fewer_left j keep xs in
+    cond_both (keep x) _ _ (λ ids. times j ids ≤ times j (x ∷ xs))
+    (λ _. elim (cases_Bool (x == j)) [ inl is ↦ rw is (omega (arith, rest)) | inr is ↦ rw is rest ])
+    (λ _. cond_both (x == j) _ _ (λ ids. times j (filter keep xs) ≤ length ids) (λ _. omega (arith, rest)) (λ _. rest))
 
 taken_out : (j : ℕ) (xs : List ℕ) → times j (without_id xs j) ≡ 0
 taken_out j [] = refl
-taken_out j (x ∷ xs) = by_test (x == j) refl (taken_out j xs)
-  where
-    kept : (b : Bool) → b ≡ false → times j (without_id xs j) ≡ 0
-        → length (if b then x ∷ filter (λ (y : ℕ). y == j) (without_id xs j) else filter (λ (y : ℕ). y == j) (without_id xs j)) ≡ 0
-    kept true is rest = absurd cc
-    kept false is rest = rest
-
-    by_test : (b : Bool) → (x == j) ≡ b → times j (without_id xs j) ≡ 0
-        → length (filter (λ (y : ℕ). y == j) (if not b then x ∷ without_id xs j else without_id xs j)) ≡ 0
-    by_test true is rest = rest
-    by_test false is rest = kept (x == j) is rest
+taken_out j (x ∷ xs) = elim (cases_Bool (x == j)) [
+  | inl is ↦ rw is (taken_out j xs)
+  | inr is ↦ rw (is, is) (taken_out j xs)
+]
 
 -- ---- messages to each of a set
 
 to_each_times : (j self : ℕ) (body : Body) (ids : List ℕ) → length (addressed_to j (to_each self ids body)) ≡ times j ids
 to_each_times j self body [] = refl
-to_each_times j self body (x ∷ xs) = by_test (x == j) (to_each_times j self body xs)
-  where
-    by_test : (b : Bool) → length (addressed_to j (to_each self xs body)) ≡ times j xs
-        → length (if b then letter self x body ∷ addressed_to j (to_each self xs body) else addressed_to j (to_each self xs body))
-        ≡ length (if b then x ∷ filter (λ (y : ℕ). y == j) xs else filter (λ (y : ℕ). y == j) xs)
-    by_test true rest = ap suc rest
-    by_test false rest = rest
+to_each_times j self body (x ∷ xs) = elim (cases_Bool (x == j)) [
+  | inl is ↦ rw is (ap suc (to_each_times j self body xs))
+  | inr is ↦ rw is (to_each_times j self body xs)
+]
 
 to_set : (j self limit : ℕ) (body : Body) (ids : List ℕ) → RisesWithin 0 limit ids → length (addressed_to j (to_each self ids body)) ≤ 1
 to_set j self limit body ids r = let same = to_each_times j self body ids in let few = once j 0 limit ids r in omega (arith, same, few)
 
 one_letter : (j self receiver : ℕ) (body : Body) → length (addressed_to j (letter self receiver body ∷ [])) ≤ 1
-one_letter j self receiver body = by_test (receiver == j)
-  where
-    by_test : (b : Bool) → length (if b then letter self receiver body ∷ [] else []) ≤ 1
-    by_test true = omega arith
-    by_test false = omega arith
+one_letter j self receiver body = cond_both (receiver == j) _ _ (λ ms. length ms ≤ 1) (λ _. omega arith) (λ _. omega arith)
 
 none : 0 ≤ 1
 none = omega arith
@@ -199,30 +164,20 @@ module _ (nodes self j : ℕ) (s : State) (up : IsSet s.up) (found : IsSet s.fou
           ∙ ap (λ (n : ℕ). n + length (addressed_to j (letter self group.creator (says.Accept group) ∷ [])))
           (to_each_times j self (says.Invitation group) (passed_on self group s)))
 
-      few_passed : (b : Bool) → times j (if b then without_id s.up group.creator else []) ≤ 1
-      few_passed true = let few = fewer_left j (λ (x : ℕ). not (x == group.creator)) s.up in let one = once j 0 NODES s.up up in
-          omega (arith, few, one)
-      few_passed false = none
-
-      none_passed : (b : Bool) → group.creator ≡ j → times j (if b then without_id s.up group.creator else []) ≡ 0
-      none_passed true same = subst (λ (c : ℕ). times j (without_id s.up c) ≡ 0) (sym same) (taken_out j s.up)
-      none_passed false same = refl
-
-      last_by : (b : Bool) → (group.creator == j) ≡ b → length (addressed_to j (letter self group.creator (says.Accept group) ∷ []))
-          ≡ length (if b then letter self group.creator (says.Accept group) ∷ [] else [])
-      last_by b is = ap (λ (c : Bool). length (if c then letter self group.creator (says.Accept group) ∷ [] else [])) is
-
       by_creator : (b : Bool) → (group.creator == j) ≡ b → length
           (addressed_to j (to_each self (passed_on self group s) (says.Invitation group)
           ++ letter self group.creator (says.Accept group) ∷ [])) ≤ 1
       by_creator true is =
-          let same : group.creator ≡ j = grind (arith, nat_tests, is) in
-          let zero_passed = none_passed (s.coordinator == self) same in
-          let last = last_by true is in
-          omega (arith, split, zero_passed, last)
+          let none_passed : times j (passed_on self group s) ≡ 0 =
+          cond_both (s.coordinator == self) _ _ (λ ids. times j ids ≡ 0)
+          (λ _. rw (← eqb-true group.creator j is) (taken_out group.creator s.up)) (λ _. refl) in
+          let last = one_letter j self group.creator (says.Accept group) in
+          omega (arith, split, none_passed, last)
       by_creator false is =
-          let few = few_passed (s.coordinator == self) in
-          let last = last_by false is in
+          let few : times j (passed_on self group s) ≤ 1 = cond_both (s.coordinator == self) _ _ (λ ids. times j ids ≤ 1)
+          (λ _. (let few = fewer_left j (λ (x : ℕ). not (x == group.creator)) s.up in let one = once j 0 NODES s.up up in
+          omega (arith, few, one))) (λ _. none) in
+          let last : length (addressed_to j (letter self group.creator (says.Accept group) ∷ [])) ≡ 0 = rw is refl in
           omega (arith, split, few, last)
 
   body_once : (from : ℕ) (body : Body) (answer : ℕ) → SendsOnce j (delivered self from body answer s)
@@ -265,68 +220,35 @@ module _ (nodes self j : ℕ) (s : State) (up : IsSet s.up) (found : IsSet s.fou
 
 -- ---- what a node sends at an event
 
-fate_once : (nodes self j : ℕ) (s : NodeState) (event : Event) (event_outcome : EventOutcome) → IsSet s.state.up → IsSet s.state.found
-    → IsSingle event → length (addressed_to j (sent_at self nodes s (what_of event event_outcome))) ≤ 1
-fate_once nodes self j s event event_outcome.Done up found single =
-    (event_once nodes self j s.state up found s.durable.pending event (answer_to s.durable (wants_at self nodes s event)) single).few
-fate_once nodes self j s event (event_outcome.Refused why) up found single = none
-fate_once nodes self j s event event_outcome.Faulted up found single = none
-fate_once nodes self j s event (event_outcome.Recovered kept) up found single = none
-fate_once nodes self j s event event_outcome.MountFailed up found single = none
-fate_once nodes self j s event (event_outcome.RaiseFailed kept) up found single = none
-fate_once nodes self j s event (event_outcome.RaiseRefused kept) up found single = none
+-- an event that wasn't done sends nothing
+of_done : (nodes self : ℕ) (s : NodeState) (event : Event) (event_outcome : EventOutcome) (P : List Envelope → Type 0) → P []
+    → P (sent_at self nodes s (what.Did event)) → P (sent_at self nodes s (what_of event event_outcome))
+of_done nodes self s event event_outcome.Done P nothing done = done
+of_done nodes self s event event_outcome P nothing done = nothing
 
 fewer : (j : ℕ) (ms : List Envelope) → length (addressed_to j ms) ≤ length ms
 fewer j [] = omega arith
-fewer j (m ∷ ms) = by_test (m.receiver == j) (fewer j ms)
-  where
-    by_test : (b : Bool) → length (addressed_to j ms) ≤ length ms
-        → length (if b then m ∷ addressed_to j ms else addressed_to j ms) ≤ suc (length ms)
-    by_test true rest = omega (arith, rest)
-    by_test false rest = omega (arith, rest)
+fewer j (m ∷ ms) = (let rest = fewer j ms in
+    cond_both (m.receiver == j) _ _ (λ xs. length xs ≤ suc (length ms)) (λ _. omega (arith, rest)) (λ _. omega (arith, rest)))
 
 -- ---- a dispatch
 
 few_orders : (self : ℕ) (s : State) (jobs : List Job) → length (orders self s jobs) ≤ length jobs
 few_orders self s [] = omega arith
-few_orders self s (job ∷ jobs) = by_test (not (owner s job.work.queue == self)) (few_orders self s jobs)
-  where
-    by_test : (b : Bool) → length (orders self s jobs) ≤ length jobs
-        → length (map (λ (x : Job). letter self (owner s x.work.queue) (says.Work s.group x.id x.work)) (if b
-        then job ∷ filter (λ x. not (owner s x.work.queue == self)) jobs else filter (λ x. not (owner s x.work.queue == self)) jobs)) ≤
-        suc (length jobs)
-    by_test true h = omega (arith, h)
-    by_test false h = omega (arith, h)
+few_orders self s (job ∷ jobs) = (let rest = few_orders self s jobs in
+    elim (cases_Bool (owner s job.work.queue == self)) [ inl is ↦ rw is (omega (arith, rest)) | inr is ↦ rw is (omega (arith, rest)) ])
 
 up_where_normal : (p : Phase) → in_phase phase.Normal p ≡ true → is_down p ≡ false
 up_where_normal phase.Down is = absurd cc
-up_where_normal phase.Election is = refl
-up_where_normal phase.Reorganization is = refl
-up_where_normal phase.Normal is = refl
+up_where_normal p is = refl
 
 -- no more messages than there are pending jobs
 dispatch_few : (nodes self n answer : ℕ) (pending : List Job) (s : State) → (is_down s.phase ≡ false → length pending ≤ n)
     → length (timed nodes self pending timer.Dispatch answer s).sent ≤ n
 unfolding timed
-dispatch_few nodes self n answer pending s few = by_test _ (let a = few_orders self s (by_priority pending) in
-    let b = few_by_priority pending in omega (arith, a, b)) (in_phase phase.Normal s.phase) refl
-  where
-    by_test : (x : Effect) → length x.sent ≤ length pending → (b : Bool) → in_phase phase.Normal s.phase ≡ b
-        → length (if b then x else quietly s).sent ≤ n
-    by_test x h true is = let c = few (up_where_normal s.phase is) in omega (arith, h, c)
-    by_test x h false is = omega arith
-
-dispatch_fate : (nodes self n : ℕ) (s : NodeState) (event_outcome : EventOutcome)
-    → (is_down s.state.phase ≡ false → length s.durable.pending ≤ n)
-    → length (sent_at self nodes s (what_of (on.Timer timer.Dispatch) event_outcome)) ≤ n
-dispatch_fate nodes self n s event_outcome.Done few = dispatch_few nodes self n
-    (answer_to s.durable (wants_at self nodes s (on.Timer timer.Dispatch))) s.durable.pending s.state few
-dispatch_fate nodes self n s (event_outcome.Refused why) few = omega arith
-dispatch_fate nodes self n s event_outcome.Faulted few = omega arith
-dispatch_fate nodes self n s (event_outcome.Recovered kept) few = omega arith
-dispatch_fate nodes self n s event_outcome.MountFailed few = omega arith
-dispatch_fate nodes self n s (event_outcome.RaiseFailed kept) few = omega arith
-dispatch_fate nodes self n s (event_outcome.RaiseRefused kept) few = omega arith
+dispatch_few nodes self n answer pending s few = cond_both (in_phase phase.Normal s.phase) _ _ (λ (e : Effect). length e.sent ≤ n)
+    (λ normal. (let a = few_orders self s (by_priority pending) in let b = few_by_priority pending in
+    let c = few (up_where_normal s.phase normal) in omega (arith, a, b, c))) (λ _. omega arith)
 
 -- ---- a dispatch gives work to members alone
 
@@ -350,57 +272,28 @@ IsFilled task = (t : Assignment) → task ≡ Some t → has t.members t.group.c
 never_owner : (j queue : ℕ) (task : Option Assignment) → IsFilled task → is_member task j ≡ false
     → (owner_of (members_of task) queue == j) ≡ false
 never_owner j queue None some out = absurd cc
-never_owner j queue (Some t) some out = by_test (owner_of t.members queue == j) refl
-  where
-    by_test : (b : Bool) → (owner_of t.members queue == j) ≡ b → b ≡ false
-    by_test false is = refl
-    by_test true is =
-        let same : owner_of t.members queue ≡ j = grind (arith, nat_tests, is) in
-        let bad : has t.members j ≡ true = subst (λ (x : ℕ). has t.members x
-        ≡ true) same (owner_is_member t.group.creator queue t.members (some t refl)) in
-        absurd (let no : true ≡ false = sym bad ∙ out in cc)
+never_owner j queue (Some t) some out = elim (cases_Bool (owner_of t.members queue == j)) [
+  | inr is ↦ is
+  | inl is ↦ (let bad : has t.members j ≡ true = rw (← eqb-true (owner_of t.members queue) j is)
+      (owner_is_member t.group.creator queue t.members (some t refl)) in
+      absurd (let no : true ≡ false = sym bad ∙ out in cc))
+]
 
 no_orders : (self j : ℕ) (s : State) (jobs : List Job) → ((queue : ℕ) → (owner s queue == j) ≡ false)
     → length (addressed_to j (orders self s jobs)) ≤ 0
 no_orders self j s [] never = omega arith
-no_orders self j s (job ∷ jobs) never = by_test (not (owner s job.work.queue == self)) (no_orders self j s jobs never)
-  where
-    past : (b : Bool) → b ≡ false → (m : Envelope) (ms : List Envelope) → length ms ≤ 0 → length (if b then m ∷ ms else ms) ≤ 0
-    past true is m ms few = absurd cc
-    past false is m ms few = few
-
-    by_test : (b : Bool) → length (addressed_to j (orders self s jobs)) ≤ 0
-        → length (addressed_to j (map (λ (x : Job). letter self (owner s x.work.queue) (says.Work s.group x.id x.work)) (if b
-        then job ∷ filter (λ x. not (owner s x.work.queue == self)) jobs else filter (λ x. not (owner s x.work.queue == self)) jobs))) ≤
-        0
-    by_test true few = past (owner s job.work.queue == j) (never job.work.queue) _ _ few
-    by_test false few = few
+no_orders self j s (job ∷ jobs) never = elim (cases_Bool (owner s job.work.queue == self)) [
+  | inl is ↦ rw is (no_orders self j s jobs never)
+  | inr is ↦ rw (is, never job.work.queue) (no_orders self j s jobs never)
+]
 
 none_to : (nodes self j answer : ℕ) (pending : List Job) (s : State) → IsFilled s.task → may_give_to s j ≡ false
     → length (addressed_to j (timed nodes self pending timer.Dispatch answer s).sent) ≤ 0
 unfolding timed
-none_to nodes self j answer pending s some out = by_test _ (in_phase phase.Normal s.phase) refl (λ normal.
-    no_orders self j s (by_priority pending) (λ queue. never_owner j queue s.task some (not_there normal)))
-  where
-    not_there : in_phase phase.Normal s.phase ≡ true → is_member s.task j ≡ false
-    not_there normal = ap (λ (b : Bool). b && is_member s.task j) (sym normal) ∙ out
-
-    by_test : (x : Effect) (b : Bool) → in_phase phase.Normal s.phase ≡ b
-        → (in_phase phase.Normal s.phase ≡ true → length (addressed_to j x.sent) ≤ 0)
-        → length (addressed_to j (if b then x else quietly s).sent) ≤ 0
-    by_test x true is few = few is
-    by_test x false is few = omega arith
-
-none_of_fate : (nodes self j : ℕ) (s : NodeState) (event_outcome : EventOutcome) → IsFilled s.state.task → may_give_to s.state j ≡ false
-    → length (addressed_to j (sent_at self nodes s (what_of (on.Timer timer.Dispatch) event_outcome))) ≤ 0
-none_of_fate nodes self j s event_outcome.Done some out =
-    none_to nodes self j (answer_to s.durable (wants_at self nodes s (on.Timer timer.Dispatch))) s.durable.pending s.state some out
-none_of_fate nodes self j s (event_outcome.Refused why) some out = omega arith
-none_of_fate nodes self j s event_outcome.Faulted some out = omega arith
-none_of_fate nodes self j s (event_outcome.Recovered kept) some out = omega arith
-none_of_fate nodes self j s event_outcome.MountFailed some out = omega arith
-none_of_fate nodes self j s (event_outcome.RaiseFailed kept) some out = omega arith
-none_of_fate nodes self j s (event_outcome.RaiseRefused kept) some out = omega arith
+none_to nodes self j answer pending s some out = cond_both (in_phase phase.Normal s.phase) _ _ (λ (e : Effect).
+    length (addressed_to j e.sent) ≤ 0)
+    (λ normal. (let not_there : is_member s.task j ≡ false = ap (λ (b : Bool). b && is_member s.task j) (sym normal) ∙ out in
+    no_orders self j s (by_priority pending) (λ queue. never_owner j queue s.task some not_there))) (λ _. omega arith)
 
 at_most : (n pending : ℕ) (event : Event) (gives : Bool) → (event ≡ on.Timer timer.Dispatch → n ≤ (if gives then pending else 0))
     → (IsSingle event → n ≤ 1) → n ≤ most_from event gives pending
@@ -411,6 +304,7 @@ pub sends_few : (old new : Node Memory) (event : Event) (event_outcome : EventOu
     → Did old event (what_of event event_outcome) sent new → length sent ≤ most_by old.nodes old.kept
     → IsSet old.state.up × IsSet old.state.found → IsFilled old.state.task
     → (j : ℕ) → length (addressed_to j sent) ≤ most_to event old.state old.kept j
+unfolding timed
 sends_few old new event event_outcome sent stands did few sets some_task j = by_kept old.kept refl few
   where
     s : NodeState
@@ -423,15 +317,16 @@ sends_few old new event event_outcome sent stands did few sets some_task j = by_
     came = (turn_comes old new (Hand event) (what_of event event_outcome) sent did s stands.1).is_sent
 
     one : IsSingle event → length (addressed_to j sent) ≤ 1
-    one single = subst (λ (ms : List Envelope). length (addressed_to j ms) ≤ 1) (sym came)
-        (fate_once old.nodes old.id j s event event_outcome (subst (λ (v : State). IsSet v.up) is sets.0)
-        (subst (λ (v : State). IsSet v.found) is sets.1) single)
+    one single = rw came (of_done old.nodes old.id s event event_outcome (λ ms. length (addressed_to j ms) ≤ 1) none
+        (event_once old.nodes old.id j s.state (rw (← is) sets.0) (rw (← is) sets.1) s.durable.pending event
+        (answer_to s.durable (wants_at old.id old.nodes s event)) single).few)
 
     by_kept : (kept : Option Durable) → old.kept ≡ kept → length sent ≤ most_by old.nodes kept
         → length (addressed_to j sent) ≤ most_to event old.state kept j
     by_kept None none few = let shorter = fewer j sent in omega (arith, shorter, few)
     by_kept (Some d) some few = at_most (length (addressed_to j sent)) (length d.pending) event (may_give_to old.state j)
-        (λ dispatch. by_giving (may_give_to old.state j) refl dispatch) one
+        (λ dispatch. cond_both (may_give_to old.state j) _ _ (λ k. length (addressed_to j sent) ≤ k) (λ _. all dispatch)
+        (λ out. gone out dispatch)) one
       where
         same : is_down s.state.phase ≡ false → length s.durable.pending ≤ length d.pending
         same up = let kept = same_Some s.durable d (sym (stands.1.up (subst (λ (v : State). is_down v.phase ≡ false) (sym is) up)).0
@@ -440,21 +335,14 @@ sends_few old new event event_outcome sent stands did few sets some_task j = by_
         all : event ≡ on.Timer timer.Dispatch → length (addressed_to j sent) ≤ length d.pending
         all dispatch =
             let few : length (sent_at old.id old.nodes s (what_of event event_outcome)) ≤ length d.pending =
-            subst (λ (e : Event). length (sent_at old.id old.nodes s (what_of e event_outcome)) ≤ length d.pending) (sym dispatch)
-            (dispatch_fate old.nodes old.id (length d.pending) s event_outcome same) in
+            of_done old.nodes old.id s event event_outcome (λ ms. length ms ≤ length d.pending) (omega arith) (rw dispatch
+            (dispatch_few old.nodes old.id (length d.pending) (answer_to s.durable (wants_at old.id old.nodes s event)) s.durable.pending
+            s.state same)) in
             let shorter = fewer j sent in
             let long = ap length came in
             omega (arith, shorter, few, long)
 
         gone : may_give_to old.state j ≡ false → event ≡ on.Timer timer.Dispatch → length (addressed_to j sent) ≤ 0
-        gone out dispatch =
-            let task : IsFilled s.state.task = subst (λ (v : State). IsFilled v.task) is some_task in
-            let given : may_give_to s.state j ≡ false = subst (λ (v : State). may_give_to v j ≡ false) is out in
-            subst (λ (ms : List Envelope). length (addressed_to j ms) ≤ 0) (sym came)
-            (subst (λ (e : Event). length (addressed_to j (sent_at old.id old.nodes s (what_of e event_outcome))) ≤ 0) (sym dispatch)
-            (none_of_fate old.nodes old.id j s event_outcome task given))
-
-        by_giving : (b : Bool) → may_give_to old.state j ≡ b → event ≡ on.Timer timer.Dispatch
-            → length (addressed_to j sent) ≤ (if b then length d.pending else 0)
-        by_giving true is dispatch = all dispatch
-        by_giving false is dispatch = gone is dispatch
+        gone out dispatch = rw came (of_done old.nodes old.id s event event_outcome (λ ms. length (addressed_to j ms) ≤ 0) (omega arith)
+            (rw dispatch (none_to old.nodes old.id j (answer_to s.durable (wants_at old.id old.nodes s event)) s.durable.pending s.state
+            (rw (← is) some_task) (rw (← is) out))))

@@ -1,5 +1,5 @@
 -- A turn that wasn't taken keeps what is always true.
-use Rattle.std.proofs.Common.{◌≡◌, ℕ, ◌*◌, ◌+◌, ◌<◌, List, Some, IsSome, length, slice_index_or, refl, ap, sym, ◌∙◌, subst, arith}
+use Rattle.std.proofs.Common.{◌≡◌, ℕ, ◌<◌, List, IsSome, length, slice_index_or, refl, ap, sym, ◌∙◌, subst, arith}
 use Rattle.sector_disk.specs.Memory.{Memory, state_of}
 use Rattle.link_ring.specs.Sides.{Side}
 use Rattle.durable_node.specs.Node.{Node, Stands}
@@ -90,8 +90,7 @@ keeps_none_past h n k run plans turns none takes waiting =
     keeps_none h n k run plans turns none (ap length takes)
     (λ i d lt. subst (λ (l : List Side). IsFetched h n.waiting (slice_index_or h.takes i d) (slice_index_or l i d)) (sym takes)
     (from_same h n.waiting (slice_index_or h.takes i d) (slice_index_or h.takes i d) (k.takes i d lt).0 (sym waiting) (record {
-      sender =
-          refl;
+      sender = refl;
       receiver = refl;
       capacity = refl;
     }) refl))

@@ -30,26 +30,19 @@ step_of h n w asked e k took = record {
   asked = asked;
   asks = took.0;
   gives = gives_in h asked (next_of h w e) n.node k took.1.did;
-  index =
-      refl;
+  index = refl;
   turns = took.2;
 }
 
 pub takes_next : (h n : HeldView) (w : Worker) (asked : Asked) (e : Entry) → HeldInvariant h → TookNext h w asked e n
     → Polls h w (next_of h w e) → (t : Turn) × Takes h w t n
+unfolding step_of
 takes_next h n w asked e k took polls = (
   next_of h w e,
   record {
     history = took.1.turns;
     worker = refl;
-    plan = record {
-      asked = asked;
-      asks = took.0;
-      gives = gives_in h asked (next_of h w e) n.node k took.1.did;
-      index = refl;
-      turns =
-          took.2;
-    };
+    plan = step_of h n w asked e k took;
     did = took.1.did;
     polls = polls;
   },
@@ -79,8 +72,7 @@ pub nothing_sent : (sides : List Side) → SentOn [] sides sides
 nothing_sent sides = record {
   len = refl;
   each = λ k d lt. record {
-    same =
-        record { sender = refl; receiver = refl; capacity = refl };
+    same = record { sender = refl; receiver = refl; capacity = refl };
     messages = refl;
   };
 }

@@ -1,7 +1,8 @@
 -- What a turn does to the areas of its node's disk, and to its count of failures.
 use Rattle.std.proofs.Common.{◌≡◌, ◌≢◌, ◌⊎◌, inl, inr, ⊎_elim, ℕ, ◌+◌, ◌-◌, ◌^◌, ◌<◌, ◌≤◌, ◌==◌, Bool, true, false, List, [], length, refl}
-use Rattle.std.proofs.Common.{sym, ◌∙◌, ap, subst, arith, Option, Some, None, IsSome, Result, Ok, Err, IsOk, IsErrOf, if◌then◌else◌, ◌&&◌}
-use Rattle.std.specs.Prelude.{MatchBool, nat_le, nat_lt}
+use Rattle.std.proofs.Common.{sym, ◌∙◌, ap, subst, arith, Option, Some, None, IsSome, Result, Ok, Err, IsErrOf, ◌&&◌}
+use Rattle.std.specs.Prelude.{nat_le, nat_lt}
+use Rattle.std.proofs.lemmas.Bool.{cases_Bool, cond_both, eqb-true}
 use Rattle.std.proofs.lemmas.Bool.Decides.{nat_tests}
 use Rattle.std.proofs.lemmas.Option.{same_Some}
 use Rattle.wire_msg.specs.Envelope.{Envelope}
@@ -10,19 +11,17 @@ use Rattle.job_model.specs.declared.node_command.NodeCommand.{NodeCommand as Com
 use Rattle.job_model.specs.declared.node_command.NodeCommand.TheVariants.{Raise, Put, Done as JobDone}
 use Rattle.job_model.specs.Durable.{Durable}
 use Rattle.sector_disk.specs.Disk.{IsImage}
-use Rattle.sector_disk.specs.Memory.{Memory, all_synced, state_of}
+use Rattle.sector_disk.specs.Memory.{Memory, state_of}
 use Rattle.node_core.specs.declared.event.Event.{Event}
 use Rattle.node_core.specs.declared.fault.CoreFault.{CoreFault}
-use Rattle.node_core.specs.declared.fault.CoreFault.TheVariants.{NoMemory}
 use Rattle.node_core.specs.declared.fault.Refusal.{Refusal}
 use Rattle.node_core.specs.declared.fault.Refusal.TheVariants.{Core, Full, Exhausted, AreaExhausted}
 use Rattle.node_core.specs.NodeStep.{IsAppended, IsSpent}
 use Rattle.node_core.specs.Start.{down}
 use Rattle.node_core.specs.State.{is_down}
 use Rattle.node_core.specs.Wants.{wants_of}
-use Rattle.histories.specs.NodeState.{NodeState, wants_at}
+use Rattle.histories.specs.NodeState.{NodeState}
 use Rattle.histories.specs.Possible.{IsPossible}
-use Rattle.histories.specs.HistoryEvent.{Entry}
 use Rattle.histories.specs.declared.event_outcome.EventOutcome.{EventOutcome}
 use Rattle.histories.specs.declared.event_outcome.EventOutcome.TheVariants as outcome
 use Rattle.histories.specs.declared.history_event.HistoryEvent.{HistoryEvent}
@@ -35,72 +34,50 @@ use Rattle.durable_node.specs.Forgetting.{forgotten_disk}
 use Rattle.durable_node.specs.declared.step_report.StepReport.{StepReport}
 use Rattle.durable_node.specs.declared.fault.NodeFault.{NodeFault}
 use Rattle.durable_node.specs.declared.fault.NodeFault.TheVariants as node
-use Rattle.durable_node.specs.Faults.{answered, answered_as, fault_of, shown}
+use Rattle.durable_node.specs.Faults.{answered, answered_as, fault_of}
 use Rattle.durable_node.specs.Node.{Area, Node, Stands}
 use Rattle.durable_node.specs.Refusing.{AnswersEvent, area_refusal, disk_refusal, is_last}
 use Rattle.node_core.specs.Refusals.{refusal_of}
 use Rattle.node_lock.specs.Asking.{Asked, Hand, NoEvent, Arm, Crash}
 use Rattle.node_lock.specs.Doing.{Did, StandsForSome, TurnDid}
-use Rattle.node_lock.specs.Wearing.{AreaRises, AreaWithin, Fails, IsAreaExhausted, is_fault}
-
-some_of : {A : Type 0} (o : Option A) → IsSome o → (a : A) × (o ≡ Some a)
-some_of (Some a) is = (a, refl)
-some_of None is = absurd cc
+use Rattle.node_lock.proofs.Comings.{some_of}
+use Rattle.node_lock.specs.Wearing.{AreaRises, AreaWithin, Fails, IsAreaExhausted}
 
 -- ---- why a disk can't take a command
 
 area_not_spent : (area : Area) → area_refusal area ≡ Some Exhausted → ⊥
-area_not_spent area is = by_room (area.used == area.slots && is_last area) is
-  where
-    by_room : (b : Bool) → (if b then Some AreaExhausted else None) ≡ Some Exhausted → ⊥
-    by_room true is = absurd cc
-    by_room false is = absurd cc
-
-put_spent : (next : ℕ) (full : Bool) (area : Area) → next < 2 ^ 64
-    → (if nat_le (2 ^ 64 - 1) next then Some Exhausted else (if full then Some Full else area_refusal area)) ≡ Some Exhausted
-    → next ≡ 2 ^ 64 - 1
-put_spent next full area few is = by_next (nat_le (2 ^ 64 - 1) next) refl full is
-  where
-    by_next : (b : Bool) → nat_le (2 ^ 64 - 1) next ≡ b → (c : Bool)
-        → (if b then Some Exhausted else (if c then Some Full else area_refusal area)) ≡ Some Exhausted → next ≡ 2 ^ 64 - 1
-    by_next true eq c is = grind (arith, nat_tests, eq, few)
-    by_next false eq true is = absurd cc
-    by_next false eq false is = absurd (area_not_spent area is)
+area_not_spent area is = cond_both (area.used == area.slots && is_last area) _ _ (λ (o : Option Refusal). o ≡ Some Exhausted → ⊥)
+    (λ _ e. absurd cc) (λ _ e. absurd cc) is
 
 refused_spent : (d : Durable) (area : Area) (wants : Option Command) → d.next < 2 ^ 64 → disk_refusal d area wants ≡ Some Exhausted
     → IsSpent d wants
 refused_spent d area None few is = absurd cc
-refused_spent d area (Some Raise) few is = by_counter (d.counter == 2 ^ 64 - 1) refl is
-  where
-    by_counter : (b : Bool) → (d.counter == 2 ^ 64 - 1) ≡ b → (if b then Some Exhausted else None) ≡ Some Exhausted → d.counter ≡ 2 ^ 64 - 1
-    by_counter true eq is = grind (arith, nat_tests, eq)
-    by_counter false eq is = absurd cc
-refused_spent d area (Some (Put work)) few is = put_spent d.next (nat_lt area.slots (length d.pending + 3)) area few is
+refused_spent d area (Some Raise) few is = cond_both (d.counter == 2 ^ 64 - 1) _ _ (λ (o : Option Refusal). o ≡ Some Exhausted
+    → d.counter ≡ 2 ^ 64 - 1) (λ same _. eqb-true d.counter (2 ^ 64 - 1) same) (λ _ e. absurd cc) is
+refused_spent d area (Some (Put work)) few is =
+    cond_both (nat_le (2 ^ 64 - 1) d.next) _ _ (λ (o : Option Refusal). o ≡ Some Exhausted → d.next ≡ 2 ^ 64 - 1)
+    (λ last _. grind (arith, nat_tests, last, few))
+    (λ _. cond_both (nat_lt area.slots (length d.pending + 3)) _ _ (λ (o : Option Refusal). o ≡ Some Exhausted → d.next ≡ 2 ^ 64 - 1)
+    (λ _ e. absurd cc) (λ _ e. absurd (area_not_spent area e))) is
 refused_spent d area (Some (JobDone id)) few is = absurd (area_not_spent area is)
 
-area_free : (area : Area) → is_last area ≡ false → area_refusal area ≡ None
-area_free area free = by_room (area.used == area.slots)
-  where
-    by_room : (b : Bool) → (if b && is_last area then Some AreaExhausted else None) ≡ None
-    by_room true = rw free refl
-    by_room false = refl
-
 -- where the area can be raised it isn't used up
+area_free : (area : Area) → is_last area ≡ false → area_refusal area ≢ Some AreaExhausted
+area_free area free is = elim (cases_Bool (area.used == area.slots)) [
+  | inl all ↦ (let none : area_refusal area ≡ None = rw (all, free) refl in let bad = sym none ∙ is in absurd cc)
+  | inr some ↦ (let none : area_refusal area ≡ None = rw some refl in let bad = sym none ∙ is in absurd cc)
+]
+
 not_area_exhausted : (d : Durable) (area : Area) (wants : Option Command) → is_last area ≡ false
     → disk_refusal d area wants ≢ Some AreaExhausted
 not_area_exhausted d area None free is = absurd cc
-not_area_exhausted d area (Some Raise) free is = by_counter (d.counter == 2 ^ 64 - 1) is
-  where
-    by_counter : (b : Bool) → (if b then Some Exhausted else None) ≡ Some AreaExhausted → ⊥
-    by_counter true is = absurd cc
-    by_counter false is = absurd cc
-not_area_exhausted d area (Some (Put work)) free is = by_both (nat_le (2 ^ 64 - 1) d.next) (nat_lt area.slots (length d.pending + 3)) is
-  where
-    by_both : (b c : Bool) → (if b then Some Exhausted else (if c then Some Full else area_refusal area)) ≡ Some AreaExhausted → ⊥
-    by_both true c is = absurd cc
-    by_both false true is = absurd cc
-    by_both false false is = (let none = sym (area_free area free) ∙ is in absurd cc)
-not_area_exhausted d area (Some (JobDone id)) free is = (let none = sym (area_free area free) ∙ is in absurd cc)
+not_area_exhausted d area (Some Raise) free is = cond_both (d.counter == 2 ^ 64 - 1) _ _ (λ (o : Option Refusal). o ≢ Some AreaExhausted)
+    (λ _ e. absurd cc) (λ _ e. absurd cc) is
+not_area_exhausted d area (Some (Put work)) free is =
+    cond_both (nat_le (2 ^ 64 - 1) d.next) _ _ (λ (o : Option Refusal). o ≢ Some AreaExhausted) (λ _ e. absurd cc)
+    (λ _. cond_both (nat_lt area.slots (length d.pending + 3)) _ _ (λ (o : Option Refusal). o ≢ Some AreaExhausted) (λ _ e. absurd cc)
+    (λ _. area_free area free)) is
+not_area_exhausted d area (Some (JobDone id)) free is = area_free area free is
 
 -- what an event answers that the core lets pass, and that is told as exhausted
 exhausted_why : (why : Option Refusal) → AnswersEvent {A = StepReport} None why (Err node.Exhausted)
@@ -114,13 +91,8 @@ exhausted_why (Some AreaExhausted) a = inr refl
 
 area_exhausted_outcome : (event other : Event) (o : EventOutcome) → what_of event o ≡ what.Refused other AreaExhausted
     → o ≡ outcome.Refused AreaExhausted
-area_exhausted_outcome event other outcome.Done is = absurd cc
 area_exhausted_outcome event other (outcome.Refused why) is = (let same : why ≡ AreaExhausted = cc is in ap outcome.Refused same)
-area_exhausted_outcome event other outcome.Faulted is = absurd cc
-area_exhausted_outcome event other (outcome.Recovered kept) is = absurd cc
-area_exhausted_outcome event other outcome.MountFailed is = absurd cc
-area_exhausted_outcome event other (outcome.RaiseFailed kept) is = absurd cc
-area_exhausted_outcome event other (outcome.RaiseRefused kept) is = absurd cc
+area_exhausted_outcome event other o is = absurd cc
 
 -- ---- an event
 
@@ -240,16 +212,12 @@ fails_by : (n m : ℕ) (came : StepReport) (event : Event) (sent : List Envelope
     → ((IsErrOf (answered_as came (fault_of o)) node.Device → ⊥) → m ≡ n)
     → (IsErrOf (answered_as came (fault_of o)) node.Device → (n < m) ⊎ (m ≡ 2 ^ 64 - 1))
     → Fails n (record { what = what_of event o; sent = sent }) m
-fails_by n m came event sent outcome.Done same rose = same (λ e. absurd (let bad = e in cc))
-fails_by n m came event sent (outcome.Refused (Core f)) same rose = same (λ e. absurd (let bad = e in cc))
-fails_by n m came event sent (outcome.Refused Full) same rose = same (λ e. absurd (let bad = e in cc))
-fails_by n m came event sent (outcome.Refused Exhausted) same rose = same (λ e. absurd (let bad = e in cc))
-fails_by n m came event sent (outcome.Refused AreaExhausted) same rose = same (λ e. absurd (let bad = e in cc))
 fails_by n m came event sent outcome.Faulted same rose = rose refl
-fails_by n m came event sent (outcome.Recovered kept) same rose = same (λ e. absurd (let bad = e in cc))
 fails_by n m came event sent outcome.MountFailed same rose = rose refl
 fails_by n m came event sent (outcome.RaiseFailed kept) same rose = rose refl
-fails_by n m came event sent (outcome.RaiseRefused kept) same rose = same (λ e. absurd (let bad = e in cc))
+fails_by n m came event sent (outcome.Refused (Core f)) same rose = same (λ e. absurd (let bad = e in cc))
+fails_by n m came event sent (outcome.Refused why) same rose = same (λ e. absurd (let bad = e in cc))
+fails_by n m came event sent o same rose = same (λ e. absurd (let bad = e in cc))
 
 forgotten_failures : (disk : Option Memory) (d : Memory) → forgotten_disk disk ≡ Some d
     → (m : Memory) × (disk ≡ Some m) × (d.failures ≡ m.failures)

@@ -24,8 +24,7 @@ loop-place-preserved c =
       history = noted ∙ ap (λ (ls : List Loss). record log { losses = c.note.new.history.losses; lost = ls })
           (sym (ap (λ (l : Log). l.lost) noted)) ∙ ap (λ (l : Log). record l {
             losses = c.note.new.history.losses;
-            lost =
-                c.note.new.history.lost;
+            lost = c.note.new.history.lost;
           }) before.history;
       losses = (let spent = c.note.ensures.room in omega (arith, spent, before.losses));
       lost = noted_next (length was.turns) sent i m c.send-went.result was.lost log.lost c.note.new.history.lost old mid new

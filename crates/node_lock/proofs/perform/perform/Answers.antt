@@ -45,7 +45,6 @@ returns-in-Ok-clause-area c = event_area _ c.forget.new.self c.args.event.now _ 
     (record {
       fallen = c.is_fallen.ensures;
       up = c.shows_its_disk.ensures.up;
-      number =
-          λ disk area on at. c.shows_its_disk.ensures.number disk area on at refl;
+      number = λ disk area on at. c.shows_its_disk.ensures.number disk area on at refl;
       ids = c.note_ids.ensures;
     }) c.requires.stands

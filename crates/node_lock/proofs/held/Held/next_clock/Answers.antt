@@ -16,37 +16,28 @@ use Rattle.node_lock.proofs.held.Held.next_clock.Goals as goal
 
 pub overflow_cast-index : goal.overflow_cast-index
 overflow_cast-index c =
-    let h = c.self.inside in
-    let few : length h.site.history.turns < MOST_ENTRIES = subst (λ (v : HeldView). length v.history < MOST_ENTRIES)
-    (sym c.self.view_is) c.requires.few in
-    let all = few_turns _ c.self.invariant few in
-    let fits = all.1 in
+    let few = subst (λ (v : HeldView). length v.history < MOST_ENTRIES) (sym c.self.view_is) c.requires.few in
+    let fits = (few_turns _ c.self.invariant few).1 in
     omega (arith, fits)
 
 pub invariant_of-self-2 : goal.invariant_of-self-2
 invariant_of-self-2 c =
     let h = c.self.inside in
-    let more : h.turns.clock < length h.plans.clock = subst (λ (v : HeldView). v.turns.clock < length v.plans.clock)
-    (sym c.self.view_is) c.requires.more in
-    let few : length h.site.history.turns < MOST_ENTRIES = subst (λ (v : HeldView). length v.history < MOST_ENTRIES)
-    (sym c.self.view_is) c.requires.few in
+    let more = subst (λ (v : HeldView). v.turns.clock < length v.plans.clock) (sym c.self.view_is) c.requires.more in
+    let few = subst (λ (v : HeldView). length v.history < MOST_ENTRIES) (sym c.self.view_is) c.requires.few in
     let timer = get_or c.clock.result.now h.turns.clock Check in
     let got = slice_get-get_or h.plans.clock h.turns.clock Check more
     ∙ ap (λ l. Some (get_or l h.turns.clock Check)) (sym c.clock.ensures) in
     let e = c.in_ok-hand.ensures.taken.0 in
     let took = c.in_ok-hand.ensures.taken.1 in
     let gives = gives_in _ (Hand (on.Timer timer)) (turn_of Clock h.turns.clock e) _ c.self.invariant took.did in
-    keeps_next_past _ _ Clock (Hand (on.Timer timer)) e c.self.invariant (
-      (timer, got, refl),
-      took,
-      refl,
-    ) refl refl few refl refl refl (none_of_tick timer e.what gives)
+    keeps_next_past _ _ Clock (Hand (on.Timer timer)) e c.self.invariant ((timer, got, refl), took, refl) refl refl few refl refl refl
+    (none_of_tick timer e.what gives)
 
 pub returns-clause-taken : goal.returns-clause-taken
 returns-clause-taken c =
     let h = c.self.inside in
-    let more : h.turns.clock < length h.plans.clock = subst (λ (v : HeldView). v.turns.clock < length v.plans.clock)
-    (sym c.self.view_is) c.requires.more in
+    let more = subst (λ (v : HeldView). v.turns.clock < length v.plans.clock) (sym c.self.view_is) c.requires.more in
     let timer = get_or c.clock.result.now h.turns.clock Check in
     let got = slice_get-get_or h.plans.clock h.turns.clock Check more
     ∙ ap (λ l. Some (get_or l h.turns.clock Check)) (sym c.clock.ensures) in

@@ -4,7 +4,7 @@ use Rattle.wire_msg.specs.Envelope.{Envelope}
 use Rattle.node_lock.specs.declared.worker.Worker.TheVariants.{Intake}
 use Rattle.node_lock.specs.declared.held.TheConstants.{MOST_ENTRIES}
 use Rattle.node_lock.specs.Asking.{asked_by}
-use Rattle.node_lock.specs.HeldView.{HeldView, Polls}
+use Rattle.node_lock.specs.HeldView.{HeldView}
 use Rattle.node_lock.specs.Taking.{turn_of}
 use Rattle.node_lock.proofs.Counted.{few_turns}
 use Rattle.node_lock.proofs.Keeping.{gives_in, same_again}
@@ -16,18 +16,14 @@ use Rattle.node_lock.proofs.held.Held.next_intake.Goals as goal
 
 pub overflow_cast-index : goal.overflow_cast-index
 overflow_cast-index c =
-    let h = c.self.inside in
-    let few : length h.site.history.turns < MOST_ENTRIES = subst (λ (v : HeldView). length v.history < MOST_ENTRIES)
-    (sym c.self.view_is) c.requires.few in
-    let all = few_turns _ c.self.invariant few in
-    let fits = all.0 in
+    let few = subst (λ (v : HeldView). length v.history < MOST_ENTRIES) (sym c.self.view_is) c.requires.few in
+    let fits = (few_turns _ c.self.invariant few).0 in
     omega (arith, fits)
 
 pub invariant_of-self-2 : goal.invariant_of-self-2
 invariant_of-self-2 c =
     let h = c.self.inside in
-    let few : length h.site.history.turns < MOST_ENTRIES = subst (λ (v : HeldView). length v.history < MOST_ENTRIES)
-    (sym c.self.view_is) c.requires.few in
+    let few = subst (λ (v : HeldView). length v.history < MOST_ENTRIES) (sym c.self.view_is) c.requires.few in
     let read = index_of h.plans.intake _ h.turns.intake _ (subst (λ (v : HeldView). v.turns.intake < length v.plans.intake)
     (sym c.self.view_is) c.requires.more) c.index-intake-index.is c.intake.ensures in
     let arrived = c.fetch.new.waiting in
@@ -54,37 +50,26 @@ returns-clause-taken c =
       puts = h.site.puts.items;
       takes = h.takes.items;
       plans = h.plans;
-      turns =
-          h.turns;
+      turns = h.turns;
       history = h.site.history.turns;
       lost = h.site.history.lost;
       numbers = h.site.history.numbers;
-      counter =
-          h.site.numbers.counter;
+      counter = h.site.numbers.counter;
       drawn = h.site.numbers.drawn;
       waiting = h.waiting;
       room = h.site.history.room;
-      sends =
-          h.site.history.sends;
+      sends = h.site.history.sends;
       events = h.site.history.events;
     } in
-    let polls : Polls v Intake (turn_of Intake h.turns.intake did.0) = (
-      arrived,
-      brought_polled arrived did.0.what gives,
-      finds v c.fetch.new.takes.items c.place_of-place.result
-          c.index-intake-index.result arrived c.place_of-place.ensures read.1 c.fetch.ensures.none c.in_ok-fetch.ensures.empty
-          c.fetch.ensures.some,
-    ) in
     rw (← c.self.view_is) (
       refl,
-      takes_next _ _ Intake (asked_by arrived) did.0 c.self.invariant (
-        (
-          (c.index-intake-index.result, read.0),
-          (arrived, refl),
-        ),
-        did.1,
-        refl,
-      ) polls,
+      takes_next _ _ Intake (asked_by arrived) did.0 c.self.invariant
+          (((c.index-intake-index.result, read.0), (arrived, refl)), did.1, refl) (
+            arrived,
+            brought_polled arrived did.0.what gives,
+            finds v c.fetch.new.takes.items c.place_of-place.result c.index-intake-index.result arrived c.place_of-place.ensures read.1
+                c.fetch.ensures.none c.in_ok-fetch.ensures.empty c.fetch.ensures.some,
+          ),
     )
 
 pub returns-in_err-receive-clause-memory : goal.returns-in_err-receive-clause-memory
@@ -109,8 +94,7 @@ returns-in_err-fetch-clause-memory c =
         puts = same_again h.site.puts.items;
         turns = refl;
         lost = refl;
-        numbers =
-            refl;
+        numbers = refl;
         drawn = refl;
       }) waits,
     ))

@@ -14,52 +14,34 @@ use Rattle.node_lock.proofs.held.Held.next_operator.Goals as goal
 
 pub overflow_cast-index : goal.overflow_cast-index
 overflow_cast-index c =
-    let h = c.self.inside in
-    let few : length h.site.history.turns < MOST_ENTRIES = subst (λ (v : HeldView). length v.history < MOST_ENTRIES)
-    (sym c.self.view_is) c.requires.few in
-    let all = few_turns _ c.self.invariant few in
-    let fits = all.2 in
+    let few = subst (λ (v : HeldView). length v.history < MOST_ENTRIES) (sym c.self.view_is) c.requires.few in
+    let fits = (few_turns _ c.self.invariant few).2 in
     omega (arith, fits)
 
 pub invariant_of-self-2 : goal.invariant_of-self-2
 invariant_of-self-2 c =
     let h = c.self.inside in
-    let more : h.turns.operator < length h.plans.operator = subst (λ (v : HeldView). v.turns.operator < length v.plans.operator)
-    (sym c.self.view_is) c.requires.more in
-    let few : length h.site.history.turns < MOST_ENTRIES = subst (λ (v : HeldView). length v.history < MOST_ENTRIES)
-    (sym c.self.view_is) c.requires.few in
+    let more = subst (λ (v : HeldView). v.turns.operator < length v.plans.operator) (sym c.self.view_is) c.requires.more in
+    let few = subst (λ (v : HeldView). length v.history < MOST_ENTRIES) (sym c.self.view_is) c.requires.few in
     let order = c.index-operator-index.result in
     let got = slice_get-get_or h.plans.operator h.turns.operator order more
     ∙ ap (λ o. Some o) (ap (λ l. get_or l h.turns.operator order) (sym c.operator.ensures) ∙ sym c.index-operator-index.is) in
     let e = c.in_ok-operate.ensures.taken.0 in
     let took = c.in_ok-operate.ensures.taken.1 in
     let gives = gives_in _ (asked_in order) (turn_of Operator h.turns.operator e) _ c.self.invariant took.did in
-    keeps_next_past _ _ Operator (asked_in order) e c.self.invariant (
-      (order, got, refl),
-      took,
-      refl,
-    ) refl refl few refl refl refl (none_of_order order e.what gives)
+    keeps_next_past _ _ Operator (asked_in order) e c.self.invariant ((order, got, refl), took, refl) refl refl few refl refl refl
+    (none_of_order order e.what gives)
 
 pub returns-clause-taken : goal.returns-clause-taken
 returns-clause-taken c =
     let h = c.self.inside in
-    let more : h.turns.operator < length h.plans.operator = subst (λ (v : HeldView). v.turns.operator < length v.plans.operator)
-    (sym c.self.view_is) c.requires.more in
+    let more = subst (λ (v : HeldView). v.turns.operator < length v.plans.operator) (sym c.self.view_is) c.requires.more in
     let order = c.index-operator-index.result in
     let got = slice_get-get_or h.plans.operator h.turns.operator order more
     ∙ ap (λ o. Some o) (ap (λ l. get_or l h.turns.operator order) (sym c.operator.ensures) ∙ sym c.index-operator-index.is) in
-    rw (← c.self.view_is) (
-      refl,
-      takes_next _ _ Operator (asked_in order) c.in_ok-operate.ensures.taken.0 c.self.invariant (
-        (
-          order,
-          got,
-          refl,
-        ),
-        c.in_ok-operate.ensures.taken.1,
-        refl,
-      ) tt,
-    )
+    let e = c.in_ok-operate.ensures.taken.0 in
+    let took = c.in_ok-operate.ensures.taken.1 in
+    rw (← c.self.view_is) (refl, takes_next _ _ Operator (asked_in order) e c.self.invariant ((order, got, refl), took, refl) tt)
 
 pub invariant_of-self : goal.invariant_of-self
 invariant_of-self c = keeps_none_past _ _ c.self.invariant refl refl refl c.in_err-operate.ensures.memory.1 refl refl

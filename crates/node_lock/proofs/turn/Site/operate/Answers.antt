@@ -25,8 +25,7 @@ returns-in-Crash-clause-taken c =
       there = c.crash.ensures.there;
       down = c.crash.ensures.down;
       disk = c.crash.ensures.disk;
-      stands =
-          c.crash.ensures.stands;
+      stands = c.crash.ensures.stands;
     } in
     let did : TurnDid old (asked_in c.args.order.now) Crashed [] new =
     subst (λ (o : OperatorOrder). TurnDid old (asked_in o) Crashed [] new) (sym c.in-Crash.is)

@@ -1,4 +1,4 @@
-use Rattle.std.proofs.Common.{rules, refl, ap, sym, ◌∙◌, subst, arith}
+use Rattle.std.proofs.Common.{rules}
 use Rattle.node_lock.proofs.Drawing.{next_allowed}
 use Rattle.node_lock.proofs.turn_numbers.TurnNumbers.draw.Goals as goal
 
