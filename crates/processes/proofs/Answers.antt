@@ -2,7 +2,7 @@
 use Rattle.std.proofs.Common.{◌≡◌, ◌⊎◌, ℕ, Bool, true, false, not, ◌||◌, List, [], ◌∷◌, ◌++◌, length, refl, sym, ◌∙◌, ap, subst, inl, inr}
 use Rattle.std.proofs.Common.{arith, Some, None, append_assoc, append-nil}
 use Rattle.std.specs.Prelude.{◌==◌, if◌then◌else◌, Ok}
-use Rattle.std.proofs.lemmas.Bool.{cases_Bool}
+use Rattle.std.proofs.lemmas.Bool.{cases_Bool, cond_both}
 use Rattle.job_model.specs.declared.job.Job.{Job}
 use Rattle.job_model.specs.declared.work.Work.{Work}
 use Rattle.job_model.specs.declared.node_command.NodeCommand.TheVariants.{Done}
@@ -22,7 +22,6 @@ use Rattle.histories.specs.History.{Follows, replay}
 use Rattle.histories.specs.Possible.{IsPossible}
 use Rattle.histories.proofs.PublicLaws.{among_either, among_right, stays_up}
 use Rattle.node_session.specs.declared.asked.Asked.{Asked}
-use Rattle.node_session.specs.declared.asked.Asked.TheVariants as ask
 use Rattle.node_session.specs.Turns.{CallEnd, Turn, Goes, end_of}
 use Rattle.node_session.specs.Chains.{LineOutcome, AreGoing, AllGoing, ComesOfEvent, IsWrittenAnew, MayCome, after_turns}
 use Rattle.node_session.specs.Chains.{behind_end, brought_up, entries_in, event_line_end, is_failed, line_end}
@@ -143,6 +142,12 @@ own_replay self nodes s (t ∷ ts) going = absurd going.0
 pub record LineComes (self nodes slots : ℕ) (x : LineAt) : Type 0 where
   pub comes : ComesOf self nodes slots x.at x.line x.came
   pub going : AreGoing x.came.turns
+
+-- of a line that is answered comes what may come of what it asks
+pub asked_may : (self nodes slots : ℕ) (x : LineAt) {a : Asked} → LineComes self nodes slots x → x.at.stopped ≡ false
+    → asked_under x.at.seal x.line ≡ a → MayCome self nodes slots x.at.state a x.came.turns
+asked_may self nodes slots x line answered is = subst (λ (a : Asked). MayCome self nodes slots x.at.state a x.came.turns) is
+    (subst (λ (b : Bool). Comes self nodes slots b x.at.state (asked_under x.at.seal x.line) x.came) answered line.comes).0
 
 module _ (self nodes slots : ℕ) where
   line_comes : (a : At) (lines : List (List ℕ)) (all : List LineOutcome) (x : LineAt) → AreOf self nodes slots a lines all → AllGoing all
@@ -364,12 +369,10 @@ submitted self nodes s work (Did event) id is may ended =
     (let same : event ≡ on.Submit work = cc is in taken_by self nodes s work event id same may ended)
 submitted self nodes s work what id is may ended = absurd cc
 
-step_ended : (one two : CallEnd) (id : ℕ) → behind_end one two ≡ Ok (Some id) → one ≡ Ok (Some id)
-step_ended one two id is = by_failed (is_failed two) refl is
-  where
-    by_failed : (b : Bool) → is_failed two ≡ b → (if b then two else one) ≡ Ok (Some id) → one ≡ Ok (Some id)
-    by_failed true fails same = absurd (let both : false ≡ true = ap is_failed (sym same) ∙ fails in cc)
-    by_failed false fails same = same
+-- a line ends as its first call did, unless the call behind it failed
+pub step_ended : (one two end : CallEnd) → is_failed end ≡ false → behind_end one two ≡ end → one ≡ end
+step_ended one two end fine is = cond_both (is_failed two) _ _ (λ (e : CallEnd). e ≡ end → one ≡ end)
+    (λ fails same. absurd (let both : false ≡ true = sym fine ∙ (ap is_failed (sym same) ∙ fails) in cc)) (λ _ same. same) is
 
 none_behind : (self nodes slots : ℕ) (b c : Bool) (s : NodeState) (ts : List Turn) (job : Job) → b ≡ false
     → IsWrittenAnew (brought_up b c) self nodes slots s ts → HasJob s job → HasJob (after_turns self nodes s ts) job
@@ -381,7 +384,7 @@ submit_takes : (self nodes slots : ℕ) (s : NodeState) (ts : List Turn) (job : 
     → AreGoing ts → event_line_end self nodes s ts ≡ Ok (Some job.id) → HasJob (after_turns self nodes s ts) job
 submit_takes self nodes slots s [] job may going ended = absurd may
 submit_takes self nodes slots s (Goes what ∷ ts) job may going ended =
-    let step = step_ended (end_of self nodes s (Goes what)) (line_end self nodes s (Goes what ∷ ts)) job.id ended in
+    let step = step_ended (end_of self nodes s (Goes what)) (line_end self nodes s (Goes what ∷ ts)) (Ok (Some job.id)) refl ended in
     let it = submitted self nodes s job.work what job.id may.0.0 may.0.1 step in
     none_behind self nodes slots (is_down s.state.phase) (is_down (after self nodes s what).state.phase)
     (after self nodes s what) ts job it.0 may.1 it.1
@@ -390,11 +393,7 @@ submit_takes self nodes slots s (t ∷ ts) job may going ended = absurd going.0
 accepted_pends : (self nodes slots : ℕ) (x : LineAt) (job : Job) → LineComes self nodes slots x → IsAccepted self nodes x job
     → HasJob (left_by self nodes x) job
 accepted_pends self nodes slots x job line it =
-    let first : Comes self nodes slots false x.at.state (asked_under x.at.seal x.line) x.came =
-    subst (λ (b : Bool). Comes self nodes slots b x.at.state (asked_under x.at.seal x.line) x.came) it.answered line.comes in
-    let may : MayCome self nodes slots x.at.state (ask.Event (on.Submit job.work)) x.came.turns =
-    subst (λ (a : Asked). MayCome self nodes slots x.at.state a x.came.turns) it.asked first.0 in
-    submit_takes self nodes slots x.at.state x.came.turns job may line.going it.ended
+    submit_takes self nodes slots x.at.state x.came.turns job (asked_may self nodes slots x line it.answered it.asked) line.going it.ended
 
 pub accepted_is_kept : OneHistory → AcceptedIsKept
 accepted_is_kept one cluster are n node at x y before job accepted up =

@@ -24,7 +24,7 @@ use Rattle.histories.specs.Possible.{IsPossible}
 use Rattle.histories.specs.History.{Follows, brought_in, replay, sent_in, vectors}
 use Rattle.histories.proofs.PublicLaws.{among_either, among_left, among_right, at_down, eq_nat}
 use Rattle.processes.specs.Files.{IdsRise, IsFormatted, at_first, taken, taken_in}
-use Rattle.processes.proofs.Prelude.{Reached, file_reached, follows_both, ids_end, opens, reached_next}
+use Rattle.processes.proofs.Prelude.{Reached, brought_either, file_reached, follows_both, ids_end, opens, reached_next}
 
 -- a message that the history took, which is addressed to the node
 abbrev pub IsTaken : ℕ → List Entry → Envelope → Type 0
@@ -130,14 +130,6 @@ moment_behind self nodes s (e ∷ es) fs v i = inr (moment_behind self nodes (af
 sent_behind : (es fs : List Entry) (m : Envelope) → IsAmong m (sent_in fs) → IsAmong m (sent_in (es ++ fs))
 sent_behind [] fs m i = i
 sent_behind (e ∷ es) fs m i = among_right m e.sent (sent_in (es ++ fs)) (sent_behind es fs m i)
-
-brought_either : (es fs : List Entry) (m : Envelope) → IsAmong m (brought_in (es ++ fs))
-    → IsAmong m (brought_in es) ⊎ IsAmong m (brought_in fs)
-brought_either [] fs m i = inr i
-brought_either (e ∷ es) fs m i = elim (among_either m (brought (event_of e.what)) (brought_in (es ++ fs)) i) [
-  | inl l ↦ inl (among_left m (brought (event_of e.what)) (brought_in es) l)
-  | inr r ↦ elim (brought_either es fs m r) [ inl l ↦ inl (among_right m (brought (event_of e.what)) (brought_in es) l) | inr k ↦ inr k ]
-]
 
 -- a history from the opening that covers it
 pub record Embedded (self nodes : ℕ) (s : NodeState) (es : List Entry) : Type 0 where

@@ -39,12 +39,12 @@ pub record Reached (self nodes : ℕ) (s : NodeState) : Type 0 where
   pub leaves : replay self nodes (opening self) before ≡ s
   pub quiet : (m : Envelope) → IsAmong m (brought_in before) → ⊥
 
-brought_behind : (es : List Entry) (e : Entry) (m : Envelope) → IsAmong m (brought_in (es ++ e ∷ []))
-    → IsAmong m (brought_in es) ⊎ IsAmong m (brought (event_of e.what))
-brought_behind [] e m i = elim (among_either m (brought (event_of e.what)) [] i) [ inl l ↦ inr l | inr r ↦ absurd r ]
-brought_behind (x ∷ es) e m i = elim (among_either m (brought (event_of x.what)) (brought_in (es ++ e ∷ [])) i) [
-  | inl l ↦ inl (among_left m (brought (event_of x.what)) (brought_in es) l)
-  | inr r ↦ elim (brought_behind es e m r) [ inl l ↦ inl (among_right m (brought (event_of x.what)) (brought_in es) l) | inr k ↦ inr k ]
+pub brought_either : (es fs : List Entry) (m : Envelope) → IsAmong m (brought_in (es ++ fs))
+    → IsAmong m (brought_in es) ⊎ IsAmong m (brought_in fs)
+brought_either [] fs m i = inr i
+brought_either (e ∷ es) fs m i = elim (among_either m (brought (event_of e.what)) (brought_in (es ++ fs)) i) [
+  | inl l ↦ inl (among_left m (brought (event_of e.what)) (brought_in es) l)
+  | inr r ↦ elim (brought_either es fs m r) [ inl l ↦ inl (among_right m (brought (event_of e.what)) (brought_in es) l) | inr k ↦ inr k ]
 ]
 
 -- one step more
@@ -59,9 +59,9 @@ reached_next self nodes s t what reached may silent is =
       before = reached.before ++ e ∷ [];
       follows = goes.0;
       leaves = goes.1 ∙ (ap (λ (x : NodeState). after self nodes x what) reached.leaves ∙ is);
-      quiet = λ m i. elim (brought_behind reached.before e m i) [
+      quiet = λ m i. elim (brought_either reached.before (e ∷ []) m i) [
         | inl l ↦ reached.quiet m l
-        | inr r ↦ (let none : IsAmong m [] = subst (λ (ms : List Envelope). IsAmong m ms) silent r in absurd none)
+        | inr r ↦ (let none : IsAmong m [] = subst (λ (ms : List Envelope). IsAmong m (ms ++ [])) silent r in absurd none)
       ];
     }
 
@@ -126,26 +126,25 @@ last_without jobs id work below =
     ∙ (ap (λ (rest : List Job). without_job jobs id ++ rest) (rw (same id) refl)
     ∙ (append-nil (without_job jobs id) ∙ none_without jobs id below))
 
-put_job : (self nodes next : ℕ) (hand : List InHand) (jobs : List Job) (work : Work) → next + 1 < 2 ^ 64
-    → Reached self nodes (filled self hand next jobs)
-    → Reached self nodes (filled self (hand ++ in_hand self next work ∷ []) (next + 1) (jobs ++ the_job next work ∷ []))
-put_job self nodes next hand jobs work room reached =
-    reached_next self nodes (filled self hand next jobs) _ (Did (Submit work)) reached
-    ((λ e. absurd cc), record { by_core = rw (same self) refl; not_spent = λ e. absurd (omega (arith, room, e)) })
-    refl (rw (alone_owns self hand work.queue, same self) refl)
+module _ (self nodes : ℕ) where
+  put_job : (next : ℕ) (hand : List InHand) (jobs : List Job) (work : Work) → next + 1 < 2 ^ 64
+      → Reached self nodes (filled self hand next jobs)
+      → Reached self nodes (filled self (hand ++ in_hand self next work ∷ []) (next + 1) (jobs ++ the_job next work ∷ []))
+  put_job next hand jobs work room reached = reached_next self nodes (filled self hand next jobs) _ (Did (Submit work)) reached
+      ((λ e. absurd cc), record { by_core = rw (same self) refl; not_spent = λ e. absurd (omega (arith, room, e)) })
+      refl (rw (alone_owns self hand work.queue, same self) refl)
 
-finish_job : (self nodes next : ℕ) (hand : List InHand) (jobs : List Job) (work : Work) → AreBelow next jobs
-    → Reached self nodes (filled self (hand ++ in_hand self next work ∷ []) (next + 1) (jobs ++ the_job next work ∷ []))
-    → Filled self nodes (next + 1) jobs
-finish_job self nodes next hand jobs work below reached =
-    let held = held_last hand self next work in
-    let pending = pending_last jobs next work in record {
-      hand = without_held (hand ++ in_hand self next work ∷ []) self next;
-      reached = reached_next self nodes (filled self (hand ++ in_hand self next work ∷ []) (next + 1) (jobs ++ the_job next work ∷ [])) _
-          (Did (Finish self next)) reached
-          ((λ e. absurd cc), record { by_core = rw held refl; not_spent = rw (same self, pending) (λ e. e) })
-          refl (rw (same self, pending, last_without jobs next work below) refl);
-    }
+  finish_job : (next : ℕ) (hand : List InHand) (jobs : List Job) (work : Work) → AreBelow next jobs
+      → Reached self nodes (filled self (hand ++ in_hand self next work ∷ []) (next + 1) (jobs ++ the_job next work ∷ []))
+      → Filled self nodes (next + 1) jobs
+  finish_job next hand jobs work below reached =
+      let held = held_last hand self next work in
+      let pending = pending_last jobs next work in record {
+        hand = without_held (hand ++ in_hand self next work ∷ []) self next;
+        reached = reached_next self nodes _ _ (Did (Finish self next)) reached
+            ((λ e. absurd cc), record { by_core = rw held refl; not_spent = rw (same self, pending) (λ e. e) })
+            refl (rw (same self, pending, last_without jobs next work below) refl);
+      }
 
 any_work : Work
 any_work = record { queue = 0; priority = 0; payload = [] }

@@ -1,7 +1,6 @@
 -- What the `group` lines of processes tell are moments of their nodes.
-use Rattle.std.proofs.Common.{◌≡◌, ◌⊎◌, ℕ, Bool, true, false, ◌||◌, List, [], ◌∷◌, ◌++◌, length, refl, sym, ◌∙◌, ap, subst, inl, inr, arith}
-use Rattle.std.proofs.Common.{Option, Some, None, option_to_list}
-use Rattle.std.specs.Prelude.{if◌then◌else◌}
+use Rattle.std.proofs.Common.{◌≡◌, ◌⊎◌, ℕ, Bool, false, ◌||◌, List, [], ◌∷◌, ◌++◌, length, refl, sym, ◌∙◌, ap, subst, inl, inr, arith}
+use Rattle.std.proofs.Common.{Option, option_to_list}
 use Rattle.std.proofs.lemmas.Bool.{cond_both}
 use Rattle.group_task.specs.Group.{Group}
 use Rattle.node_core.specs.State.{State}
@@ -22,7 +21,7 @@ use Rattle.node_session.specs.Chains.{LineOutcome, AreGoing, AllGoing, after_tur
 use Rattle.node_session.specs.Chains as chains
 use Rattle.node_session.specs.Serving.{OneHistory}
 use Rattle.processes.specs.Files.{IsMomentOf, at_first}
-use Rattle.processes.specs.Processes.{NodeProcesses, Process, AreProcesses, AreProcessesOf, IsToldBy, carried, entries_from, entries_of}
+use Rattle.processes.specs.Processes.{NodeProcesses, Process, AreProcesses, AreProcessesOf, IsToldBy, entries_from, entries_of}
 use Rattle.processes.specs.Processes.{found, histories_of, left, process_entries, settles, told_by, told_in, told_of}
 use Rattle.processes.specs.Printed.{NumberNamesLeader, OneCoordinatorEach, OneLeaderEach, OneLineEach}
 use Rattle.processes.proofs.Clusters.{are_a_cluster, as_many, history_at, history_of}

@@ -1,6 +1,6 @@
 -- What is refused changes nothing.
-use Rattle.std.proofs.Common.{◌≡◌, ◌≢◌, ℕ, Bool, true, false, List, [], ◌∷◌, length, refl, sym, ◌∙◌, ap, subst, Some}
-use Rattle.std.specs.Prelude.{if◌then◌else◌, Err}
+use Rattle.std.proofs.Common.{◌≡◌, ◌≢◌, ℕ, Bool, true, false, List, [], ◌∷◌, length, refl, sym, subst, Some}
+use Rattle.std.specs.Prelude.{Err}
 use Rattle.node_core.specs.declared.event.Event.{Event}
 use Rattle.node_core.specs.State.{is_down}
 use Rattle.histories.specs.NodeState.{NodeState}
@@ -10,28 +10,17 @@ use Rattle.histories.specs.declared.history_event.HistoryEvent.TheVariants.{Refu
 use Rattle.histories.specs.After.{after, sent_at}
 use Rattle.durable_node.specs.declared.fault.NodeFault.{NodeFault}
 use Rattle.durable_node.specs.declared.fault.NodeFault.TheVariants as fault
-use Rattle.node_session.specs.declared.asked.Asked.{Asked}
-use Rattle.node_session.specs.declared.asked.Asked.TheVariants as ask
-use Rattle.node_session.specs.Turns.{CallEnd, Turn, Goes, end_at, end_of}
-use Rattle.node_session.specs.Chains.{AreGoing, ComesOfEvent, IsWrittenAnew, MayCome, after_turns, behind_end, brought_up, event_line_end}
-use Rattle.node_session.specs.Chains.{is_device, is_failed, line_end}
-use Rattle.node_session.specs.Lines.{Comes}
-use Rattle.node_session.specs.Seals.{asked_under}
+use Rattle.node_session.specs.Turns.{Turn, Goes, end_at, end_of}
+use Rattle.node_session.specs.Chains.{AreGoing, ComesOfEvent, IsWrittenAnew, after_turns, brought_up, event_line_end}
+use Rattle.node_session.specs.Chains.{is_device, line_end}
 use Rattle.node_session.specs.Sending.{sent_turns}
 use Rattle.processes.specs.Files.{at_first}
 use Rattle.processes.specs.Answers.{RefusedChangesNothing}
-use Rattle.processes.proofs.Answers.{all_come}
+use Rattle.processes.proofs.Answers.{all_come, asked_may, step_ended}
 
-device_is : (why : NodeFault) → is_device why ≡ true → why ≡ fault.Device
-device_is fault.Device is = refl
-device_is why is = absurd cc
-
-step_denied : (one two : CallEnd) (why : NodeFault) → why ≢ fault.Device → behind_end one two ≡ Err why → one ≡ Err why
-step_denied one two why other is = by_failed (is_failed two) refl is
-  where
-    by_failed : (b : Bool) → is_failed two ≡ b → (if b then two else one) ≡ Err why → one ≡ Err why
-    by_failed true fails same = absurd (other (device_is why (ap is_failed (sym same) ∙ fails)))
-    by_failed false fails same = same
+not_device : (why : NodeFault) → why ≢ fault.Device → is_device why ≡ false
+not_device fault.Device other = absurd (other refl)
+not_device why other = refl
 
 -- a history that goes on by what is refused stays as it is
 denied_stays : (self nodes : ℕ) (s : NodeState) (event : Event) (what : HistoryEvent) (why : NodeFault) → why ≢ fault.Device
@@ -57,7 +46,7 @@ turns_stay : (self nodes slots : ℕ) (s : NodeState) (event : Event) (ts : List
     → (after_turns self nodes s ts ≡ s) × (sent_turns self nodes s ts ≡ [])
 turns_stay self nodes slots s event [] why other may going is = absurd may
 turns_stay self nodes slots s event (Goes what ∷ ts) why other may going is =
-    let step = step_denied (end_of self nodes s (Goes what)) (line_end self nodes s (Goes what ∷ ts)) why other is in
+    let step = step_ended (end_of self nodes s (Goes what)) (line_end self nodes s (Goes what ∷ ts)) (Err why) (not_device why other) is in
     let still = denied_stays self nodes s event what why other may.0.0 step in
     let anew : IsWrittenAnew (brought_up (is_down s.state.phase) (is_down s.state.phase)) self nodes slots s ts =
     subst (λ (x : NodeState). IsWrittenAnew (brought_up (is_down s.state.phase) (is_down x.state.phase)) self nodes slots x ts) still.0
@@ -69,8 +58,4 @@ pub refused_changes_nothing : RefusedChangesNothing
 refused_changes_nothing cluster are n node at x i event asked answered why other is =
     let nodes = length cluster in
     let line = all_come n nodes node.slots (at_first n node.file) node.processes x (are.processes n node at) i in
-    let first : Comes n nodes node.slots false x.at.state (asked_under x.at.seal x.line) x.came =
-    subst (λ (b : Bool). Comes n nodes node.slots b x.at.state (asked_under x.at.seal x.line) x.came) answered line.comes in
-    let may : MayCome n nodes node.slots x.at.state (ask.Event event) x.came.turns =
-    subst (λ (a : Asked). MayCome n nodes node.slots x.at.state a x.came.turns) asked first.0 in
-    turns_stay n nodes node.slots x.at.state event x.came.turns why other may line.going is
+    turns_stay n nodes node.slots x.at.state event x.came.turns why other (asked_may n nodes node.slots x line answered asked) line.going is

@@ -1,5 +1,5 @@
 -- What processes answer of jobs, as text.
-use Rattle.std.proofs.Common.{◌≡◌, ℕ, ◌+◌, Bool, true, false, List, [], ◌∷◌, ◌++◌, length, refl, sym, ◌∙◌, ap, subst, inl, inr}
+use Rattle.std.proofs.Common.{◌≡◌, ℕ, ◌+◌, Bool, true, false, List, [], ◌∷◌, ◌++◌, length, sym, ◌∙◌, ap, subst, inl, inr}
 use Rattle.std.proofs.Common.{append_assoc}
 use Rattle.std.specs.List.{flat_map}
 use Rattle.job_model.specs.declared.job.Job.{Job}
@@ -8,16 +8,13 @@ use Rattle.node_core.specs.State.{is_down}
 use Rattle.histories.specs.Lists.{IsAmong}
 use Rattle.histories.specs.NodeState.{NodeState}
 use Rattle.node_session.specs.declared.asked.Asked.{Asked}
-use Rattle.node_session.specs.declared.asked.Asked.TheVariants as ask
-use Rattle.node_session.specs.Turns.{CallEnd, Turn}
-use Rattle.node_session.specs.Chains.{IsNone, MayCome, after_turns, next}
-use Rattle.node_session.specs.Lines.{Comes}
-use Rattle.node_session.specs.Seals.{asked_under}
+use Rattle.node_session.specs.Turns.{CallEnd}
+use Rattle.node_session.specs.Chains.{next}
 use Rattle.node_session.specs.Serving.{OneHistory}
 use Rattle.node_session.specs.Text.{answer, event_closing, hand_line, jobs_by, no_news, ok_line, pending_line, turns_text}
 use Rattle.processes.specs.Files.{at_first}
 use Rattle.processes.specs.Answers.{AcceptedIsAnswered, AcceptedIsTold, HasPiece, lines_at, text_of}
-use Rattle.processes.proofs.Answers.{accepted_is_kept, all_come, last_among}
+use Rattle.processes.proofs.Answers.{accepted_is_kept, all_come, asked_may, last_among}
 use Rattle.processes.proofs.Following.{none_left}
 
 -- ---- the answer to what was taken
@@ -58,11 +55,7 @@ accepted_is_told one cluster are n node at x y before job accepted asks =
     let nodes = length cluster in
     let line = all_come n nodes node.slots (at_first n node.file) node.processes y (are.processes n node at)
     (last_among x y (lines_at cluster n node) before) in
-    let first : Comes n nodes node.slots false y.at.state (asked_under y.at.seal y.line) y.came =
-    subst (λ (b : Bool). Comes n nodes node.slots b y.at.state (asked_under y.at.seal y.line) y.came) asks.answered line.comes in
-    let none : MayCome n nodes node.slots y.at.state ask.Jobs y.came.turns =
-    subst (λ (a : Asked). MayCome n nodes node.slots y.at.state a y.came.turns) asks.asked first.0 in
-    let same = none_left n nodes y.at.state y.came.turns none in
+    let same = none_left n nodes y.at.state y.came.turns (asked_may n nodes node.slots y line asks.answered asks.asked) in
     let text : text_of n nodes y ≡ jobs_by (is_down y.at.state.state.phase) y.at.state ++ ok_line (y.at.count + 1) [] =
     ap (λ (a : Asked). answer n nodes (next y.at.count a) y.at.state y.at.waits a y.came) asks.asked in
     let either = accepted_is_kept one cluster are n node at x y before job accepted
