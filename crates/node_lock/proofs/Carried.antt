@@ -1,8 +1,9 @@
 -- What the links carry.
-use Rattle.std.proofs.Common.{◌≡◌, ◌≢◌, ℕ, zero, suc, ◌+◌, ◌<◌, ◌==◌, Bool, true, false, cond, List, [], ◌∷◌, ◌++◌, length, take, drop}
+use Rattle.std.proofs.Common.{◌≡◌, ◌≢◌, ℕ, zero, suc, ◌+◌, ◌<◌, ◌==◌, List, [], ◌∷◌, ◌++◌, length, take, drop}
 use Rattle.std.proofs.Common.{get_or, slice_index_or, refl, ap, sym, ◌∙◌, subst, inl, inr, arith}
 use Rattle.std.proofs.lemmas.List.{take_more, length-append}
 use Rattle.std.proofs.lemmas.List.Elements.{filter-append}
+use Rattle.std.proofs.lemmas.Bool.{cond-false, cond-true, eq-eqb}
 use Rattle.std.proofs.lemmas.Bool.Decides.{nat_tests}
 use Rattle.wire_msg.specs.Envelope.{Envelope}
 use Rattle.link_ring.specs.Sides.{Side}
@@ -16,15 +17,11 @@ puts_append cap xs (m ∷ ms) ys ns zs (inr p) q = inr (p.0, puts_append cap xs 
 pub addressed-append : (j : ℕ) (ms ns : List Envelope) → addressed_to j (ms ++ ns) ≡ addressed_to j ms ++ addressed_to j ns
 addressed-append j ms ns = filter-append (λ m. m.receiver == j) ms ns
 
-addressed_one_by : (j : ℕ) (m : Envelope) (b : Bool) → (m.receiver == j) ≡ b → addressed_to j (m ∷ []) ≡ cond b (m ∷ []) []
-addressed_one_by j m true e = rw e refl
-addressed_one_by j m false e = rw e refl
-
 pub addressed_yes : (j : ℕ) (m : Envelope) → m.receiver ≡ j → addressed_to j (m ∷ []) ≡ m ∷ []
-addressed_yes j m e = addressed_one_by j m true (grind (arith, nat_tests))
+addressed_yes j m e = cond-true (m.receiver == j) (m ∷ []) [] (eq-eqb m.receiver j e)
 
 pub addressed_no : (j : ℕ) (m : Envelope) → m.receiver ≢ j → addressed_to j (m ∷ []) ≡ []
-addressed_no j m e = addressed_one_by j m false (grind (arith, nat_tests))
+addressed_no j m e = cond-false (m.receiver == j) (m ∷ []) [] (grind (arith, nat_tests))
 
 next_sent : (j : ℕ) (sent : List Envelope) (i : ℕ) (m : Envelope) → i < length sent → m ≡ get_or sent i m
     → addressed_to j (take (i + 1) sent) ≡ addressed_to j (take i sent) ++ addressed_to j (m ∷ [])
@@ -35,19 +32,15 @@ next_sent j sent i m lt is = ap (addressed_to j) (take_more sent i m lt ∙ ap (
 sent_next : (sent : List Envelope) (i : ℕ) (m : Envelope) (old mid new : Side) → i < length sent → m ≡ get_or sent i m
     → SentTo (take i sent) old mid → SentTo (m ∷ []) mid new → SentTo (take (i + 1) sent) old new
 sent_next sent i m old mid new lt is s next =
-    let put : PutsSome old.capacity mid.messages (addressed_to old.receiver (m ∷ [])) new.messages =
-    subst (λ (j : ℕ). PutsSome old.capacity mid.messages (addressed_to j (m ∷ [])) new.messages) s.same.receiver
-    (subst (λ (n : ℕ). PutsSome n mid.messages (addressed_to mid.receiver (m ∷ [])) new.messages) s.same.capacity next.messages) in
     record {
       same = record {
         sender = next.same.sender ∙ s.same.sender;
         receiver = next.same.receiver ∙ s.same.receiver;
         capacity = next.same.capacity ∙ s.same.capacity;
       };
-      messages = subst (λ (l : List Envelope). PutsSome old.capacity old.messages l new.messages)
-          (sym (next_sent old.receiver sent i m lt is))
+      messages = rw (next_sent old.receiver sent i m lt is)
           (puts_append old.capacity old.messages (addressed_to old.receiver (take i sent)) mid.messages (addressed_to old.receiver (m ∷ []))
-          new.messages s.messages put);
+          new.messages s.messages (rw (← s.same.receiver, ← s.same.capacity) next.messages));
     }
 
 pub sent_on_more : (sent : List Envelope) (i : ℕ) (m : Envelope) (old mid new : List Side) → i < length sent → m ≡ get_or sent i m

@@ -45,15 +45,14 @@ did_comes old new event w sent did s stands =
     let disk = some_of old.disk did.counts.was_there in
     let came = steps_and_forgets old did.left new event did.came did.forgot did.steps disk.0 s disk.1 stands (λ _. refl) in
     record {
-      gives = subst (λ (x : HistoryEvent). IsOf event x) (sym did.written) came.0.of;
-      possible = subst (λ (x : HistoryEvent). IsPossible old.id old.nodes s x) (sym did.written) came.0.possible;
-      is_sent = did.is_sent ∙ (came.0.sent ∙ ap (λ (x : HistoryEvent). sent_at old.id old.nodes s x) (sym did.written));
-      stands = subst (λ (x : HistoryEvent). Stands state_of new (after old.id old.nodes s x)) (sym did.written) came.1;
+      gives = rw did.written came.0.of;
+      possible = rw did.written came.0.possible;
+      is_sent = rw did.written (did.is_sent ∙ came.0.sent);
+      stands = rw did.written came.1;
       of_slots = λ slots most size.
           let sized : slots_for (8 + 4 * slots) ≡ slots = grind (arith) in
-          subst (λ (x : HistoryEvent). IsOfSlots slots old.id old.nodes s x) (sym did.written)
-          (subst (λ (n : ℕ). IsOfSlots n old.id old.nodes s (what_of event did.came.event_outcome)) (ap slots_for (size disk.0 disk.1)
-          ∙ sized) came.0.of_slots);
+          rw did.written (subst (λ (n : ℕ). IsOfSlots n old.id old.nodes s (what_of event did.came.event_outcome))
+          (ap slots_for (size disk.0 disk.1) ∙ sized) came.0.of_slots);
     }
 
 rests : (old new : Node Memory) (s : NodeState) (asked : Asked) (w : HistoryEvent) (sent : List Envelope) → Gives asked (what.NoOp Nothing)

@@ -10,6 +10,7 @@ use Rattle.atomic_table.specs.Table.{Allows, Me, Splits, keeps, opening, step}
 use Rattle.atomic_table.proofs.Lists.{set_again}
 use Rattle.node_lock.specs.declared.turn_numbers.Drawn.{Drawn}
 use Rattle.node_lock.specs.Drawing.{AreDrawn, AreGiven, HaveNumbers, IsFalling, IsGiven, draws_next, nothing_drawn, times, times_by_all}
+use Rattle.node_lock.proofs.Losing.{all_snoc}
 
 times_set : (x : ℕ) (views : List Drawn) (id : ℕ) (v w : Drawn) → get_elem? views id ≡ some v
     → times_by_all x (set views id w) + times x v.numbers ≡ times_by_all x views + times x w.numbers
@@ -47,11 +48,6 @@ all_at bound [] id v all at = absurd (some-ne-none v (sym at))
 all_at bound (u ∷ us) zero v all at = subst (λ (d : Drawn). IsFalling bound d.numbers) (some-injective u v at) all.0
 all_at bound (u ∷ us) (suc id) v all at = all_at bound us id v all.1 at
 
-all_snoc : (bound : ℕ) (views : List Drawn) → AllByRecursion (λ (v : Drawn). IsFalling bound v.numbers) views
-    → AllByRecursion (λ (v : Drawn). IsFalling bound v.numbers) (views ++ nothing_drawn ∷ [])
-all_snoc bound [] all = (tt, tt)
-all_snoc bound (v ∷ vs) all = (all.0, all_snoc bound vs all.1)
-
 -- one number more is below the count
 one_more : (x count : ℕ) → (if nat_lt x count then 1 else 0) + (if count == x then 1 else 0) ≡ (if nat_lt x (count + 1) then 1 else 0)
 one_more x count = grind (arith, nat_tests)
@@ -88,7 +84,8 @@ another_allowed id v s r at =
       word = r.word;
       once = λ x. ap (λ (vs : List Drawn). times_by_all x (vs ++ nothing_drawn ∷ [])) same ∙ times_more x s.views ∙ r.once x;
       falling = subst (λ (vs : List Drawn). AllByRecursion (λ (v : Drawn). IsFalling r.count v.numbers) (vs ++ nothing_drawn ∷ []))
-          (sym same) (all_snoc r.count s.views r.falling);
+          (sym same)
+          (all_snoc (λ (v : Drawn). IsFalling r.count v.numbers) s.views (nothing_drawn ∷ []) r.falling (tt, tt));
     }
 
 pub none_drawn : AreDrawn (opening (0 ∷ []) [] nothing_drawn)

@@ -19,7 +19,7 @@ use Rattle.node_lock.specs.Asking.{Asked}
 use Rattle.node_lock.specs.Doing.{Gives, StandsForSome, TurnDid}
 use Rattle.node_lock.specs.Path.{Path}
 use Rattle.node_lock.specs.Planned.{no_turns}
-use Rattle.node_lock.specs.Sending.{NotesLost, PutsSome, addressed_to, SameLink, SameSides, SentTo, SentOn}
+use Rattle.node_lock.specs.Sending.{NotesLost, addressed_to, SameLink, SameSides, SentTo, SentOn}
 use Rattle.node_lock.specs.History.{Turn, IsReplay, PlanStep, entries_of, polled, from_link, listed}
 use Rattle.node_lock.specs.declared.held.TheConstants.{MOST_ENTRIES}
 use Rattle.node_lock.specs.declared.held.HeldFault.{HeldFault}
@@ -60,23 +60,17 @@ polled-snoc plan j (x ∷ ts) t =
 -- a link to another node, after one turn more
 put_link_more : (run : Run) (ts : List Turn) (t : Turn) (p q : Side) → IsPutLink run ts p → SentTo t.entry.sent p q
     → IsPutLink run (ts ++ t ∷ []) q
-put_link_more run ts t p q h s =
-    let all : addressed_to p.receiver (sent_in (entries_of (ts ++ t ∷ [])))
-    ≡ addressed_to p.receiver (sent_in (entries_of ts)) ++ addressed_to p.receiver t.entry.sent =
-    ap (addressed_to p.receiver) (all_sent-snoc ts t) ∙ addressed-append p.receiver (sent_in (entries_of ts)) t.entry.sent in
-    let put : PutsSome p.capacity [] (addressed_to p.receiver (sent_in (entries_of (ts ++ t ∷ [])))) q.messages =
-    subst (λ (l : List Envelope). PutsSome p.capacity [] l q.messages) (sym all)
-    (puts_append p.capacity [] (addressed_to p.receiver (sent_in (entries_of ts))) p.messages (addressed_to p.receiver t.entry.sent)
-    q.messages h.messages s.messages) in
-    let put' : PutsSome p.capacity [] (addressed_to q.receiver (sent_in (entries_of (ts ++ t ∷ [])))) q.messages =
-    subst (λ (n : ℕ). PutsSome p.capacity [] (addressed_to n (sent_in (entries_of (ts ++ t ∷ [])))) q.messages)
-    (sym s.same.receiver) put in
-    record {
-      sender = s.same.sender ∙ h.sender;
-      capacity = s.same.capacity ∙ h.capacity;
-      messages = subst (λ (n : ℕ). PutsSome n [] (addressed_to q.receiver (sent_in (entries_of (ts ++ t ∷ [])))) q.messages)
-          (sym s.same.capacity) put';
-    }
+put_link_more run ts t p q h s = record {
+  sender = s.same.sender ∙ h.sender;
+  capacity = s.same.capacity ∙ h.capacity;
+  messages = rw (
+    s.same.capacity,
+    s.same.receiver,
+    all_sent-snoc ts t,
+    addressed-append p.receiver (sent_in (entries_of ts)) t.entry.sent,
+  ) (puts_append p.capacity [] (addressed_to p.receiver (sent_in (entries_of ts))) p.messages (addressed_to p.receiver t.entry.sent)
+      q.messages h.messages s.messages);
+}
 
 -- ---- the state, after one turn more
 
@@ -256,14 +250,8 @@ sent_since sent a b c p q = record {
   each = λ k d lt.
       let one = p.each k d lt in
       let two = q.each k d (let len = p.len in omega (arith, lt, len)) in
-      let was = slice_index_or a k d in
-      let mid = slice_index_or b k d in
-      let new = slice_index_or c k d in
       record {
-        same = same_link was mid new one.0 two.same;
-        messages =
-            subst (λ (n : ℕ). PutsSome n was.messages (addressed_to was.receiver sent) new.messages) one.0.capacity
-            (subst (λ (xs : List Envelope). PutsSome mid.capacity xs (addressed_to was.receiver sent) new.messages) one.1
-            (subst (λ (j : ℕ). PutsSome mid.capacity mid.messages (addressed_to j sent) new.messages) one.0.receiver two.messages));
+        same = same_link (slice_index_or a k d) (slice_index_or b k d) (slice_index_or c k d) one.0 two.same;
+        messages = rw (← one.0.capacity, ← one.0.receiver, ← one.1) two.messages;
       };
 }

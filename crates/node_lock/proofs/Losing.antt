@@ -15,7 +15,7 @@ use Rattle.node_lock.specs.Sending.{HasLink, NotesLost, SameSides, SentAs, SentB
 use Rattle.node_lock.proofs.Carried.{addressed-append, addressed_no, addressed_yes}
 use Rattle.node_lock.proofs.Putting.{LeadsTo}
 
-all_snoc : {A : Type 0} (P : A → Type 0) (xs ys : List A) → AllByRecursion P xs → AllByRecursion P ys → AllByRecursion P (xs ++ ys)
+pub all_snoc : {A : Type 0} (P : A → Type 0) (xs ys : List A) → AllByRecursion P xs → AllByRecursion P ys → AllByRecursion P (xs ++ ys)
 all_snoc P [] ys all more = more
 all_snoc P (x ∷ xs) ys all more = (all.0, all_snoc P xs ys all.1 more)
 

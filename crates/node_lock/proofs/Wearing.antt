@@ -239,14 +239,11 @@ turn_fails old new (Hand event) w sent did was now here there =
     (subst (λ (m : ℕ). Fails was.failures (record { what = what_of event did.came.event_outcome; sent = sent }) m) (sym left.2)
     (fails_by was.failures left.0.failures did.came event sent did.came.event_outcome counts.unchanged counts.cause))
 turn_fails old new NoEvent w sent did was now here there =
-    subst (λ (x : HistoryEvent). Fails was.failures (record { what = x; sent = sent }) now.failures) (sym did.1)
-    (ap (λ (m : Memory). m.failures) (sym (same_Some was now (sym here ∙ sym (ap (λ (n : Node Memory). n.disk) did.0) ∙ there))))
+    rw did.1 (ap (λ (m : Memory). m.failures) (sym (same_Some was now (sym here ∙ sym (ap (λ (n : Node Memory). n.disk) did.0) ∙ there))))
 turn_fails old new (Arm calls) w sent did was now here there =
-    subst (λ (x : HistoryEvent). Fails was.failures (record { what = x; sent = sent }) now.failures) (sym did.1)
-    (armed_failures calls old.disk was now here (sym (ap (λ (n : Node Memory). n.disk) did.0.armed) ∙ there))
+    rw did.1 (armed_failures calls old.disk was now here (sym (ap (λ (n : Node Memory). n.disk) did.0.armed) ∙ there))
 turn_fails old new (Crash fill) w sent did was now here there =
-    subst (λ (x : HistoryEvent). Fails was.failures (record { what = x; sent = sent }) now.failures) (sym did.1)
-    (ap (λ (m : Memory). m.failures) (did.0.disk was now here there).1)
+    rw did.1 (ap (λ (m : Memory). m.failures) (did.0.disk was now here there).1)
 
 -- the disk is there before a turn
 pub disk_before : (old new : Node Memory) (asked : Asked) (w : HistoryEvent) (sent : List Envelope) → TurnDid old asked w sent new
