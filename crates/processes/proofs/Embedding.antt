@@ -2,6 +2,7 @@
 use Rattle.std.proofs.Common.{◌≡◌, ◌⊎◌, ℕ, ◌+◌, ◌<◌, Bool, true, false, ◌&&◌, List, [], ◌∷◌, ◌++◌, refl, sym, ◌∙◌, ap, subst, inl, inr}
 use Rattle.std.proofs.Common.{arith, Option, Some, None, IsSome, eq-zero-or-pos}
 use Rattle.std.specs.Prelude.{if◌then◌else◌}
+use Rattle.std.proofs.lemmas.Bool.{and_parts}
 use Rattle.job_model.specs.declared.job.Job.{Job}
 use Rattle.job_model.specs.declared.node_command.NodeCommand.{NodeCommand as Command}
 use Rattle.job_model.specs.declared.node_command.NodeCommand.TheVariants.{Raise}
@@ -40,10 +41,6 @@ pub record Covers (self nodes : ℕ) (s : NodeState) (es : List Entry) (t : Node
 
 -- ---- without what is refused
 
-and_left : (a b : Bool) → (a && b) ≡ true → a ≡ true
-and_left true b h = refl
-and_left false b h = absurd cc
-
 unless : (b : Bool) → (if b then None else Some Stranger) ≡ None → b ≡ true
 unless true h = refl
 unless false h = absurd cc
@@ -51,7 +48,7 @@ unless false h = absurd cc
 addressed : (nodes self : ℕ) (event : Event) (s : State) (m : Envelope) → refusal_of nodes self event s ≡ None
     → IsAmong m (brought (Some event)) → m.receiver ≡ self
 addressed nodes self (Deliver d) s m h i = elim i [
-  | inl e ↦ ap (λ (x : Envelope). x.receiver) e ∙ eq_nat d.receiver self (and_left _ _ (unless (is_known nodes self d) h))
+  | inl e ↦ ap (λ (x : Envelope). x.receiver) e ∙ eq_nat d.receiver self (and_parts _ _ (unless (is_known nodes self d) h)).0
   | inr none ↦ absurd none
 ]
 addressed nodes self event s m h i = absurd i

@@ -3,6 +3,7 @@ use Rattle.std.proofs.Common.{◌≡◌, ◌⊎◌, ℕ, zero, suc, ◌+◌, ◌
 use Rattle.std.proofs.Common.{sym, ◌∙◌, ap, subst, inl, inr, arith, None, append_assoc, append-nil}
 use Rattle.std.specs.Prelude.{◌==◌, not}
 use Rattle.std.specs.List.{list_any}
+use Rattle.std.proofs.lemmas.Bool.{or_right}
 use Rattle.std.proofs.lemmas.Bool.Decides.{nat_tests}
 use Rattle.std.proofs.lemmas.List.Folds.{list_any-append}
 use Rattle.std.proofs.lemmas.List.Elements.{filter-append}
@@ -88,10 +89,6 @@ same n = grind (arith, nat_tests)
 other : (n k : ℕ) → n < k → (n == k) ≡ false
 other n k less = grind (arith, nat_tests)
 
-or_true : (a b : Bool) → b ≡ true → (a || b) ≡ true
-or_true true b h = refl
-or_true false b h = h
-
 alone_owns : (self : ℕ) (hand : List InHand) (queue : ℕ) → owner (record (alone self 1) { hand = hand }) queue ≡ self
 alone_owns self hand queue = grind arith
 
@@ -101,17 +98,15 @@ the_job id work = record { id = id; work = work }
 abbrev in_hand : ℕ → ℕ → Work → InHand
 in_hand self id work = record { origin = self; id = id; work = work }
 
+last_passes : {A : Type 0} (test : A → Bool) (xs : List A) (x : A) → test x ≡ true → list_any test (xs ++ x ∷ []) ≡ true
+last_passes test xs x is = list_any-append test xs (x ∷ []) ∙ or_right (list_any test xs) _ (rw is refl)
+
 held_last : (hand : List InHand) (self id : ℕ) (work : Work) → holds (hand ++ in_hand self id work ∷ []) self id ≡ true
 held_last hand self id work =
-    let test : InHand → Bool = λ job. job.origin == self && job.id == id in
-    let here : list_any test (in_hand self id work ∷ []) ≡ true = rw (same self, same id) refl in
-    list_any-append test hand (in_hand self id work ∷ []) ∙ or_true (list_any test hand) (list_any test (in_hand self id work ∷ [])) here
+    last_passes (λ (job : InHand). job.origin == self && job.id == id) hand (in_hand self id work) (rw (same self, same id) refl)
 
 pending_last : (jobs : List Job) (id : ℕ) (work : Work) → is_pending (jobs ++ the_job id work ∷ []) id ≡ true
-pending_last jobs id work =
-    let test : Job → Bool = λ job. job.id == id in
-    let here : list_any test (the_job id work ∷ []) ≡ true = rw (same id) refl in
-    list_any-append test jobs (the_job id work ∷ []) ∙ or_true (list_any test jobs) (list_any test (the_job id work ∷ [])) here
+pending_last jobs id work = last_passes (λ (job : Job). job.id == id) jobs (the_job id work) (same id)
 
 abbrev AreBelow : ℕ → List Job → Type 0
 AreBelow limit jobs = Each (λ (job : Job). job.id < limit) jobs
