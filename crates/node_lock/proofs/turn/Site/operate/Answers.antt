@@ -3,7 +3,6 @@ use Rattle.sector_disk.specs.Memory.{Memory}
 use Rattle.histories.specs.declared.history_event.HistoryEvent.TheVariants.{Crashed, NoOp}
 use Rattle.histories.specs.declared.history_event.NoOpKind.TheVariants.{Nothing}
 use Rattle.durable_node.specs.Node.{Node}
-use Rattle.node_lock.specs.declared.order.OperatorOrder.{OperatorOrder}
 use Rattle.node_lock.specs.declared.worker.Worker.TheVariants.{Operator}
 use Rattle.node_lock.specs.Asking.{asked_in}
 use Rattle.node_lock.specs.Doing.{TurnDid, WasArmed, WasCrashed}
@@ -28,8 +27,7 @@ returns-in-Crash-clause-taken c =
       stands = c.crash.ensures.stands;
     } in
     let did : TurnDid old (asked_in c.args.order.now) Crashed [] new =
-    subst (λ (o : OperatorOrder). TurnDid old (asked_in o) Crashed [] new) (sym c.in-Crash.is)
-    (subst (λ (f : List ℕ). WasCrashed f old new) c.as_slice.ensures crashed, refl, refl) in (
+    rw c.in-Crash.is (subst (λ (f : List ℕ). WasCrashed f old new) c.as_slice.ensures crashed, refl, refl) in (
       record { what = Crashed; sent = [] },
       record {
         did = did;
@@ -55,8 +53,7 @@ returns-in-Arm-clause-taken c =
     let new = c.arm.new.self in
     let rested = c.in_ok-rest-in-Arm.ensures in
     let armed : WasArmed _ old new = record { armed = c.arm.ensures.armed; stands = c.arm.ensures.stands } in
-    let did : TurnDid old (asked_in c.args.order.now) (NoOp Nothing) [] new =
-    subst (λ (o : OperatorOrder). TurnDid old (asked_in o) (NoOp Nothing) [] new) (sym c.in-Arm.is) (armed, refl, refl) in (
+    let did : TurnDid old (asked_in c.args.order.now) (NoOp Nothing) [] new = rw c.in-Arm.is (armed, refl, refl) in (
       record { what = NoOp Nothing; sent = [] },
       record {
         did = did;
