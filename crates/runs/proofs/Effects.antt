@@ -1,7 +1,7 @@
 -- An act that is refused changes nothing, and one that is done has the effect of its event's row.
 use Rattle.std.proofs.Common.{◌≡◌, ◌≢◌, ℕ, ◌<◌, Bool, true, false, List, [], ◌∷◌, ◌++◌, length, take, slice_get, refl, sym, ◌∙◌, ap, subst}
 use Rattle.std.proofs.Common.{arith, Option, Some, None}
-use Rattle.std.specs.Prelude.{if◌then◌else◌, ◌==◌, nat_lt, option_map, unwrap_or, flat_map, Result, Ok, Err}
+use Rattle.std.specs.Prelude.{if◌then◌else◌, ◌==◌, nat_lt, option_map, unwrap_or, flat_map}
 use Rattle.std.proofs.lemmas.Bool.Decides.{nat_tests}
 use Rattle.std.proofs.lemmas.Grind.{flat_map-append}
 use Rattle.std.proofs.lemmas.List.{append-nil}
@@ -13,7 +13,6 @@ use Rattle.node_core.specs.State.{State, is_down}
 use Rattle.node_core.specs.Effects.{effect_of}
 use Rattle.node_core.specs.Effect.{Effect}
 use Rattle.node_core.specs.declared.event.Event.{Event}
-use Rattle.node_core.specs.declared.event.Event.TheVariants as on
 use Rattle.histories.specs.NodeState.{NodeState, opening, wants_at, effect_at}
 use Rattle.histories.specs.declared.history_event.HistoryEvent.{HistoryEvent}
 use Rattle.histories.specs.declared.history_event.HistoryEvent.TheVariants.{Did, Refused, Faulted, NoOp, Crashed, Recovered, MountFailed}
@@ -27,8 +26,6 @@ use Rattle.histories.specs.Possible.{IsPossible}
 use Rattle.histories.proofs.PublicLaws.{eq_nat}
 use Rattle.schedule.specs.declared.act.Act.{Act}
 use Rattle.schedule.specs.declared.act.Act.TheVariants as act
-use Rattle.sim_net.specs.declared.fault.NetFault.{NetFault}
-use Rattle.sim_net.specs.Network.{Network, delivery}
 use Rattle.runs.specs.declared.outcome.Outcome.TheVariants as outcome
 use Rattle.runs.specs.declared.outcome.ActRefusal.{ActRefusal}
 use Rattle.runs.specs.declared.outcome.ActRefusal.TheVariants.{Node as OfNode}
@@ -37,17 +34,16 @@ use Rattle.runs.specs.World.{World, node_in, start}
 use Rattle.runs.specs.Step.{Step, Takes, Changes, Denies, step_sent, world_after}
 use Rattle.runs.specs.Run.{world_at}
 use Rattle.runs.specs.Acts.{At, IsCompaction, IsStepOf, IsLawful, IsRunOf, act_outcome, what_outcome}
-use Rattle.runs.proofs.Bringing.{Brings}
+use Rattle.runs.proofs.Acting.{by_act, event_by, same_event}
 use Rattle.runs.specs.Reporting.{Moment, Report, moment_of, tries, commands_at, group_of, grown, first_report, report_from}
 use Rattle.runs.specs.Uses.{report_within, last_of, last_state, all_sent, event_in, RefusedChangesNothing, DoneHasItsEffect}
 use Rattle.runs.specs.Uses.{DownRefusesCompaction}
 use Rattle.runs.proofs.ExactRuns.{run_in}
-use Rattle.runs.proofs.Finishing.{taken_there}
 use Rattle.runs.proofs.Fronts.{front_of}
-use Rattle.runs.proofs.Lawful.{no_change, no_delivery, sent_there}
+use Rattle.runs.proofs.Lawful.{sent_there}
 use Rattle.runs.proofs.Moments.{acts_front, front_report}
 use Rattle.runs.proofs.Reported.{state_there}
-use Rattle.runs.proofs.Runs.{comes_sent, node_there, starts_opened, state_elsewhere, state_here}
+use Rattle.runs.proofs.Runs.{node_there, starts_opened, state_elsewhere, state_here}
 
 -- ---- the state that is shown last
 
@@ -232,58 +228,23 @@ run_all_sent slots nodes (a ∷ acts) (step ∷ steps) w r run h =
 abbrev CameTo : ℕ → HistoryEvent → ℕ → Event → Type 0
 CameTo m what n event = (m ≡ n) × IsOf event what
 
-pair_came : (m j n : ℕ) (what : HistoryEvent) (x event : Event) → (m ≡ j) × IsOf x what
-    → ◌≡◌ {A = Option (ℕ × Event)} (Some (j, x)) (Some (n, event)) → CameTo m what n event
-pair_came m j n what x event there is =
-    let both : ◌≡◌ {A = ℕ × Event} (j, x) (n, event) = cc is in
-    (there.0 ∙ ap (λ (p : ℕ × Event). p.0) both, subst (λ (e : Event). IsOf e what) (ap (λ (p : ℕ × Event). p.1) both) there.1)
+-- the event of an act is that of its step
+abbrev Came : World → Act → Step → Type 0
+Came w a (Takes m number what) = (n : ℕ) (event : Event) → event_by w.net.sent a ≡ Some (n, event) → CameTo m what n event
+Came w a (Changes net) = event_by w.net.sent a ≡ None
+Came w a (Denies named why) = Unit {0}
 
-delivery_came : (nodes : ℕ) (net : Network) (k m number n : ℕ) (what : HistoryEvent) (event : Event) (d : Result Envelope NetFault)
-    → delivery net k ≡ d → Brings nodes net k d (Takes m number what)
-    → option_map {U = ℕ × Event} (λ (x : Envelope). (x.receiver, on.Deliver x)) (slice_get net.sent k) ≡ Some (n, event)
-    → CameTo m what n event
-delivery_came nodes net k m number n what event (Ok x) is h named =
-    pair_came m x.receiver n what (on.Deliver x) event (taken_there (nat_lt x.receiver nodes) x.receiver k (IsOf (on.Deliver x)) m number
-    what h)
-    (ap (option_map {U = ℕ × Event} (λ (y : Envelope). (y.receiver, on.Deliver y))) (sym (comes_sent net k x is)) ∙ named)
-delivery_came nodes net k m number n what event (Err why) is h named = absurd cc
+came_there : (nodes : ℕ) (w : World) (a : Act) (step : Step) → IsStepOf nodes w a step → Came w a step
+came_there nodes w = by_act (λ (n : ℕ) (event : Event). IsOf event) (λ (n : ℕ). IsCompaction (node_in w.states n)) nodes w (Came w)
+    (λ a m k x what known is of n event other. let same = same_event m n x event (sym is.is ∙ other) in
+    (same.0, subst (λ (e : Event). IsOf e what) same.1 of))
+    (λ a m what known none rest n event other. (let both : None ≡ Some (n, event) = sym none ∙ other in absurd cc))
+    (λ a net none same. none) (λ a n why no. tt)
 
-event_came : (nodes : ℕ) (w : World) (r : Report) (a : Act) (m number n : ℕ) (what : HistoryEvent) (event : Event) → all_sent r ≡ w.net.sent
-    → IsStepOf nodes w a (Takes m number what)
-    → event_in r a ≡ Some (n, event) → CameTo m what n event
-event_came nodes w r (act.Timer j timer) m number n what event all h is =
-    pair_came m j n what (on.Timer timer) event (taken_there (nat_lt j nodes) j 0 (IsOf (on.Timer timer)) m number what h) is
-event_came nodes w r (act.Deliver k) m number n what event all h is =
-    delivery_came nodes w.net k m number n what event (delivery w.net k) refl h
-    (ap (λ (ms : List Envelope). option_map {U = ℕ × Event} (λ (x : Envelope). (x.receiver, on.Deliver x)) (slice_get ms k)) (sym all)
-    ∙ is)
-event_came nodes w r (act.Submit j work) m number n what event all h is =
-    pair_came m j n what (on.Submit work) event (taken_there (nat_lt j nodes) j 0 (IsOf (on.Submit work)) m number what h) is
-event_came nodes w r (act.Finish j origin id) m number n what event all h is =
-    pair_came m j n what (on.Finish origin id) event (taken_there (nat_lt j nodes) j 0 (IsOf (on.Finish origin id)) m number what h) is
-event_came nodes w r (act.Recover j) m number n what event all h is =
-    pair_came m j n what on.Recover event (taken_there (nat_lt j nodes) j 0 (IsOf on.Recover) m number what h) is
-event_came nodes w r (act.Lose k) m number n what event all h is = absurd cc
-event_came nodes w r (act.Cut x y) m number n what event all h is = absurd cc
-event_came nodes w r (act.Mend x y) m number n what event all h is = absurd cc
-event_came nodes w r (act.Arm j calls) m number n what event all h is = absurd cc
-event_came nodes w r (act.Crash j fill) m number n what event all h is = absurd cc
-event_came nodes w r (act.Compact j) m number n what event all h is = absurd cc
-
--- the network alone changes in no such act
-no_event : (nodes : ℕ) (w : World) (r : Report) (a : Act) (net : Network) (n : ℕ) (event : Event) → IsStepOf nodes w a (Changes net)
-    → event_in r a ≡ Some (n, event) → ⊥
-no_event nodes w r (act.Timer j timer) net n event h is = no_change (nat_lt j nodes) j 0 (IsOf (on.Timer timer)) net h
-no_event nodes w r (act.Deliver k) net n event h is = no_delivery nodes w.net k (delivery w.net k) net h
-no_event nodes w r (act.Submit j work) net n event h is = no_change (nat_lt j nodes) j 0 (IsOf (on.Submit work)) net h
-no_event nodes w r (act.Finish j origin id) net n event h is = no_change (nat_lt j nodes) j 0 (IsOf (on.Finish origin id)) net h
-no_event nodes w r (act.Recover j) net n event h is = no_change (nat_lt j nodes) j 0 (IsOf on.Recover) net h
-no_event nodes w r (act.Lose k) net n event h is = absurd cc
-no_event nodes w r (act.Cut x y) net n event h is = absurd cc
-no_event nodes w r (act.Mend x y) net n event h is = absurd cc
-no_event nodes w r (act.Arm j calls) net n event h is = absurd cc
-no_event nodes w r (act.Crash j fill) net n event h is = absurd cc
-no_event nodes w r (act.Compact j) net n event h is = absurd cc
+-- a report tells it by what it says was sent
+event_is : (r : Report) (sent : List Envelope) (a : Act) → all_sent r ≡ sent → event_in r a ≡ event_by sent a
+event_is r sent (act.Deliver k) all = ap (λ (ms : List Envelope). event_by ms (act.Deliver k)) all
+event_is r sent _ all = refl
 
 -- it was handled
 record IsHandled (n nodes : ℕ) (s : NodeState) (what : HistoryEvent) (event : Event) (answer : Option ℕ) : Type 0 where
@@ -328,7 +289,7 @@ done_step : (slots nodes n p q : ℕ) (w : World) (r : Report) (a : Act) (step :
     → event_in r a ≡ Some (n, event) → slice_get w.states n ≡ Some s → is_down s.state.phase ≡ false
     → act_outcome nodes w a step ≡ outcome.Done answer p q → Effected nodes n s event answer (moment_of nodes w a step)
 done_step slots nodes n p q w r a (Takes m number what) event answer s of may all named at up is =
-    let came = event_came nodes w r a m number n what event all of named in
+    let came = came_there nodes w a (Takes m number what) of n event (sym (event_is r w.net.sent a all) ∙ named) in
     let there : slice_get w.states m ≡ Some s = subst (λ (j : ℕ). slice_get w.states j ≡ Some s) (sym came.0) at in
     let was : node_in w.states m ≡ s = node_there w.states m s there in
     let same : may.0 ≡ s = cc (may.1, there) in
@@ -348,7 +309,8 @@ done_step slots nodes n p q w r a (Takes m number what) event answer s of may al
           ∙ ap (λ (e : Effect). e.sent) at_n),
     )
 done_step slots nodes n p q w r a (Changes net) event answer s of may all named at up is =
-    absurd (no_event nodes w r a net n event of named)
+    (let both : None ≡ Some (n, event) = sym (came_there nodes w a (Changes net) of) ∙ sym (event_is r w.net.sent a all) ∙ named in
+    absurd cc (both))
 done_step slots nodes n p q w r a (Denies m why) event answer s of may all named at up is = absurd cc
 
 pub done_has_its_effect : DoneHasItsEffect

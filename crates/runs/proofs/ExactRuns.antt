@@ -1,7 +1,7 @@
 -- A run in which nothing is used up is exact; and an exact run is a run, as long as it is short.
 use Rattle.std.proofs.Common.{◌≡◌, ◌≢◌, ◌⊎◌, ℕ, zero, suc, ◌+◌, ◌^◌, ◌<◌, Bool, true, false, List, [], ◌∷◌, length, slice_get, refl, sym}
 use Rattle.std.proofs.Common.{◌∙◌, ap, subst, inl, inr, arith, Option, Some, None}
-use Rattle.std.specs.Prelude.{nat_lt, ◌&&◌, if◌then◌else◌, Result, Ok, Err, option_map, IsSome, MatchBool, MatchOption}
+use Rattle.std.specs.Prelude.{nat_lt, if◌then◌else◌, Result, Ok, Err, option_map, IsSome, MatchBool, MatchOption}
 use Rattle.std.specs.Option.{option_or}
 use Rattle.std.proofs.lemmas.Bool.Decides.{nat_tests}
 use Rattle.job_model.specs.Durable.{Durable}
@@ -12,7 +12,7 @@ use Rattle.wire_msg.specs.Envelope.{Envelope}
 use Rattle.wire_msg.specs.declared.body.Body.{Body}
 use Rattle.wire_msg.specs.declared.body.Body.TheVariants as says
 use Rattle.sim_net.specs.declared.fault.NetFault.{NetFault}
-use Rattle.sim_net.specs.Network.{Network, message_at, delivery, after_lost, after_cut, after_mend}
+use Rattle.sim_net.specs.Network.{Network, delivery}
 use Rattle.node_core.specs.declared.event.Event.{Event}
 use Rattle.node_core.specs.declared.event.Event.TheVariants as on
 use Rattle.node_core.specs.declared.fault.CoreFault.{CoreFault}
@@ -39,8 +39,9 @@ use Rattle.runs.specs.declared.outcome.Outcome.{Outcome}
 use Rattle.runs.specs.declared.outcome.Outcome.TheVariants as outcome
 use Rattle.runs.specs.declared.outcome.ActRefusal.TheVariants.{Node}
 use Rattle.runs.specs.World.{World, node_in, start}
-use Rattle.runs.specs.Step.{Step, Takes, Changes, Denies, world_after}
+use Rattle.runs.specs.Step.{Step, Takes, world_after}
 use Rattle.runs.specs.Acts.{At, IsCompaction, IsStepBy, IsStepOf, IsLawful, IsRunOf, act_outcome, what_outcome}
+use Rattle.runs.proofs.Acting.{Rests, by_act}
 use Rattle.runs.proofs.Bringing.{BringsBy}
 use Rattle.runs.specs.ExactRuns.{refusal_at, ComesOfMounting, MayCome, MayCompact, IsExactStep, IsExactRun}
 use Rattle.runs.specs.Reporting.{Moment, Report, moment_of, report_of}
@@ -49,13 +50,12 @@ use Rattle.runs.specs.Reported.{IsReported}
 use Rattle.runs.specs.Headline.{NoAreaExhausted}
 use Rattle.runs.specs.Run.{world_at}
 use Rattle.runs.specs.Uses.{NoneIsSpent}
-use Rattle.runs.proofs.Finishing.{loses_none, link_none}
 use Rattle.runs.proofs.Keeping.{AllStates, step_length}
 use Rattle.runs.proofs.Lawful.{lawful_of}
 use Rattle.runs.proofs.Opened.{length_openings}
 use Rattle.runs.proofs.Reports.{moments_from, moments_are}
 use Rattle.runs.proofs.Runs.{at_place, node_there}
-use Rattle.runs.proofs.Unspent.{FewGiven, no_fault, none_spent, opens_few, settled_below, spent_high, step_few, step_unspent}
+use Rattle.runs.proofs.Unspent.{FewGiven, none_spent, opens_few, settled_below, spent_high, step_few, step_unspent}
 
 -- ---- room for a command
 
@@ -325,42 +325,6 @@ module _ (E F : ℕ → Event → HistoryEvent → Type 0) (C D : ℕ → Histor
   step_by net (act.Recover n) h = event_by n 0 on.Recover h
   step_by net (act.Compact n) h = at_by (nat_lt n nodes) n 0 (C n) (D n) step (λ what known is c. g n 0 what known is c) h
 
-at_there : (known : Bool) (n k : ℕ) (P : HistoryEvent → Type 0) (Q : ℕ → HistoryEvent → Type 0) (m number : ℕ) (what : HistoryEvent)
-    → ((x : HistoryEvent) → known ≡ true → P x → Q n x) → At known n k P (Takes m number what) → Q m what
-at_there true n k P Q m number what f h =
-    let step : Takes m number what ≡ Takes n k h.0 = h.1 in
-    let node : m ≡ n = cc step in
-    let same : what ≡ h.0 = cc step in
-    subst (λ (j : ℕ). Q j what) (sym node) (subst (Q n) (sym same) (f h.0 refl h.2))
-at_there false n k P Q m number what f h = absurd cc
-
--- what holds of all that comes, at nodes of the cluster, holds of the step that a node takes
-module _ (E : ℕ → Event → HistoryEvent → Type 0) (C Q : ℕ → HistoryEvent → Type 0) (nodes m number : ℕ) (what : HistoryEvent)
-    (f : (n : ℕ) (event : Event) (x : HistoryEvent) → nat_lt n nodes ≡ true → E n event x → Q n x)
-    (g : (n : ℕ) (x : HistoryEvent) → nat_lt n nodes ≡ true → C n x → Q n x)
-    (rests : (n : ℕ) → nat_lt n nodes ≡ true → Q n (NoOp Nothing) × Q n Crashed) where
-  event_there : (n k : ℕ) (event : Event) → At (nat_lt n nodes) n k (E n event) (Takes m number what) → Q m what
-  event_there n k event h = at_there (nat_lt n nodes) n k (E n event) Q m number what (λ x known e. f n event x known e) h
-
-  brought_there : (net : Network) (k : ℕ) (d : Result Envelope NetFault) → BringsBy E nodes net k d (Takes m number what) → Q m what
-  brought_there net k (Ok x) h = event_there x.receiver k (on.Deliver x) h
-  brought_there net k (Err why) h = absurd cc
-
-  step_there : (net : Network) (a : Act) → IsStepBy E C nodes net a (Takes m number what) → Q m what
-  step_there net (act.Timer n timer) h = event_there n 0 (on.Timer timer) h
-  step_there net (act.Deliver k) h = brought_there net k (delivery net k) h
-  step_there net (act.Lose k) h = absurd (loses_none (after_lost net k) (message_at net k) m number what h)
-  step_there net (act.Cut x y) h = absurd (link_none (nat_lt x nodes && nat_lt y nodes) (after_cut net x y) m number what h)
-  step_there net (act.Mend x y) h = absurd (link_none (nat_lt x nodes && nat_lt y nodes) (after_mend net x y) m number what h)
-  step_there net (act.Submit n work) h = event_there n 0 (on.Submit work) h
-  step_there net (act.Finish n origin id) h = event_there n 0 (on.Finish origin id) h
-  step_there net (act.Arm n calls) h = at_there (nat_lt n nodes) n 0 (λ (x : HistoryEvent). x
-      ≡ NoOp Nothing) Q m number what (λ x known e. subst (Q n) (sym e) (rests n known).0) h
-  step_there net (act.Crash n fill) h = at_there (nat_lt n nodes) n 0 (λ (x : HistoryEvent). x
-      ≡ Crashed) Q m number what (λ x known e. subst (Q n) (sym e) (rests n known).1) h
-  step_there net (act.Recover n) h = event_there n 0 on.Recover h
-  step_there net (act.Compact n) h = at_there (nat_lt n nodes) n 0 (C n) Q m number what (λ x known c. g n x known c) h
-
 -- ---- a run in which nothing is used up is exact
 
 used_up_outcome : (n nodes first : ℕ) (s : NodeState) (what : HistoryEvent) (a : Act) → IsUsedUp what
@@ -429,7 +393,7 @@ run_step slots nodes limit w a step exact many few short = (
   step_by _ _ _ _ nodes step (λ n number event what known is (e : MayHaveCome (IsOf event) slots n nodes (node_in w.states n) what). e.of)
       (λ n number what known is (c : MayHaveCome (IsCompaction (node_in w.states n)) slots n nodes (node_in w.states n) what). c.of) w.net a
       by,
-  lawful step by,
+  lawful,
 )
   where
     here : (n : ℕ) → nat_lt n nodes ≡ true → (s : NodeState) × (slice_get w.states n ≡ Some s)
@@ -458,17 +422,20 @@ run_step slots nodes limit w a step exact many few short = (
           subst (λ (x : NodeState). IsOfSlots slots n nodes x what) is it.of_slots,
         )
 
-    lawful : (x : Step) → IsStepBy (λ (n : ℕ) (event : Event). MayHaveCome (IsOf event) slots n nodes (node_in w.states n))
-        (λ (n : ℕ). MayHaveCome (IsCompaction (node_in w.states n)) slots n nodes (node_in w.states n)) nodes w.net a x
-        → IsLawful slots nodes w x
-    lawful (Takes m number what) h = step_there _ _ Lawful nodes m number what (λ n event x known e. lawful_at (IsOf event) n x known e)
-        (λ n x known c. lawful_at (IsCompaction (node_in w.states n)) n x known c)
-        (λ n known. (
-          lawful_at (λ x. Unit {0}) n (NoOp Nothing) known (record { of = tt; possible = tt; of_slots = tt }),
-          lawful_at (λ x. Unit {0}) n Crashed known (record { of = tt; possible = tt; of_slots = tt }),
-        )) w.net a h
-    lawful (Changes net) h = tt
-    lawful (Denies named why) h = tt
+    rests_lawful : (n : ℕ) (what : HistoryEvent) → nat_lt n nodes ≡ true
+        → Rests (λ (n : ℕ). MayHaveCome (IsCompaction (node_in w.states n)) slots n nodes (node_in w.states n)) n what → Lawful n what
+    rests_lawful n what known rest = elim rest [
+      | inl c ↦ lawful_at (IsCompaction (node_in w.states n)) n what known c
+      | inr other ↦ lawful_at (λ x. Unit {0}) n what known (elim other [
+        | inl is ↦ rw is (record { of = tt; possible = tt; of_slots = tt })
+        | inr is ↦ rw is (record { of = tt; possible = tt; of_slots = tt })
+      ])
+    ]
+
+    lawful : IsLawful slots nodes w step
+    lawful = by_act _ _ nodes w (λ (a : Act). IsLawful slots nodes w)
+        (λ a n k event what known is e. lawful_at (IsOf event) n what known e)
+        (λ a n what known none rest. rests_lawful n what known rest) (λ a net none same. tt) (λ a n why no. tt) a step by
 
 run_from : (slots nodes limit : ℕ) (acts : List Act) (steps : List Step) (w : World) → IsExactRun nodes slots w acts steps
     → length w.states ≡ nodes → AllStates (FewGiven limit) w → limit + length acts < 2 ^ 64 → IsRunOf nodes slots w acts steps
@@ -585,19 +552,21 @@ usable_outcome n nodes first s MountFailed a may says = elim says [ inl is ↦ a
 usable_outcome n nodes first s (RaiseFailed kept) a may says = elim says [ inl is ↦ absurd cc | inr is ↦ absurd cc ]
 usable_outcome n nodes first s (RaiseRefused kept) a may says = may tt
 
+usable_rest : (w : World) (n : ℕ) (what : HistoryEvent) → Rests (λ (n : ℕ). MayCompact (node_in w.states n)) n what → IsUsedUp what → ⊥
+usable_rest w n what rest up = elim rest [
+  | inl c ↦ compact_usable (node_in w.states n) what c up
+  | inr other ↦ elim other [ inl is ↦ subst IsUsedUp is up | inr is ↦ subst IsUsedUp is up ]
+]
+
 usable_step : (slots nodes : ℕ) (w : World) (a : Act) (step : Step) → IsExactStep nodes slots w a step
     → SaysUsedUp (act_outcome nodes w a step) → ⊥
-usable_step slots nodes w a (Takes m number what) h says =
-    usable_outcome m nodes (length w.net.sent) (node_in w.states m) what a
-    (step_there (λ (n : ℕ). MayCome slots n nodes (node_in w.states n)) (λ (n : ℕ). MayCompact (node_in w.states n))
-    (λ (n : ℕ) (x : HistoryEvent). IsUsedUp x → ⊥) nodes m number what
-    (λ n event x known e. usable slots n nodes (node_in w.states n) event x e) (λ n x known c. compact_usable (node_in w.states n) x c)
-    (λ n known. (λ up. up, λ up. up)) w.net a h) says
-usable_step slots nodes w a (Changes net) h says = elim says [ inl is ↦ absurd cc | inr is ↦ absurd cc ]
-usable_step slots nodes w a (Denies named why) h says =
-    let none = no_fault (λ (n : ℕ). MayCome slots n nodes (node_in w.states n))
-    (λ (n : ℕ). MayCompact (node_in w.states n)) nodes w.net a named why h in
-    elim says [ inl is ↦ none Exhausted (cc is) | inr is ↦ none AreaExhausted (cc is) ]
+usable_step slots nodes w = by_act (λ (n : ℕ). MayCome slots n nodes (node_in w.states n)) (λ (n : ℕ). MayCompact (node_in w.states n))
+    nodes w (λ (a : Act) (step : Step). SaysUsedUp (act_outcome nodes w a step) → ⊥)
+    (λ a n k event what known is e. usable_outcome n nodes _ (node_in w.states n) what a
+    (usable slots n nodes (node_in w.states n) event what e))
+    (λ a n what known none rest. usable_outcome n nodes _ (node_in w.states n) what a (usable_rest w n what rest))
+    (λ a net none same says. elim says [ inl is ↦ absurd cc | inr is ↦ absurd cc ])
+    (λ a n why no says. elim says [ inl is ↦ no Exhausted (cc is) | inr is ↦ no AreaExhausted (cc is) ])
 
 usable_from : (slots nodes : ℕ) (acts : List Act) (steps : List Step) (w : World) → IsExactRun nodes slots w acts steps
     → (k : ℕ) (m : Moment) → slice_get (moments_from nodes w acts steps) k ≡ Some m → SaysUsedUp m.outcome → ⊥

@@ -1,27 +1,26 @@
 -- Only an act `finish` tells a node that a job is finished.
-use Rattle.std.proofs.Common.{◌≡◌, ◌≢◌, ℕ, Bool, true, false, refl, subst, inl, inr}
-use Rattle.std.specs.Prelude.{if◌then◌else◌, ◌&&◌, nat_lt, Result, Ok, Err, MatchResult}
+use Rattle.std.proofs.Common.{◌≡◌, ◌≢◌, ◌∙◌, ℕ, Bool, true, false, List, slice_get, Option, Some, None, refl, ap, subst, inl, inr}
+use Rattle.std.specs.Prelude.{if◌then◌else◌, option_map, Result, Ok, Err, MatchResult}
 use Rattle.wire_msg.specs.Envelope.{Envelope}
 use Rattle.node_core.specs.declared.event.Event.{Event}
 use Rattle.node_core.specs.declared.event.Event.TheVariants as on
 use Rattle.histories.specs.Lists.{IsAmong}
 use Rattle.histories.specs.declared.history_event.HistoryEvent.{HistoryEvent}
-use Rattle.histories.specs.declared.history_event.HistoryEvent.TheVariants.{Did, Faulted, NoOp, Crashed}
-use Rattle.histories.specs.declared.history_event.NoOpKind.TheVariants.{Nothing}
+use Rattle.histories.specs.declared.history_event.HistoryEvent.TheVariants.{Did, Faulted}
 use Rattle.histories.specs.Owners.{acted}
 use Rattle.schedule.specs.declared.act.Act.{Act}
 use Rattle.schedule.specs.declared.act.Act.TheVariants as act
 use Rattle.sim_net.specs.declared.fault.NetFault.{NetFault}
-use Rattle.sim_net.specs.Network.{Network, message_at, delivery, after_lost, after_cut, after_mend}
+use Rattle.sim_net.specs.Network.{Network}
 use Rattle.runs.specs.World.{World, node_in}
 use Rattle.runs.specs.declared.outcome.Outcome.TheVariants as outcome
 use Rattle.runs.specs.declared.outcome.ActRefusal.{ActRefusal}
 use Rattle.runs.specs.declared.outcome.ActRefusal.TheVariants.{Net as OfNet, Stranger}
-use Rattle.runs.specs.Step.{Takes, Changes, Denies}
+use Rattle.runs.specs.Step.{Step, Takes, Changes, Denies}
 use Rattle.histories.specs.NodeState.{NodeState}
 use Rattle.histories.specs.HistoryEvent.{IsOf}
 use Rattle.runs.specs.Acts.{what_outcome, IsCompaction, At, IsStepOf}
-use Rattle.runs.proofs.Bringing.{Brings}
+use Rattle.runs.proofs.Acting.{Rests, by_act, event_by, same_event}
 
 abbrev pub SaysFinished : HistoryEvent → ℕ → ℕ → Type 0
 SaysFinished what origin id = IsAmong (on.Finish origin id) (acted what)
@@ -46,26 +45,6 @@ compaction_said s (Did e) origin id is i = is
 compaction_said s (Faulted e) origin id is i = is
 compaction_said s _ origin id is i = i
 
--- the act of a step that says so is `finish`
-by_event : (a : Act) (known : Bool) (n k : ℕ) (event : Event) (m number : ℕ) (what : HistoryEvent) (origin id : ℕ)
-    → (event ≡ on.Finish origin id → a ≡ act.Finish n origin id)
-    → At known n k (IsOf event) (Takes m number what) → SaysFinished what origin id → a ≡ act.Finish m origin id
-by_event a known n k event m number what origin id only h i =
-    let there = taken_there known n k (IsOf event) m number what h in
-    rw there.0 (only (event_said event what origin id there.1 i))
-
-at_rest : (known : Bool) (n k : ℕ) (P : HistoryEvent → Type 0) (m number : ℕ) (what : HistoryEvent) (origin id : ℕ)
-    → (P what → SaysFinished what origin id → ⊥)
-    → At known n k P (Takes m number what) → SaysFinished what origin id → ⊥
-at_rest known n k P m number what origin id none h i = none (taken_there known n k P m number what h).1 i
-
-brings_none : (nodes : ℕ) (net : Network) (k : ℕ) (d : Result Envelope NetFault) (m number : ℕ) (what : HistoryEvent) (origin id : ℕ)
-    → Brings nodes net k d (Takes m number what) → SaysFinished what origin id → ⊥
-brings_none nodes net k (Ok x) m number what origin id h i =
-    let there = taken_there (nat_lt x.receiver nodes) x.receiver k (IsOf (on.Deliver x)) m number what h in
-    let bad : on.Deliver x ≡ on.Finish origin id = event_said (on.Deliver x) what origin id there.1 i in absurd cc
-brings_none nodes net k (Err why) m number what origin id h i = absurd cc
-
 pub loses_none : (net : Network) (d : Result Envelope NetFault) (m number : ℕ) (what : HistoryEvent)
     → MatchResult d (λ (x : Envelope). Takes m number what ≡ Changes net) (λ (why : NetFault). Takes m number what ≡ Denies 0 (OfNet why))
     → ⊥
@@ -77,34 +56,45 @@ pub link_none : (known : Bool) (net : Network) (m number : ℕ) (what : HistoryE
 link_none true net m number what h = absurd cc
 link_none false net m number what h = absurd cc
 
-same_finish : (n origin id o i : ℕ) → on.Finish origin id ≡ on.Finish o i → act.Finish n origin id ≡ act.Finish n o i
-same_finish n origin id o i e = (let of_origin : origin ≡ o = cc e in let of_id : id ≡ i = cc e in rw (of_origin, of_id) refl)
+none_finishes : (message : Option Envelope) (n origin id : ℕ)
+    → option_map {U = ℕ × Event} (λ (m : Envelope). (m.receiver, on.Deliver m)) message ≡ Some (n, on.Finish origin id) → ⊥
+none_finishes None n origin id is = absurd cc
+none_finishes (Some m) n origin id is =
+    (let bad : on.Deliver m ≡ on.Finish origin id = (same_event m.receiver n (on.Deliver m) (on.Finish origin id) is).1 in absurd cc)
+
+-- an act that is this event is `finish`
+finishes : (sent : List Envelope) (a : Act) (n origin id : ℕ) → event_by sent a ≡ Some (n, on.Finish origin id) → a ≡ act.Finish n origin id
+finishes sent (act.Finish m o i) n origin id is =
+    let same = same_event m n (on.Finish o i) (on.Finish origin id) is in
+    let of_origin : o ≡ origin = cc same.1 in
+    let of_id : i ≡ id = cc same.1 in
+    rw (same.0, of_origin, of_id) refl
+finishes sent (act.Deliver k) n origin id is = absurd (none_finishes (slice_get sent k) n origin id is)
+finishes sent _ n origin id is = (let bad = ap (option_map {U = Event} (λ (p : ℕ × Event). p.1)) is in absurd cc)
+
+-- so is the act of a step that says so
+abbrev OnlyFinishes : Act → Step → Type 0
+OnlyFinishes a (Takes m number what) = (origin id : ℕ) → SaysFinished what origin id → a ≡ act.Finish m origin id
+OnlyFinishes a _ = Unit {0}
+
+rest_said : (w : World) (n : ℕ) (what : HistoryEvent) (origin id : ℕ) → Rests (λ (n : ℕ). IsCompaction (node_in w.states n)) n what
+    → SaysFinished what origin id → ⊥
+rest_said w n what o i rest says = elim rest [
+  | inl c ↦ compaction_said (node_in w.states n) what o i c says
+  | inr other ↦ elim other [
+    | inl is ↦ subst (λ (x : HistoryEvent). SaysFinished x o i) is says
+    | inr is ↦ subst (λ (x : HistoryEvent). SaysFinished x o i) is says
+  ]
+]
 
 pub finish_act : (nodes : ℕ) (w : World) (a : Act) (m number : ℕ) (what : HistoryEvent) (origin id : ℕ)
     → IsStepOf nodes w a (Takes m number what) → SaysFinished what origin id → a ≡ act.Finish m origin id
-finish_act nodes w (act.Timer n timer) m number what o i h says =
-    by_event (act.Timer n timer) (nat_lt n nodes) n 0 (on.Timer timer) m number what o i (λ e. absurd cc) h says
-finish_act nodes w (act.Deliver k) m number what o i h says = absurd (brings_none nodes w.net k (delivery w.net k) m number what o i h says)
-finish_act nodes w (act.Lose k) m number what o i h says = absurd (loses_none (after_lost w.net k) (message_at w.net k) m number what h)
-finish_act nodes w (act.Cut x y) m number what o i h says =
-    absurd (link_none (nat_lt x nodes && nat_lt y nodes) (after_cut w.net x y) m number what h)
-finish_act nodes w (act.Mend x y) m number what o i h says =
-    absurd (link_none (nat_lt x nodes && nat_lt y nodes) (after_mend w.net x y) m number what h)
-finish_act nodes w (act.Submit n work) m number what o i h says =
-    by_event (act.Submit n work) (nat_lt n nodes) n 0 (on.Submit work) m number what o i (λ e. absurd cc) h says
-finish_act nodes w (act.Finish n origin id) m number what o i h says =
-    by_event (act.Finish n origin id) (nat_lt n nodes) n 0 (on.Finish origin id) m number what o i (same_finish n origin id o i) h says
-finish_act nodes w (act.Arm n calls) m number what o i h says =
-    absurd (at_rest (nat_lt n nodes) n 0 (λ (x : HistoryEvent). x
-    ≡ NoOp Nothing) m number what o i (λ is j. subst (λ (x : HistoryEvent). SaysFinished x o i) is j) h says)
-finish_act nodes w (act.Crash n fill) m number what o i h says =
-    absurd (at_rest (nat_lt n nodes) n 0 (λ (x : HistoryEvent). x
-    ≡ Crashed) m number what o i (λ is j. subst (λ (x : HistoryEvent). SaysFinished x o i) is j) h says)
-finish_act nodes w (act.Recover n) m number what o i h says =
-    by_event (act.Recover n) (nat_lt n nodes) n 0 on.Recover m number what o i (λ e. absurd cc) h says
-finish_act nodes w (act.Compact n) m number what o i h says =
-    absurd (at_rest (nat_lt n nodes) n 0 (IsCompaction (node_in w.states n)) m number what o i
-    (compaction_said (node_in w.states n) what o i) h says)
+finish_act nodes w a m number what origin id h =
+    by_act (λ (n : ℕ) (event : Event). IsOf event) (λ (n : ℕ). IsCompaction (node_in w.states n)) nodes w OnlyFinishes
+    (λ a n k event what known is of o i says. finishes w.net.sent a n o i
+    (is.is ∙ ap (λ (x : Event). Some (n, x)) (event_said event what o i of says)))
+    (λ a n what known none rest o i says. absurd (rest_said w n what o i rest says)) (λ a net none same. tt) (λ a n why no. tt)
+    a (Takes m number what) h origin id
 
 -- what a node didn't refuse isn't reported as refused
 pub acted_outcome : (self nodes first : ℕ) (s : NodeState) (what : HistoryEvent) (a : Act) (event : Event) → IsAmong event (acted what)

@@ -1,4 +1,5 @@
 mod Runs
+mod Acting
 mod Bringing
 mod Lawful
 mod RunBooks

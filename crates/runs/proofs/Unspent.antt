@@ -1,18 +1,12 @@
 -- No run of acts is long enough to use up a counter or the ids.
-use Rattle.std.proofs.Common.{◌≡◌, ◌≢◌, ℕ, ◌+◌, ◌^◌, ◌<◌, ◌≤◌, Bool, true, false, List, [], ◌∷◌, length, slice_get, refl, sym, ◌∙◌, ap}
+use Rattle.std.proofs.Common.{◌≡◌, ◌≢◌, ℕ, ◌+◌, ◌^◌, ◌<◌, ◌≤◌, Bool, true, false, List, [], ◌∷◌, length, refl, sym, ◌∙◌, ap}
 use Rattle.std.proofs.Common.{subst, inl, inr, arith, Option, Some, None}
-use Rattle.std.specs.Prelude.{nat_lt, ◌&&◌, if◌then◌else◌, MatchResult, Result, Ok, Err}
 use Rattle.job_model.specs.declared.node_command.NodeCommand.{NodeCommand as Command}
 use Rattle.job_model.specs.declared.node_command.NodeCommand.TheVariants.{Raise, Put, Done}
 use Rattle.job_model.specs.Durable.{Durable}
 use Rattle.job_model.specs.Fold.{after_command, after_wanted}
 use Rattle.node_core.specs.NodeStep.{IsSpent}
-use Rattle.wire_msg.specs.Envelope.{Envelope}
 use Rattle.node_core.specs.declared.event.Event.{Event}
-use Rattle.node_core.specs.declared.event.Event.TheVariants as on
-use Rattle.node_core.specs.declared.fault.Refusal.{Refusal}
-use Rattle.sim_net.specs.declared.fault.NetFault.{NetFault}
-use Rattle.sim_net.specs.Network.{Network, message_at, delivery, after_lost, after_cut, after_mend}
 use Rattle.node_core.specs.declared.fault.Refusal.TheVariants.{Core, Full, Exhausted, AreaExhausted}
 use Rattle.histories.specs.Lists.{IsAmong}
 use Rattle.histories.specs.NodeState.{NodeState, opening, wants_at, settled}
@@ -29,12 +23,11 @@ use Rattle.histories.proofs.PublicLaws.{DoubtIsDown, at_down, doubt_after}
 use Rattle.schedule.specs.declared.act.Act.{Act}
 use Rattle.schedule.specs.declared.act.Act.TheVariants as act
 use Rattle.runs.specs.declared.outcome.Outcome.TheVariants as outcome
-use Rattle.runs.specs.declared.outcome.ActRefusal.{ActRefusal}
-use Rattle.runs.specs.declared.outcome.ActRefusal.TheVariants.{Node, Net as OfNet, Stranger}
+use Rattle.runs.specs.declared.outcome.ActRefusal.TheVariants.{Node}
 use Rattle.runs.specs.World.{World, node_in, start}
 use Rattle.runs.specs.Step.{Step, Takes, Changes, Denies, world_after}
-use Rattle.runs.specs.Acts.{At, IsCompaction, IsStepBy, IsStepOf, IsLawful, IsRunOf, act_outcome, receiver_or_first, what_outcome}
-use Rattle.runs.proofs.Bringing.{BringsBy}
+use Rattle.runs.specs.Acts.{IsCompaction, IsStepOf, IsLawful, IsRunOf, act_outcome, what_outcome}
+use Rattle.runs.proofs.Acting.{no_fault}
 use Rattle.runs.specs.Reporting.{Moment, report_of}
 use Rattle.runs.proofs.Keeping.{AllStates, lawful_keeps}
 use Rattle.runs.proofs.Reports.{moments_from, moments_are}
@@ -166,50 +159,6 @@ what_unspent limit self nodes first s (RaiseFailed kept) a may h short is = absu
 what_unspent limit self nodes first s (RaiseRefused kept) a may h short is =
     omega (arith, may.2, (settled_below h.low kept s h.below).counts, h.sum, short)
 
--- what no node refuses, the network refuses, or it is at a node outside the cluster
-abbrev pub NoFault : ActRefusal → Type 0
-NoFault why = (fault : Refusal) → why ≡ Node fault → ⊥
-
-at_denied : (known : Bool) (n k : ℕ) (P : HistoryEvent → Type 0) (named : ℕ) (why : ActRefusal) → At known n k P (Denies named why)
-    → NoFault why
-at_denied true n k P named why h fault is = absurd cc (h.1)
-at_denied false n k P named why h fault is = (let stranger : why ≡ Stranger = cc h in
-    let both : Stranger ≡ Node fault = sym stranger ∙ is in absurd cc)
-
-net_denied : (f : NetFault) (n named : ℕ) (why : ActRefusal) → Denies named why ≡ Denies n (OfNet f) → NoFault why
-net_denied f n named why h fault is = (let net : why ≡ OfNet f = cc h in let both : OfNet f ≡ Node fault = sym net ∙ is in absurd cc)
-
-brings_denied : (E : ℕ → Event → HistoryEvent → Type 0) (nodes : ℕ) (net : Network) (k : ℕ) (d : Result Envelope NetFault) (named : ℕ)
-    (why : ActRefusal) → BringsBy E nodes net k d (Denies named why) → NoFault why
-brings_denied E nodes net k (Ok x) named why h = at_denied (nat_lt x.receiver nodes) x.receiver k (E x.receiver (on.Deliver x)) named why h
-brings_denied E nodes net k (Err f) named why h = net_denied f (receiver_or_first nodes (slice_get net.sent k)) named why h
-
-loses_denied : (net : Network) (k : ℕ) (d : Result Envelope NetFault) (named : ℕ) (why : ActRefusal)
-    → MatchResult d (λ (x : Envelope). Denies named why ≡ Changes (after_lost net k))
-    (λ (f : NetFault). Denies named why ≡ Denies 0 (OfNet f)) → NoFault why
-loses_denied net k (Ok x) named why h fault is = absurd cc
-loses_denied net k (Err f) named why h fault is = net_denied f 0 named why h fault is
-
-link_denied : (known : Bool) (net : Network) (named : ℕ) (why : ActRefusal)
-    → Denies named why ≡ (if known then Changes net else Denies 0 Stranger) → NoFault why
-link_denied true net named why h fault is = absurd cc
-link_denied false net named why h fault is = (let stranger : why ≡ Stranger = cc h in
-    let both : Stranger ≡ Node fault = sym stranger ∙ is in absurd cc)
-
-pub no_fault : (E : ℕ → Event → HistoryEvent → Type 0) (C : ℕ → HistoryEvent → Type 0) (nodes : ℕ) (net : Network) (a : Act) (named : ℕ)
-    (why : ActRefusal) → IsStepBy E C nodes net a (Denies named why) → NoFault why
-no_fault E C nodes net (act.Timer n timer) named why h = at_denied (nat_lt n nodes) n 0 (E n (on.Timer timer)) named why h
-no_fault E C nodes net (act.Deliver k) named why h = brings_denied E nodes net k (delivery net k) named why h
-no_fault E C nodes net (act.Lose k) named why h = loses_denied net k (message_at net k) named why h
-no_fault E C nodes net (act.Cut x y) named why h = link_denied (nat_lt x nodes && nat_lt y nodes) (after_cut net x y) named why h
-no_fault E C nodes net (act.Mend x y) named why h = link_denied (nat_lt x nodes && nat_lt y nodes) (after_mend net x y) named why h
-no_fault E C nodes net (act.Submit n work) named why h = at_denied (nat_lt n nodes) n 0 (E n (on.Submit work)) named why h
-no_fault E C nodes net (act.Finish n origin id) named why h = at_denied (nat_lt n nodes) n 0 (E n (on.Finish origin id)) named why h
-no_fault E C nodes net (act.Arm n calls) named why h = at_denied (nat_lt n nodes) n 0 (λ (x : HistoryEvent). x ≡ NoOp Nothing) named why h
-no_fault E C nodes net (act.Crash n fill) named why h = at_denied (nat_lt n nodes) n 0 (λ (x : HistoryEvent). x ≡ Crashed) named why h
-no_fault E C nodes net (act.Recover n) named why h = at_denied (nat_lt n nodes) n 0 (E n on.Recover) named why h
-no_fault E C nodes net (act.Compact n) named why h = at_denied (nat_lt n nodes) n 0 (C n) named why h
-
 pub step_unspent : (slots nodes limit : ℕ) (w : World) (a : Act) (step : Step) → IsStepOf nodes w a step → IsLawful slots nodes w step
     → AllStates (FewGiven limit) w → limit + 1 < 2 ^ 64 → act_outcome nodes w a step ≢ outcome.Refused (Node Exhausted)
 step_unspent slots nodes limit w a (Takes n number what) of may h short is =
@@ -218,7 +167,7 @@ step_unspent slots nodes limit w a (Takes n number what) of may h short is =
     ≡ outcome.Refused (Node Exhausted)) (node_there w.states n may.0 may.1) is)
 step_unspent slots nodes limit w a (Changes net) of may h short is = absurd cc
 step_unspent slots nodes limit w a (Denies named why) of may h short is =
-    no_fault (λ (n : ℕ) (event : Event). IsOf event) (λ (n : ℕ). IsCompaction (node_in w.states n)) nodes w.net a named why of
+    no_fault (λ (n : ℕ) (event : Event). IsOf event) (λ (n : ℕ). IsCompaction (node_in w.states n)) nodes w a named why of
     Exhausted (cc is)
 
 all_unspent : (slots nodes limit : ℕ) (acts : List Act) (steps : List Step) (w : World) → IsRunOf nodes slots w acts steps
