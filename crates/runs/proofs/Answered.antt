@@ -12,9 +12,8 @@ use Rattle.node_core.specs.Wants.{wants_of}
 use Rattle.histories.specs.NodeState.{NodeState, wants_at, settled}
 use Rattle.histories.specs.declared.attempt.Attempt.{Attempt}
 use Rattle.histories.specs.declared.history_event.HistoryEvent.{HistoryEvent}
-use Rattle.histories.specs.declared.history_event.HistoryEvent.TheVariants.{Did, Refused, Faulted, NoOp, Crashed, Recovered, MountFailed}
-use Rattle.histories.specs.declared.history_event.HistoryEvent.TheVariants.{RaiseFailed, RaiseRefused}
-use Rattle.histories.specs.declared.history_event.NoOpKind.TheVariants.{Nothing, Compacted, CompactDown, CompactAreaExhausted}
+use Rattle.histories.specs.declared.history_event.HistoryEvent.TheVariants.{Did, NoOp, Crashed, Recovered}
+use Rattle.histories.specs.declared.history_event.NoOpKind.TheVariants.{Nothing}
 use Rattle.histories.specs.HistoryEvent.{IsOf}
 use Rattle.schedule.specs.declared.act.Act.{Act}
 use Rattle.schedule.specs.declared.act.Act.TheVariants as act
@@ -46,15 +45,7 @@ asks_event nodes w (act.Recover n) m number what c h is = record {
   of = (taken_there (nat_lt n nodes) n 0 (IsOf on.Recover) m number what h).1;
   wants = λ self pending s. is;
 }
-asks_event nodes w (act.Timer n timer) m number what c h is = absurd cc
-asks_event nodes w (act.Deliver k) m number what c h is = absurd cc
-asks_event nodes w (act.Lose k) m number what c h is = absurd cc
-asks_event nodes w (act.Cut x y) m number what c h is = absurd cc
-asks_event nodes w (act.Mend x y) m number what c h is = absurd cc
-asks_event nodes w (act.Finish n origin id) m number what c h is = absurd cc
-asks_event nodes w (act.Arm n calls) m number what c h is = absurd cc
-asks_event nodes w (act.Crash n fill) m number what c h is = absurd cc
-asks_event nodes w (act.Compact n) m number what c h is = absurd cc
+asks_event nodes w _ m number what c h is = absurd cc
 
 -- one command was tried, and taken with this answer
 record TakesOne (n a : ℕ) (what : HistoryEvent) (ts : List AttemptAt) : Type 0 where
@@ -96,18 +87,10 @@ raised_one n a kept s answer = record {
 what_answered : (n nodes first a p q : ℕ) (s : NodeState) (what : HistoryEvent) (b : Act)
     → what_outcome n nodes first s what b ≡ outcome.Done (Some a) p q → TakesOne n a what (at_node n (tries n nodes s what))
 what_answered n nodes first a p q s (Did event) b is = wanted_one n nodes a s event (wants_at n nodes s event) refl (cc is)
-what_answered n nodes first a p q s (Refused event fault) b is = absurd cc
-what_answered n nodes first a p q s (Faulted event) b is = absurd cc
 what_answered n nodes first a p q s (NoOp Nothing) b is = absurd cc
-what_answered n nodes first a p q s (NoOp Compacted) b is = absurd cc
-what_answered n nodes first a p q s (NoOp CompactDown) b is = absurd cc
-what_answered n nodes first a p q s (NoOp CompactAreaExhausted) b is = absurd cc
 what_answered n nodes first a p q s Crashed (act.Compact m) is = absurd cc
-what_answered n nodes first a p q s Crashed _ is = absurd cc
 what_answered n nodes first a p q s (Recovered kept) b is = raised_one n a kept s (cc is)
-what_answered n nodes first a p q s MountFailed b is = absurd cc
-what_answered n nodes first a p q s (RaiseFailed kept) b is = absurd cc
-what_answered n nodes first a p q s (RaiseRefused kept) b is = absurd cc
+what_answered n nodes first a p q s _ b is = absurd cc
 
 -- so in a step of an act
 record StepTakes (nodes a : ℕ) (w : World) (b : Act) (step : Step) : Type 0 where

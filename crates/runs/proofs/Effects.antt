@@ -15,8 +15,8 @@ use Rattle.node_core.specs.Effect.{Effect}
 use Rattle.node_core.specs.declared.event.Event.{Event}
 use Rattle.histories.specs.NodeState.{NodeState, opening, wants_at, effect_at}
 use Rattle.histories.specs.declared.history_event.HistoryEvent.{HistoryEvent}
-use Rattle.histories.specs.declared.history_event.HistoryEvent.TheVariants.{Did, Refused, Faulted, NoOp, Crashed, Recovered, MountFailed}
-use Rattle.histories.specs.declared.history_event.HistoryEvent.TheVariants.{RaiseFailed, RaiseRefused}
+use Rattle.histories.specs.declared.history_event.HistoryEvent.TheVariants.{Did, Refused, NoOp, Crashed, Recovered}
+use Rattle.histories.specs.declared.history_event.HistoryEvent.TheVariants.{RaiseRefused}
 use Rattle.histories.specs.declared.history_event.NoOpKind.TheVariants.{Nothing, Compacted, CompactDown, CompactAreaExhausted}
 use Rattle.node_core.specs.declared.fault.CoreFault.TheVariants.{Down}
 use Rattle.node_core.specs.declared.fault.Refusal.TheVariants.{Core}
@@ -104,10 +104,9 @@ step_last slots nodes n w r a (Denies named why) may h = record {
 run_last : (slots nodes n : ℕ) (acts : List Act) (steps : List Step) (w : World) (r : Report) → IsRunOf nodes slots w acts steps
     → IsLast w r n → IsLast (world_at nodes w steps) (report_from nodes w r acts steps) n
 run_last slots nodes n [] [] w r run h = h
-run_last slots nodes n [] (step ∷ steps) w r run h = absurd run
-run_last slots nodes n (a ∷ acts) [] w r run h = absurd run
 run_last slots nodes n (a ∷ acts) (step ∷ steps) w r run h =
     run_last slots nodes n acts steps (world_after nodes w step) (grown nodes w a step r) run.2 (step_last slots nodes n w r a step run.1 h)
+run_last slots nodes n _ _ w r run h = absurd run
 
 -- after the first acts
 within_last : (slots nodes n k : ℕ) (acts : List Act) (steps : List Step) → IsRunOf nodes slots (start nodes) acts steps → n < nodes
@@ -117,8 +116,7 @@ within_last slots nodes n k acts steps run within =
     record {
       now = opening n;
       at = starts_opened nodes n within;
-      shown =
-          state_there (start nodes).states n (opening n) (starts_opened nodes n within);
+      shown = state_there (start nodes).states n (opening n) (starts_opened nodes n within);
     } in
     subst (λ (r : Report). IsLast (world_at nodes (start nodes) (take k steps)) r n) (sym (front_report nodes k acts steps))
     (run_last slots nodes n (take k acts) (take k steps) (start nodes) (first_report nodes)
@@ -133,16 +131,11 @@ record IsQuiet (self nodes : ℕ) (s : NodeState) (what : HistoryEvent) : Type 0
 
 refused_what : (n nodes first : ℕ) (s : NodeState) (what : HistoryEvent) (a : Act) (why : ActRefusal)
     → what_outcome n nodes first s what a ≡ outcome.Refused why → IsQuiet n nodes s what
-refused_what n nodes first s (Did event) a why is = absurd cc
 refused_what n nodes first s (Refused event fault) a why is = record { stays = refl; silent = refl; untried = refl }
-refused_what n nodes first s (Faulted event) a why is = absurd cc
 refused_what n nodes first s (NoOp rest) a why is = record { stays = refl; silent = refl; untried = refl }
 refused_what n nodes first s Crashed (act.Compact m) why is = absurd cc
-refused_what n nodes first s Crashed _ why is = absurd cc
-refused_what n nodes first s (Recovered kept) a why is = absurd cc
-refused_what n nodes first s MountFailed a why is = absurd cc
-refused_what n nodes first s (RaiseFailed kept) a why is = absurd cc
 refused_what n nodes first s (RaiseRefused kept) a why is = record { stays = refl; silent = refl; untried = refl }
+refused_what n nodes first s _ a why is = absurd cc
 
 -- a step that is refused
 record IsIdle (nodes : ℕ) (w : World) (a : Act) (step : Step) : Type 0 where
@@ -218,11 +211,10 @@ run_all_sent : (slots nodes : ℕ) (acts : List Act) (steps : List Step) (w : Wo
     → all_sent r ≡ w.net.sent
     → all_sent (report_from nodes w r acts steps) ≡ (world_at nodes w steps).net.sent
 run_all_sent slots nodes [] [] w r run h = h
-run_all_sent slots nodes [] (step ∷ steps) w r run h = absurd run
-run_all_sent slots nodes (a ∷ acts) [] w r run h = absurd run
 run_all_sent slots nodes (a ∷ acts) (step ∷ steps) w r run h =
     run_all_sent slots nodes acts steps (world_after nodes w step)
     (grown nodes w a step r) run.2 (step_all_sent slots nodes w r a step run.0 h)
+run_all_sent slots nodes _ _ w r run h = absurd run
 
 -- this event came to this node
 abbrev CameTo : ℕ → HistoryEvent → ℕ → Event → Type 0
@@ -258,14 +250,8 @@ done_what n nodes first p q s (Did e) a event answer may up of is =
     let same : e ≡ event = cc of in
     let answers : option_map (answer_of s.durable) (wants_at n nodes s e) ≡ answer = cc is in
     record { did = ap Did same; answers = sym answers ∙ ap (λ (x : Event). option_map (answer_of s.durable) (wants_at n nodes s x)) same }
-done_what n nodes first p q s (Refused e fault) a event answer may up of is = absurd cc
-done_what n nodes first p q s (Faulted e) a event answer may up of is = absurd cc
-done_what n nodes first p q s (NoOp rest) a event answer may up of is = absurd cc
-done_what n nodes first p q s Crashed a event answer may up of is = absurd cc
 done_what n nodes first p q s (Recovered kept) a event answer may up of is = (let both : true ≡ false = sym may.0 ∙ up in absurd cc)
-done_what n nodes first p q s MountFailed a event answer may up of is = absurd cc
-done_what n nodes first p q s (RaiseFailed kept) a event answer may up of is = absurd cc
-done_what n nodes first p q s (RaiseRefused kept) a event answer may up of is = absurd cc
+done_what n nodes first p q s _ a event answer may up of is = absurd cc
 
 answer_given : (d : Durable) (wants : Option Command) → unwrap_or (option_map (answer_of d) wants) 0 ≡ answer_to d wants
 answer_given d None = refl

@@ -12,8 +12,8 @@ use Rattle.node_core.specs.declared.event.Event.TheVariants as on
 use Rattle.histories.specs.Lists.{IsAmong}
 use Rattle.histories.specs.NodeState.{NodeState, wants_at, settled}
 use Rattle.histories.specs.declared.history_event.HistoryEvent.{HistoryEvent}
-use Rattle.histories.specs.declared.history_event.HistoryEvent.TheVariants.{Did, Refused, Faulted, NoOp, Crashed, Recovered, MountFailed}
-use Rattle.histories.specs.declared.history_event.HistoryEvent.TheVariants.{RaiseFailed, RaiseRefused}
+use Rattle.histories.specs.declared.history_event.HistoryEvent.TheVariants.{Did, Refused, Faulted, Recovered}
+use Rattle.histories.specs.declared.history_event.HistoryEvent.TheVariants.{RaiseFailed}
 use Rattle.histories.specs.HistoryEvent.{event_of, brought, AreAddressed}
 use Rattle.histories.specs.After.{sent_at}
 use Rattle.histories.specs.Owners.{acted}
@@ -85,8 +85,7 @@ finishes_later nodes w a step acts steps worker origin id place h =
       not_refused = h.not_refused;
       was = h.was;
       is_state = h.is_state;
-      work =
-          h.work;
+      work = h.work;
     }
 
 -- finished in this run, by another node before the last of its acts
@@ -166,17 +165,12 @@ who_tries n nodes s (Faulted event) t id i is = record {
   of = refl;
   wants = λ _. command_wanted (λ (c : Command). record { command = c; acked = None }) (wants_at n nodes s event) t id (λ c. refl) i is;
 }
-who_tries n nodes s (Refused event fault) t id i is = absurd i
-who_tries n nodes s (NoOp rest) t id i is = absurd i
-who_tries n nodes s Crashed t id i is = absurd i
 who_tries n nodes s (Recovered kept) t id i is = absurd (raise_only (record {
   command = Raise;
-  acked =
-      Some ((settled kept s).counter + 1);
+  acked = Some ((settled kept s).counter + 1);
 }) t id refl i is)
-who_tries n nodes s MountFailed t id i is = absurd i
 who_tries n nodes s (RaiseFailed kept) t id i is = absurd (raise_only (record { command = Raise; acked = None }) t id refl i is)
-who_tries n nodes s (RaiseRefused kept) t id i is = absurd i
+who_tries n nodes s _ t id i is = absurd i
 
 -- one of the commands of one node
 record OfNode (n : ℕ) (ts : List Attempt) (t : AttemptAt) : Type 0 where
@@ -228,8 +222,6 @@ pub done_ended : (F : ℕ → ℕ → Type 0) (slots nodes : ℕ) (acts : List A
     → (t : AttemptAt) (id : ℕ) → IsAmong t (report_from nodes w r acts steps).commands → t.tried.command ≡ Done id
     → IsAmong t r.commands ⊎ Ended F nodes w acts steps t.node id
 done_ended F slots nodes [] [] w r run owned h t id i is = inl i
-done_ended F slots nodes [] (step ∷ steps) w r run owned h t id i is = absurd run
-done_ended F slots nodes (a ∷ acts) [] w r run owned h t id i is = absurd run
 done_ended F slots nodes (a ∷ acts) (step ∷ steps) w r run owned h t id i is =
     elim (done_ended (λ o j. F o j ⊎ Now nodes w (a ∷ acts) (step ∷ steps) o j) slots nodes acts steps (world_after nodes w step)
     (grown nodes w a step r) run.2
@@ -253,3 +245,4 @@ done_ended F slots nodes (a ∷ acts) (step ∷ steps) w r run owned h t id i is
         ))
       ]
     ]
+done_ended F slots nodes _ _ w r run owned h t id i is = absurd run

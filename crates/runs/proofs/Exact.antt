@@ -50,12 +50,11 @@ one_outcome slots self nodes s event AreaExhausted taken fits refused of_slots =
 
 acts_run : (nodes slots : ℕ) (acts : List Act) (steps : List Step) (w : World) → IsRunOf nodes slots w acts steps → RunFrom nodes w steps
 acts_run nodes slots [] [] w h = tt
-acts_run nodes slots [] (step ∷ steps) w h = absurd h
-acts_run nodes slots (a ∷ acts) [] w h = absurd h
 acts_run nodes slots (a ∷ acts) (step ∷ steps) w h = (
   allowed_of slots nodes w a step h.0 h.1,
   acts_run nodes slots acts steps (world_after nodes w step) h.2,
 )
+acts_run nodes slots _ _ w h = absurd h
 
 pub all_acts_run : ActsRun
 all_acts_run nodes slots w acts steps h = acts_run nodes slots acts steps w h

@@ -65,21 +65,17 @@ no_room slots d (Some (Put work)) = if nat_lt slots (length d.pending + 3) then 
 no_room slots d wants = None
 
 has_room : (slots : ℕ) (d : Durable) (wants : Option Command) → (IsFull slots d wants → ⊥) → no_room slots d wants ≡ None
-has_room slots d None fits = refl
-has_room slots d (Some Raise) fits = refl
-has_room slots d (Some (Done id)) fits = refl
 has_room slots d (Some (Put work)) fits = pick (nat_lt slots (length d.pending + 3)) refl
   where
     pick : (b : Bool) → nat_lt slots (length d.pending + 3) ≡ b → (if b then Some Full else None) ≡ None
     pick true is = absurd (fits (grind (arith, nat_tests, is)))
     pick false is = refl
+has_room slots d _ fits = refl
 
 lacks_room : (slots : ℕ) (d : Durable) (wants : Option Command) → IsFull slots d wants → no_room slots d wants ≡ Some Full
-lacks_room slots d None full = absurd full
-lacks_room slots d (Some Raise) full = absurd full
-lacks_room slots d (Some (Done id)) full = absurd full
 lacks_room slots d (Some (Put work)) full = (let known : nat_lt slots (length d.pending + 3) ≡ true = grind (arith, nat_tests, full) in
     rw known refl)
+lacks_room slots d _ full = absurd full
 
 fits_room : (slots : ℕ) (d : Durable) (wants : Option Command) → no_room slots d wants ≡ None → IsFull slots d wants → ⊥
 fits_room slots d wants none full = (let both : None ≡ Some Full = sym none ∙ lacks_room slots d wants full in absurd cc)
@@ -92,15 +88,13 @@ record IsPutRefused (slots : ℕ) (d : Durable) (wants : Option Command) (why : 
 
 full_why : (slots : ℕ) (d : Durable) (wants : Option Command) (why : Refusal) → no_room slots d wants ≡ Some why
     → IsPutRefused slots d wants why
-full_why slots d None why is = absurd cc
-full_why slots d (Some Raise) why is = absurd cc
-full_why slots d (Some (Done id)) why is = absurd cc
 full_why slots d (Some (Put work)) why is = pick (nat_lt slots (length d.pending + 3)) refl is
   where
     pick : (b : Bool) → nat_lt slots (length d.pending + 3) ≡ b → (if b then Some Full else None) ≡ Some why
         → IsPutRefused slots d (Some (Put work)) why
     pick true known e = record { is = (let same : Full ≡ why = cc e in sym same); full = grind (arith, nat_tests, known); appended = tt }
     pick false known e = absurd cc
+full_why slots d _ why is = absurd cc
 
 -- ---- only a job that is submitted wants room
 
@@ -162,14 +156,12 @@ unless_mounting : (slots n nodes : ℕ) (s : NodeState) (event : Event) (what : 
     → ComesOf (refusal_at slots n nodes s event) n nodes s event what → MayCome slots n nodes s event what
 unless_mounting slots n nodes s on.Recover what up h = subst (λ (b : Bool). Recovers b s what) (sym (up refl))
     (elim h [ inl did ↦ inl did | inr failed ↦ inr failed.0 ])
-unless_mounting slots n nodes s (on.Timer timer) what up h = h
-unless_mounting slots n nodes s (on.Deliver m) what up h = h
-unless_mounting slots n nodes s (on.Submit work) what up h = h
-unless_mounting slots n nodes s (on.Finish origin id) what up h = h
+unless_mounting slots n nodes s _ what up h = h
 
-by_mounting : (slots n nodes : ℕ) (s : NodeState) (what : HistoryEvent) → is_down s.state.phase ≡ true → ComesOfMounting s what
-    → MayCome slots n nodes s on.Recover what
-by_mounting slots n nodes s what down h = subst (λ (b : Bool). Recovers b s what) (sym down) h
+by_mounting : (slots n nodes : ℕ) (s : NodeState) (event : Event) (what : HistoryEvent) → on.Recover ≡ event
+    → is_down s.state.phase ≡ true → ComesOfMounting s what → MayCome slots n nodes s event what
+by_mounting slots n nodes s event what is down h =
+    subst (λ (x : Event). MayCome slots n nodes s x what) is (subst (λ (b : Bool). Recovers b s what) (sym down) h)
 
 -- what comes of the event e came of this one
 of_same : (slots n nodes : ℕ) (s : NodeState) (e event : Event) (what : HistoryEvent) (r : Option Refusal) → e ≡ event → IsForNode s.state e
@@ -193,20 +185,14 @@ event_exact slots n nodes s event (Refused e (Core fault)) is may fits up =
 event_exact slots n nodes s event (Refused e Full) is may fits up =
     of_same slots n nodes s e event (Refused e Full) (Some Full)
     (cc is) may.0 (λ i. option_or (option_map Core (may.1.0 i)) (lacks_room slots s.durable (wants_at n nodes s e) fits i)) refl
-event_exact slots n nodes s event (Refused e Exhausted) is may fits up = absurd (up tt)
-event_exact slots n nodes s event (Refused e AreaExhausted) is may fits up = absurd (up tt)
+event_exact slots n nodes s event (Recovered kept) is may fits up =
+    by_mounting slots n nodes s event (Recovered kept) (cc is) may.0 (inr (kept, may.1, inl refl))
+event_exact slots n nodes s event MountFailed is may fits up = by_mounting slots n nodes s event MountFailed (cc is) may (inl refl)
+event_exact slots n nodes s event (RaiseFailed kept) is may fits up =
+    by_mounting slots n nodes s event (RaiseFailed kept) (cc is) may.0 (inr (kept, may.1, inr refl))
 event_exact slots n nodes s event (NoOp rest) is may fits up = absurd cc
 event_exact slots n nodes s event Crashed is may fits up = absurd cc
-event_exact slots n nodes s event (Recovered kept) is may fits up =
-    (let same : on.Recover ≡ event = cc is in subst (λ (x : Event). MayCome slots n nodes s x (Recovered kept)) same
-    (by_mounting slots n nodes s (Recovered kept) may.0 (inr (kept, may.1, inl refl))))
-event_exact slots n nodes s event MountFailed is may fits up =
-    (let same : on.Recover ≡ event = cc is in subst (λ (x : Event). MayCome slots n nodes s x MountFailed) same
-    (by_mounting slots n nodes s MountFailed may (inl refl)))
-event_exact slots n nodes s event (RaiseFailed kept) is may fits up =
-    (let same : on.Recover ≡ event = cc is in subst (λ (x : Event). MayCome slots n nodes s x (RaiseFailed kept)) same
-    (by_mounting slots n nodes s (RaiseFailed kept) may.0 (inr (kept, may.1, inr refl))))
-event_exact slots n nodes s event (RaiseRefused kept) is may fits up = absurd (up tt)
+event_exact slots n nodes s event _ is may fits up = absurd (up tt)
 
 abbrev ByPhase : Bool → HistoryEvent → Type 0
 ByPhase down what = MatchBool down (what ≡ NoOp CompactDown) ((what ≡ NoOp Compacted) ⊎ (what ≡ Crashed))
@@ -315,15 +301,11 @@ module _ (E F : ℕ → Event → HistoryEvent → Type 0) (C D : ℕ → Histor
   step_by : (net : Network) (a : Act) → IsStepBy E C nodes net a step → IsStepBy F D nodes net a step
   step_by net (act.Timer n timer) h = event_by n 0 (on.Timer timer) h
   step_by net (act.Deliver k) h = brings_by net k (delivery net k) h
-  step_by net (act.Lose k) h = h
-  step_by net (act.Cut x y) h = h
-  step_by net (act.Mend x y) h = h
   step_by net (act.Submit n work) h = event_by n 0 (on.Submit work) h
   step_by net (act.Finish n origin id) h = event_by n 0 (on.Finish origin id) h
-  step_by net (act.Arm n calls) h = h
-  step_by net (act.Crash n fill) h = h
   step_by net (act.Recover n) h = event_by n 0 on.Recover h
   step_by net (act.Compact n) h = at_by (nat_lt n nodes) n 0 (C n) (D n) step (λ what known is c. g n 0 what known is c) h
+  step_by net _ h = h
 
 -- ---- a run in which nothing is used up is exact
 
@@ -368,14 +350,13 @@ exact_from : (slots nodes : ℕ) (acts : List Act) (steps : List Step) (w : Worl
     → ((k : ℕ) (m : Moment) → slice_get (moments_from nodes w acts steps) k ≡ Some m → m.outcome ≢ outcome.Refused (Node AreaExhausted))
     → IsExactRun nodes slots w acts steps
 exact_from slots nodes [] [] w run unspent never_area_exhausted = tt
-exact_from slots nodes [] (step ∷ steps) w run unspent never_area_exhausted = absurd run
-exact_from slots nodes (a ∷ acts) [] w run unspent never_area_exhausted = absurd run
 exact_from slots nodes (a ∷ acts) (step ∷ steps) w run unspent never_area_exhausted = (
   exact_step slots nodes w a step run.0 run.1 (unspent (moment_of nodes w a step) (inl refl))
       (never_area_exhausted 0 (moment_of nodes w a step) refl),
   exact_from slots nodes acts steps (world_after nodes w step) run.2 (λ m i. unspent m (inr i))
       (λ k m at. never_area_exhausted (suc k) m at),
 )
+exact_from slots nodes _ _ w run unspent never_area_exhausted = absurd run
 
 pub exact_run : (slots nodes : ℕ) (acts : List Act) (steps : List Step) → IsShort acts → IsRunOf nodes slots (start nodes) acts steps
     → NoAreaExhausted (report_of nodes acts steps) → IsExactRun nodes slots (start nodes) acts steps
@@ -440,8 +421,6 @@ run_step slots nodes limit w a step exact many few short = (
 run_from : (slots nodes limit : ℕ) (acts : List Act) (steps : List Step) (w : World) → IsExactRun nodes slots w acts steps
     → length w.states ≡ nodes → AllStates (FewGiven limit) w → limit + length acts < 2 ^ 64 → IsRunOf nodes slots w acts steps
 run_from slots nodes limit [] [] w exact many few short = tt
-run_from slots nodes limit [] (step ∷ steps) w exact many few short = absurd exact
-run_from slots nodes limit (a ∷ acts) [] w exact many few short = absurd exact
 run_from slots nodes limit (a ∷ acts) (step ∷ steps) w exact many few short =
     let it = run_step slots nodes limit w a step exact.0 many few (omega (arith, short)) in (
       it.0,
@@ -449,6 +428,7 @@ run_from slots nodes limit (a ∷ acts) (step ∷ steps) w exact many few short 
       run_from slots nodes (limit + 1) acts steps (world_after nodes w step) exact.1 (step_length nodes w step
           ∙ many) (step_few slots nodes limit w step it.1 few) (omega (arith, short)),
     )
+run_from slots nodes limit _ _ w exact many few short = absurd exact
 
 pub run_of : (slots nodes : ℕ) (acts : List Act) (steps : List Step) → IsShort acts → IsExactRun nodes slots (start nodes) acts steps
     → IsRunOf nodes slots (start nodes) acts steps
@@ -470,12 +450,11 @@ left_run nodes slots w r left = run_of slots nodes (acts_in r) left.steps left.s
 run_few : (slots nodes limit : ℕ) (acts : List Act) (steps : List Step) (w : World) → IsRunOf nodes slots w acts steps
     → AllStates (FewGiven limit) w → AllStates (FewGiven (limit + length acts)) (world_at nodes w steps)
 run_few slots nodes limit [] [] w run few = subst (λ (k : ℕ). AllStates (FewGiven k) w) (let e : limit ≡ limit + 0 = omega arith in e) few
-run_few slots nodes limit [] (step ∷ steps) w run few = absurd run
-run_few slots nodes limit (a ∷ acts) [] w run few = absurd run
 run_few slots nodes limit (a ∷ acts) (step ∷ steps) w run few =
     subst (λ (k : ℕ). AllStates (FewGiven k) (world_at nodes (world_after nodes w step) steps))
     (let e : limit + 1 + length acts ≡ limit + suc (length acts) = omega arith in e)
     (run_few slots nodes (limit + 1) acts steps (world_after nodes w step) run.2 (step_few slots nodes limit w step run.1 few))
+run_few slots nodes limit _ _ w run few = absurd run
 
 -- the step of the next act is exact, unless it is refused because the areas of a disk are used up
 pub exact_next : (slots nodes : ℕ) (acts : List Act) (steps : List Step) (a : Act) (step : Step) → length acts + 2 < 2 ^ 64
@@ -535,22 +514,12 @@ SaysUsedUp o = (o ≡ outcome.Refused (Node Exhausted)) ⊎ (o ≡ outcome.Refus
 
 usable_outcome : (n nodes first : ℕ) (s : NodeState) (what : HistoryEvent) (a : Act) → (IsUsedUp what → ⊥)
     → SaysUsedUp (what_outcome n nodes first s what a) → ⊥
-usable_outcome n nodes first s (Did event) a may says = elim says [ inl is ↦ absurd cc | inr is ↦ absurd cc ]
-usable_outcome n nodes first s (Refused event (Core fault)) a may says = elim says [ inl is ↦ absurd cc | inr is ↦ absurd cc ]
-usable_outcome n nodes first s (Refused event Full) a may says = elim says [ inl is ↦ absurd cc | inr is ↦ absurd cc ]
 usable_outcome n nodes first s (Refused event Exhausted) a may says = may tt
 usable_outcome n nodes first s (Refused event AreaExhausted) a may says = may tt
-usable_outcome n nodes first s (Faulted event) a may says = elim says [ inl is ↦ absurd cc | inr is ↦ absurd cc ]
-usable_outcome n nodes first s (NoOp Nothing) a may says = elim says [ inl is ↦ absurd cc | inr is ↦ absurd cc ]
-usable_outcome n nodes first s (NoOp Compacted) a may says = elim says [ inl is ↦ absurd cc | inr is ↦ absurd cc ]
-usable_outcome n nodes first s (NoOp CompactDown) a may says = elim says [ inl is ↦ absurd cc | inr is ↦ absurd cc ]
 usable_outcome n nodes first s (NoOp CompactAreaExhausted) a may says = may tt
 usable_outcome n nodes first s Crashed (act.Compact m) may says = elim says [ inl is ↦ absurd cc | inr is ↦ absurd cc ]
-usable_outcome n nodes first s Crashed _ may says = elim says [ inl is ↦ absurd cc | inr is ↦ absurd cc ]
-usable_outcome n nodes first s (Recovered kept) a may says = elim says [ inl is ↦ absurd cc | inr is ↦ absurd cc ]
-usable_outcome n nodes first s MountFailed a may says = elim says [ inl is ↦ absurd cc | inr is ↦ absurd cc ]
-usable_outcome n nodes first s (RaiseFailed kept) a may says = elim says [ inl is ↦ absurd cc | inr is ↦ absurd cc ]
 usable_outcome n nodes first s (RaiseRefused kept) a may says = may tt
+usable_outcome n nodes first s _ a may says = elim says [ inl is ↦ absurd cc | inr is ↦ absurd cc ]
 
 usable_rest : (w : World) (n : ℕ) (what : HistoryEvent) → Rests (λ (n : ℕ). MayCompact (node_in w.states n)) n what → IsUsedUp what → ⊥
 usable_rest w n what rest up = elim rest [

@@ -49,8 +49,7 @@ calling = record {
   task = None;
   found = [];
   unready = [];
-  checking =
-      false;
+  checking = false;
   probing = false;
   hand = [];
 }
@@ -62,8 +61,7 @@ working up = record {
   group = group;
   up = up;
   task = Some (task_of group (0 ∷ 1 ∷ []));
-  found =
-      [];
+  found = [];
   unready = [];
   checking = false;
   probing = false;

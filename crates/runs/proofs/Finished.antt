@@ -174,8 +174,7 @@ finished_within nodes slots k acts steps origin id run within ended =
           (subst (λ (j : InHand). IsAmong j f.was.state.hand) (λ i. record {
             origin = f.work.of_origin i;
             id = f.work.of_id i;
-            work =
-                f.work.job.work;
+            work = f.work.job.work;
           }) f.work.held);
       owned = f.work.owned;
       put = search (rules, by_then);

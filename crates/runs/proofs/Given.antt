@@ -1,6 +1,6 @@
 -- The groups that a run names were given before, each of them once.
 use Rattle.std.proofs.Common.{◌≡◌, ◌≢◌, ℕ, zero, suc, ◌+◌, ◌<◌, ◌≤◌, Bool, true, false, List, [], ◌∷◌, ◌++◌, map, slice_get, refl, sym, ◌∙◌}
-use Rattle.std.proofs.Common.{ap, subst, inl, inr, arith, Option, Some, None, IfSome, append_assoc}
+use Rattle.std.proofs.Common.{ap, subst, inl, inr, arith, Option, Some, IfSome, append_assoc}
 use Rattle.job_model.specs.declared.work.Work.{Work}
 use Rattle.std.proofs.lemmas.List.{append-nil}
 use Rattle.std.proofs.lemmas.Option.{IfSome_then, slice_get_within}
@@ -9,7 +9,7 @@ use Rattle.std.proofs.lemmas.Bool.Decides.{nat_tests}
 use Rattle.group_task.specs.Group.{Group}
 use Rattle.group_task.specs.Assignment.{Assignment}
 use Rattle.job_model.specs.declared.node_command.NodeCommand.{NodeCommand as Command}
-use Rattle.job_model.specs.declared.node_command.NodeCommand.TheVariants.{Raise, Put, Done}
+use Rattle.job_model.specs.declared.node_command.NodeCommand.TheVariants.{Raise}
 use Rattle.job_model.specs.Durable.{Durable}
 use Rattle.job_model.specs.Fold.{after_wanted}
 use Rattle.wire_msg.specs.Envelope.{Envelope}
@@ -22,8 +22,8 @@ use Rattle.node_core.specs.State.{State}
 use Rattle.histories.specs.Lists.{IsAmong}
 use Rattle.histories.specs.NodeState.{NodeState, opening, wants_at, settled}
 use Rattle.histories.specs.declared.history_event.HistoryEvent.{HistoryEvent}
-use Rattle.histories.specs.declared.history_event.HistoryEvent.TheVariants.{Did, Refused, Faulted, NoOp, Crashed, Recovered, MountFailed}
-use Rattle.histories.specs.declared.history_event.HistoryEvent.TheVariants.{RaiseFailed, RaiseRefused}
+use Rattle.histories.specs.declared.history_event.HistoryEvent.TheVariants.{Did, Recovered}
+use Rattle.histories.specs.declared.history_event.HistoryEvent.TheVariants.{RaiseFailed}
 use Rattle.histories.specs.HistoryEvent.{event_of, brought}
 use Rattle.histories.specs.After.{after, sent_at, given_at, raised}
 use Rattle.histories.specs.Named.{AllHold, StateHolds}
@@ -154,23 +154,16 @@ one_raised self low k lt = record {
 }
 
 wanted_raises : (self : ℕ) (d : Durable) (wants : Option Command) → Raises self d.counter (after_wanted d wants).counter (raised d wants)
-wanted_raises self d None = none_raised self d.counter d.counter (omega arith)
 wanted_raises self d (Some Raise) = one_raised self d.counter (d.counter + 1) (omega arith)
-wanted_raises self d (Some (Put work)) = none_raised self d.counter d.counter (omega arith)
-wanted_raises self d (Some (Done id)) = none_raised self d.counter d.counter (omega arith)
+wanted_raises self d _ = none_raised self d.counter d.counter (omega arith)
 
 entry_raises : (self nodes : ℕ) (s : NodeState) (what : HistoryEvent)
     → Raises self s.durable.counter (after self nodes s what).durable.counter (given_at self nodes s what)
 entry_raises self nodes s (Did event) = wanted_raises self s.durable (wants_at self nodes s event)
-entry_raises self nodes s (Refused event fault) = none_raised self s.durable.counter s.durable.counter (omega arith)
-entry_raises self nodes s (NoOp why) = none_raised self s.durable.counter s.durable.counter (omega arith)
-entry_raises self nodes s (Faulted event) = none_raised self s.durable.counter s.durable.counter (omega arith)
-entry_raises self nodes s Crashed = none_raised self s.durable.counter s.durable.counter (omega arith)
 entry_raises self nodes s (Recovered kept) = one_raised self s.durable.counter ((settled kept s).counter + 1)
     (omega (arith, settled_grows kept s))
-entry_raises self nodes s MountFailed = none_raised self s.durable.counter s.durable.counter (omega arith)
 entry_raises self nodes s (RaiseFailed kept) = none_raised self s.durable.counter (settled kept s).counter (settled_grows kept s)
-entry_raises self nodes s (RaiseRefused kept) = none_raised self s.durable.counter s.durable.counter (omega arith)
+entry_raises self nodes s _ = none_raised self s.durable.counter s.durable.counter (omega arith)
 
 once_append : (xs ys : List Group) → IsOnceEach xs → IsOnceEach ys → ((g : Group) → IsAmong g xs → IsAmong g ys → ⊥) → IsOnceEach (xs ++ ys)
 once_append [] ys h k apart = k

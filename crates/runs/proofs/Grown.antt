@@ -23,10 +23,9 @@ pub acts_go_on : (nodes slots : ℕ) (acts : List Act) (steps : List Step) (w : 
     → IsRunOf nodes slots w acts steps → IsNext nodes slots (world_at nodes w steps) a step
     → IsRunOf nodes slots w (acts ++ a ∷ []) (steps ++ step ∷ [])
 acts_go_on nodes slots [] [] w a step run next = (next.of_act, lawful_of slots nodes w step next.allowed next.of_slots, tt)
-acts_go_on nodes slots [] (x ∷ steps) w a step run next = absurd run
-acts_go_on nodes slots (b ∷ acts) [] w a step run next = absurd run
 acts_go_on nodes slots (b ∷ acts) (x ∷ steps) w a step run next =
     (run.0, run.1, acts_go_on nodes slots acts steps (world_after nodes w x) a step run.2 next)
+acts_go_on nodes slots _ _ w a step run next = absurd run
 
 world_goes_on : (nodes : ℕ) (steps : List Step) (step : Step) (w : World)
     → world_at nodes w (steps ++ step ∷ []) ≡ world_after nodes (world_at nodes w steps) step
@@ -38,19 +37,17 @@ report_goes_on : (nodes slots : ℕ) (acts : List Act) (steps : List Step) (w : 
     → report_from nodes w r (acts ++ a ∷ []) (steps ++ step ∷ [])
     ≡ grown nodes (world_at nodes w steps) a step (report_from nodes w r acts steps)
 report_goes_on nodes slots [] [] w r a step run = refl
-report_goes_on nodes slots [] (x ∷ steps) w r a step run = absurd run
-report_goes_on nodes slots (b ∷ acts) [] w r a step run = absurd run
 report_goes_on nodes slots (b ∷ acts) (x ∷ steps) w r a step run =
     report_goes_on nodes slots acts steps (world_after nodes w x) (grown nodes w b x r) a step run.2
+report_goes_on nodes slots _ _ w r a step run = absurd run
 
 exact_goes_on : (nodes slots : ℕ) (acts : List Act) (steps : List Step) (w : World) (a : Act) (step : Step)
     → IsExactRun nodes slots w acts steps → IsExactStep nodes slots (world_at nodes w steps) a step
     → IsExactRun nodes slots w (acts ++ a ∷ []) (steps ++ step ∷ [])
 exact_goes_on nodes slots [] [] w a step run next = (next, tt)
-exact_goes_on nodes slots [] (x ∷ steps) w a step run next = absurd run
-exact_goes_on nodes slots (b ∷ acts) [] w a step run next = absurd run
 exact_goes_on nodes slots (b ∷ acts) (x ∷ steps) w a step run next =
     (run.0, exact_goes_on nodes slots acts steps (world_after nodes w x) a step run.1 next)
+exact_goes_on nodes slots _ _ w a step run next = absurd run
 
 pub runs_open : RunsOpen
 runs_open nodes slots = record { short = omega arith; steps = []; is_run = tt; world = refl; reported = refl }

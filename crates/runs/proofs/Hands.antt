@@ -26,8 +26,7 @@ use Rattle.node_core.specs.Messages.{delivered}
 use Rattle.node_core.specs.Effects.{effect_of}
 use Rattle.histories.specs.NodeState.{NodeState, wants_at}
 use Rattle.histories.specs.declared.history_event.HistoryEvent.{HistoryEvent}
-use Rattle.histories.specs.declared.history_event.HistoryEvent.TheVariants.{Did, Refused, Faulted, NoOp, Crashed, Recovered, MountFailed}
-use Rattle.histories.specs.declared.history_event.HistoryEvent.TheVariants.{RaiseFailed, RaiseRefused}
+use Rattle.histories.specs.declared.history_event.HistoryEvent.TheVariants.{Did}
 use Rattle.histories.specs.After.{after}
 use Rattle.runs.specs.World.{World}
 use Rattle.runs.specs.Step.{Step, Takes, world_after}
@@ -103,14 +102,7 @@ step_gains : (self nodes : ℕ) (s : NodeState) (what : HistoryEvent)
     → length (after self nodes s what).state.hand ≤ length s.state.hand + length s.durable.pending + 1
 step_gains self nodes s (Did event) = event_gains nodes self s.durable.pending event (answer_to s.durable (wants_at self nodes s event))
     s.state
-step_gains self nodes s (Refused event fault) = omega arith
-step_gains self nodes s (Faulted event) = omega arith
-step_gains self nodes s (NoOp rest) = omega arith
-step_gains self nodes s Crashed = omega arith
-step_gains self nodes s (Recovered kept) = omega arith
-step_gains self nodes s MountFailed = omega arith
-step_gains self nodes s (RaiseFailed kept) = omega arith
-step_gains self nodes s (RaiseRefused kept) = omega arith
+step_gains self nodes s _ = omega arith
 
 -- so no hand gets longer by more in a step of the cluster
 abbrev pub AtMost : World → ℕ → NodeState → Type 0

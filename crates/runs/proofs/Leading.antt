@@ -1,12 +1,12 @@
 -- The counts of the groups that a node leads rise.
 use Rattle.std.proofs.Common.{◌≡◌, ◌≢◌, ◌⊎◌, ℕ, zero, suc, ◌<◌, ◌≤◌, Bool, true, false, List, [], ◌∷◌, slice_get, refl, sym, ◌∙◌, ap, subst}
-use Rattle.std.proofs.Common.{inl, inr, arith, Option, Some, None}
+use Rattle.std.proofs.Common.{inl, inr, arith, Option, Some}
 use Rattle.std.specs.Prelude.{◌==◌}
 use Rattle.std.proofs.lemmas.Bool.Decides.{nat_tests}
 use Rattle.group_task.specs.Group.{Group}
 use Rattle.group_task.specs.Assignment.{Assignment}
 use Rattle.job_model.specs.declared.node_command.NodeCommand.{NodeCommand as Command}
-use Rattle.job_model.specs.declared.node_command.NodeCommand.TheVariants.{Raise, Put, Done}
+use Rattle.job_model.specs.declared.node_command.NodeCommand.TheVariants.{Raise}
 use Rattle.job_model.specs.Durable.{Durable}
 use Rattle.job_model.specs.Fold.{after_wanted}
 use Rattle.wire_msg.specs.Envelope.{Envelope}
@@ -16,8 +16,8 @@ use Rattle.node_core.specs.State.{State}
 use Rattle.node_core.specs.Words.{own_group}
 use Rattle.histories.specs.NodeState.{NodeState, opening, wants_at}
 use Rattle.histories.specs.declared.history_event.HistoryEvent.{HistoryEvent}
-use Rattle.histories.specs.declared.history_event.HistoryEvent.TheVariants.{Did, Refused, Faulted, NoOp, Crashed, Recovered, MountFailed}
-use Rattle.histories.specs.declared.history_event.HistoryEvent.TheVariants.{RaiseFailed, RaiseRefused}
+use Rattle.histories.specs.declared.history_event.HistoryEvent.TheVariants.{Did, Faulted, Crashed, Recovered}
+use Rattle.histories.specs.declared.history_event.HistoryEvent.TheVariants.{RaiseFailed}
 use Rattle.histories.specs.After.{after, raised}
 use Rattle.histories.specs.Possible.{IsPossible}
 use Rattle.histories.proofs.PublicLaws.{AnyGroup, AnyWork, GroupMove, assigns, calls, completes, entry_does, eq_nat, falls, joins}
@@ -61,16 +61,12 @@ moved self before now old new came given made (completes ph own ta co gr normal 
     gr ∙ h (λ down. (let both : Reorganization ≡ Down = sym ph ∙ down in absurd cc)) own ∙ ap (own_group self) (sym (same gi))
 
 none_raised : (d : Durable) (wants : Option Command) → raised d wants ≡ [] → (after_wanted d wants).counter ≡ d.counter
-none_raised d None is = refl
 none_raised d (Some Raise) is = absurd cc
-none_raised d (Some (Put work)) is = refl
-none_raised d (Some (Done id)) is = refl
+none_raised d _ is = refl
 
 one_raised : (d : Durable) (wants : Option Command) (k : ℕ) → raised d wants ≡ k ∷ [] → (after_wanted d wants).counter ≡ k
-one_raised d None k is = absurd cc
 one_raised d (Some Raise) k is = cc is
-one_raised d (Some (Put work)) k is = absurd cc
-one_raised d (Some (Done id)) k is = absurd cc
+one_raised d _ k is = absurd cc
 
 leads_after : (self nodes : ℕ) (s : NodeState) (what : HistoryEvent) → IsPossible self nodes s what → LeadsLast self s
     → LeadsLast self (after self nodes s what)
@@ -78,27 +74,19 @@ leads_after self nodes s (Did event) may h =
     let row = entry_does AnyGroup AnyWork AnyWork self nodes s (Did event) may in
     moved self s.durable.counter (after self nodes s (Did event)).durable.counter s.state _ _ _ row.made row.moves
     (none_raised s.durable (wants_at self nodes s event)) (one_raised s.durable (wants_at self nodes s event)) h
-leads_after self nodes s (Refused event fault) may h = h
 leads_after self nodes s (Faulted event) may h = λ up leads. absurd (up refl)
-leads_after self nodes s (NoOp rest) may h = h
 leads_after self nodes s Crashed may h = λ up leads. absurd (up refl)
 leads_after self nodes s (Recovered kept) may h = λ up leads. refl
-leads_after self nodes s MountFailed may h = h
 leads_after self nodes s (RaiseFailed kept) may h = λ up leads. absurd (up refl)
-leads_after self nodes s (RaiseRefused kept) may h = h
+leads_after self nodes s _ may h = h
 
 -- ---- the counter
 
 counter_more : (self nodes : ℕ) (s : NodeState) (what : HistoryEvent) → s.durable.counter ≤ (after self nodes s what).durable.counter
 counter_more self nodes s (Did event) = wanted_grows s.durable (wants_at self nodes s event)
-counter_more self nodes s (Refused event fault) = omega arith
-counter_more self nodes s (Faulted event) = omega arith
-counter_more self nodes s (NoOp rest) = omega arith
-counter_more self nodes s Crashed = omega arith
 counter_more self nodes s (Recovered kept) = omega (arith, settled_grows kept s)
-counter_more self nodes s MountFailed = omega arith
 counter_more self nodes s (RaiseFailed kept) = settled_grows kept s
-counter_more self nodes s (RaiseRefused kept) = omega arith
+counter_more self nodes s _ = omega arith
 
 -- ---- a step
 

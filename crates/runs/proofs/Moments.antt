@@ -26,10 +26,9 @@ pub acts_front : (k nodes slots : ℕ) (acts : List Act) (steps : List Step) (w 
     → IsRunOf nodes slots w (take k acts) (take k steps)
 acts_front zero nodes slots acts steps w run = tt
 acts_front (suc k) nodes slots [] [] w run = tt
-acts_front (suc k) nodes slots [] (step ∷ steps) w run = absurd run
-acts_front (suc k) nodes slots (a ∷ acts) [] w run = absurd run
 acts_front (suc k) nodes slots (a ∷ acts) (step ∷ steps) w run =
     (run.0, run.1, acts_front k nodes slots acts steps (world_after nodes w step) run.2)
+acts_front (suc k) nodes slots _ _ w run = absurd run
 
 -- of the report of the first acts the first steps decide
 steps_past : (k nodes : ℕ) (acts : List Act) (steps : List Step) (w : World) (r : Report)
@@ -47,9 +46,8 @@ front_report nodes k acts steps = steps_past k nodes acts steps (start nodes) (f
 pub as_many : (nodes slots : ℕ) (acts : List Act) (steps : List Step) (w : World) → IsRunOf nodes slots w acts steps
     → length acts ≡ length steps
 as_many nodes slots [] [] w run = refl
-as_many nodes slots [] (step ∷ steps) w run = absurd run
-as_many nodes slots (a ∷ acts) [] w run = absurd run
 as_many nodes slots (a ∷ acts) (step ∷ steps) w run = ap suc (as_many nodes slots acts steps (world_after nodes w step) run.2)
+as_many nodes slots _ _ w run = absurd run
 
 -- a moment shows its node after the acts so far
 pub moment_state : (k nodes : ℕ) (acts : List Act) (steps : List Step) (w : World) (m : Moment)

@@ -7,7 +7,7 @@ use Rattle.wire_msg.specs.Envelope.{Envelope}
 use Rattle.histories.specs.NodeState.{NodeState}
 use Rattle.histories.specs.declared.history_event.HistoryEvent.{HistoryEvent}
 use Rattle.histories.specs.declared.history_event.HistoryEvent.TheVariants.{NoOp, Crashed}
-use Rattle.histories.specs.declared.history_event.NoOpKind.TheVariants.{Nothing, Compacted, CompactDown, CompactAreaExhausted}
+use Rattle.histories.specs.declared.history_event.NoOpKind.TheVariants.{Nothing}
 use Rattle.histories.specs.After.{sent_at}
 use Rattle.schedule.specs.declared.act.Act.{Act}
 use Rattle.schedule.specs.declared.act.Act.TheVariants as act
@@ -37,11 +37,7 @@ IsSaid first sent refused = sent ≡ []
 node_said : (n nodes first : ℕ) (s : NodeState) (what : HistoryEvent) (a : Act)
     → IsSaid first (sent_at n nodes s what) (what_outcome n nodes first s what a)
 node_said n nodes first s (NoOp Nothing) a = refl
-node_said n nodes first s (NoOp Compacted) a = refl
-node_said n nodes first s (NoOp CompactDown) a = refl
-node_said n nodes first s (NoOp CompactAreaExhausted) a = refl
 node_said n nodes first s Crashed (act.Compact m) = refl
-node_said n nodes first s Crashed _ = refl
 node_said n nodes first s _ a = refl
 
 pub step_said : (nodes : ℕ) (w : World) (a : Act) (step : Step)

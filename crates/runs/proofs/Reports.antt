@@ -97,12 +97,11 @@ step_gives nodes w _ = refl
 groups_added : (nodes slots : ℕ) (acts : List Act) (steps : List Step) (w : World) (r : Report) → IsRunOf nodes slots w acts steps
     → (report_from nodes w r acts steps).groups ≡ r.groups ++ groups_from nodes w steps
 groups_added nodes slots [] [] w r run = sym (append-nil r.groups)
-groups_added nodes slots [] (step ∷ steps) w r run = absurd run
-groups_added nodes slots (a ∷ acts) [] w r run = absurd run
 groups_added nodes slots (a ∷ acts) (step ∷ steps) w r run =
     groups_added nodes slots acts steps (world_after nodes w step) (grown nodes w a step r) run.2
     ∙ (ap (λ (gs : List Group). (r.groups ++ gs) ++ groups_from nodes (world_after nodes w step) steps) (step_gives nodes w step)
     ∙ append_assoc r.groups (groups_at nodes w step) (groups_from nodes (world_after nodes w step) steps))
+groups_added nodes slots _ _ w r run = absurd run
 
 pub groups_are : (nodes slots : ℕ) (acts : List Act) (steps : List Step) → IsRunOf nodes slots (start nodes) acts steps
     → (report_of nodes acts steps).groups ≡ groups_of nodes steps
@@ -234,8 +233,7 @@ report_goes_on : (n nodes slots : ℕ) (acts : List Act) (steps : List Step) (w 
     → GoesOn n r (report_from nodes w r acts steps) (marks_from n nodes s (so_many n r) (history_in n nodes w steps))
 report_goes_on n nodes slots [] [] w r s at run = record {
   commands = sym (append-nil (own_commands n r.commands));
-  mounted =
-      sym (append-nil (own_mountings n r.mounted));
+  mounted = sym (append-nil (own_mountings n r.mounted));
 }
 report_goes_on n nodes slots [] (step ∷ steps) w r s at run = absurd run
 report_goes_on n nodes slots (a ∷ acts) [] w r s at run = absurd run

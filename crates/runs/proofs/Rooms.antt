@@ -14,7 +14,7 @@ use Rattle.node_core.specs.State.{is_down}
 use Rattle.node_core.specs.NodeStep.{IsFull}
 use Rattle.histories.specs.NodeState.{NodeState, opening, wants_at, settled}
 use Rattle.histories.specs.declared.history_event.HistoryEvent.{HistoryEvent}
-use Rattle.histories.specs.declared.history_event.HistoryEvent.TheVariants.{Did, Refused, Faulted, NoOp, Crashed, Recovered, MountFailed}
+use Rattle.histories.specs.declared.history_event.HistoryEvent.TheVariants.{Did, Faulted, Recovered}
 use Rattle.histories.specs.declared.history_event.HistoryEvent.TheVariants.{RaiseFailed, RaiseRefused}
 use Rattle.histories.specs.After.{after, mounted_at}
 use Rattle.histories.specs.Possible.{IsPossible, IsOfSlots}
@@ -54,13 +54,11 @@ settled_few false s = omega arith
 -- a Put that isn't refused as Full leaves room for its job
 leaves_room : (slots : ℕ) (d : Durable) (wants : Option Command) → (IsFull slots d wants → ⊥) → length d.pending ≤ slots
     → length d.pending + gain wants ≤ slots
-leaves_room slots d None fits h = omega (arith, h)
-leaves_room slots d (Some Raise) fits h = omega (arith, h)
 leaves_room slots d (Some (Put work)) fits h = elim (cases_lt slots (length d.pending + 3)) [
   | inl full ↦ absurd (fits full)
   | inr room ↦ omega (arith, room)
 ]
-leaves_room slots d (Some (Done id)) fits h = omega (arith, h)
+leaves_room slots d _ fits h = omega (arith, h)
 
 no_gain : (doubt : Option Command) → IsNone doubt → gain doubt ≡ 0
 no_gain None h = refl
@@ -87,22 +85,17 @@ few_kept slots self nodes s (Did event) may fits h =
       )
       | inr is ↦ omega (arith, wanted, ap gain (at_down self nodes s event is may.0 may.1.by_core).wants, h.few)
     ]
-few_kept slots self nodes s (Refused event fault) may fits h = h.few
 few_kept slots self nodes s (Faulted event) may fits h =
     leaves_room slots s.durable (wants_at self nodes s event) fits (omega (arith, h.few))
-few_kept slots self nodes s (NoOp rest) may fits h = h.few
-few_kept slots self nodes s Crashed may fits h = h.few
 few_kept slots self nodes s (Recovered kept) may fits h = omega (arith, settled_few kept s, h.few)
-few_kept slots self nodes s MountFailed may fits h = h.few
 few_kept slots self nodes s (RaiseFailed kept) may fits h = omega (arith, settled_few kept s, h.few)
-few_kept slots self nodes s (RaiseRefused kept) may fits h = h.few
+few_kept slots self nodes s _ may fits h = h.few
 
 room_kept : (slots self nodes : ℕ) (s : NodeState) (what : HistoryEvent) → IsPossible self nodes s what → IsOfSlots slots self nodes s what
     → HasRoom slots self s → HasRoom slots self (after self nodes s what)
 room_kept slots self nodes s what may fits h = record {
   few = few_kept slots self nodes s what may fits h;
-  doubt =
-      doubt_after self nodes s what may h.doubt;
+  doubt = doubt_after self nodes s what may h.doubt;
 }
 
 room_opened : (slots self : ℕ) → HasRoom slots self (opening self)
@@ -113,12 +106,11 @@ room_opened slots self = record { few = omega arith; doubt = inl tt }
 run_rooms : (nodes slots : ℕ) (acts : List Act) (steps : List Step) (w : World) → IsRunOf nodes slots w acts steps
     → AllStates (HasRoom slots) w → AllStates (HasRoom slots) (world_at nodes w steps)
 run_rooms nodes slots [] [] w run all = all
-run_rooms nodes slots [] (step ∷ steps) w run all = absurd run
-run_rooms nodes slots (a ∷ acts) [] w run all = absurd run
 run_rooms nodes slots (a ∷ acts) (step ∷ steps) w run all =
     run_rooms nodes slots acts steps (world_after nodes w step) run.2
     (lawful_keeps (HasRoom slots) (HasRoom slots) nodes slots (λ n s h. h) (λ n s what may fits h.
     room_kept slots n nodes s what may fits h) w step run.1 all)
+run_rooms nodes slots _ _ w run all = absurd run
 
 start_rooms : (nodes slots : ℕ) → AllStates (HasRoom slots) (start nodes)
 start_rooms nodes slots n s at =

@@ -32,8 +32,7 @@ step_inside nodes w (Takes n number what) allowed all =
     record {
       states = states_keep (IsInside nodes) nodes w n number what s allowed.1 (record {
         node = inside.node;
-        names =
-            after_inside nodes n s what allowed.2 inside;
+        names = after_inside nodes n s what allowed.2 inside;
       }) all.states;
       sent = each_append (λ (m : Envelope). m.receiver < nodes) w.net.sent (sent_at n nodes (node_in w.states n) what) all.sent said;
     }

@@ -7,13 +7,13 @@ use Rattle.job_model.specs.Durable.{Durable}
 use Rattle.job_model.specs.Fold.{after_command, after_wanted}
 use Rattle.node_core.specs.NodeStep.{IsSpent}
 use Rattle.node_core.specs.declared.event.Event.{Event}
-use Rattle.node_core.specs.declared.fault.Refusal.TheVariants.{Core, Full, Exhausted, AreaExhausted}
+use Rattle.node_core.specs.declared.fault.Refusal.TheVariants.{Core, Exhausted}
 use Rattle.histories.specs.Lists.{IsAmong}
 use Rattle.histories.specs.NodeState.{NodeState, opening, wants_at, settled}
 use Rattle.histories.specs.declared.history_event.HistoryEvent.{HistoryEvent}
 use Rattle.histories.specs.declared.history_event.HistoryEvent.TheVariants.{Did, Refused, Faulted, NoOp, Crashed, Recovered, MountFailed}
 use Rattle.histories.specs.declared.history_event.HistoryEvent.TheVariants.{RaiseFailed, RaiseRefused}
-use Rattle.histories.specs.declared.history_event.NoOpKind.TheVariants.{Nothing, Compacted, CompactDown, CompactAreaExhausted}
+use Rattle.histories.specs.declared.history_event.NoOpKind.TheVariants.{Nothing}
 use Rattle.histories.specs.After.{after}
 use Rattle.histories.specs.Possible.{IsPossible}
 use Rattle.histories.specs.Counts.{IsShort}
@@ -74,9 +74,8 @@ low_doubts : (wants : Option Command) → doubts wants ≤ 1
 low_doubts None = omega arith
 low_doubts (Some c) = omega arith
 
-no_doubt : (self nodes : ℕ) (s : NodeState) (what : HistoryEvent) → IsPossible self nodes s what → DoubtIsDown self s
-    → DoubtIsDown self (after self nodes s what)
-no_doubt self nodes s what may h = doubt_after self nodes s what may h
+few_stay : (limit self : ℕ) (s : NodeState) → FewGiven limit self s → FewGiven (limit + 1) self s
+few_stay limit self s h = record { low = h.low; sum = omega (arith, h.sum); below = h.below; doubt = h.doubt }
 
 few_more : (limit self nodes : ℕ) (s : NodeState) (what : HistoryEvent) → IsPossible self nodes s what → FewGiven limit self s
     → FewGiven (limit + 1) self (after self nodes s what)
@@ -87,43 +86,31 @@ few_more limit self nodes s (Did event) may h = record {
     | inr is ↦ omega (arith, h.sum, ap doubts (at_down self nodes s event is may.0 may.1.by_core).wants)
   ];
   below = wanted_below h.low s.durable (wants_at self nodes s event) h.below;
-  doubt = no_doubt self nodes s (Did event) may h.doubt;
+  doubt = doubt_after self nodes s (Did event) may h.doubt;
 }
 few_more limit self nodes s (Faulted event) may h = record {
   low = h.low;
   sum = omega (arith, h.sum, low_doubts (wants_at self nodes s event));
   below = h.below;
-  doubt = no_doubt self nodes s (Faulted event) may h.doubt;
+  doubt = doubt_after self nodes s (Faulted event) may h.doubt;
 }
 few_more limit self nodes s (Recovered kept) may h = record {
   low = h.low + doubts s.doubt + 1;
   sum = omega (arith, h.sum);
   below = command_below (h.low + doubts s.doubt) (settled kept s) Raise (settled_below h.low kept s h.below);
-  doubt = no_doubt self nodes s (Recovered kept) may h.doubt;
+  doubt = doubt_after self nodes s (Recovered kept) may h.doubt;
 }
 few_more limit self nodes s (RaiseFailed kept) may h = record {
   low = h.low + doubts s.doubt;
   sum = omega (arith, h.sum);
   below = settled_below h.low kept s h.below;
-  doubt = no_doubt self nodes s (RaiseFailed kept) may h.doubt;
+  doubt = doubt_after self nodes s (RaiseFailed kept) may h.doubt;
 }
-few_more limit self nodes s (Refused event fault) may h =
-    record { low = h.low; sum = omega (arith, h.sum); below = h.below; doubt = h.doubt }
-few_more limit self nodes s (NoOp rest) may h = record { low = h.low; sum = omega (arith, h.sum); below = h.below; doubt = h.doubt }
-few_more limit self nodes s Crashed may h = record {
-  low = h.low;
-  sum = omega (arith, h.sum);
-  below = h.below;
-  doubt =
-      no_doubt self nodes s Crashed may h.doubt;
-}
-few_more limit self nodes s MountFailed may h = record { low = h.low; sum = omega (arith, h.sum); below = h.below; doubt = h.doubt }
-few_more limit self nodes s (RaiseRefused kept) may h = record { low = h.low; sum = omega (arith, h.sum); below = h.below; doubt = h.doubt }
+few_more limit self nodes s Crashed may h =
+    record { low = h.low; sum = omega (arith, h.sum); below = h.below; doubt = doubt_after self nodes s Crashed may h.doubt }
+few_more limit self nodes s _ may h = few_stay limit self s h
 
 -- ---- all nodes
-
-few_stay : (limit self : ℕ) (s : NodeState) → FewGiven limit self s → FewGiven (limit + 1) self s
-few_stay limit self s h = record { low = h.low; sum = omega (arith, h.sum); below = h.below; doubt = h.doubt }
 
 pub step_few : (slots nodes limit : ℕ) (w : World) (step : Step) → IsLawful slots nodes w step → AllStates (FewGiven limit) w
     → AllStates (FewGiven (limit + 1)) (world_after nodes w step)
@@ -140,24 +127,14 @@ spent_high limit d (Some (Done id)) h short spent = spent
 
 what_unspent : (limit self nodes first : ℕ) (s : NodeState) (what : HistoryEvent) (a : Act) → IsPossible self nodes s what
     → FewGiven limit self s → limit + 1 < 2 ^ 64 → what_outcome self nodes first s what a ≢ outcome.Refused (Node Exhausted)
-what_unspent limit self nodes first s (Did event) a may h short is = absurd cc
 what_unspent limit self nodes first s (Refused event (Core fault)) a may h short is = absurd cc
-what_unspent limit self nodes first s (Refused event Full) a may h short is = absurd cc
 what_unspent limit self nodes first s (Refused event Exhausted) a may h short is =
     spent_high h.low s.durable (wants_at self nodes s event) h.below (omega (arith, h.sum, short)) may.1.1
-what_unspent limit self nodes first s (Refused event AreaExhausted) a may h short is = absurd cc
-what_unspent limit self nodes first s (Faulted event) a may h short is = absurd cc
 what_unspent limit self nodes first s (NoOp Nothing) a may h short is = absurd cc
-what_unspent limit self nodes first s (NoOp Compacted) a may h short is = absurd cc
-what_unspent limit self nodes first s (NoOp CompactDown) a may h short is = absurd cc
-what_unspent limit self nodes first s (NoOp CompactAreaExhausted) a may h short is = absurd cc
 what_unspent limit self nodes first s Crashed (act.Compact m) may h short is = absurd cc
-what_unspent limit self nodes first s Crashed _ may h short is = absurd cc
-what_unspent limit self nodes first s (Recovered kept) a may h short is = absurd cc
-what_unspent limit self nodes first s MountFailed a may h short is = absurd cc
-what_unspent limit self nodes first s (RaiseFailed kept) a may h short is = absurd cc
 what_unspent limit self nodes first s (RaiseRefused kept) a may h short is =
     omega (arith, may.2, (settled_below h.low kept s h.below).counts, h.sum, short)
+what_unspent limit self nodes first s _ a may h short is = absurd cc
 
 pub step_unspent : (slots nodes limit : ℕ) (w : World) (a : Act) (step : Step) → IsStepOf nodes w a step → IsLawful slots nodes w step
     → AllStates (FewGiven limit) w → limit + 1 < 2 ^ 64 → act_outcome nodes w a step ≢ outcome.Refused (Node Exhausted)
@@ -187,8 +164,7 @@ opens_few nodes n s at =
     subst (λ (x : NodeState). FewGiven 1 n x) (sym first) (record {
       low = 1;
       sum = omega arith;
-      below =
-          record { counts = omega arith; ids = omega arith };
+      below = record { counts = omega arith; ids = omega arith };
       doubt = inl tt;
     })
 

@@ -7,6 +7,5 @@ returns c = record {
   refused = refused_changes_nothing;
   done = done_has_its_effect;
   down = down_refuses_compaction;
-  unspent =
-      none_is_spent;
+  unspent = none_is_spent;
 }
