@@ -142,8 +142,7 @@ module _ (n : ℕ) (ts : List Token) (found : Option (List ℕ)) where
       ∙ ap (parse_map (words_from found)) (members_fail (value 126) n k ts s key none))
 
 pub kept_found : (b : Bool) (text found : Option (List ℕ)) → b ≡ false → found ≡ (if b then text else found)
-kept_found true text found other = absurd cc
-kept_found false text found other = refl
+kept_found b text found other = rw other refl
 
 -- ---- turns
 

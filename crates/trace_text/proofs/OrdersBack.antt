@@ -165,10 +165,10 @@ module _ (hs : List (List Claim)) (o : Ordered) where
   module _ (a b : Written) (items : List ℕ) (none : a.before ≡ []) (empty : a.tokens ≡ [])
       (adds : Adds a b (ordered_tokens hs (order_text o))) (is : items ≡ b.before ++ print b.tokens) where
     all_tokens : b.tokens ≡ ordered_tokens hs (order_text o)
-    all_tokens = adds.tokens ∙ ap (λ (ts : List Token). ts ++ ordered_tokens hs (order_text o)) empty
+    all_tokens = rw (adds.tokens, empty) refl
 
     text_is : items ≡ print b.tokens
-    text_is = is ∙ ap (λ (xs : List ℕ). xs ++ print b.tokens) (adds.before ∙ none)
+    text_is = rw (is, adds.before, none) refl
 
     pub ordered_text : items ≡ compact_text (ordered_data hs o)
     ordered_text = text_is ∙ ap print all_tokens ∙ ordered_printed

@@ -145,6 +145,6 @@ pub printed_back : (hs : List (List Claim)) (a b : Written) (items : List ℕ) �
     → tokens (print b.tokens) ≡ b.tokens → IsUtf8 (print b.tokens) → length hs ≤ NODES → TraceFits hs → IsWritable hs
     → trace_of items ≡ Ok hs
 printed_back hs a b items none empty adds is again utf8 most fits writable =
-    let text : items ≡ print b.tokens = is ∙ ap (λ (xs : List ℕ). xs ++ print b.tokens) (adds.before ∙ none) in
-    ap trace_of text ∙ reads_back hs (print b.tokens) (again ∙ adds.tokens
-    ∙ ap (λ (ts : List Token). ts ++ trace_tokens hs) empty) utf8 most fits writable
+    let text : items ≡ print b.tokens = rw (is, adds.before, none) refl in
+    let tokens : b.tokens ≡ trace_tokens hs = rw (adds.tokens, empty) refl in
+    ap trace_of text ∙ reads_back hs (print b.tokens) (again ∙ tokens) utf8 most fits writable
