@@ -18,7 +18,7 @@ use Rattle.histories.specs.declared.attempt.Attempt.{Attempt}
 use Rattle.histories.proofs.PublicLaws.{among_left, among_right}
 use Rattle.runs.specs.Reporting.{own_mountings}
 use Rattle.runs.proofs.Own.{among_mine, of_mine}
-use Rattle.runs.proofs.Runs.{at_place}
+use Rattle.runs.proofs.Runs.{at_place, get_among}
 use Rattle.runs.specs.Uses.{RaisesAreKept, JobsAreKept, DoubtsApart}
 
 -- the commands that count, by a flag for each
@@ -126,11 +126,6 @@ pub among_at : {A : Type 0} (x : A) (xs : List A) → IsAmong x xs → (k : ℕ)
 among_at x [] i = absurd i
 among_at x (y ∷ xs) i = elim i [ inl e ↦ (0, ap Some (sym e)) | inr j ↦ (let it = among_at x xs j in (suc it.0, it.1)) ]
 
-pub among_of : {A : Type 0} (xs : List A) (k : ℕ) (x : A) → slice_get xs k ≡ Some x → IsAmong x xs
-among_of [] k x h = absurd cc
-among_of (y ∷ xs) zero x h = inl (let e : y ≡ x = cc h in sym e)
-among_of (y ∷ xs) (suc k) x h = inr (among_of xs k x h)
-
 mounted_state : (commands : List Attempt) (mountings : List Mounting) (kept : CommandsKept commands mountings) (w : Mounting)
     → IsAmong w mountings → w.state ≡ stands_after kept.counts commands w.before
 mounted_state commands mountings kept w i = (let it = among_at w mountings i in (kept.mounted it.0 w it.1).1)
@@ -157,7 +152,7 @@ pub doubts_apart : DoubtsApart
 doubts_apart nodes after r h n lt j k t u before at none later =
     elim ((h.kept n lt).last_of_life j t at none) [
       | inl end ↦ absurd (omega (arith, end, before, slice_get_within _ k u later))
-      | inr it ↦ (let w = of_mine (λ (x : ℕ × Mounting). x.0) (λ (x : ℕ × Mounting). x.1) n it.1 r.mounted (among_of _ it.0 it.1 it.2) in
+      | inr it ↦ (let w = of_mine (λ (x : ℕ × Mounting). x.0) (λ (x : ℕ × Mounting). x.1) n it.1 r.mounted (get_among _ it.0 it.1 it.2) in
           let place : w.0.1.before ≡ j + 1 = ap (λ (x : Mounting). x.before) w.3 ∙ it.3 in
           let there : IsAmong (n, w.0.1) r.mounted = subst (λ (k : ℕ). IsAmong (k, w.0.1) r.mounted) w.2 w.1 in
           (w.0.1, there, omega (arith, place), omega (arith, place, before)))

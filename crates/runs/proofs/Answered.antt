@@ -20,7 +20,7 @@ use Rattle.schedule.specs.declared.act.Act.TheVariants as act
 use Rattle.runs.specs.declared.outcome.Outcome.TheVariants as outcome
 use Rattle.runs.specs.declared.attempt_at.AttemptAt.{AttemptAt}
 use Rattle.runs.specs.World.{World, node_in}
-use Rattle.runs.specs.Step.{Step, Takes, Changes, Denies}
+use Rattle.runs.specs.Step.{Step, Takes}
 use Rattle.runs.specs.Acts.{IsStepOf, act_outcome, what_outcome}
 use Rattle.runs.specs.Reporting.{Moment, Report, node_of, tries, commands_at, report_of}
 use Rattle.runs.specs.Uses.{asks, AnsweredIsAcknowledged}
@@ -104,8 +104,7 @@ step_answered : (nodes a p q : ℕ) (w : World) (b : Act) (step : Step) → IsSt
 step_answered nodes a p q w b (Takes n number what) of is =
     let it = what_answered n nodes _ a p q (node_in w.states n) what b is in
     record { one = it.one; is = it.is; acked = it.acked; asked = λ c asked. it.asked c (asks_event nodes w b n number what c of asked) }
-step_answered nodes a p q w b (Changes net) of is = absurd cc
-step_answered nodes a p q w b (Denies n why) of is = absurd cc
+step_answered nodes a p q w b _ of is = absurd cc
 
 pub answered_is_acknowledged : AnsweredIsAcknowledged
 answered_is_acknowledged nodes slots acts r h k m a first many at is =

@@ -214,8 +214,7 @@ step_ended F slots nodes w a (Takes n number what) acts steps t id of may owned 
         let sent : IsAmong m w.net.sent = brought_sent w number (brought (event_of what)) m allowed.3 (rw here (inl refl)) in
         let to : AreAddressed n (m ∷ []) = subst (λ (ms : List Envelope). AreAddressed n ms) here allowed.4 in
         subst (λ (o : ℕ). F o id) to.0 (h m id sent body)
-step_ended F slots nodes w a (Changes net) acts steps t id of may owned h i is = absurd i
-step_ended F slots nodes w a (Denies named why) acts steps t id of may owned h i is = absurd i
+step_ended F slots nodes w a _ acts steps t id of may owned h i is = absurd i
 
 pub done_ended : (F : ℕ → ℕ → Type 0) (slots nodes : ℕ) (acts : List Act) (steps : List Step) (w : World) (r : Report)
     → IsRunOf nodes slots w acts steps → AllStates OwnedAt w → Underway F w.net.sent

@@ -10,7 +10,7 @@ use Rattle.node_core.specs.declared.in_hand.InHand.{InHand}
 use Rattle.histories.specs.Jobs.{WasPut}
 use Rattle.histories.specs.Lists.{IsAmong}
 use Rattle.histories.specs.Marks.{commands_of, marks_of}
-use Rattle.histories.specs.NodeState.{NodeState, opening}
+use Rattle.histories.specs.NodeState.{opening}
 use Rattle.histories.specs.HistoryEvent.{Entry}
 use Rattle.histories.specs.History.{vectors}
 use Rattle.histories.specs.Moments.{IsMoment}
@@ -29,11 +29,11 @@ use Rattle.runs.specs.Uses.{DoneWasFinished}
 use Rattle.runs.proofs.Elements.{among, contains}
 use Rattle.runs.proofs.Exact.{all_acts_run}
 use Rattle.runs.proofs.Ended.{EndedIn, done_ended}
-use Rattle.runs.proofs.Keeping.{AllStates}
-use Rattle.runs.proofs.Runs.{node_of, how_many, opened, runs_are_bundles}
+use Rattle.runs.proofs.Keeping.{opens_with}
+use Rattle.runs.proofs.Runs.{get_among, node_of, how_many, runs_are_bundles}
 use Rattle.runs.proofs.RunBooks.{state_moment}
 use Rattle.runs.proofs.Reported.{state_there}
-use Rattle.runs.proofs.Acknowledged.{among_at, among_of}
+use Rattle.runs.proofs.Acknowledged.{among_at}
 use Rattle.runs.proofs.Moments.{acts_front, front_report}
 use Rattle.runs.proofs.Reports.{commands_reported, moments_are, moments_from, opening_is}
 use Rattle.runs.proofs.Shown.{vector_shown, moments_front}
@@ -51,7 +51,7 @@ report_shows nodes slots n acts steps v run moment =
       | inl e ↦ inl (rw (opening_is nodes acts steps, e) (state_there (start nodes).states n (opening n) it.is_node))
       | inr m ↦ (let place = among_at m.0 (report_of nodes acts steps).moments
           (subst (λ (ms : List Moment). IsAmong m.0 ms) (sym (moments_are nodes acts steps)) m.1) in
-          inr (m.0, contains m.0 (report_of nodes acts steps).moments (among_of _ place.0 m.0 place.1), m.2, m.3))
+          inr (m.0, contains m.0 (report_of nodes acts steps).moments (get_among _ place.0 m.0 place.1), m.2, m.3))
     ]
 
 -- ---- fronts of fronts
@@ -110,10 +110,6 @@ only_raises : (ids : List ℕ) (t : AttemptAt) → IsAmong t
     (map (λ (n : ℕ). record { node = n; tried = record { command = Raise; acked = Some 1 } }) ids) → t.tried.command ≡ Raise
 only_raises [] t i = absurd i
 only_raises (n ∷ ids) t i = elim i [ inl e ↦ ap (λ (x : AttemptAt). x.tried.command) e | inr j ↦ only_raises ids t j ]
-
-opens_owned : (nodes : ℕ) → AllStates OwnedAt (start nodes)
-opens_owned nodes n s at = (let first : s ≡ opening n = opened nodes 0 n s n (omega arith) at in
-    subst (λ (x : NodeState). OwnedAt n x) (sym first) tt)
 
 -- what is finished in the first acts, the whole report shows
 finished_within : (nodes slots k : ℕ) (acts : List Act) (steps : List Step) (origin id : ℕ) → IsRunOf nodes slots (start nodes) acts steps
@@ -187,7 +183,7 @@ pub finished_at : (nodes slots : ℕ) (acts : List Act) (steps : List Step) → 
 finished_at nodes slots acts steps run k t id among within done =
     let tried = subst (λ (x : Report). IsAmong t x.commands) (front_report nodes k acts steps) among in
     elim (done_ended (λ o j. ⊥) slots nodes (take k acts) (take k steps) (start nodes) (first_report nodes)
-    (acts_front k nodes slots acts steps (start nodes) run) (opens_owned nodes) (λ m j i body. i) t id tried done) [
+    (acts_front k nodes slots acts steps (start nodes) run) (opens_with OwnedAt nodes (λ n. tt)) (λ m j i body. i) t id tried done) [
       | inl first ↦ absurd (let both : Raise ≡ Done id = sym (only_raises (range_with_len 0 nodes) t first) ∙ done in cc)
       | inr ended ↦ elim ended [
         | inl none ↦ absurd none.0

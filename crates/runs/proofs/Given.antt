@@ -34,7 +34,7 @@ use Rattle.runs.specs.World.{World, start, node_in}
 use Rattle.runs.specs.Step.{Step, Takes, Changes, Denies, world_after}
 use Rattle.runs.specs.Run.{IsBrought, IsAllowed, RunFrom, world_at}
 use Rattle.runs.specs.Given.{groups_at, groups_from, groups_of, AllGiven, GivenBefore, IsOnceEach, NoneTwice}
-use Rattle.runs.proofs.Keeping.{run_length}
+use Rattle.runs.proofs.Keeping.{run_length, states_keep}
 use Rattle.runs.proofs.Opened.{length_openings}
 use Rattle.runs.proofs.Runs.{brought_sent, node_there, state_here, state_elsewhere, opened}
 
@@ -86,31 +86,12 @@ step_given nodes w (Takes n number what) given all may =
     (λ (m : Envelope). IfSome (group_in m.body) Q) (sent_at n nodes s what)
     (λ m h. says_names Q AnyWork n m.sender m.receiver row.made (event_of what) m.body h)
     (row.says knows (any_pending n s.durable.pending) (any_pending n (after n nodes s what).durable.pending)) in record {
-      vectors = λ j t at. by_node j t at (n == j) refl (row.names knows) (λ x was. place_more P Q x.state sub (all.vectors j x was));
+      vectors = states_keep (λ (j : ℕ) (x : NodeState). StateHolds Q x.state) nodes w n number what s may.1 (row.names knows)
+          (λ j x was. place_more P Q x.state sub (all.vectors j x was));
       messages = each_append (λ (m : Envelope). IfSome (group_in m.body) Q) w.net.sent (sent_at n nodes (node_in w.states n) what)
           (all_more P Q w.net.sent sub all.messages) (subst (λ (x : NodeState). AllHold Q (sent_at n nodes x what))
           (sym (node_there w.states n s may.1)) said);
     }
-  where
-    by_node : (j : ℕ) (t : NodeState) → slice_get (world_after nodes w (Takes n number what)).states j ≡ Some t → (b : Bool) → (n == j) ≡ b
-        → StateHolds (λ g. IsAmong g (given ++ map (own_group n) (given_at n nodes (node_in w.states n) what)))
-        (after n nodes may.0 what).state
-        → ((x : NodeState) → slice_get w.states j ≡ Some x → StateHolds (λ g.
-        IsAmong g (given ++ map (own_group n) (given_at n nodes (node_in w.states n) what))) x.state)
-        → StateHolds (λ g. IsAmong g (given ++ map (own_group n) (given_at n nodes (node_in w.states n) what))) t.state
-    by_node j t at true is here other =
-        let same : n ≡ j = eq_nat n j is in
-        let mine : slice_get w.states j ≡ Some may.0 = subst (λ (x : ℕ). slice_get w.states x ≡ Some may.0) same may.1 in
-        let new : slice_get (world_after nodes w (Takes n number what)).states j ≡ Some (after j nodes may.0 what) =
-        state_here n j nodes what w.states may.0 same mine in
-        let it : after j nodes may.0 what ≡ t = cc (new, at) in
-        subst (λ (x : NodeState). StateHolds (λ g. IsAmong g (given ++ map (own_group n) (given_at n nodes (node_in w.states n) what)))
-        x.state) it
-        (subst (λ (x : ℕ). StateHolds (λ g. IsAmong g (given ++ map (own_group n) (given_at n nodes (node_in w.states n) what)))
-        (after x nodes may.0 what).state) same here)
-    by_node j t at false is here other =
-        let ne : j ≢ n = grind (arith, nat_tests) in
-        other t (sym (state_elsewhere n j nodes what w.states ne) ∙ at)
 step_given nodes w (Changes net) given all may = rw append-nil (record { vectors = all.vectors; messages = rw may all.messages })
 step_given nodes w (Denies named why) given all may = rw append-nil all
 

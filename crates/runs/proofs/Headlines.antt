@@ -37,12 +37,12 @@ use Rattle.runs.specs.Reporting.{Moment, Report, own_commands, own_mountings, re
 use Rattle.runs.proofs.Finished.{finished_at}
 use Rattle.runs.specs.ExactRuns.{IsExactRun}
 use Rattle.runs.specs.Headline.{IsFinished, IsPromised, IsShown, IsWorking, NamesGiven, EverySchedule}
-use Rattle.runs.proofs.Runs.{history_follows, runs_are_bundles, starts_opened}
+use Rattle.runs.proofs.Runs.{get_among, history_follows, runs_are_bundles, starts_opened}
 use Rattle.runs.proofs.RunBooks.{state_moment, run_book}
 use Rattle.runs.proofs.Given.{given_before, given_inside}
 use Rattle.runs.proofs.Tagged.{history_few}
 use Rattle.runs.proofs.Reports.{moments_from, opening_is, moments_are, groups_are, commands_reported, mounted_reported}
-use Rattle.runs.proofs.Acknowledged.{among_at, among_of}
+use Rattle.runs.proofs.Acknowledged.{among_at}
 use Rattle.runs.proofs.Elements.{among, contains, some_more}
 use Rattle.runs.proofs.Exact.{all_acts_run}
 use Rattle.runs.proofs.ExactRuns.{exact_run, run_of}
@@ -86,7 +86,7 @@ module _ (nodes slots : ℕ) (acts : List Act) (steps : List Step) (is_run : IsR
       let gs : List Group = (report_of nodes acts steps).groups in
       let at = slice_get-get_or gs k d within in
       let g : Group = slice_index_or gs k d in
-      let higher : 0 < g.count = above g.creator gs 0 (giver_rises g (among_of gs k g at)) k g at refl in
+      let higher : 0 < g.count = above g.creator gs 0 (giver_rises g (get_among gs k g at)) k g at refl in
       omega (arith, higher)
 
   all_rising : AllPairs (λ (g h : Group). g.creator ≡ h.creator → g.count < h.count) (report_of nodes acts steps).groups
@@ -94,7 +94,7 @@ module _ (nodes slots : ℕ) (acts : List Act) (steps : List Step) (is_run : IsR
       let gs : List Group = (report_of nodes acts steps).groups in
       let at_i = slice_get-get_or gs i d (omega (arith, lt, within)) in
       let g : Group = slice_index_or gs i d in
-      rising_places g.creator gs 0 (giver_rises g (among_of gs i g at_i)) i j g (slice_index_or gs j d) lt at_i
+      rising_places g.creator gs 0 (giver_rises g (get_among gs i g at_i)) i j g (slice_index_or gs j d) lt at_i
       (slice_get-get_or gs j d within) refl (sym same)
 
 down_or_given : (P : Group → Type 0) (states : List NodeState) (n : ℕ)

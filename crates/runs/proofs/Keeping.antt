@@ -3,16 +3,16 @@ use Rattle.std.proofs.Common.{◌≡◌, ◌≢◌, ℕ, Bool, true, false, List
 use Rattle.std.specs.Prelude.{◌==◌}
 use Rattle.std.proofs.lemmas.Bool.Decides.{nat_tests}
 use Rattle.std.proofs.lemmas.List.{length-set}
-use Rattle.histories.specs.NodeState.{NodeState}
+use Rattle.histories.specs.NodeState.{NodeState, opening}
 use Rattle.histories.specs.declared.history_event.HistoryEvent.{HistoryEvent}
 use Rattle.histories.specs.After.{after}
 use Rattle.histories.specs.Possible.{IsPossible, IsOfSlots}
 use Rattle.histories.proofs.PublicLaws.{eq_nat}
-use Rattle.runs.specs.World.{World, node_in}
-use Rattle.runs.specs.Step.{Step, Takes, Changes, Denies, world_after}
+use Rattle.runs.specs.World.{World, node_in, start}
+use Rattle.runs.specs.Step.{Step, Takes, world_after}
 use Rattle.runs.specs.Run.{world_at}
 use Rattle.runs.specs.Acts.{IsLawful}
-use Rattle.runs.proofs.Runs.{state_here, state_elsewhere}
+use Rattle.runs.proofs.Runs.{opened, state_here, state_elsewhere}
 
 -- P holds of each node and its state
 abbrev pub AllStates : (ℕ → NodeState → Type 0) → World → Type 0
@@ -36,6 +36,10 @@ states_keep P nodes w m number what s at kept all n t at_n = by_place (m == n) r
         let ne : n ≢ m = grind (arith, nat_tests) in
         all n t (sym (state_elsewhere m n nodes what w.states ne) ∙ at_n)
 
+-- what holds of each node as it opens holds of all at the start
+pub opens_with : (P : ℕ → NodeState → Type 0) (nodes : ℕ) → ((n : ℕ) → P n (opening n)) → AllStates P (start nodes)
+opens_with P nodes all n s at = subst (P n) (sym (opened nodes 0 n s n (omega arith) at)) (all n)
+
 -- so it does after any step that may come where it does
 pub lawful_keeps : (P Q : ℕ → NodeState → Type 0) (nodes slots : ℕ) → ((n : ℕ) (s : NodeState) → P n s → Q n s)
     → ((n : ℕ) (s : NodeState) (what : HistoryEvent) → IsPossible n nodes s what → IsOfSlots slots n nodes s what → P n s
@@ -48,8 +52,7 @@ lawful_keeps P Q nodes slots stays moves w _ may all = λ k s at. stays k s (all
 -- there are as many nodes as there were
 pub step_length : (nodes : ℕ) (w : World) (step : Step) → length (world_after nodes w step).states ≡ length w.states
 step_length nodes w (Takes n number what) = length-set w.states n (after n nodes (node_in w.states n) what)
-step_length nodes w (Changes net) = refl
-step_length nodes w (Denies named why) = refl
+step_length nodes w _ = refl
 
 pub run_length : (nodes : ℕ) (steps : List Step) (w : World) → length (world_at nodes w steps).states ≡ length w.states
 run_length nodes [] w = refl

@@ -21,14 +21,12 @@ pub lawful_of : (slots nodes : ℕ) (w : World) (step : Step) → IsAllowed node
     → IsLawful slots nodes w step
 lawful_of slots nodes w (Takes n number what) may fits =
     (may.0, may.1, may.2, subst (λ (x : NodeState). IsOfSlots slots n nodes x what) (node_there w.states n may.0 may.1) fits)
-lawful_of slots nodes w (Changes net) may fits = tt
-lawful_of slots nodes w (Denies n why) may fits = tt
+lawful_of slots nodes w _ may fits = tt
 
 pub slots_of : (slots nodes : ℕ) (w : World) (step : Step) → IsLawful slots nodes w step → StepOfSlots slots nodes w step
 slots_of slots nodes w (Takes n number what) may = subst (λ (x : NodeState). IsOfSlots slots n nodes x what)
     (sym (node_there w.states n may.0 may.1)) may.3
-slots_of slots nodes w (Changes net) may = tt
-slots_of slots nodes w (Denies n why) may = tt
+slots_of slots nodes w _ may = tt
 
 abbrev Comes : World → ℕ → ℕ → Option Event → Type 0
 Comes w n number event = IsBrought w number (brought event) × AreAddressed n (brought event)

@@ -24,14 +24,14 @@ use Rattle.histories.proofs.PublicLaws.{AnyGroup, AnyWork, GroupMove, assigns, c
 use Rattle.histories.proofs.PublicLaws.{starts_alone, settled_grows, stays, takes, wanted_grows}
 use Rattle.schedule.specs.declared.act.Act.{Act}
 use Rattle.runs.specs.World.{World, start, node_in}
-use Rattle.runs.specs.Step.{Step, Takes, Changes, Denies, world_after}
+use Rattle.runs.specs.Step.{Step, Takes, world_after}
 use Rattle.runs.specs.Acts.{IsLawful, IsRunOf}
 use Rattle.runs.specs.Reporting.{Moment, Report, moment_of}
 use Rattle.runs.specs.Uses.{Leads, LeaderCountsRise}
 use Rattle.runs.proofs.ExactRuns.{run_in}
-use Rattle.runs.proofs.Keeping.{AllStates, lawful_keeps}
+use Rattle.runs.proofs.Keeping.{opens_with, AllStates, lawful_keeps}
 use Rattle.runs.proofs.Reports.{moments_from, moments_are}
-use Rattle.runs.proofs.Runs.{node_there, opened, starts_opened, state_elsewhere, state_here}
+use Rattle.runs.proofs.Runs.{node_there, starts_opened, state_elsewhere, state_here}
 
 -- who leads a group gave it the count of its disk
 abbrev GivesLast : ℕ → State → ℕ → Type 0
@@ -110,8 +110,7 @@ node_goes_on nodes w (Takes m number what) n s at = by_node (m == n) refl
     by_node false is =
         let ne : n ≢ m = grind (arith, nat_tests) in
         record { now = s; at = state_elsewhere m n nodes what w.states ne ∙ at; more = omega arith }
-node_goes_on nodes w (Changes net) n s at = record { now = s; at = at; more = omega arith }
-node_goes_on nodes w (Denies named why) n s at = record { now = s; at = at; more = omega arith }
+node_goes_on nodes w _ n s at = record { now = s; at = at; more = omega arith }
 
 is_up : (s : State) → ((s.phase ≡ Normal) ⊎ (s.phase ≡ Reorganization)) → s.phase ≢ Down
 is_up s either down = elim either [
@@ -179,8 +178,7 @@ counts_rise (suc j) (suc k) slots nodes n (a ∷ acts) (step ∷ steps) w s m l 
     (omega (arith, lt)) at_m at_l named_m named_l leads_m leads_l
 
 opens_last : (nodes : ℕ) → AllStates LeadsLast (start nodes)
-opens_last nodes n s at = (let first : s ≡ opening n = opened nodes 0 n s n (omega arith) at in
-    subst (λ (x : NodeState). LeadsLast n x) (sym first) (λ up leads. refl))
+opens_last nodes = opens_with LeadsLast nodes (λ n up leads. refl)
 
 pub leader_counts_rise : LeaderCountsRise
 leader_counts_rise nodes slots acts r h n j k m l within lt at_m at_l named_m named_l leads_m leads_l =

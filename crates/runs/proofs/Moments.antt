@@ -7,7 +7,7 @@ use Rattle.histories.specs.NodeState.{NodeState}
 use Rattle.histories.proofs.PublicLaws.{each_split}
 use Rattle.schedule.specs.declared.act.Act.{Act}
 use Rattle.runs.specs.World.{World, node_in, start}
-use Rattle.runs.specs.Step.{Step, Takes, Changes, Denies, world_after, step_sent}
+use Rattle.runs.specs.Step.{Step, Takes, world_after, step_sent}
 use Rattle.runs.specs.Run.{RunFrom, world_at}
 use Rattle.runs.specs.Acts.{IsRunOf}
 use Rattle.runs.specs.Reporting.{Moment, Report, moment_of, grown, first_report, report_from, report_of}
@@ -67,8 +67,7 @@ moment_state (suc k) nodes (a ∷ acts) (step ∷ steps) w m at = moment_state k
 step_says : (P : Envelope → Type 0) (nodes : ℕ) (w : World) (step : Step) → Each P (world_after nodes w step).net.sent
     → Each P (step_sent nodes w step)
 step_says P nodes w (Takes n number what) h = (each_split P w.net.sent (sent_at n nodes (node_in w.states n) what) h).1
-step_says P nodes w (Changes net) h = tt
-step_says P nodes w (Denies named why) h = tt
+step_says P nodes w _ h = tt
 
 pub moment_says : (P : Envelope → Type 0) (k nodes : ℕ) (acts : List Act) (steps : List Step) (w : World) (m : Moment)
     → slice_get (moments_from nodes w acts steps) k ≡ Some m

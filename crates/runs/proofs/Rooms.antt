@@ -1,5 +1,5 @@
 -- No more jobs are pending than a disk has slots, with the command in doubt or without it.
-use Rattle.std.proofs.Common.{◌≡◌, ℕ, ◌+◌, ◌≤◌, Bool, true, false, not, List, [], ◌∷◌, length, slice_get, refl, sym, ap, subst, inl, inr}
+use Rattle.std.proofs.Common.{◌≡◌, ℕ, ◌+◌, ◌≤◌, Bool, true, false, not, List, [], ◌∷◌, length, slice_get, refl, ap, subst, inl, inr}
 use Rattle.std.proofs.Common.{arith, Option, Some, None}
 use Rattle.std.specs.Prelude.{◌==◌}
 use Rattle.std.proofs.lemmas.Bool.{cases_lt}
@@ -12,7 +12,7 @@ use Rattle.job_model.specs.Durable.{Durable}
 use Rattle.job_model.specs.Fold.{after_wanted}
 use Rattle.node_core.specs.State.{is_down}
 use Rattle.node_core.specs.NodeStep.{IsFull}
-use Rattle.histories.specs.NodeState.{NodeState, opening, wants_at, settled}
+use Rattle.histories.specs.NodeState.{NodeState, wants_at, settled}
 use Rattle.histories.specs.declared.history_event.HistoryEvent.{HistoryEvent}
 use Rattle.histories.specs.declared.history_event.HistoryEvent.TheVariants.{Did, Faulted, Recovered}
 use Rattle.histories.specs.declared.history_event.HistoryEvent.TheVariants.{RaiseFailed, RaiseRefused}
@@ -28,8 +28,7 @@ use Rattle.runs.specs.Acts.{IsRunOf}
 use Rattle.runs.proofs.ExactRuns.{left_run}
 use Rattle.runs.specs.Reporting.{Report}
 use Rattle.runs.specs.Growth.{IsLeft, acts_in}
-use Rattle.runs.proofs.Runs.{opened}
-use Rattle.runs.proofs.Keeping.{AllStates, lawful_keeps}
+use Rattle.runs.proofs.Keeping.{opens_with, AllStates, lawful_keeps}
 
 -- ---- one command
 
@@ -98,9 +97,6 @@ room_kept slots self nodes s what may fits h = record {
   doubt = doubt_after self nodes s what may h.doubt;
 }
 
-room_opened : (slots self : ℕ) → HasRoom slots self (opening self)
-room_opened slots self = record { few = omega arith; doubt = inl tt }
-
 -- ---- all nodes
 
 run_rooms : (nodes slots : ℕ) (acts : List Act) (steps : List Step) (w : World) → IsRunOf nodes slots w acts steps
@@ -113,9 +109,7 @@ run_rooms nodes slots (a ∷ acts) (step ∷ steps) w run all =
 run_rooms nodes slots _ _ w run all = absurd run
 
 start_rooms : (nodes slots : ℕ) → AllStates (HasRoom slots) (start nodes)
-start_rooms nodes slots n s at =
-    let first : s ≡ opening n = opened nodes 0 n s n (omega arith) at in
-    subst (λ (x : NodeState). HasRoom slots n x) (sym first) (room_opened slots n)
+start_rooms nodes slots = opens_with (HasRoom slots) nodes (λ n. record { few = omega arith; doubt = inl tt })
 
 -- in a run over disks of so many slots no node has more pending jobs than slots, whether its command in doubt is kept or not
 pub few_pending : (nodes slots : ℕ) (acts : List Act) (steps : List Step) → IsRunOf nodes slots (start nodes) acts steps

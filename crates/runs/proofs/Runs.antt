@@ -110,7 +110,7 @@ comes_at net k m (Err why) is h = (let none : delivery net k ≡ Err why = rw (i
 pub comes_sent : (net : Network) (k : ℕ) (m : Envelope) → delivery net k ≡ Ok m → slice_get net.sent k ≡ Some m
 comes_sent net k m h = message_sent net k m (slice_get net.sent k) refl (comes_at net k m (message_at net k) refl h)
 
-get_among : {A : Type 0} (xs : List A) (k : ℕ) (x : A) → slice_get xs k ≡ Some x → IsAmong x xs
+pub get_among : {A : Type 0} (xs : List A) (k : ℕ) (x : A) → slice_get xs k ≡ Some x → IsAmong x xs
 get_among [] k x h = absurd cc
 get_among (y ∷ xs) zero x h = inl (let e : y ≡ x = cc h in sym e)
 get_among (y ∷ xs) (suc k) x h = inr (get_among xs k x h)

@@ -9,9 +9,9 @@ use Rattle.node_core.specs.NodeStep.{IsSpent}
 use Rattle.node_core.specs.declared.event.Event.{Event}
 use Rattle.node_core.specs.declared.fault.Refusal.TheVariants.{Core, Exhausted}
 use Rattle.histories.specs.Lists.{IsAmong}
-use Rattle.histories.specs.NodeState.{NodeState, opening, wants_at, settled}
+use Rattle.histories.specs.NodeState.{NodeState, wants_at, settled}
 use Rattle.histories.specs.declared.history_event.HistoryEvent.{HistoryEvent}
-use Rattle.histories.specs.declared.history_event.HistoryEvent.TheVariants.{Did, Refused, Faulted, NoOp, Crashed, Recovered, MountFailed}
+use Rattle.histories.specs.declared.history_event.HistoryEvent.TheVariants.{Did, Refused, Faulted, NoOp, Crashed, Recovered}
 use Rattle.histories.specs.declared.history_event.HistoryEvent.TheVariants.{RaiseFailed, RaiseRefused}
 use Rattle.histories.specs.declared.history_event.NoOpKind.TheVariants.{Nothing}
 use Rattle.histories.specs.After.{after}
@@ -29,9 +29,9 @@ use Rattle.runs.specs.Step.{Step, Takes, Changes, Denies, world_after}
 use Rattle.runs.specs.Acts.{IsCompaction, IsStepOf, IsLawful, IsRunOf, act_outcome, what_outcome}
 use Rattle.runs.proofs.Acting.{no_fault}
 use Rattle.runs.specs.Reporting.{Moment, report_of}
-use Rattle.runs.proofs.Keeping.{AllStates, lawful_keeps}
+use Rattle.runs.proofs.Keeping.{opens_with, AllStates, lawful_keeps}
 use Rattle.runs.proofs.Reports.{moments_from, moments_are}
-use Rattle.runs.proofs.Runs.{node_there, opened}
+use Rattle.runs.proofs.Runs.{node_there}
 
 -- so many counts and ids were given at most
 pub record IsBelow (limit : ℕ) (d : Durable) : Type 0 where
@@ -159,14 +159,8 @@ all_unspent slots nodes limit (a ∷ acts) (step ∷ steps) w run h short m i is
 ]
 
 pub opens_few : (nodes : ℕ) → AllStates (FewGiven 1) (start nodes)
-opens_few nodes n s at =
-    let first : s ≡ opening n = opened nodes 0 n s n (omega arith) at in
-    subst (λ (x : NodeState). FewGiven 1 n x) (sym first) (record {
-      low = 1;
-      sum = omega arith;
-      below = record { counts = omega arith; ids = omega arith };
-      doubt = inl tt;
-    })
+opens_few nodes = opens_with (FewGiven 1) nodes
+    (λ n. record { low = 1; sum = omega arith; below = record { counts = omega arith; ids = omega arith }; doubt = inl tt })
 
 pub none_spent : (nodes slots : ℕ) (acts : List Act) (steps : List Step) → IsShort acts → IsRunOf nodes slots (start nodes) acts steps
     → (m : Moment) → IsAmong m (report_of nodes acts steps).moments → m.outcome ≢ outcome.Refused (Node Exhausted)
