@@ -1,6 +1,6 @@
 -- An act that is refused changes nothing, and one that is done has the effect of its event's row.
-use Rattle.std.proofs.Common.{◌≡◌, ◌≢◌, ℕ, ◌<◌, Bool, true, false, List, [], ◌∷◌, ◌++◌, length, take, slice_get, refl, sym, ◌∙◌, ap, subst}
-use Rattle.std.proofs.Common.{arith, Option, Some, None}
+use Rattle.std.proofs.Common.{◌≡◌, ℕ, ◌<◌, Bool, true, false, List, [], ◌∷◌, ◌++◌, length, take, slice_get, refl, sym, ◌∙◌, ap, subst}
+use Rattle.std.proofs.Common.{inl, inr, arith, Option, Some, None}
 use Rattle.std.specs.Prelude.{if◌then◌else◌, ◌==◌, nat_lt, option_map, unwrap_or, flat_map}
 use Rattle.std.proofs.lemmas.Bool.Decides.{nat_tests}
 use Rattle.std.proofs.lemmas.Grind.{flat_map-append}
@@ -35,15 +35,16 @@ use Rattle.runs.specs.Step.{Step, Takes, Changes, Denies, step_sent, world_after
 use Rattle.runs.specs.Run.{world_at}
 use Rattle.runs.specs.Acts.{At, IsCompaction, IsStepOf, IsLawful, IsRunOf, act_outcome, what_outcome}
 use Rattle.runs.proofs.Acting.{by_act, event_by, same_event}
-use Rattle.runs.specs.Reporting.{Moment, Report, moment_of, tries, commands_at, group_of, grown, first_report, report_from}
+use Rattle.runs.specs.Reporting.{Moment, Report, moment_of, node_of, tries, commands_at, group_of, grown, first_report, report_from}
 use Rattle.runs.specs.Uses.{report_within, last_of, last_state, all_sent, event_in, RefusedChangesNothing, DoneHasItsEffect}
 use Rattle.runs.specs.Uses.{DownRefusesCompaction}
 use Rattle.runs.proofs.ExactRuns.{run_in}
 use Rattle.runs.proofs.Fronts.{front_of}
+use Rattle.runs.proofs.Keeping.{GoesOn, node_goes_on}
 use Rattle.runs.proofs.Lawful.{sent_there}
 use Rattle.runs.proofs.Moments.{acts_front, front_report}
 use Rattle.runs.proofs.Reported.{state_there}
-use Rattle.runs.proofs.Runs.{node_there, starts_opened, state_elsewhere, state_here}
+use Rattle.runs.proofs.Runs.{node_there, starts_opened, state_here}
 
 -- ---- the state that is shown last
 
@@ -58,54 +59,35 @@ record IsLast (w : World) (r : Report) (n : ℕ) : Type 0 where
   at : slice_get w.states n ≡ Some now
   shown : last_state r n ≡ Some now.state
 
-kept_last : (n named : ℕ) (w : World) (r : Report) (h : IsLast w r n)
-    → (if named == n then Some (node_in w.states named).state else last_state r n) ≡ Some h.now.state
-kept_last n named w r h = by_node (named == n) refl
-  where
-    by_node : (b : Bool) → (named == n) ≡ b → (if b then Some (node_in w.states named).state else last_state r n) ≡ Some h.now.state
-    by_node true is = ap (λ (j : ℕ). Some (node_in w.states j).state) (eq_nat named n is)
-        ∙ ap (λ (x : NodeState). Some x.state) (node_there w.states n h.now h.at)
-    by_node false is = h.shown
-
-step_last : (slots nodes n : ℕ) (w : World) (r : Report) (a : Act) (step : Step) → IsLawful slots nodes w step → IsLast w r n
+step_last : (nodes n : ℕ) (w : World) (r : Report) (a : Act) (step : Step) → IsLast w r n
     → IsLast (world_after nodes w step) (grown nodes w a step r) n
-step_last slots nodes n w r a (Takes m number what) may h = by_node (m == n) refl
+step_last nodes n w r a step h = record {
+  now = on.now;
+  at = on.at;
+  shown = last_append n (moment_of nodes w a step) r.moments (slice_get r.opening n) ∙ by_node (node_of step == n) refl;
+}
   where
-    new : List NodeState
-    new = (world_after nodes w (Takes m number what)).states
+    on : GoesOn nodes w step n h.now
+    on = node_goes_on nodes w step n h.now h.at
 
-    by_node : (b : Bool) → (m == n) ≡ b → IsLast (world_after nodes w (Takes m number what)) (grown nodes w a (Takes m number what) r) n
-    by_node true is =
-        let same : m ≡ n = eq_nat m n is in
-        let here : slice_get new n ≡ Some (after n nodes h.now what) = state_here m n nodes what w.states h.now same h.at in record {
-          now = after n nodes h.now what;
-          at = here;
-          shown = last_append n (moment_of nodes w a (Takes m number what)) r.moments (slice_get r.opening n) ∙ rw is
-              (ap (λ (j : ℕ). Some (node_in new j).state) same ∙ ap (λ (x : NodeState). Some x.state)
-              (node_there new n (after n nodes h.now what) here));
-        }
-    by_node false is =
-        let ne : n ≢ m = grind (arith, nat_tests) in record {
-          now = h.now;
-          at = state_elsewhere m n nodes what w.states ne ∙ h.at;
-          shown = last_append n (moment_of nodes w a (Takes m number what)) r.moments (slice_get r.opening n) ∙ rw is h.shown;
-        }
-step_last slots nodes n w r a (Changes net) may h = record {
-  now = h.now;
-  at = h.at;
-  shown = last_append n (moment_of nodes w a (Changes net)) r.moments (slice_get r.opening n) ∙ kept_last n 0 w r h;
-}
-step_last slots nodes n w r a (Denies named why) may h = record {
-  now = h.now;
-  at = h.at;
-  shown = last_append n (moment_of nodes w a (Denies named why)) r.moments (slice_get r.opening n) ∙ kept_last n named w r h;
-}
+    new : List NodeState
+    new = (world_after nodes w step).states
+
+    by_node : (b : Bool) → (node_of step == n) ≡ b
+        → (if b then Some (node_in new (node_of step)).state else last_state r n) ≡ Some on.now.state
+    by_node true is = ap (λ (j : ℕ). Some (node_in new j).state) (eq_nat (node_of step) n is)
+        ∙ ap (λ (x : NodeState). Some x.state) (node_there new n on.now on.at)
+    by_node false is = elim on.how [
+      | inl same ↦ h.shown ∙ ap (λ (x : NodeState). Some x.state) (sym same)
+      | inr it ↦ (let node : node_of step ≡ n = ap node_of it.2 in
+          let no : ⊥ = grind (arith, nat_tests, is, node) in absurd no)
+    ]
 
 run_last : (slots nodes n : ℕ) (acts : List Act) (steps : List Step) (w : World) (r : Report) → IsRunOf nodes slots w acts steps
     → IsLast w r n → IsLast (world_at nodes w steps) (report_from nodes w r acts steps) n
 run_last slots nodes n [] [] w r run h = h
 run_last slots nodes n (a ∷ acts) (step ∷ steps) w r run h =
-    run_last slots nodes n acts steps (world_after nodes w step) (grown nodes w a step r) run.2 (step_last slots nodes n w r a step run.1 h)
+    run_last slots nodes n acts steps (world_after nodes w step) (grown nodes w a step r) run.2 (step_last nodes n w r a step h)
 run_last slots nodes n _ _ w r run h = absurd run
 
 -- after the first acts
@@ -143,39 +125,26 @@ record IsIdle (nodes : ℕ) (w : World) (a : Act) (step : Step) : Type 0 where
   untried : commands_at nodes w step ≡ []
   last : (r : Report) (n : ℕ) → IsLast w r n → last_state (grown nodes w a step r) n ≡ last_state r n
 
+refused_last : (nodes : ℕ) (w : World) (a : Act) (step : Step) (why : ActRefusal) → act_outcome nodes w a step ≡ outcome.Refused why
+    → (r : Report) (n : ℕ) → IsLast w r n → last_state (grown nodes w a step r) n ≡ last_state r n
+refused_last nodes w a step why is r n h =
+    let last = step_last nodes n w r a step h in
+    let on = node_goes_on nodes w step n h.now h.at in
+    let now : last.now ≡ on.now = cc (last.at, on.at) in
+    last.shown ∙ ap (λ (x : NodeState). Some x.state) (now ∙ elim on.how [
+      | inl same ↦ same
+      | inr it ↦ it.3 ∙ subst (λ (x : NodeState). after n nodes x it.1 ≡ x) (node_there w.states n h.now h.at)
+          (refused_what n nodes _ (node_in w.states n) it.1 a why (ap (act_outcome nodes w a) (sym it.2) ∙ is)).stays
+    ]) ∙ sym h.shown
+
 refused_step : (nodes : ℕ) (w : World) (a : Act) (step : Step) (why : ActRefusal) → act_outcome nodes w a step ≡ outcome.Refused why
     → IsIdle nodes w a step
 refused_step nodes w a (Takes m number what) why is =
-    let quiet = refused_what m nodes _ (node_in w.states m) what a why is in record {
-      silent = quiet.silent;
-      untried = rw quiet.untried refl;
-      last = λ r n h. last_append n (moment_of nodes w a (Takes m number what)) r.moments (slice_get r.opening n)
-          ∙ by_node r n h (m == n) refl;
-    }
-  where
-    new : List NodeState
-    new = (world_after nodes w (Takes m number what)).states
-
-    by_node : (r : Report) (n : ℕ) (h : IsLast w r n) (b : Bool) → (m == n) ≡ b
-        → (if b then Some (node_in new m).state else last_state r n) ≡ last_state r n
-    by_node r n h true eq =
-        let same : m ≡ n = eq_nat m n eq in
-        let stays : after m nodes (node_in w.states m) what ≡ node_in w.states m =
-        (refused_what m nodes _ (node_in w.states m) what a why is).stays in
-        let here : slice_get w.states m ≡ Some h.now = subst (λ (j : ℕ). slice_get w.states j ≡ Some h.now) (sym same) h.at in
-        let was : node_in w.states m ≡ h.now = node_there w.states m h.now here in
-        let now : node_in new m ≡ after m nodes h.now what = node_there new m (after m nodes h.now what)
-        (state_here m m nodes what w.states h.now refl here) in
-        let is_same : after m nodes h.now what ≡ h.now = subst (λ (x : NodeState). after m nodes x what ≡ x) was stays in
-        ap (λ (x : NodeState). Some x.state) (now ∙ is_same) ∙ sym h.shown
-    by_node r n h false eq = refl
+    let quiet = refused_what m nodes _ (node_in w.states m) what a why is in
+    record { silent = quiet.silent; untried = rw quiet.untried refl; last = refused_last nodes w a (Takes m number what) why is }
 refused_step nodes w a (Changes net) why is = absurd cc
-refused_step nodes w a (Denies named reason) why is = record {
-  silent = refl;
-  untried = refl;
-  last = λ r n h. last_append n (moment_of nodes w a (Denies named reason)) r.moments (slice_get r.opening n) ∙ kept_last n named w r h
-      ∙ sym h.shown;
-}
+refused_step nodes w a (Denies named reason) why is =
+    record { silent = refl; untried = refl; last = refused_last nodes w a (Denies named reason) why is }
 
 pub refused_changes_nothing : RefusedChangesNothing
 refused_changes_nothing nodes slots acts r h k m why at is =

@@ -1,5 +1,6 @@
 -- What each node keeps at its own steps, every node keeps.
-use Rattle.std.proofs.Common.{◌≡◌, ◌≢◌, ℕ, Bool, true, false, List, [], ◌∷◌, length, slice_get, refl, sym, ◌∙◌, subst, arith, Some}
+use Rattle.std.proofs.Common.{◌≡◌, ◌⊎◌, inl, inr, ap, ◌≢◌, ℕ, Bool, true, false, List, [], ◌∷◌, length, slice_get, refl, sym, ◌∙◌, subst}
+use Rattle.std.proofs.Common.{arith, Some}
 use Rattle.std.specs.Prelude.{◌==◌}
 use Rattle.std.proofs.lemmas.Bool.Decides.{nat_tests}
 use Rattle.std.proofs.lemmas.List.{length-set}
@@ -35,6 +36,26 @@ states_keep P nodes w m number what s at kept all n t at_n = by_place (m == n) r
     by_place false is =
         let ne : n ≢ m = grind (arith, nat_tests) in
         all n t (sym (state_elsewhere m n nodes what w.states ne) ∙ at_n)
+
+-- a node after a step: it is as it was, or the step is its own
+pub record GoesOn (nodes : ℕ) (w : World) (step : Step) (n : ℕ) (s : NodeState) : Type 0 where
+  pub now : NodeState
+  pub at : slice_get (world_after nodes w step).states n ≡ Some now
+  pub how : (now ≡ s) ⊎ ((number : ℕ) × (what : HistoryEvent) × (step ≡ Takes n number what) × (now ≡ after n nodes s what))
+
+pub node_goes_on : (nodes : ℕ) (w : World) (step : Step) (n : ℕ) (s : NodeState) → slice_get w.states n ≡ Some s → GoesOn nodes w step n s
+node_goes_on nodes w (Takes m number what) n s at = by_node (m == n) refl
+  where
+    by_node : (b : Bool) → (m == n) ≡ b → GoesOn nodes w (Takes m number what) n s
+    by_node true is = (let same : m ≡ n = eq_nat m n is in record {
+      now = after n nodes s what;
+      at = state_here m n nodes what w.states s same at;
+      how = inr (number, what, ap (λ (j : ℕ). Takes j number what) same, refl);
+    })
+    by_node false is =
+        let ne : n ≢ m = grind (arith, nat_tests) in
+        record { now = s; at = state_elsewhere m n nodes what w.states ne ∙ at; how = inl refl }
+node_goes_on nodes w _ n s at = record { now = s; at = at; how = inl refl }
 
 -- what holds of each node as it opens holds of all at the start
 pub opens_with : (P : ℕ → NodeState → Type 0) (nodes : ℕ) → ((n : ℕ) → P n (opening n)) → AllStates P (start nodes)

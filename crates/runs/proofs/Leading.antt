@@ -1,8 +1,6 @@
 -- The counts of the groups that a node leads rise.
-use Rattle.std.proofs.Common.{◌≡◌, ◌≢◌, ◌⊎◌, ℕ, zero, suc, ◌<◌, ◌≤◌, Bool, true, false, List, [], ◌∷◌, slice_get, refl, sym, ◌∙◌, ap, subst}
+use Rattle.std.proofs.Common.{◌≡◌, ◌≢◌, ◌⊎◌, ℕ, zero, suc, ◌<◌, ◌≤◌, List, [], ◌∷◌, slice_get, refl, sym, ◌∙◌, ap, subst}
 use Rattle.std.proofs.Common.{inl, inr, arith, Option, Some}
-use Rattle.std.specs.Prelude.{◌==◌}
-use Rattle.std.proofs.lemmas.Bool.Decides.{nat_tests}
 use Rattle.group_task.specs.Group.{Group}
 use Rattle.group_task.specs.Assignment.{Assignment}
 use Rattle.job_model.specs.declared.node_command.NodeCommand.{NodeCommand as Command}
@@ -20,18 +18,18 @@ use Rattle.histories.specs.declared.history_event.HistoryEvent.TheVariants.{Did,
 use Rattle.histories.specs.declared.history_event.HistoryEvent.TheVariants.{RaiseFailed}
 use Rattle.histories.specs.After.{after, raised}
 use Rattle.histories.specs.Possible.{IsPossible}
-use Rattle.histories.proofs.PublicLaws.{AnyGroup, AnyWork, GroupMove, assigns, calls, completes, entry_does, eq_nat, falls, joins}
+use Rattle.histories.proofs.PublicLaws.{AnyGroup, AnyWork, GroupMove, assigns, calls, completes, entry_does, falls, joins}
 use Rattle.histories.proofs.PublicLaws.{starts_alone, settled_grows, stays, takes, wanted_grows}
 use Rattle.schedule.specs.declared.act.Act.{Act}
 use Rattle.runs.specs.World.{World, start, node_in}
-use Rattle.runs.specs.Step.{Step, Takes, world_after}
+use Rattle.runs.specs.Step.{Step, world_after}
 use Rattle.runs.specs.Acts.{IsLawful, IsRunOf}
 use Rattle.runs.specs.Reporting.{Moment, Report, moment_of}
 use Rattle.runs.specs.Uses.{Leads, LeaderCountsRise}
 use Rattle.runs.proofs.ExactRuns.{run_in}
-use Rattle.runs.proofs.Keeping.{opens_with, AllStates, lawful_keeps}
+use Rattle.runs.proofs.Keeping.{GoesOn, node_goes_on, opens_with, AllStates, lawful_keeps}
 use Rattle.runs.proofs.Reports.{moments_from, moments_are}
-use Rattle.runs.proofs.Runs.{node_there, starts_opened, state_elsewhere, state_here}
+use Rattle.runs.proofs.Runs.{node_there, starts_opened}
 
 -- who leads a group gave it the count of its disk
 abbrev GivesLast : ℕ → State → ℕ → Type 0
@@ -94,23 +92,12 @@ step_leads : (slots nodes : ℕ) (w : World) (step : Step) → IsLawful slots no
     → AllStates LeadsLast (world_after nodes w step)
 step_leads slots nodes = lawful_keeps LeadsLast LeadsLast nodes slots (λ n s h. h) (λ n s what may fits h. leads_after n nodes s what may h)
 
--- a node after a step
-record GoesOn (nodes : ℕ) (w : World) (step : Step) (n : ℕ) (s : NodeState) : Type 0 where
-  now : NodeState
-  at : slice_get (world_after nodes w step).states n ≡ Some now
-  more : s.durable.counter ≤ now.durable.counter
-
-node_goes_on : (nodes : ℕ) (w : World) (step : Step) (n : ℕ) (s : NodeState) → slice_get w.states n ≡ Some s → GoesOn nodes w step n s
-node_goes_on nodes w (Takes m number what) n s at = by_node (m == n) refl
-  where
-    by_node : (b : Bool) → (m == n) ≡ b → GoesOn nodes w (Takes m number what) n s
-    by_node true is =
-        let same : m ≡ n = eq_nat m n is in
-        record { now = after n nodes s what; at = state_here m n nodes what w.states s same at; more = counter_more n nodes s what }
-    by_node false is =
-        let ne : n ≢ m = grind (arith, nat_tests) in
-        record { now = s; at = state_elsewhere m n nodes what w.states ne ∙ at; more = omega arith }
-node_goes_on nodes w _ n s at = record { now = s; at = at; more = omega arith }
+never_less : (nodes : ℕ) (w : World) (step : Step) (n : ℕ) (s : NodeState) (on : GoesOn nodes w step n s)
+    → s.durable.counter ≤ on.now.durable.counter
+never_less nodes w step n s on = elim on.how [
+  | inl same ↦ omega (arith, ap (λ (x : NodeState). x.durable.counter) same)
+  | inr it ↦ rw it.3 (counter_more n nodes s it.1)
+]
 
 is_up : (s : State) → ((s.phase ≡ Normal) ⊎ (s.phase ≡ Reorganization)) → s.phase ≢ Down
 is_up s either down = elim either [
@@ -141,12 +128,12 @@ later_count zero slots nodes n (a ∷ acts) (step ∷ steps) w s l run all at is
     let it : moment_of nodes w a step ≡ l = cc is in
     let count = shown_count nodes n w a step on.now (step_leads slots nodes w step run.1 all) on.at (ap (λ (x : Moment). x.node) it ∙ named)
     (subst (λ (x : Moment). Leads n x.state) (sym it) leads) in
-    omega (arith, on.more, count, ap (λ (x : Moment). x.state.group.count) it)
+    omega (arith, never_less nodes w step n s on, count, ap (λ (x : Moment). x.state.group.count) it)
 later_count (suc k) slots nodes n (a ∷ acts) (step ∷ steps) w s l run all at is named leads =
     let on = node_goes_on nodes w step n s at in
     omega (
       arith,
-      on.more,
+      never_less nodes w step n s on,
       later_count k slots nodes n acts steps (world_after nodes w step) on.now l run.2
           (step_leads slots nodes w step run.1 all) on.at is named leads,
     )
