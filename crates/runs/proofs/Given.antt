@@ -1,11 +1,9 @@
 -- The groups that a run names were given before, each of them once.
-use Rattle.std.proofs.Common.{◌≡◌, ◌≢◌, ℕ, zero, suc, ◌+◌, ◌<◌, ◌≤◌, Bool, true, false, List, [], ◌∷◌, ◌++◌, map, slice_get, refl, sym, ◌∙◌}
+use Rattle.std.proofs.Common.{◌≡◌, ℕ, zero, suc, ◌+◌, ◌<◌, ◌≤◌, List, [], ◌∷◌, ◌++◌, map, slice_get, refl, sym, ◌∙◌}
 use Rattle.std.proofs.Common.{ap, subst, inl, inr, arith, Option, Some, IfSome, append_assoc}
 use Rattle.job_model.specs.declared.work.Work.{Work}
 use Rattle.std.proofs.lemmas.List.{append-nil}
 use Rattle.std.proofs.lemmas.Option.{IfSome_then, slice_get_within}
-use Rattle.std.specs.Prelude.{◌==◌}
-use Rattle.std.proofs.lemmas.Bool.Decides.{nat_tests}
 use Rattle.group_task.specs.Group.{Group}
 use Rattle.group_task.specs.Assignment.{Assignment}
 use Rattle.job_model.specs.declared.node_command.NodeCommand.{NodeCommand as Command}
@@ -27,16 +25,16 @@ use Rattle.histories.specs.declared.history_event.HistoryEvent.TheVariants.{Rais
 use Rattle.histories.specs.HistoryEvent.{event_of, brought}
 use Rattle.histories.specs.After.{after, sent_at, given_at, raised}
 use Rattle.histories.specs.Named.{AllHold, StateHolds}
-use Rattle.histories.proofs.PublicLaws.{eq_nat, among_left, among_right, among_either, each_append, each_at, each_of, each_more, AnyWork}
+use Rattle.histories.proofs.PublicLaws.{among_left, among_right, among_either, each_append, each_at, each_of, each_more, AnyWork}
 use Rattle.histories.proofs.PublicLaws.{any_pending, GivenHold, Knows, SaysIn, Says, entry_does, settled_grows}
 use Rattle.std.specs.List.{range_with_len}
 use Rattle.runs.specs.World.{World, start, node_in}
 use Rattle.runs.specs.Step.{Step, Takes, Changes, Denies, world_after}
 use Rattle.runs.specs.Run.{IsBrought, IsAllowed, RunFrom, world_at}
 use Rattle.runs.specs.Given.{groups_at, groups_from, groups_of, AllGiven, GivenBefore, IsOnceEach, NoneTwice}
-use Rattle.runs.proofs.Keeping.{run_length, states_keep}
+use Rattle.runs.proofs.Keeping.{node_goes_on, run_length, states_keep}
 use Rattle.runs.proofs.Opened.{length_openings}
-use Rattle.runs.proofs.Runs.{brought_sent, node_there, state_here, state_elsewhere, opened}
+use Rattle.runs.proofs.Runs.{brought_sent, node_there, state_here, opened}
 
 -- what is said names groups
 says_names : (P : Group → Type 0) (J : ℕ → ℕ → Work → Type 0) (self sender receiver : ℕ) (made : List Assignment) (event : Option Event)
@@ -177,7 +175,15 @@ step_bounded nodes w (Takes n number what) given all may =
     ap (λ (x : NodeState). map (own_group n) (given_at n nodes x what)) (node_there w.states n s may.1) in
     subst (λ (gs : List Group). Bounded (world_after nodes w (Takes n number what)) (given ++ gs)) (sym these) (record {
       bound = λ g i. elim (among_either g given (map (own_group n) ks) i) [
-        | inl old ↦ old_bound g (n == g.creator) refl (all.bound g old) mine raises.grows
+        | inl old ↦ (let was = all.bound g old in
+            let on = node_goes_on nodes w (Takes n number what) g.creator was.0 was.1 in (
+              on.now,
+              on.at,
+              elim on.how [
+                | inl same ↦ omega (arith, was.2, ap (λ (x : NodeState). x.durable.counter) same)
+                | inr it ↦ rw it.3 (omega (arith, was.2, (entry_raises g.creator nodes was.0 it.1).grows))
+              ],
+            ))
         | inr new ↦ (let parts = numbered_parts n ks g new in (
           after n nodes s what,
           subst (λ (c : ℕ). slice_get (world_after nodes w (Takes n number what)).states c
@@ -194,26 +200,6 @@ step_bounded nodes w (Takes n number what) given all may =
           let above : s.durable.counter < g.count = (raises.between g.count parts.1).0 in
           omega (arith, low, above)));
     })
-  where
-    old_bound : (g : Group) (b : Bool) → (n == g.creator) ≡ b
-        → ((x : NodeState) × (slice_get w.states g.creator ≡ Some x) × (g.count ≤ x.durable.counter))
-        → slice_get (world_after nodes w (Takes n number what)).states n ≡ Some (after n nodes may.0 what)
-        → may.0.durable.counter ≤ (after n nodes may.0 what).durable.counter
-        → (x : NodeState) × (slice_get (world_after nodes w (Takes n number what)).states g.creator ≡ Some x)
-        × (g.count ≤ x.durable.counter)
-    old_bound g true is was mine grows =
-        let same : n ≡ g.creator = eq_nat n g.creator is in
-        let here : slice_get w.states n ≡ Some was.0 = subst (λ (c : ℕ). slice_get w.states c ≡ Some was.0) (sym same) was.1 in
-        let it : was.0 ≡ may.0 = cc (here, may.1) in
-        let low : g.count ≤ may.0.durable.counter = subst (λ (x : NodeState). g.count ≤ x.durable.counter) it was.2 in (
-          after n nodes may.0 what,
-          subst (λ (c : ℕ). slice_get (world_after nodes w (Takes n number what)).states c
-              ≡ Some (after n nodes may.0 what)) same mine,
-          omega (arith, low, grows),
-        )
-    old_bound g false is was mine grows =
-        let ne : g.creator ≢ n = grind (arith, nat_tests) in
-        (was.0, state_elsewhere n g.creator nodes what w.states ne ∙ was.1, was.2)
 step_bounded nodes w (Changes net) given all may = rw append-nil (record { bound = all.bound; once = all.once })
 step_bounded nodes w (Denies named why) given all may = rw append-nil all
 
