@@ -13,7 +13,7 @@ use Rattle.runs.specs.World.{World, start, node_in}
 use Rattle.runs.specs.Step.{Step, Takes, Changes, Denies, world_after}
 use Rattle.runs.specs.Run.{history_in}
 use Rattle.runs.specs.Given.{groups_from, groups_of}
-use Rattle.runs.proofs.Own.{append_own, one_each}
+use Rattle.runs.proofs.Own.{none_mine, append_own, one_each}
 use Rattle.runs.proofs.Runs.{node_there, starts_opened, state_here, state_elsewhere}
 use Rattle.node_core.specs.Words.{own_group}
 use Rattle.histories.specs.Rising.{Rises}
@@ -33,8 +33,7 @@ counts_same m n [] is = refl
 counts_same m n (k ∷ ks) is = rw is (ap (λ (ys : List ℕ). k ∷ ys) (counts_same m n ks is))
 
 counts_other : (m n : ℕ) (ks : List ℕ) → (m == n) ≡ false → own_counts n (map (own_group m) ks) ≡ []
-counts_other m n [] is = refl
-counts_other m n (k ∷ ks) is = rw is (counts_other m n ks is)
+counts_other m n ks is = none_mine (λ (g : Group). g.creator) (λ (g : Group). g.count) (own_group m) m n (λ k. refl) is ks
 
 counts_from : (n nodes : ℕ) (steps : List Step) (w : World) (s : NodeState) → slice_get w.states n ≡ Some s
     → own_counts n (groups_from nodes w steps) ≡ counts_given n nodes s (history_in n nodes w steps)

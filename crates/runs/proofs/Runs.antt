@@ -190,9 +190,6 @@ was_node (suc j) zero (x ∷ states) new s at = (x, refl)
 was_node zero (suc n) (x ∷ states) new s at = (s, at)
 was_node (suc j) (suc n) (x ∷ states) new s at = was_node j n states new s at
 
-eq_self : (n : ℕ) → (n == n) ≡ true
-eq_self n = grind (arith, nat_tests)
-
 -- all that was sent by the end was there at the start, or a node of the run sent it
 sent_by_node : (nodes : ℕ) (steps : List Step) (w : World) (m : Envelope) → RunFrom nodes w steps
     → IsAmong m (world_at nodes w steps).net.sent
@@ -210,7 +207,7 @@ sent_by_node nodes (Takes j number what ∷ steps) w m run i =
   where
     by_self : IsAmong m (sent_at j nodes (node_in w.states j) what)
         → IsAmong m (sent_in (history_in j nodes w (Takes j number what ∷ steps)))
-    by_self now = let itself : (j == j) ≡ true = eq_self j in
+    by_self now = let itself : (j == j) ≡ true = grind (arith, nat_tests) in
         rw itself (among_left m (sent_at j nodes (node_in w.states j) what)
         (sent_in (history_in j nodes (world_after nodes w (Takes j number what)) steps)) now)
 
