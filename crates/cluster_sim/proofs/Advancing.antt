@@ -63,8 +63,7 @@ counted_on nodes n before commands counts counts' tried acked None which counted
 counted_on nodes n before commands counts counts' tried acked (Some c) which counted at (inl some) =
     rw some.1 (record {
       as_many = length-set counts n (before + 1) ∙ counted.as_many;
-      each =
-          counts_more n before commands counts _ counted.each at refl;
+      each = counts_more n before commands counts _ counted.each at refl;
     })
 counted_on nodes n before commands counts counts' tried acked (Some c) which counted at (inr none) =
     absurd (let bad : true ≡ false = ap (λ (t : Option CommandKind). is_some_option t) (sym which) ∙ none.0 in cc)
@@ -75,8 +74,7 @@ same_sent : (ms : List KeptMoment) (sent sent' : List Envelope)
     → map (moment_in sent) ms ≡ map (moment_in sent') ms
 same_sent [] sent sent' numbered = refl
 same_sent (x ∷ ms) sent sent' numbered = λ i. record (moment_in sent x) {
-  sent =
-      numbered 0 (moment_in sent x) refl i;
+  sent = numbered 0 (moment_in sent x) refl i;
 } ∷ same_sent ms sent sent' (λ k m at. numbered (suc k) m at) i
 
 -- and so has a report
@@ -132,8 +130,7 @@ module _ (old new : WorldView) (w : World) (a : Act) (action : ActReport) (n : �
         at_s = s.1;
         now = s'.1;
         stood = stands.each n was s.0 at_was s.1;
-        stands =
-            p.acted.stands.each n node s'.0 at s'.1;
+        stands = p.acted.stands.each n node s'.0 at s'.1;
       }
 
   -- it took the step, or nothing is reported
@@ -156,8 +153,7 @@ module _ (old new : WorldView) (w : World) (a : Act) (action : ActReport) (n : �
       by_step _ of may shows reports = inr (record {
         tried = reports.0;
         mounted = reports.1;
-        adds =
-            λ nodes. record { commands = refl; mountings = λ before. refl };
+        adds = λ nodes. record { commands = refl; mountings = λ before. refl };
       })
 
   pub hand_fits : (report : Report) (limit : ℕ) → Reports (record { world = old; report = report }) w
@@ -211,8 +207,7 @@ module _ (old new : WorldView) (w : World) (a : Act) (action : ActReport) (n : �
         node = at_node i;
         outcome = p.acted.outcome_is i;
         sent = sent i;
-        state =
-            (shown ∙ ap (λ (k : ℕ). (node_in (world_after nodes w step).states k).state) at_node) i;
+        state = (shown ∙ ap (λ (k : ℕ). (node_in (world_after nodes w step).states k).state) at_node) i;
       }) in
       λ i. record {
         opening = r.opening;
@@ -260,10 +255,7 @@ module _ (old new : WorldView) (w : World) (a : Act) (action : ActReport) (n : �
           is_step = grew.0;
           outcome_is = p.acted.outcome_is;
           grows = grows;
-          reports = record {
-            stands = p.acted.stands;
-            left = rw (grows, same_count ∙ stands.count) grew.1;
-          };
+          reports = record { stands = p.acted.stands; left = rw (grows, same_count ∙ stands.count) grew.1 };
         }
 
     pub cluster_on : (counts counts' : List ℕ) → AreCounted (length old.nodes) (cluster_with old kept).report.commands counts

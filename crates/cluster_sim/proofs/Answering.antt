@@ -23,7 +23,7 @@ use Rattle.node_core.specs.State.{is_down}
 use Rattle.node_core.specs.Wants.{wants_of}
 use Rattle.histories.specs.NodeState.{NodeState, wants_at}
 use Rattle.histories.specs.declared.event_outcome.EventOutcome.{EventOutcome}
-use Rattle.histories.specs.declared.event_outcome.EventOutcome.TheVariants.{Done, Refused, Faulted, Recovered, MountFailed, RaiseFailed}
+use Rattle.histories.specs.declared.event_outcome.EventOutcome.TheVariants.{Refused, Faulted, Recovered, MountFailed, RaiseFailed}
 use Rattle.histories.specs.declared.event_outcome.EventOutcome.TheVariants.{RaiseRefused}
 use Rattle.histories.specs.EventOutcomes.{what_of}
 use Rattle.histories.proofs.PublicLaws.{at_down}
@@ -122,35 +122,19 @@ module _ (slots self nodes first : ℕ) (s : NodeState) (event : Event) (came : 
   -- its vector refuses it
   by_core : (fault : CoreFault) (end : EventOutcome) → answered_as came (fault_of end) ≡ Err (node.Core fault)
       → came_outcome end first came ≡ outcome.Refused (OfNode (Core fault))
-  by_core fault Done is = absurd cc
   by_core fault (Refused (Core f)) is = (let same : f ≡ fault = cc is in ap (λ (x : CoreFault). outcome.Refused (OfNode (Core x))) same)
-  by_core fault (Refused Full) is = absurd cc
-  by_core fault (Refused Exhausted) is = absurd cc
-  by_core fault (Refused AreaExhausted) is = absurd cc
-  by_core fault Faulted is = absurd cc
-  by_core fault (Recovered kept) is = absurd cc
-  by_core fault MountFailed is = absurd cc
-  by_core fault (RaiseFailed kept) is = absurd cc
-  by_core fault (RaiseRefused kept) is = absurd cc
+  by_core fault _ is = absurd cc
 
   -- nothing refuses it
   by_none : (end : EventOutcome) → refusal_of nodes self event s.state ≡ None → Does slots self nodes s event came shows (what_of event end)
       → IsErrOf (answered_as came (fault_of end)) (node.Core NoMemory)
       ⊎ (IsOk (answered_as came (fault_of end)) ⊎ IsErrOf (answered_as came (fault_of end)) node.Device)
       → IsRefusedAs None (came_outcome end first came)
-  by_none Done core does either why is = cc
-  by_none (Recovered kept) core does either why is = cc
-  by_none Faulted core does either why is = cc
-  by_none MountFailed core does either why is = cc
-  by_none (RaiseFailed kept) core does either why is = cc
   by_none (RaiseRefused kept) core does either why is = absurd (let both : true ≡ false = sym does.possible.0 ∙ up in cc)
   by_none (Refused (Core f)) core does either why is = absurd (let both = sym core ∙ does.possible.1 in cc)
-  by_none (Refused Full) core does either why is = ⊎_elim (λ e. absurd (let bad = e in cc))
+  by_none (Refused _) core does either why is = ⊎_elim (λ e. absurd (let bad = e in cc))
       (λ or. ⊎_elim (λ e. absurd (let bad = e in cc)) (λ e. absurd (let bad = e in cc)) or) either
-  by_none (Refused Exhausted) core does either why is = ⊎_elim (λ e. absurd (let bad = e in cc))
-      (λ or. ⊎_elim (λ e. absurd (let bad = e in cc)) (λ e. absurd (let bad = e in cc)) or) either
-  by_none (Refused AreaExhausted) core does either why is =
-      ⊎_elim (λ e. absurd (let bad = e in cc)) (λ or. ⊎_elim (λ e. absurd (let bad = e in cc)) (λ e. absurd (let bad = e in cc)) or) either
+  by_none _ core does either why is = cc
 
   -- its disk refuses it
   by_disk : (area : Area) (why : Refusal) (end : EventOutcome) → s.durable.next < 2 ^ 64 → refusal_of nodes self event s.state ≡ None
@@ -158,7 +142,6 @@ module _ (slots self nodes first : ℕ) (s : NodeState) (event : Event) (came : 
       → Does slots self nodes s event came shows (what_of event end)
       → IsErrOf (answered_as came (fault_of end)) (node.Core NoMemory) ⊎ (answered_as came (fault_of end) ≡ Err (shown why))
       → came_outcome end first came ≡ outcome.Refused (OfNode why)
-  by_disk area why Done few core is does either = ⊎_elim (λ e. absurd (let bad = e in cc)) (λ e. absurd cc) either
   by_disk area why (Recovered kept) few core is does either = absurd (let both : true ≡ false = sym does.possible.0 ∙ up in cc)
   by_disk area why MountFailed few core is does either = absurd (let both : true ≡ false = sym does.possible ∙ up in cc)
   by_disk area why (RaiseFailed kept) few core is does either = absurd (let both : true ≡ false = sym does.possible.0 ∙ up in cc)
@@ -167,19 +150,12 @@ module _ (slots self nodes first : ℕ) (s : NodeState) (event : Event) (came : 
   by_disk area why (Refused Exhausted) few core is does either =
       (let same : Exhausted ≡ why = cc (sym (spent_refused s.durable area (wants_at self nodes s event) does.possible.1.1) ∙ is) in
       ap (λ (x : Refusal). outcome.Refused (OfNode x)) same)
-  by_disk area (Core f) Faulted few core is does either = ⊎_elim (λ e. absurd (let bad = e in cc)) (λ e. absurd cc) either
-  by_disk area Full Faulted few core is does either = ⊎_elim (λ e. absurd (let bad = e in cc)) (λ e. absurd cc) either
-  by_disk area Exhausted Faulted few core is does either = ⊎_elim (λ e. absurd (let bad = e in cc)) (λ e. absurd cc) either
-  by_disk area AreaExhausted Faulted few core is does either = ⊎_elim (λ e. absurd (let bad = e in cc)) (λ e. absurd cc) either
-  by_disk area (Core f) (Refused Full) few core is does either = ⊎_elim (λ e. absurd (let bad = e in cc)) (λ e. absurd cc) either
   by_disk area Full (Refused Full) few core is does either = refl
-  by_disk area Exhausted (Refused Full) few core is does either = ⊎_elim (λ e. absurd (let bad = e in cc)) (λ e. absurd cc) either
-  by_disk area AreaExhausted (Refused Full) few core is does either = ⊎_elim (λ e. absurd (let bad = e in cc)) (λ e. absurd cc) either
-  by_disk area (Core f) (Refused AreaExhausted) few core is does either = ⊎_elim (λ e. absurd (let bad = e in cc)) (λ e. absurd cc) either
-  by_disk area Full (Refused AreaExhausted) few core is does either = ⊎_elim (λ e. absurd (let bad = e in cc)) (λ e. absurd cc) either
+  by_disk area AreaExhausted (Refused AreaExhausted) few core is does either = refl
   by_disk area Exhausted (Refused AreaExhausted) few core is does either =
       absurd (does.possible.1.1.0 (refused_spent s.durable area (wants_at self nodes s event) few is))
-  by_disk area AreaExhausted (Refused AreaExhausted) few core is does either = refl
+  by_disk area (Core f) Faulted few core is does either = ⊎_elim (λ e. absurd (let bad = e in cc)) (λ e. absurd cc) either
+  by_disk area _ _ few core is does either = ⊎_elim (λ e. absurd (let bad = e in cc)) (λ e. absurd cc) either
 
   pub refused_so : (area : Area) → s.durable.next < 2 ^ 64 → Does slots self nodes s event came shows (what_of event came.event_outcome)
       → AnswersEvent (refusal_of nodes self event s.state) (disk_refusal s.durable area (wants_at self nodes s event))
@@ -252,15 +228,7 @@ module _ (old new : Node Memory) (event : Event) (came : StepReport) (first : �
       let fallen : s.state ≡ down old.id = sym stands.state ∙ shows.fallen is in
       let none = (at_down old.id old.nodes s event fallen does.possible.0 does.possible.1.0).wants in
       subst (λ (w : Option Command). IsAppended w) none does.possible.1.1.1
-  area_exhausted_down slots Done is does area_exhausted = cc
-  area_exhausted_down slots (Refused (Core f)) is does area_exhausted = absurd cc
-  area_exhausted_down slots (Refused Full) is does area_exhausted = absurd cc
-  area_exhausted_down slots (Refused Exhausted) is does area_exhausted = absurd cc
-  area_exhausted_down slots (Recovered kept) is does area_exhausted = cc
-  area_exhausted_down slots Faulted is does area_exhausted = cc
-  area_exhausted_down slots MountFailed is does area_exhausted = cc
-  area_exhausted_down slots (RaiseFailed kept) is does area_exhausted = cc
-  area_exhausted_down slots (RaiseRefused kept) is does area_exhausted = absurd cc
+  area_exhausted_down slots _ is does area_exhausted = absurd cc
 
   area_exhausted_up : (bound : ℕ) → is_down old.state.phase ≡ false → IsAnswered old event (came_outcome came.event_outcome first came)
       → AreaWithin bound old.disk → bound + 1 < 2 ^ 64 → came_outcome came.event_outcome first came ≡ outcome.Refused (OfNode AreaExhausted)
@@ -295,9 +263,7 @@ stuck_so old new event (node.Core fault) disk at stuck s stands = inr stuck.1
 stuck_so old new event node.Full disk at stuck s stands = absurd stuck
 stuck_so old new event node.Exhausted disk at stuck s stands = absurd stuck
 stuck_so old new event node.Device disk at stuck s stands = absurd stuck
-stuck_so old new event node.NotFormatted disk at stuck s stands = absurd (stuck.strange disk s at stands refl)
-stuck_so old new event (node.Damaged sector) disk at stuck s stands = absurd (stuck.strange disk s at stands refl)
-stuck_so old new event node.TooSmall disk at stuck s stands = absurd (stuck.strange disk s at stands refl)
+stuck_so old new event _ disk at stuck s stands = absurd (stuck.strange disk s at stands refl)
 
 -- ---- an act of the operator
 
@@ -343,10 +309,7 @@ compacted_areas old new result o disk at_disk counts refused numbers bound withi
 pub idle_areas : (old new : List (Node Memory)) (o : Outcome) → new ≡ old → o ≢ outcome.Refused (OfNode AreaExhausted) → (bound : ℕ)
     → AreasWithin bound old → AreasWithin (bound + 1) new × (bound + 1 < 2 ^ 64 → o ≢ outcome.Refused (OfNode AreaExhausted))
 idle_areas old new o same other bound within = (
-  λ k node at d on image number is cell. omega (
-    arith,
-    within k node (rw same at at) d on image number is cell,
-  ),
+  λ k node at d on image number is cell. omega (arith, within k node (rw same at at) d on image number is cell),
   λ _. other,
 )
 
@@ -398,10 +361,7 @@ event_answered net nodes a id event (Err e) is answered = tt
 pub act_answered : {E : Type 0} (net : Network) (nodes : List (Node Memory)) (a : Act) (id : ℕ) (event : Event)
     (result : Result ActReport E) → event_at a ≡ Some (id, event) → IfOk result (λ (d : ActReport). IsAnsweredAt nodes id event d.outcome)
     → IfOk result (λ (d : ActReport). (n : ℕ) (e : Event) → event_by net a ≡ Some (n, e) → IsAnsweredAt nodes n e d.outcome)
-act_answered net nodes a id event result is answered = event_answered net nodes a id event result (event_by_at net a (
-  id,
-  event,
-) is) answered
+act_answered net nodes a id event result is answered = event_answered net nodes a id event result (event_by_at net a _ is) answered
 
 none_by : (net : Network) (a : Act) → event_at a ≡ None → ((k : ℕ) → a ≢ act.Deliver k) → event_by net a ≡ None
 none_by net (act.Deliver k) none other = absurd (other k refl)

@@ -25,8 +25,7 @@ still was why = record {
   arms = no_more_still was.left;
   later = omega arith;
   unchanged = λ _. refl;
-  cause =
-      λ bad. absurd (let no = bad in cc);
+  cause = λ bad. absurd (let no = bad in cc);
 }
 
 pub still_counted : (a : Act) (disk : Option Memory) (why : ActRefusal) → IsCounted (armed_by a) disk disk (outcome.Refused why)
@@ -46,8 +45,7 @@ arm_counted calls first (Some d) was now before after =
       arms = omega arith;
       later = omega arith;
       unchanged = λ _. refl;
-      cause =
-          λ bad. absurd (let no = bad in cc);
+      cause = λ bad. absurd (let no = bad in cc);
     })
 
 -- a crash disarms it
@@ -61,7 +59,6 @@ crash_counted was now first size is =
       honest = refl;
       arms = ap (λ (m : Memory). m.left) is;
       later = omega (arith, same);
-      unchanged =
-          λ _. same;
+      unchanged = λ _. same;
       cause = λ bad. absurd (let no = bad in cc);
     }

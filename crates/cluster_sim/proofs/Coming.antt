@@ -26,7 +26,8 @@ use Rattle.runs.specs.Acts.{what_outcome, IsCompaction}
 use Rattle.schedule.specs.declared.act.Act.{Act}
 use Rattle.schedule.specs.declared.act.Act.TheVariants as act
 use Rattle.cluster_sim.specs.Outcomes.{came_outcome, compaction_outcome}
-use Rattle.cluster_sim.specs.World.{MayHaveForgotten, IsOfSize, IsSame, IsCounted, Comes, as_before, is_mounting, fate_in, bare}
+use Rattle.cluster_sim.specs.World.{MayHaveForgotten, IsOfSize, IsSame, IsCounted, ActionOf, Comes, as_before, is_mounting}
+use Rattle.cluster_sim.specs.World.{fate_in, bare}
 use Rattle.cluster_sim.specs.declared.act_report.ActReport.{ActReport}
 use Rattle.durable_node.specs.Compacting.{CompactionAnswers, IsMovedNode, IsFallenNode, StaysKept}
 use Rattle.durable_node.specs.Refusing.{AnswersTo, compaction_refusal, is_last}
@@ -35,7 +36,7 @@ use Rattle.runs.specs.declared.outcome.ActRefusal.{ActRefusal}
 use Rattle.histories.specs.declared.history_event.HistoryEvent.{HistoryEvent}
 use Rattle.histories.specs.declared.history_event.HistoryEvent.TheVariants.{NoOp, Crashed}
 use Rattle.histories.specs.declared.history_event.NoOpKind.TheVariants.{Nothing, Compacted}
-use Rattle.histories.specs.After.{after}
+use Rattle.histories.specs.After.{after, mounted_at, sent_at}
 use Rattle.node_core.specs.declared.fault.CoreFault.TheVariants.{Down}
 use Rattle.node_core.specs.State.{State, is_down}
 use Rattle.runs.proofs.PublicLaws.{none_sent}
@@ -129,8 +130,7 @@ counted_by old new result o so back counts was now before after =
       honest = c.honest;
       arms = c.arms;
       later = c.later;
-      unchanged =
-          λ not. c.unchanged (λ bad. not (back bad));
+      unchanged = λ not. c.unchanged (λ bad. not (back bad));
       cause = λ is. c.cause (so is);
     }
 
@@ -157,39 +157,33 @@ outcome_so self nodes first n s (NoOp _) result is up = (tt, rw is refl)
 outcome_so self nodes first n s Crashed result is up = (up is, rw is refl)
 outcome_so self nodes first n s _ result is up = absurd is
 
+-- it sends, mounts and tries nothing
+quiet_of : (slots id nodes : ℕ) (s : NodeState) (o : Outcome) (net : Network) (what : HistoryEvent) → IsCompaction s what
+    → IsOfSlots slots id nodes s what × ActionOf id nodes s what (bare o)
+    × (net ≡ after_all_sent net (sent_at id nodes s what)) × (None ≡ mounted_at s what)
+quiet_of slots id nodes s o net (NoOp rest) is =
+    (tt, record { event_outcome = refl; tried = refl; acked = refl; mounted = refl }, sym (none_sent net), refl)
+quiet_of slots id nodes s o net Crashed is =
+    (tt, record { event_outcome = refl; tried = refl; acked = refl; mounted = refl }, sym (none_sent net), refl)
+quiet_of slots id nodes s o net _ is = absurd is
+
 pub compacted_comes : (slots n id nodes : ℕ) (s : NodeState) (o : Outcome) (new : Node Memory) (net : Network) (what : HistoryEvent)
     → IsCompaction s what → IsPossible id nodes s what
     → o ≡ what_outcome id nodes (length net.sent) s what (act.Compact n) → new.mounted ≡ None → Stands state_of new (after id nodes s what)
     → Comes slots id nodes (act.Compact n) (IsCompaction s) s (bare o) new net net
-compacted_comes slots n id nodes s o new net (NoOp rest) is may shown none stands =
+compacted_comes slots n id nodes s o new net what is may shown none stands =
+    let quiet = quiet_of slots id nodes s o net what is in
     record {
-      what = NoOp rest;
+      what = what;
       is = is;
       possible = may;
-      of_slots = tt;
+      of_slots = quiet.0;
       outcome_is = shown;
-      reports =
-          record { event_outcome = refl; tried = refl; acked = refl; mounted = refl };
-      sent = sym (none_sent net);
-      mounted = none;
-      stands =
-          stands;
+      reports = quiet.1;
+      sent = quiet.2;
+      mounted = none ∙ quiet.3;
+      stands = stands;
     }
-compacted_comes slots n id nodes s o new net Crashed is may shown none stands =
-    record {
-      what = Crashed;
-      is = is;
-      possible = may;
-      of_slots = tt;
-      outcome_is = shown;
-      reports =
-          record { event_outcome = refl; tried = refl; acked = refl; mounted = refl };
-      sent = sym (none_sent net);
-      mounted = none;
-      stands =
-          stands;
-    }
-compacted_comes slots n id nodes s o new net _ is may shown none stands = absurd is
 
 -- nothing is mounted
 pub nothing_mounted : (old new : Node Memory) (o : Outcome) → IsLeftBy o old new → new.mounted ≡ None
@@ -234,8 +228,7 @@ pub compacted : {A : Type 0} (old new : Node Memory) (first : ℕ) (result : Res
 compacted old new first result answers moved fallen refused kept =
     record {
       refused = compacted_refused old.area first result answers;
-      left =
-          compacted_left old new first result moved fallen refused;
+      left = compacted_left old new first result moved fallen refused;
       kept = kept;
     }
 

@@ -122,8 +122,7 @@ denied w a n why Q view stands is = record {
   allowed = tt;
   of_slots = tt;
   outcome_is = refl;
-  shows =
-      tt;
+  shows = tt;
   reports = (refl, refl, refl);
   stands = stands;
 }

@@ -109,8 +109,7 @@ turned_is [] past = refl
 turned_is (Takes n number what ∷ left) past =
     turned_is left (n ∷ past) ∙ sym (append_assoc (reverse (nodes_in left)) (n ∷ []) past)
     ∙ ap (λ (ns : List ℕ). ns ++ past) (sym (reverse-append (n ∷ []) (nodes_in left)))
-turned_is (Changes net ∷ left) past = turned_is left past
-turned_is (Denies n why ∷ left) past = turned_is left past
+turned_is (_ ∷ left) past = turned_is left past
 
 to_the_end : (nodes : ℕ) (hs : List (List Claim)) (left : List Step) (w : World) (past : List ℕ) → IsAt nodes hs w.states w.net.sent past
     → AreLeft nodes hs w past left → RunFrom nodes w left → IsOrder hs (turned left past)

@@ -58,8 +58,7 @@ still_cluster slots n nodes old new cluster at same = record {
       (let is = cluster.members n old at in record {
         id_is = same.id ∙ is.id_is;
         nodes_is = same.nodes ∙ is.nodes_is;
-        size =
-            same.size slots is.size;
+        size = same.size slots is.size;
       }) (λ k x _. cluster.members k x));
 }
 
@@ -151,8 +150,7 @@ pub untouched_if : {E : Type 0} (slots n : ℕ) (nodes : List (Node Memory)) (ol
     → OnErr result (IsUntouched (node_or_first (length now.nodes) n) now (record {
       slots = slots;
       nodes = slice_set nodes n new;
-      net =
-          net';
+      net = net';
     }))
 untouched_if slots n nodes old new net net' (Ok o) w now viewed at stands keeps same = tt
 untouched_if slots n nodes old new net net' (Err e) w now viewed at stands keeps same_net =
@@ -184,15 +182,13 @@ pub faults_if : {E : Type 0} (arms : Outcome → Option ℕ → Option ℕ) (slo
     → slice_get nodes n ≡ Some old → IfOk result (λ (d : ActReport). IsCounted arms old.disk new.disk d.outcome)
     → IfOk result (λ (d : ActReport). FaultsAt arms (node_or_first (length now.nodes) n) now (record {
       slots = slots;
-      nodes =
-          slice_set nodes n new;
+      nodes = slice_set nodes n new;
       net = net';
     }) d.outcome)
 faults_if arms slots n nodes old new net net' (Ok d) now viewed at counted =
     let known : node_or_first (length nodes) n ≡ n = rw (true_within n (length nodes) (slice_get_within nodes n old at)) refl in
     rw (← viewed, known) (record {
       here = rw (at, get_set_same nodes n old new at) counted;
-      elsewhere =
-          λ k other. get_set_other nodes k n new other;
+      elsewhere = λ k other. get_set_other nodes k n new other;
     })
 faults_if arms slots n nodes old new net net' (Err e) now viewed at counted = tt

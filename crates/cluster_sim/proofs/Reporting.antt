@@ -53,8 +53,7 @@ did_parts n count d (Some Raise) = record {
   tried = refl;
   mountings = refl;
   given = refl;
-  raises =
-      λ k raise is. (let same : d.counter + 1 ≡ k = is_some (d.counter + 1) k is in omega (arith, same));
+  raises = λ k raise is. (let same : d.counter + 1 ≡ k = is_some (d.counter + 1) k is in omega (arith, same));
 }
 did_parts n count d _ = record { tried = refl; mountings = refl; given = refl; raises = λ k raise is. absurd (let bad = raise in cc) }
 
@@ -65,8 +64,7 @@ failed_parts n count (Some Raise) = record {
   tried = refl;
   mountings = refl;
   given = refl;
-  raises =
-      λ k raise is. absurd (let bad = is in cc);
+  raises = λ k raise is. absurd (let bad = is in cc);
 }
 failed_parts n count _ = record { tried = refl; mountings = refl; given = refl; raises = λ k raise is. absurd (let bad = is in cc) }
 

@@ -12,15 +12,14 @@ use Rattle.schedule.specs.declared.act.Act.{Act}
 use Rattle.sim_net.specs.declared.fault.NetFault.{NetFault}
 use Rattle.sim_net.specs.Network.{delivery, Network}
 use Rattle.runs.specs.World.{World, node_in, start}
-use Rattle.runs.specs.Step.{Step, Takes, Changes, Denies, world_after}
+use Rattle.runs.specs.Step.{Step, Takes, world_after}
 use Rattle.runs.specs.Run.{entry_at, history_in, histories_from, world_at, histories_of}
 use Rattle.runs.specs.Acts.{At, IsCompaction, IsStepOf, what_outcome, act_outcome}
 use Rattle.cluster_sim.specs.declared.bringing.Brought.{Brought}
 use Rattle.cluster_sim.specs.declared.bringing.Brought.TheVariants.{Event, Arming, Crash, Compaction}
 use Rattle.cluster_sim.specs.Bringing.{delivered, brought_by, number_of, CameOf}
 use Rattle.histories.specs.NodeState.{NodeState}
-use Rattle.histories.specs.declared.history_event.HistoryEvent.TheVariants.{Did, Refused, Faulted, NoOp, Crashed, Recovered, MountFailed}
-use Rattle.histories.specs.declared.history_event.HistoryEvent.TheVariants.{RaiseFailed, RaiseRefused}
+use Rattle.histories.specs.declared.history_event.HistoryEvent.TheVariants.{Did, Faulted, NoOp, Crashed}
 use Rattle.histories.specs.declared.history_event.NoOpKind.TheVariants as resting
 use Rattle.histories.specs.HistoryEvent.{event_of, Entry}
 use Rattle.histories.specs.After.{sent_at}
@@ -33,6 +32,7 @@ use Rattle.trace_check.specs.declared.trace.TraceAction.{TraceAction}
 use Rattle.trace_check.specs.Claims.{Claim, brought_by as action_brought}
 use Rattle.runs.proofs.PublicLaws.{Brings, acts_go_on, step_length, length_openings, at_place, how_many}
 use Rattle.runs.specs.declared.outcome.Outcome.{Outcome}
+use Rattle.durable_node.proofs.PublicLaws.{is_some}
 use Rattle.cluster_sim.specs.Acting.{IsActed}
 use Rattle.cluster_sim.specs.Names.{node_named}
 use Rattle.cluster_sim.specs.Operated.{Operates}
@@ -44,9 +44,6 @@ use Rattle.trace_check.specs.Traces.{claim}
 use Rattle.node_core.specs.declared.event.Event.TheVariants as on
 use Rattle.schedule.specs.declared.act.Act.TheVariants as act
 
-is_some : {A : Type 0} (x y : A) → Some x ≡ Some y → x ≡ y
-is_some x y is = cc is
-
 -- an act that brings such a thing
 abbrev pub bringing : Brought → Act
 bringing Compaction = act.Compact 0
@@ -56,9 +53,6 @@ bringing b = act.Recover 0
 compaction_same : (self nodes first : ℕ) (s : NodeState) (n m : ℕ) (what : HistoryEvent)
     → what_outcome self nodes first s what (act.Compact n) ≡ what_outcome self nodes first s what (act.Compact m)
 compaction_same self nodes first s n m (NoOp resting.Nothing) = refl
-compaction_same self nodes first s n m (NoOp resting.Compacted) = refl
-compaction_same self nodes first s n m (NoOp resting.CompactDown) = refl
-compaction_same self nodes first s n m (NoOp resting.CompactAreaExhausted) = refl
 compaction_same self nodes first s n m _ = refl
 
 other_same : (self nodes first : ℕ) (s : NodeState) (a : Act) (what : HistoryEvent) → ((n : ℕ) → a ≡ act.Compact n → ⊥)
@@ -66,9 +60,6 @@ other_same : (self nodes first : ℕ) (s : NodeState) (a : Act) (what : HistoryE
 other_same self nodes first s (act.Compact n) Crashed none = absurd (none n refl)
 other_same self nodes first s _ Crashed none = refl
 other_same self nodes first s a (NoOp resting.Nothing) none = refl
-other_same self nodes first s a (NoOp resting.Compacted) none = refl
-other_same self nodes first s a (NoOp resting.CompactDown) none = refl
-other_same self nodes first s a (NoOp resting.CompactAreaExhausted) none = refl
 other_same self nodes first s a _ none = refl
 
 -- the step is one of this node, in this state, to which this was brought
@@ -107,27 +98,14 @@ delivers_at now nodes net k (Err why) n c step is brings = absurd cc
 
 pub step_at : (nodes : ℕ) (w : World) (a : Act) (n : ℕ) (b : Brought) (step : Step) → brought_by nodes w.net a ≡ Some (n, b)
     → IsStepOf nodes w a step → IsStepAt (node_in w.states n) a n b step
-step_at nodes w (act.Timer m timer) n b step is of = comes_at (node_in w.states) (act.Timer m timer)
-    (nat_lt m nodes) m 0 (Event (on.Timer timer)) n b step refl (λ what self size first s. other_same self size first s _ what (λ k e. cc))
-    is of
 step_at nodes w (act.Deliver k) n b step is of = delivers_at (node_in w.states) nodes w.net k (delivery w.net k) n b step is of
 step_at nodes w (act.Lose k) n b step is of = absurd cc
 step_at nodes w (act.Cut x y) n b step is of = absurd cc
 step_at nodes w (act.Mend x y) n b step is of = absurd cc
-step_at nodes w (act.Submit m work) n b step is of = comes_at (node_in w.states) (act.Submit m work)
-    (nat_lt m nodes) m 0 (Event (on.Submit work)) n b step refl (λ what self size first s. other_same self size first s _ what (λ k e. cc))
-    is of
-step_at nodes w (act.Finish m origin id) n b step is of =
-    comes_at (node_in w.states) (act.Finish m origin id) (nat_lt m nodes) m 0 (Event (on.Finish origin id)) n b step refl
+step_at nodes w (act.Compact m) n b step is of = comes_at (node_in w.states) (act.Compact m) (nat_lt m nodes) m 0 Compaction n b step refl
+    (λ what self size first s. compaction_same self size first s m 0 what) is of
+step_at nodes w _ n b step is of = comes_at (node_in w.states) _ _ _ 0 _ n b step refl
     (λ what self size first s. other_same self size first s _ what (λ k e. cc)) is of
-step_at nodes w (act.Arm m calls) n b step is of = comes_at (node_in w.states) (act.Arm m calls)
-    (nat_lt m nodes) m 0 Arming n b step refl (λ what self size first s. other_same self size first s _ what (λ k e. cc)) is of
-step_at nodes w (act.Crash m fill) n b step is of = comes_at (node_in w.states) (act.Crash m fill)
-    (nat_lt m nodes) m 0 Crash n b step refl (λ what self size first s. other_same self size first s _ what (λ k e. cc)) is of
-step_at nodes w (act.Recover m) n b step is of = comes_at (node_in w.states) (act.Recover m)
-    (nat_lt m nodes) m 0 (Event on.Recover) n b step refl (λ what self size first s. other_same self size first s _ what (λ k e. cc)) is of
-step_at nodes w (act.Compact m) n b step is of = comes_at (node_in w.states) (act.Compact m)
-    (nat_lt m nodes) m 0 Compaction n b step refl (λ what self size first s. compaction_same self size first s m 0 what) is of
 
 -- ---- an act that comes to no node adds no entry
 
@@ -151,21 +129,15 @@ entry_elsewhere n m nodes w number what other = rw (ne_eqb n m (λ is. other (sy
 told_event : (event : CoreEvent) (what : HistoryEvent) (f : Option EventOutcome) (o : Outcome) → event_of what ≡ Some event
     → f ≡ fate_in what → action_of what ≡ action_by f (Event event) o
 told_event event (Did e) f o of is = rw (is, is_some e event of) refl
-told_event event (Refused e fault) f o of is = rw is refl
 told_event event (Faulted e) f o of is = rw (is, is_some e event of) refl
 told_event event (NoOp rest) f o of is = absurd cc
 told_event event Crashed f o of is = absurd cc
-told_event event (Recovered kept) f o of is = rw is refl
-told_event event MountFailed f o of is = rw is refl
-told_event event (RaiseFailed kept) f o of is = rw is refl
-told_event event (RaiseRefused kept) f o of is = rw is refl
+told_event event _ f o of is = rw is refl
 
 told_compaction : (what : HistoryEvent) (f : Option EventOutcome) (self nodes first : ℕ) (s now : NodeState) → IsCompaction now what
     → f ≡ fate_in what → action_of what ≡ action_by f Compaction (what_outcome self nodes first s what (act.Compact 0))
 told_compaction (NoOp resting.Nothing) f self nodes first s now came is = rw is refl
-told_compaction (NoOp resting.Compacted) f self nodes first s now came is = rw is refl
-told_compaction (NoOp resting.CompactDown) f self nodes first s now came is = rw is refl
-told_compaction (NoOp resting.CompactAreaExhausted) f self nodes first s now came is = rw is refl
+told_compaction (NoOp _) f self nodes first s now came is = rw is refl
 told_compaction Crashed f self nodes first s now came is = rw is refl
 told_compaction what f self nodes first s now came is = absurd came
 
@@ -254,15 +226,13 @@ acted_on nodes (b ∷ acts) (x ∷ steps) view w a step end new acted one =
 nodes_go_on : (steps : List Step) (step : Step) → nodes_in (steps ++ step ∷ []) ≡ nodes_in steps ++ nodes_in (step ∷ [])
 nodes_go_on [] step = refl
 nodes_go_on (Takes n number what ∷ steps) step = ap (λ (ns : List ℕ). n ∷ ns) (nodes_go_on steps step)
-nodes_go_on (Changes net ∷ steps) step = nodes_go_on steps step
-nodes_go_on (Denies n why ∷ steps) step = nodes_go_on steps step
+nodes_go_on (_ ∷ steps) step = nodes_go_on steps step
 
 messages_go_on : (steps : List Step) (step : Step) → messages_in (steps ++ step ∷ []) ≡ messages_in steps ++ messages_in (step ∷ [])
 messages_go_on [] step = refl
 messages_go_on (Takes n number what ∷ steps) step = ap (λ (ms : List (Option ℕ)). message_if (action_brought (action_of what)) number ∷ ms)
     (messages_go_on steps step)
-messages_go_on (Changes net ∷ steps) step = messages_go_on steps step
-messages_go_on (Denies n why ∷ steps) step = messages_go_on steps step
+messages_go_on (_ ∷ steps) step = messages_go_on steps step
 
 -- the order has the turn of this step, if it is one
 pub record IsTurned (step : Step) (old new : Order) : Type 0 where
@@ -371,16 +341,8 @@ traced nodes slots before a n b d old new place sent trace trace' order order' s
 -- and no turn
 quiet_turn : (order : Order) (nodes : ℕ) (w : World) (step : Step) → IsQuiet nodes w step → IsTurned step order order
 quiet_turn order nodes w (Takes n number what) quiet = absurd (let here = sym (quiet n) ∙ entry_here n nodes w number what in cc)
-quiet_turn order nodes w (Changes net) quiet = record {
-  nodes = sym (append-nil order.nodes.items);
-  messages =
-      sym (append-nil order.messages.items);
-}
-quiet_turn order nodes w (Denies n why) quiet = record {
-  nodes = sym (append-nil order.nodes.items);
-  messages =
-      sym (append-nil order.messages.items);
-}
+quiet_turn order nodes w _ quiet =
+    record { nodes = sym (append-nil order.nodes.items); messages = sym (append-nil order.messages.items) }
 
 -- one that comes to no node leaves the trace as it is
 pub none_noted : (nodes slots : ℕ) (before : List Act) (a : Act) (old new : WorldView) (trace : List (List Claim)) (order : Order)
@@ -424,8 +386,7 @@ begins nodes slots view trace order no_node no_message same stands unarmed none 
             first = view;
             last = view;
             opened = stands;
-            unarmed =
-                unarmed;
+            unarmed = unarmed;
             acted = refl;
           };
       last_is = refl;

@@ -7,8 +7,7 @@ pub returns-clause-run : goal.returns-clause-run
 returns-clause-run c = rw (← c.self.view_is) (record {
   last = c.self.invariant.last;
   reports = c.self.invariant.reports;
-  as_many =
-      refl;
+  as_many = refl;
   of_acts = refl;
 })
 

@@ -56,8 +56,7 @@ returns-then-place-len-clause-faults c =
     record {
       here = still_counted c.args.act.now (disk_of (slice_get c.args.self.now.nodes
           (node_named (length c.args.self.now.nodes) c.args.self.now.net.sent c.args.act.now))) refusal.Stranger;
-      elsewhere =
-          λ k other. refl;
+      elsewhere = λ k other. refl;
     }
 
 pub returns-then-place-len-clause-disk : goal.returns-then-place-len-clause-disk
