@@ -276,10 +276,9 @@ module _ (old new : WorldView) (w : World) (a : Act) (action : ActReport) (n : �
           counted = rw (same_count, commands, whole.is) (counted_on (length old.nodes) n before r.commands counts counts' action.tried
               action.acked whole.command whole.which counted at_count either);
           areas = subst (λ (x : Report). AreasWithin (length x.moments + 2) new.nodes) (sym grows)
-              (subst (λ (k : ℕ). AreasWithin k new.nodes) (omega (
-                arith,
-                length-append r.moments (moment_of (length w.states) w a p.acted.step ∷ []),
-              )) (rises (length r.moments + 2) within).0);
+              (subst (λ (k : ℕ). AreasWithin k new.nodes)
+              (omega (arith, length-append r.moments (moment_of (length w.states) w a p.acted.step ∷ [])))
+              (rises (length r.moments + 2) within).0);
         }
 
 -- an act for which there was no memory leaves all of it true
@@ -295,9 +294,7 @@ cluster_still old new kept kept' at counts is same_kept same_slots stands untouc
       last = is.last;
       reports = record {
         stands = stands is.last is.reports.stands;
-        left = subst (λ (n : ℕ). IsLeft n new.slots is.last (report_in kept' new.net.sent)) (sym same.count)
-            (subst (λ (n : ℕ). IsLeft (length old.nodes) n is.last (report_in kept' new.net.sent)) (sym same_slots)
-            (subst (IsLeft (length old.nodes) old.slots is.last) (sym report_same) is.reports.left));
+        left = rw (report_same, same.count, same_slots) is.reports.left;
       };
       counted = subst (λ (n : ℕ). AreCounted n (report_in kept' new.net.sent).commands counts) (sym same.count)
           (subst (λ (x : Report). AreCounted (length old.nodes) x.commands counts) (sym report_same) is.counted);

@@ -110,9 +110,8 @@ not_area_exhausted d area (Some Raise) free is = by_counter (d.counter == 2 ^ 64
 not_area_exhausted d area (Some (Put work)) free is = by_both (nat_le (2 ^ 64 - 1) d.next) (nat_lt area.slots (length d.pending + 3)) is
   where
     by_both : (b c : Bool) → (if b then Some Exhausted else (if c then Some Full else area_refusal area)) ≡ Some AreaExhausted → ⊥
-    by_both true c is = absurd cc
-    by_both false true is = absurd cc
     by_both false false is = (let none = sym (area_free area free) ∙ is in absurd cc)
+    by_both _ _ is = absurd cc
 not_area_exhausted d area (Some (JobDone id)) free is = (let none = sym (area_free area free) ∙ is in absurd cc)
 
 -- ---- an event at a node that is up

@@ -147,11 +147,8 @@ pub untouched_if : {E : Type 0} (slots n : ℕ) (nodes : List (Node Memory)) (ol
     (result : Result ActReport E) (w : World) (now : WorldView) → record { slots = slots; nodes = nodes; net = net } ≡ now
     → slice_get nodes n ≡ Some old → StandsFor (record { slots = slots; nodes = nodes; net = net }) w
     → OnErr result ((s : NodeState) → Stands state_of old s → IsUntouchedNode old new) → OnErr result (net' ≡ net)
-    → OnErr result (IsUntouched (node_or_first (length now.nodes) n) now (record {
-      slots = slots;
-      nodes = slice_set nodes n new;
-      net = net';
-    }))
+    → OnErr result (IsUntouched (node_or_first (length now.nodes) n) now
+    (record { slots = slots; nodes = slice_set nodes n new; net = net' }))
 untouched_if slots n nodes old new net net' (Ok o) w now viewed at stands keeps same = tt
 untouched_if slots n nodes old new net net' (Err e) w now viewed at stands keeps same_net =
     let s = at_place w.states n (subst (λ (k : ℕ). n < k) stands.count (slice_get_within nodes n old at)) in
@@ -180,11 +177,8 @@ denied_at w id number a P view stands beyond =
 pub faults_if : {E : Type 0} (arms : Outcome → Option ℕ → Option ℕ) (slots n : ℕ) (nodes : List (Node Memory)) (old new : Node Memory)
     (net net' : Network) (result : Result ActReport E) (now : WorldView) → record { slots = slots; nodes = nodes; net = net } ≡ now
     → slice_get nodes n ≡ Some old → IfOk result (λ (d : ActReport). IsCounted arms old.disk new.disk d.outcome)
-    → IfOk result (λ (d : ActReport). FaultsAt arms (node_or_first (length now.nodes) n) now (record {
-      slots = slots;
-      nodes = slice_set nodes n new;
-      net = net';
-    }) d.outcome)
+    → IfOk result (λ (d : ActReport). FaultsAt arms (node_or_first (length now.nodes) n) now
+    (record { slots = slots; nodes = slice_set nodes n new; net = net' }) d.outcome)
 faults_if arms slots n nodes old new net net' (Ok d) now viewed at counted =
     let known : node_or_first (length nodes) n ≡ n = rw (true_within n (length nodes) (slice_get_within nodes n old at)) refl in
     rw (← viewed, known) (record {

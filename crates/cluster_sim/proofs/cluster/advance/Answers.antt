@@ -77,23 +77,25 @@ never_area_exhausted c =
     let inv = c.requires.cluster in
     (c.in_ok-action.ensures.areas inv.last inv.reports.stands _ inv.areas).1 (omega (arith, few_acts c))
 
+-- so many commands were counted at the node before
+counted_before : (c : goal.After-result-1) → slice_get c.args.counts.now.items c.node_named-id.result ≡ Some c.index-before.result.now
+counted_before c =
+    let at_id = c.from-place.ensures ∙ c.number.ensures.value in
+    let within : c.from-place.result < length c.args.counts.now.items =
+    (let many = c.requires.cluster.counted.as_many in let within = c.node_named-id.ensures.within in let value = c.count.ensures.value in
+    omega (arith, at_id, within, many, value)) in
+    rw (← at_id) (slice_get_read c.args.counts.now.items _ c.from-place.result c.index-before.result.now refl within c.index-before.ensures)
+
 pub returns-clause-goes_on : goal.returns-clause-goes_on
 returns-clause-goes_on c w reports =
     let inv = c.requires.cluster in
-    let at_id = c.from-place.ensures ∙ c.number.ensures.value in
     let id = c.node_named-id.result in
-    let within : c.from-place.result < length c.args.counts.now.items =
-    (let many = inv.counted.as_many in let within = c.node_named-id.ensures.within in let value = c.count.ensures.value in
-    omega (arith, at_id, within, many, value)) in
-    let at : slice_get c.args.counts.now.items id ≡ Some c.index-before.result.now =
-    rw (← at_id) (slice_get_read c.args.counts.now.items _ c.from-place.result c.index-before.result.now refl within
-    c.index-before.ensures) in
     goes_on c.args.world.now c.step.new.self w c.args.act c.in_ok-action.action id c.node.result.now c.node-2.result.now reports.stands
     (c.in_ok-action.ensures.acted w reports.stands)
     (named_in c.args.world.now w c.args.act id c.count.result c.net.result.now.network reports.stands c.count.ensures.value c.net.ensures
     c.node_named-id.ensures.named) c.node.ensures c.node-2.ensures
     c.args.report.now c.add.new.self c.index-before.result.now reports c.in_ok-action.ensures.slots
-    (inv.counted.each id c.index-before.result.now at)
+    (inv.counted.each id c.index-before.result.now (counted_before c))
     (added c) (few_acts c) (never_area_exhausted c)
 
 pub returns-clause-cluster : goal.returns-clause-cluster
@@ -101,12 +103,7 @@ returns-clause-cluster c =
     let inv = c.requires.cluster in
     let at_id = c.from-place.ensures ∙ c.number.ensures.value in
     let id = c.node_named-id.result in
-    let within : c.from-place.result < length c.args.counts.now.items =
-    (let many = inv.counted.as_many in let within = c.node_named-id.ensures.within in let value = c.count.ensures.value in
-    omega (arith, at_id, within, many, value)) in
-    let at : slice_get c.args.counts.now.items id ≡ Some c.index-before.result.now =
-    rw (← at_id) (slice_get_read c.args.counts.now.items _ c.from-place.result c.index-before.result.now refl within
-    c.index-before.ensures) in
+    let at = counted_before c in
     cluster_on c.args.world.now c.step.new.self inv.last c.args.act c.in_ok-action.action id c.node.result.now c.node-2.result.now
     inv.reports.stands (c.in_ok-action.ensures.acted inv.last inv.reports.stands)
     (named_in c.args.world.now inv.last c.args.act id c.count.result c.net.result.now.network inv.reports.stands c.count.ensures.value

@@ -65,11 +65,8 @@ node_state : (c : goal.After-self-1) (w : World) → StandsFor c.args.self.now w
 node_state c w stands =
     let was = c.self.inside in
     let stood : StandsFor (record { slots = was.slots; nodes = was.nodes.items; net = was.net.network }) w = rw c.self.view_is stands in
-    let s = at_place w.states c.from-place.result (omega (
-      arith,
-      stood.count,
-      slice_get_within was.nodes.items c.from-place.result c.index_mut.result.now (there c),
-    )) in
+    let within = slice_get_within was.nodes.items c.from-place.result c.index_mut.result.now (there c) in
+    let s = at_place w.states c.from-place.result (omega (arith, stood.count, within)) in
     (s.0, stood.each c.from-place.result c.index_mut.result.now s.0 (there c) s.1)
 
 pub returns-clause-answers : goal.returns-clause-answers
