@@ -17,47 +17,17 @@ use Rattle.store_console.specs.Barring.{Bars, IsBarBy, barred}
 use Rattle.store_console.specs.Mounting.{IsStoreOf, MountsLabelled, MountsOpened, Takes}
 use Rattle.store_console.specs.Replies.{HasFailed, IsAnswerTo, IsBarredBy, IsFormatted, IsFresh, IsMounted, IsUnmounted, Mounted, Settles}
 
-barred_unmounted_at : (f : OpenFault) → IsUnmounted (barred f)
-barred_unmounted_at fault.Locked = tt
-barred_unmounted_at (fault.Exists error) = tt
-barred_unmounted_at (fault.NotFound error) = tt
-barred_unmounted_at (fault.Denied error) = tt
-barred_unmounted_at (fault.Folder error) = tt
-barred_unmounted_at fault.NotAFile = tt
-barred_unmounted_at (fault.Unusable error) = tt
-barred_unmounted_at (fault.NoRoom error) = tt
-barred_unmounted_at (fault.Device error) = tt
-
 pub barred_unmounted : (f : OpenFault) (answered : Reply) → answered ≡ barred f → IsUnmounted answered
-barred_unmounted f answered is = subst (λ (r : Reply). IsUnmounted r) (sym is) (barred_unmounted_at f)
-
-barred_formatted_at : (f : OpenFault) → IsFormatted (barred f)
-barred_formatted_at fault.Locked = tt
-barred_formatted_at (fault.Exists error) = tt
-barred_formatted_at (fault.NotFound error) = tt
-barred_formatted_at (fault.Denied error) = tt
-barred_formatted_at (fault.Folder error) = tt
-barred_formatted_at fault.NotAFile = tt
-barred_formatted_at (fault.Unusable error) = tt
-barred_formatted_at (fault.NoRoom error) = tt
-barred_formatted_at (fault.Device error) = tt
+barred_unmounted fault.Locked answered is = rw is tt
+barred_unmounted _ answered is = rw is tt
 
 pub barred_formatted : (f : OpenFault) (answered : Reply) → answered ≡ barred f → IsFormatted answered
-barred_formatted f answered is = subst (λ (r : Reply). IsFormatted r) (sym is) (barred_formatted_at f)
-
-is_barred_at : (f : OpenFault) → IsBarredBy (Err f) (barred f)
-is_barred_at fault.Locked = refl
-is_barred_at (fault.Exists error) = refl
-is_barred_at (fault.NotFound error) = tt
-is_barred_at (fault.Denied error) = refl
-is_barred_at (fault.Folder error) = refl
-is_barred_at fault.NotAFile = refl
-is_barred_at (fault.Unusable error) = refl
-is_barred_at (fault.NoRoom error) = refl
-is_barred_at (fault.Device error) = refl
+barred_formatted fault.Locked answered is = rw is tt
+barred_formatted _ answered is = rw is tt
 
 pub is_barred : (f : OpenFault) (answered : Reply) → answered ≡ barred f → IsBarredBy (Err f) answered
-is_barred f answered is = subst (λ (r : Reply). IsBarredBy (Err f) r) (sym is) (is_barred_at f)
+is_barred (fault.NotFound error) answered is = tt
+is_barred _ answered is = is
 
 -- by its label
 pub bar_unmounted : (label : Result (Option (List ℕ)) Error) (answered : Reply) → IsBarBy label (Some answered) → IsUnmounted answered
@@ -122,11 +92,8 @@ settles_labelled disk label (Err refused) (Err answered) none is whole counts sm
 fresh_labelled : (disk : FileState) (label : Result (Option (List ℕ)) Error) (store : StoreState FileState)
     → disk ≡ unfailed disk.sectors Packed
     → MountsLabelled disk label (Ok store) → IsFresh store
-fresh_labelled disk label store fresh is = record {
-  whole = is.1.whole;
-  unfailed = is.1.unfailed
-      ∙ ap (λ (d : FileState). d.failures) fresh;
-}
+fresh_labelled disk label store fresh is =
+    record { whole = is.1.whole; unfailed = is.1.unfailed ∙ ap (λ (d : FileState). d.failures) fresh }
 
 refused_labelled : (disk : FileState) (label : Result (Option (List ℕ)) Error) (answered : Reply)
     → MountsLabelled disk label (Err answered) → IsUnmounted answered

@@ -130,12 +130,7 @@ pub shown_held : (shown : Shown) (bytes : List ℕ) (image : Image) (result : Re
 shown_held shown bytes image (Err e) held large is = tt
 shown_held shown bytes image (Ok p) held large is =
     let enough : nat_lt (length image) 24 ≡ false = grind (arith, nat_tests, large) in
-    record {
-      image = image;
-      held = held;
-      printed = is ∙ sym (ap (λ b. if b then too_small (length image)
-          else held_text shown (owner_of bytes) image) enough);
-    }
+    record { image = image; held = held; printed = rw enough is }
 
 -- of one that isn't
 pub shown_small : (shown : Shown) (bytes : List ℕ) (image : Image) (result : Result Output AllocError) → IsHeldBy bytes image
@@ -144,9 +139,4 @@ pub shown_small : (shown : Shown) (bytes : List ℕ) (image : Image) (result : R
 shown_small shown bytes image (Err e) held few is = tt
 shown_small shown bytes image (Ok p) held few is =
     let small : nat_lt (length image) 24 ≡ true = grind (arith, nat_tests, few) in
-    record {
-      image = image;
-      held = held;
-      printed = is ∙ sym (ap (λ b. if b then too_small (length image)
-          else held_text shown (owner_of bytes) image) small);
-    }
+    record { image = image; held = held; printed = rw small is }

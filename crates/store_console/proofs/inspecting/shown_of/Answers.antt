@@ -10,20 +10,14 @@ use Rattle.store_console.proofs.inspecting.shown_of.Goals as goal
 
 pub returns-then-sectors-lt24 : goal.returns-then-sectors-lt24
 returns-then-sectors-lt24 c =
-    shown_small c.args.shown c.args.bytes.now c.in_ok-disk.disk.contents c.too_small.result c.in_ok-disk.ensures (omega (
-      arith,
-      c.if-sectors-lt24.true,
-      c.sectors-sectors.ensures,
-    ))
+    shown_small c.args.shown c.args.bytes.now c.in_ok-disk.disk.contents c.too_small.result c.in_ok-disk.ensures
+    (omega (arith, c.if-sectors-lt24.true, c.sectors-sectors.ensures))
     (subst (λ n. IfOk c.too_small.result (λ p. printout_of p ≡ too_small n)) c.sectors-sectors.ensures c.too_small.ensures)
 
 pub returns-in-All : goal.returns-in-All
 returns-in-All c =
-    shown_held c.args.shown c.args.bytes.now c.in_ok-disk.disk.contents c.inspection.result c.in_ok-disk.ensures (omega (
-      arith,
-      c.if-sectors-lt24.false,
-      c.sectors-sectors.ensures,
-    ))
+    shown_held c.args.shown c.args.bytes.now c.in_ok-disk.disk.contents c.inspection.result c.in_ok-disk.ensures
+    (omega (arith, c.if-sectors-lt24.false, c.sectors-sectors.ensures))
     (subst (λ (s : Shown). IfOk c.inspection.result (λ p. printout_of p
     ≡ held_text s (owner_of c.args.bytes.now) c.in_ok-disk.disk.contents)) (sym c.in-All.is)
     (subst (λ (o : Owner). IfOk c.inspection.result (λ p. printout_of p ≡ held_text All o c.in_ok-disk.disk.contents)) c.owner_of.ensures
@@ -31,11 +25,8 @@ returns-in-All c =
 
 pub returns-in-Verified : goal.returns-in-Verified
 returns-in-Verified c =
-    shown_held c.args.shown c.args.bytes.now c.in_ok-disk.disk.contents c.verification.result c.in_ok-disk.ensures (omega (
-      arith,
-      c.if-sectors-lt24.false,
-      c.sectors-sectors.ensures,
-    ))
+    shown_held c.args.shown c.args.bytes.now c.in_ok-disk.disk.contents c.verification.result c.in_ok-disk.ensures
+    (omega (arith, c.if-sectors-lt24.false, c.sectors-sectors.ensures))
     (subst (λ (s : Shown). IfOk c.verification.result (λ p. printout_of p
     ≡ held_text s (owner_of c.args.bytes.now) c.in_ok-disk.disk.contents)) (sym c.in-Verified.is)
     (subst (λ (o : Owner). IfOk c.verification.result (λ p. printout_of p ≡ held_text Verified o c.in_ok-disk.disk.contents))
@@ -43,10 +34,7 @@ returns-in-Verified c =
 
 pub returns : goal.returns
 returns c =
-    shown_held c.args.shown c.args.bytes.now c.in_ok-disk.disk.contents c.exported.result c.in_ok-disk.ensures (omega (
-      arith,
-      c.if-sectors-lt24.false,
-      c.sectors-sectors.ensures,
-    ))
+    shown_held c.args.shown c.args.bytes.now c.in_ok-disk.disk.contents c.exported.result c.in_ok-disk.ensures
+    (omega (arith, c.if-sectors-lt24.false, c.sectors-sectors.ensures))
     (subst (λ (s : Shown). IfOk c.exported.result (λ p. printout_of p ≡ held_text s (owner_of c.args.bytes.now) c.in_ok-disk.disk.contents))
     (sym c.in-Jobs.is) c.exported.ensures)
