@@ -90,9 +90,12 @@ def in_a_browser(bed):
     agents.relay.cuts.clear()
     agents.start(2)
     agents.one_group()
-    os.kill(agents.node(0), signal.SIGSTOP)
+    node = agents.node(0)
+    os.kill(node, signal.SIGSTOP)
     keep(lambda state: not state["status"]["alive"])
     agents.stop()
+    # else it stays stopped, and doesn't see that its agent is gone
+    os.kill(node, signal.SIGCONT)
     states.append(dict(states[0], pending=126, pending_max=126, pending_by_queue=[126] + [0] * 15))
     states.append(dict(states[0], unheld_ms=61_000, record_wanted=True, recorded=False, pending=64, pending_max=126, pending_by_queue=[0, 64] + [0] * 14))
     states.append(dict(states[0], status=dict(states[0]["status"], phase="Election", since_ms=11_000)))
